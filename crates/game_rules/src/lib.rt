@@ -1,3 +1,68 @@
 //! The game itself, as definitions that every other crate cites: the board and its lines, positions, moves, the end
 //! of a game, its value under perfect play, what the plain search costs, and the text of a game.
+//!
+//! The definitions stand in `specs/`, in the game's own terms. The enums here are those that code and definitions
+//! share, and each function of `laws` is a law about the definitions: its contract is the theorem, and its body is
+//! empty. Nothing here knows how a position is kept in memory.
 #![tactic(auto)]
+
+pub mod laws;
+
+/// One of the two players. White moves first.
+#[derive(Clone, Copy, Debug, PartialEq, Eq, Hash)]
+pub enum Side {
+    White,
+    Black,
+}
+
+/// How a game ended: with a win of White, a win of Black, or a full board without four in a line.
+#[derive(Clone, Copy, Debug, PartialEq, Eq, Hash)]
+pub enum End {
+    White,
+    Black,
+    Draw,
+}
+
+/// The direction in which a line of four runs from its anchor, its leftmost square (its lowest for `V`).
+#[derive(Clone, Copy, Debug, PartialEq, Eq, Hash)]
+pub enum Way {
+    /// To the right.
+    H,
+    /// Upwards.
+    V,
+    /// Upwards to the right.
+    U,
+    /// Downwards to the right.
+    D,
+}
+
+/// What is asked of a position: whether White wins under perfect play, or whether Black does.
+#[derive(Clone, Copy, Debug, PartialEq, Eq, Hash)]
+pub enum Question {
+    WhiteWins,
+    BlackWins,
+}
+
+/// Why a text is no game. [`InputFault`] says where.
+#[derive(Clone, Copy, Debug, PartialEq, Eq, Hash)]
+pub enum InputKind {
+    /// A byte of the fixed parts is another byte or is missing.
+    BadHeader,
+    /// The number of columns or rows isn't one that a board has.
+    BadSize,
+    /// A byte of the list of moves is no column letter of the board, or the list has none.
+    BadColumn,
+    /// A move into a column that has no room.
+    ColumnFull,
+    /// A move after the end of the game.
+    GameOver,
+    /// A byte after the end of the text.
+    Trailing,
+}
+
+/// The first fault of a text from the left: its kind and its byte place, counted from 0.
+#[derive(Clone, Copy, Debug, PartialEq, Eq, Hash)]
+pub struct InputFault {
+    pub kind: InputKind,
+    pub at: u32,
+}

@@ -1,0 +1,6 @@
+mod Vectors
+pub mod Lists
+pub mod Moves
+pub mod Values
+pub mod Costs
+pub mod Ends

@@ -1,0 +1,6 @@
+pub mod Board
+pub mod Position
+pub mod Value
+pub mod Cost
+pub mod Text
+pub mod Laws
