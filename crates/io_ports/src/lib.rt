@@ -1,0 +1,97 @@
+//! Sources and sinks of bytes: what the product reads from and writes to, in memory and over std's readers and
+//! writers, and the loops that every command shares. Each device counts its faults, and a call fails only where that
+//! count rose, so that no caller can give up and blame a device. It rests on the words of `device_rules` alone.
+#![tactic(auto)]
+
+mod adapters;
+mod calls;
+mod memory;
+mod null;
+mod ports;
+mod transfers;
+
+pub use adapters::{StdSink, StdSource};
+pub use memory::{MemSink, MemSource};
+pub use null::NullSink;
+pub use ports::{Failed, Sink, Source};
+pub use transfers::{put_all, read_all};
+
+#[cfg(test)]
+mod tests {
+    use super::*;
+    use std::test::Fail;
+
+    const TEXT: &[u8] = b"four in a row";
+
+    #[test]
+    fn std_readers_and_writers_pass_bytes_through(rt: HostRuntime) -> Result<(), Fail> {
+        let mut source = StdSource::new(TEXT);
+        let mut buf = [0; 32];
+        let count = read_all(&mut source, &mut buf)?;
+        assert!(rt; count <= 32);
+        assert_eq!(rt; &buf[..count], TEXT);
+        let mut written = Vec::new(rt.alloc());
+        let mut sink = StdSink::new(&mut written);
+        put_all(&mut sink, &buf[..count])?;
+        sink.flush()?;
+        assert_eq!(rt; written.as_slice(), TEXT);
+        Ok(())
+    }
+
+    // The text is read in pieces into a buffer of 8 bytes, then again: what both gave, or that they failed.
+    #[test]
+    fn a_source_in_memory_fails_at_its_numbers(rt: HostRuntime) -> Result<(), Fail> {
+        let rows: [(usize, &[u32], Result<usize, Failed>, Result<usize, Failed>); 6] = [
+            (8, &[], Ok(8), Ok(5)),
+            (3, &[], Ok(8), Ok(5)),
+            (8, &[1], Err(Failed), Ok(8)),
+            (3, &[2], Err(Failed), Ok(8)),
+            (8, &[2, 3], Ok(8), Err(Failed)),
+            (8, &[4], Ok(8), Ok(5)),
+        ];
+        for (piece, fail, first, second) in rows {
+            assert!(rt; piece >= 1);
+            let mut source = MemSource::new(rt.alloc(), TEXT, piece, fail)?;
+            let mut buf = [0; 8];
+            assert_eq!(rt; read_all(&mut source, &mut buf), first, "{piece} {fail:?}");
+            assert_eq!(rt; read_all(&mut source, &mut buf), second, "{piece} {fail:?}");
+        }
+        Ok(())
+    }
+
+    // The text is written, flushed and written again: what the sink has then, and which of the three failed.
+    #[test]
+    fn a_sink_in_memory_fails_at_its_numbers_and_without_room(rt: HostRuntime) -> Result<(), Fail> {
+        let rows: [(usize, &[u32], &[u8], [bool; 3]); 6] = [
+            (
+                40,
+                &[],
+                b"four in a rowfour in a row",
+                [false, false, false],
+            ),
+            (13, &[], b"four in a row", [false, false, true]),
+            (17, &[], b"four in a rowfour", [false, false, true]),
+            (0, &[], b"", [true, false, true]),
+            (40, &[1, 2], b"four in a row", [true, true, false]),
+            (40, &[3], b"four in a row", [false, false, true]),
+        ];
+        for (room, fail, written, failed) in rows {
+            let mut sink = MemSink::new(rt.alloc(), room, fail)?;
+            let got = [
+                put_all(&mut sink, TEXT).is_err(),
+                sink.flush().is_err(),
+                put_all(&mut sink, TEXT).is_err(),
+            ];
+            assert_eq!(rt; sink.bytes(), written, "{room} {fail:?}");
+            assert_eq!(rt; got, failed, "{room} {fail:?}");
+        }
+        Ok(())
+    }
+
+    #[test]
+    fn a_sink_that_keeps_nothing_takes_all(rt: HostRuntime) {
+        let mut sink = NullSink::new();
+        assert_eq!(rt; put_all(&mut sink, TEXT), Ok(()));
+        assert_eq!(rt; sink.flush(), Ok(()));
+    }
+}
