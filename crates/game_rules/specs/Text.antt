@@ -7,12 +7,9 @@ use Rattle.game_rules.specs.Position.{Position, empty_position, has_room, after_
 use Rattle.game_rules.specs.declared.InputKind.{InputKind}
 use Rattle.game_rules.specs.declared.InputKind.TheVariants.{BadHeader, BadSize, BadColumn, ColumnFull, GameOver, Trailing}
 use Rattle.game_rules.specs.declared.InputFault.{InputFault}
+use Rattle.game_rules.specs.declared.Stop.{Stop}
 
--- where reading stops: the kind of the fault, and how many bytes there are from its place on
-pub record Stop : Type 0 where
-  pub kind : InputKind
-  pub left : ℕ
-
+-- reading stops at a fault of this kind, with so many bytes left
 abbrev pub stop : {X : Type 0} → InputKind → ℕ → Result X Stop
 stop kind left = Err (record { kind = kind; left = left })
 

@@ -66,3 +66,10 @@ pub struct InputFault {
     pub kind: InputKind,
     pub at: u32,
 }
+
+/// Where reading a text stops: the kind of the fault, and how many bytes there are from its place on.
+#[derive(Clone, Copy, Debug, PartialEq, Eq, Hash)]
+pub struct Stop {
+    pub kind: InputKind,
+    pub left: usize,
+}
