@@ -40,10 +40,10 @@ step_none V (c, r) = ap (λ n. (c, n)) (omega arith)
 step_none U (c, r) = let over : c + 0 ≡ c = omega arith in let up : r + 0 ≡ r = omega arith in rw (over, up) refl
 step_none D (c, r) = let over : c + 0 ≡ c = omega arith in let up : r - 0 ≡ r = omega arith in rw (over, up) refl
 
-each_step : (test : Square → Bool) (way : Way) (s : Square) → list_all test (line_at way s) ≡ true → (i : ℕ) → i < line_length → test (step_of way s i) ≡ true
+pub each_step : (test : Square → Bool) (way : Way) (s : Square) → list_all test (line_at way s) ≡ true → (i : ℕ) → i < line_length → test (step_of way s i) ≡ true
 each_step test way s h i low = all_gives test (line_at way s) (step_of way s i) h (Among-map (step_of way s) (below line_length) i (Among-below line_length i low))
 
-from_steps : (test : Square → Bool) (way : Way) (s : Square) → ((i : ℕ) → i < line_length → test (step_of way s i) ≡ true) → list_all test (line_at way s) ≡ true
+pub from_steps : (test : Square → Bool) (way : Way) (s : Square) → ((i : ℕ) → i < line_length → test (step_of way s i) ≡ true) → list_all test (line_at way s) ≡ true
 from_steps test way s each =
     and_from _ _ (each 0 (lit< tt)) (and_from _ _ (each 1 (lit< tt)) (and_from _ _ (each 2 (lit< tt)) (and_from _ _ (each 3 (lit< tt)) refl)))
 
@@ -60,7 +60,7 @@ line_from_four p side h =
       owned = each_step (has_man p side) along.0 (column.0, row.0 + 1) both.1;
     }
 
-on_board_parts : (b : Board) (c r : ℕ) → on_board b (c, r) ≡ true → (c < b.cols) × (1 ≤ r) × (r ≤ b.rows)
+pub on_board_parts : (b : Board) (c r : ℕ) → on_board b (c, r) ≡ true → (c < b.cols) × (1 ≤ r) × (r ≤ b.rows)
 on_board_parts b c r h =
     let both = and_parts _ _ h in let rows = and_parts _ _ both.1 in
     (ltb-true c b.cols both.0, leb-true 1 r rows.0, leb-true r b.rows rows.1)

@@ -1,0 +1,4 @@
+pub mod Places
+pub mod OrderTable
+pub mod Searches
+pub mod MoveFields

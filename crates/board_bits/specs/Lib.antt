@@ -1,0 +1,6 @@
+pub mod Size
+pub mod Order
+pub mod Padded
+pub mod StackFields
+pub mod PositionFields
+pub mod Move

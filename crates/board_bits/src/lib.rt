@@ -1,0 +1,14 @@
+//! The board: sizes, columns and squares, positions and their moves, and the reading of a game text. A position is the
+//! men of its columns, as in `game_rules`, whose definitions each contract here cites; how the men are kept is known
+//! to this crate alone.
+#![tactic(auto)]
+
+mod order;
+mod position;
+mod size;
+mod stack;
+
+pub use game_rules::{End, InputFault, InputKind, Question, Side, Way};
+pub use order::centre_out;
+pub use position::{MoveFault, Position};
+pub use size::{Column, Size, SizeFault, Square};

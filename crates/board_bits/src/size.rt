@@ -1,0 +1,181 @@
+//! Sizes of boards, and their columns and squares. A value of each of these types is one that some board has, so no
+//! later code tests a number again.
+ghost use Rattle.std.specs.Prelude.{◌≡◌, ◌+◌, ◌<◌, ◌≤◌, true, Some, None, if◌then◌else◌, nat_lt, IsTrue};
+ghost use Rattle.game_rules.specs.Board.{is_board, on_board};
+ghost use Rattle.board_bits.specs.Size.{sized};
+
+use std::marker::Model;
+
+/// Why two numbers are no size of a board.
+#[derive(Clone, Copy, Debug, PartialEq, Eq, Hash)]
+pub enum SizeFault {
+    /// The number of columns isn't from 4 to 10.
+    BadCols,
+    /// The number of rows isn't 4, 6, 8 or 10.
+    BadRows,
+}
+
+/// The size of a board: 4 to 10 columns, and 4, 6, 8 or 10 rows.
+#[derive(Clone, Copy, Debug, PartialEq, Eq, Hash)]
+pub struct Size {
+    cols: u8,
+    rows: u8,
+}
+
+impl Model for Size {
+    ghost use Rattle.std.specs.Prelude.{◌≡◌, true};
+    ghost use Rattle.game_rules.specs.Board.{Board, is_board};
+
+    ghost Value = { Board };
+
+    ghost view = { λ size. record { cols = size.cols; rows = size.rows } };
+
+    ghost invariant = { λ size. is_board (record { cols = size.cols; rows = size.rows }) ≡ true };
+
+    ghost inverse = { λ board. record { cols = board.cols; rows = board.rows } };
+}
+
+impl Size {
+    /// The size with these numbers. `BadCols` comes before `BadRows` where both are wrong.
+    pub fn new(cols: u8, rows: u8) -> Result<Size, SizeFault>
+        ensures { result ≡ sized (record { cols = cols; rows = rows }) }
+    {
+        if !(4..=10).contains(&cols) {
+            return Err(SizeFault::BadCols);
+        }
+        if rows != 4 && rows != 6 && rows != 8 && rows != 10 {
+            return Err(SizeFault::BadRows);
+        }
+        Ok(Size { cols, rows })
+    }
+
+    /// How many columns the board has, from 4 to 10.
+    pub fn cols(&self) -> u8
+        ensures value { result ≡ self.now.cols }
+        ensures board { is_board self.now ≡ true }
+        ensures least { 4 ≤ result }
+        ensures most { result ≤ 10 }
+    {
+        self.cols
+    }
+
+    /// How many rows the board has: 4, 6, 8 or 10.
+    pub fn rows(&self) -> u8
+        ensures value { result ≡ self.now.rows }
+        ensures board { is_board self.now ≡ true }
+        ensures least { 4 ≤ result }
+        ensures most { result ≤ 10 }
+    {
+        self.rows
+    }
+
+    /// The column with this number, counted from 0 at the left; None exactly where the board has no such column.
+    pub fn column(&self, index: u8) -> Option<Column>
+        ensures { result ≡ (if nat_lt index self.now.cols then Some index else None) }
+    {
+        if index < self.cols() {
+            Some(self.nth_column(index))
+        } else {
+            None
+        }
+    }
+
+    /// The column with this number, which the board has.
+    pub fn nth_column(&self, index: u8) -> Column
+        requires { index < self.now.cols }
+        ensures { result ≡ index }
+    {
+        let _within = self.cols();
+        Column { index }
+    }
+
+    /// Whether the board has the square with this column and row.
+    pub(crate) fn has(&self, square: (u8, u8)) -> bool
+        ensures value { result ≡ on_board self.now square }
+        ensures row { IsTrue result → (1 ≤ square.1) × (square.1 ≤ 10) }
+    {
+        square.0 < self.cols() && 1 <= square.1 && square.1 <= self.rows()
+    }
+
+    /// The square of the column in this row, counted from 1 at the bottom; None exactly where it isn't on the board.
+    pub fn square(&self, c: Column, row: u8) -> Option<Square>
+        ensures { result ≡ (if on_board self.now (c, row) then Some (c, row) else None) }
+    {
+        if self.has((c.index(), row)) {
+            Some(Square { column: c, row })
+        } else {
+            None
+        }
+    }
+}
+
+/// A column, by its number from 0 to 9 from the left. A board has those below its number of columns.
+#[derive(Clone, Copy, Debug, PartialEq, Eq, PartialOrd, Ord, Hash)]
+pub struct Column {
+    index: u8,
+}
+
+impl Model for Column {
+    ghost use Rattle.std.specs.Prelude.{ℕ, ◌<◌};
+
+    ghost Value = { ℕ };
+
+    ghost view = { λ column. column.index };
+
+    ghost invariant = { λ column. column.index < 10 };
+
+    ghost inverse = { λ n. record { index = n } };
+}
+
+impl Default for Column {
+    fn default() -> Self {
+        Column { index: 0 }
+    }
+}
+
+impl Column {
+    /// The column's number, from 0 to 9.
+    pub fn index(&self) -> u8
+        ensures value { result ≡ self.now }
+        ensures within { result < 10 }
+    {
+        self.index
+    }
+}
+
+/// A square, by its column and its row from 1 to 10 from the bottom.
+#[derive(Clone, Copy, Debug, PartialEq, Eq, PartialOrd, Ord, Hash)]
+pub struct Square {
+    column: Column,
+    row: u8,
+}
+
+impl Model for Square {
+    ghost use Rattle.std.specs.Prelude.{ℕ, ◌≤◌};
+
+    ghost Value = { ℕ × ℕ };
+
+    ghost view = { λ square. (square.column, square.row) };
+
+    ghost invariant = { λ square. (1 ≤ square.row) × (square.row ≤ 10) };
+
+    ghost inverse = { λ s. record { column = s.0; row = s.1 } };
+}
+
+impl Square {
+    /// The column that the square stands in.
+    pub fn column(&self) -> Column
+        ensures { result ≡ self.now.0 }
+    {
+        self.column
+    }
+
+    /// The square's row, from 1 to 10.
+    pub fn row(&self) -> u8
+        ensures value { result ≡ self.now.1 }
+        ensures least { 1 ≤ result }
+        ensures most { result ≤ 10 }
+    {
+        self.row
+    }
+}
