@@ -4,3 +4,7 @@ pub mod Moves
 pub mod Values
 pub mod Costs
 pub mod Ends
+pub mod Readers
+pub mod BoardLine
+pub mod Prefix
+pub mod Grammar

@@ -3,4 +3,5 @@ pub mod Position
 pub mod Value
 pub mod Cost
 pub mod Text
+pub mod Grammar
 pub mod Laws

@@ -7,6 +7,7 @@
 #![tactic(auto)]
 
 pub mod laws;
+pub mod text_laws;
 
 /// One of the two players. White moves first.
 #[derive(Clone, Copy, Debug, PartialEq, Eq, Hash)]
