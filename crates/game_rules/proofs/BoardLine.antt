@@ -4,7 +4,8 @@ use Rattle.std.proofs.lemmas.Bool.{cases_lt, and_parts, and_from, or_cases, leb-
 use Rattle.std.proofs.lemmas.List.Folds.{sum_by-replicate}
 use Rattle.game_rules.specs.Board.{Board, is_board, is_cols, is_rows}
 use Rattle.game_rules.specs.Position.{Position, board_of, empty_position, empty_count}
-use Rattle.game_rules.specs.Text.{Stop, ◌>>=◌, after_text, cols_of, rows_of, size_at, board_at}
+use Rattle.game_rules.specs.Text.{◌>>=◌, after_text, cols_of, rows_of, size_at, board_at}
+use Rattle.game_rules.specs.declared.Stop.{Stop}
 use Rattle.game_rules.proofs.Lists.{chosen}
 use Rattle.game_rules.proofs.Readers.{bind_ok, Spends, spends_bind, with_more, more_bind, after_text_spends, after_text_more, after_text_gives, after_text_of, behind, size_gives, size_spends, size_more}
 use Rattle.game_rules.specs.declared.Side.{Side}
@@ -17,6 +18,7 @@ use Rattle.std.proofs.Math.Seq.{take-append_seam, drop-append_seam}
 use Rattle.std.proofs.lemmas.List.Folds.{prefix_len-append}
 use Rattle.std.specs.List.{prefix_len}
 use Rattle.game_rules.specs.Text.{is_digit, read_as}
+use Rattle.game_rules.specs.declared.Stop.{Stop}
 use Rattle.game_rules.specs.Grammar.{board_line}
 
 -- ---- the sizes of boards

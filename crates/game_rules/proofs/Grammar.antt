@@ -4,7 +4,8 @@ use Rattle.std.proofs.lemmas.Bool.{eqb-true, ne_eqb}
 use Rattle.std.proofs.lemmas.List.{length-replicate}
 use Rattle.game_rules.specs.Board.{Board, is_board}
 use Rattle.game_rules.specs.Position.{Position, board_of, empty_position, after_move, is_legal, played, empty_count, IsStacked}
-use Rattle.game_rules.specs.Text.{Stop, stop, ◌>>=◌, letter_read, at_end, letters_from, after_dash, moves_at, board_at, read_game, placed, game_at}
+use Rattle.game_rules.specs.Text.{stop, ◌>>=◌, letter_read, at_end, letters_from, after_dash, moves_at, board_at, read_game, placed, game_at}
+use Rattle.game_rules.specs.declared.Stop.{Stop}
 use Rattle.game_rules.specs.Grammar.{letter_of, move_list, board_line, last_feed, IsGameText}
 use Rattle.game_rules.proofs.Lists.{chosen}
 use Rattle.game_rules.proofs.Moves.{board_moved}

@@ -3,7 +3,8 @@ use Rattle.std.proofs.Common.{◌≡◌, ℕ, ◌+◌, ◌-◌, ◌<◌, ◌≤�
 use Rattle.std.proofs.lemmas.Bool.{cases_lt}
 use Rattle.std.proofs.lemmas.List.{length-append, take_all, length-take-le, take-append-drop}
 use Rattle.game_rules.specs.Position.{Position, empty_position, empty_count}
-use Rattle.game_rules.specs.Text.{Stop, ◌>>=◌, moves_at, board_at, read_game, placed, game_at}
+use Rattle.game_rules.specs.Text.{◌>>=◌, moves_at, board_at, read_game, placed, game_at}
+use Rattle.game_rules.specs.declared.Stop.{Stop}
 use Rattle.game_rules.proofs.Readers.{Spends, spends_bind, spends_more, with_more, more_bind, behind, nothing, moves_spend, moves_more}
 use Rattle.game_rules.specs.declared.InputFault.{InputFault}
 use Rattle.game_rules.proofs.BoardLine.{first_empty, board_spends, board_more, with_rest, board_gives}

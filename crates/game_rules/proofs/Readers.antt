@@ -6,7 +6,8 @@ use Rattle.std.proofs.lemmas.List.{length-append, drop-append-le, take-append-le
 use Rattle.std.proofs.lemmas.List.Folds.{prefix_len-append, length-prefix_len}
 use Rattle.std.specs.List.{prefix_len}
 use Rattle.game_rules.specs.Position.{Position, has_room, after_move, end_of, empty_count, is_legal}
-use Rattle.game_rules.specs.Text.{Stop, stop, ◌>>=◌, after_text, is_digit, read_as, size_at, column_named, move_into, letter_read, at_end, letters_from, after_dash, moves_at}
+use Rattle.game_rules.specs.Text.{stop, ◌>>=◌, after_text, is_digit, read_as, size_at, column_named, move_into, letter_read, at_end, letters_from, after_dash, moves_at}
+use Rattle.game_rules.specs.declared.Stop.{Stop}
 use Rattle.game_rules.proofs.Lists.{chosen}
 use Rattle.game_rules.proofs.Moves.{empty_count_moved, room_column}
 use Rattle.game_rules.proofs.Ends.{legal_parts}
