@@ -2,3 +2,4 @@ pub mod Places
 pub mod OrderTable
 pub mod Searches
 pub mod MoveFields
+pub mod Stops

@@ -4,3 +4,4 @@ pub mod Padded
 pub mod StackFields
 pub mod PositionFields
 pub mod Move
+pub mod Reading

@@ -3,12 +3,14 @@
 //! to this crate alone.
 #![tactic(auto)]
 
+mod game_text;
 mod order;
 mod position;
 mod size;
 mod stack;
 
 pub use game_rules::{End, InputFault, InputKind, Question, Side, Way};
+pub use game_text::read_game;
 pub use order::centre_out;
 pub use position::{MoveFault, Position};
 pub use size::{Column, Size, SizeFault, Square};

@@ -1,7 +1,7 @@
 //! Sizes of boards, and their columns and squares. A value of each of these types is one that some board has, so no
 //! later code tests a number again.
 ghost use Rattle.std.specs.Prelude.{◌≡◌, ◌+◌, ◌<◌, ◌≤◌, true, Some, None, if◌then◌else◌, nat_lt, IsTrue};
-ghost use Rattle.game_rules.specs.Board.{is_board, on_board};
+ghost use Rattle.game_rules.specs.Board.{is_board, is_cols, is_rows, on_board};
 ghost use Rattle.board_bits.specs.Size.{sized};
 
 use std::marker::Model;
@@ -47,6 +47,15 @@ impl Size {
             return Err(SizeFault::BadRows);
         }
         Ok(Size { cols, rows })
+    }
+
+    /// The size with these numbers, which a board has.
+    pub(crate) fn of(cols: u8, rows: u8) -> Size
+        requires cols { is_cols cols ≡ true }
+        requires rows { is_rows rows ≡ true }
+        ensures { result ≡ record { cols = cols; rows = rows } }
+    {
+        Size { cols, rows }
     }
 
     /// How many columns the board has, from 4 to 10.

@@ -1,0 +1,212 @@
+//! The reading of a game text from the left, one small reader for each part of it. Each gives what the definition of
+//! the same name gives, so that the text's position, or its first fault, is that of the definitions.
+ghost use Rattle.std.specs.Prelude.{◌≡◌, ◌+◌, ◌<◌, ◌≤◌, true, IfSome, IfOk, length, drop, take_while};
+ghost use Rattle.game_rules.specs.Board.{is_cols, is_rows};
+ghost use Rattle.game_rules.specs.Text.{after_text, is_digit, cols_of, rows_of, size_at, board_at, column_named, letter_read, at_end, letters_from, after_dash, moves_at, read_game, game_at};
+ghost use Rattle.board_bits.specs.Reading.{Gives};
+
+use crate::{Column, InputFault, InputKind, MoveFault, Position, Size};
+use game_rules::Stop;
+
+/// Reads the text of a game: the line `board COLS ROWS`, and the line `moves` with a letter for each move, or `-` for
+/// none; the last line feed may be missing. A text that isn't a game gets its first fault from the left, with its byte
+/// place counted from 0.
+pub fn read_game(bytes: &[u8]) -> Result<Position, InputFault>
+    ensures { result ≡ game_at bytes.now }
+{
+    match position_at(bytes) {
+        Ok(position) => Ok(position),
+        Err(stop) => Err(InputFault {
+            kind: stop.kind,
+            at: bytes.len().saturating_sub(stop.left) as u32,
+        }),
+    }
+}
+
+#[tactic(auto, unfolding(game_rules::specs::Text::read_game))]
+fn position_at(bytes: &[u8]) -> Result<Position, Stop>
+    ensures { result ≡ read_game bytes.now }
+{
+    match board_at(bytes) {
+        Ok((size, rest)) => moves_at(&Position::empty(size), rest),
+        Err(stop) => Err(stop),
+    }
+}
+
+/// The board, and the bytes after its line and the word `moves`.
+#[tactic(auto, unfolding(game_rules::specs::Text::board_at))]
+fn board_at(bytes: &[u8]) -> Result<(Size, &[u8]), Stop>
+    ensures { Gives (λ found. (found.0, found.1.now)) result (board_at bytes.now) }
+{
+    let head = after_text(b"board ", bytes)?;
+    let (cols, rest) = cols_at(head)?;
+    let gap = after_text(b" ", rest)?;
+    let (rows, rest) = rows_at(gap)?;
+    let rest = after_text(b"\nmoves ", rest)?;
+    Ok((Size::of(cols, rows), rest))
+}
+
+/// The bytes after a fixed text.
+fn after_text<'a>(text: &[u8], bytes: &'a [u8]) -> Result<&'a [u8], Stop>
+    ensures { Gives (λ rest. rest.now) result (after_text text.now bytes.now) }
+{
+    let mut rest = bytes;
+    for expected in text {
+        let [first, tail @ ..] = rest else {
+            return Err(stop(InputKind::BadHeader, rest));
+        };
+        if first != expected {
+            return Err(stop(InputKind::BadHeader, rest));
+        }
+        rest = tail;
+    }
+    Ok(rest)
+}
+
+/// Reading stops in front of these bytes.
+fn stop(kind: InputKind, rest: &[u8]) -> Stop
+    ensures { result ≡ record { kind = kind; left = length rest.now } }
+{
+    Stop {
+        kind,
+        left: rest.len(),
+    }
+}
+
+/// The longest run of digits at the front, and the bytes after it.
+fn digit_run(bytes: &[u8]) -> (&[u8], &[u8])
+    ensures run { result.0.now ≡ take_while is_digit bytes.now }
+    ensures rest { result.1.now ≡ drop (length (take_while is_digit bytes.now)) bytes.now }
+{
+    let mut digits = 0;
+    while digits < bytes.len() && is_digit(bytes[digits]) {
+        digits += 1;
+    }
+    bytes.split_at(digits)
+}
+
+fn is_digit(byte: u8) -> bool
+    ensures { result ≡ is_digit byte }
+{
+    b'0' <= byte && byte <= b'9'
+}
+
+/// The number of columns, and the bytes after it.
+fn cols_at(bytes: &[u8]) -> Result<(u8, &[u8]), Stop>
+    ensures value { Gives (λ found. (found.0, found.1.now)) result (size_at cols_of bytes.now) }
+    ensures cols { IfOk result (λ found. is_cols found.0 ≡ true) }
+{
+    let (run, rest) = digit_run(bytes);
+    match cols_of(run) {
+        Some(cols) => Ok((cols, rest)),
+        None => Err(stop(InputKind::BadSize, bytes)),
+    }
+}
+
+/// The number of rows, and the bytes after it.
+fn rows_at(bytes: &[u8]) -> Result<(u8, &[u8]), Stop>
+    ensures value { Gives (λ found. (found.0, found.1.now)) result (size_at rows_of bytes.now) }
+    ensures rows { IfOk result (λ found. is_rows found.0 ≡ true) }
+{
+    let (run, rest) = digit_run(bytes);
+    match rows_of(run) {
+        Some(rows) => Ok((rows, rest)),
+        None => Err(stop(InputKind::BadSize, bytes)),
+    }
+}
+
+fn cols_of(run: &[u8]) -> Option<u8>
+    ensures value { result ≡ cols_of run.now }
+    ensures cols { IfSome result (λ n. is_cols n ≡ true) }
+{
+    match run {
+        [digit @ b'4'..=b'9'] => Some(digit - b'0'),
+        [b'1', b'0'] => Some(10),
+        _ => None,
+    }
+}
+
+fn rows_of(run: &[u8]) -> Option<u8>
+    ensures value { result ≡ rows_of run.now }
+    ensures rows { IfSome result (λ n. is_rows n ≡ true) }
+{
+    match run {
+        [digit @ (b'4' | b'6' | b'8')] => Some(digit - b'0'),
+        [b'1', b'0'] => Some(10),
+        _ => None,
+    }
+}
+
+/// The list of moves: `-`, or letters.
+fn moves_at(position: &Position, bytes: &[u8]) -> Result<Position, Stop>
+    ensures { result ≡ moves_at position.now bytes.now }
+{
+    match bytes {
+        [] => Err(stop(InputKind::BadColumn, bytes)),
+        [b'-', rest @ ..] => after_dash(position, rest),
+        [letter, rest @ ..] => letters_from(&letter_read(position, *letter, bytes)?, rest),
+    }
+}
+
+/// Behind `-` there may be one line feed.
+fn after_dash(position: &Position, bytes: &[u8]) -> Result<Position, Stop>
+    ensures { result ≡ after_dash position.now bytes.now }
+{
+    match bytes {
+        [] => Ok(*position),
+        [b'\n', rest @ ..] => at_end(position, rest),
+        _ => Err(stop(InputKind::Trailing, bytes)),
+    }
+}
+
+/// Nothing may follow.
+fn at_end(position: &Position, bytes: &[u8]) -> Result<Position, Stop>
+    ensures { result ≡ at_end position.now bytes.now }
+{
+    if bytes.is_empty() {
+        Ok(*position)
+    } else {
+        Err(stop(InputKind::Trailing, bytes))
+    }
+}
+
+/// Further letters, up to the line feed or the end.
+fn letters_from(position: &Position, bytes: &[u8]) -> Result<Position, Stop>
+    ensures { result ≡ letters_from position.now bytes.now }
+{
+    let mut now = *position;
+    let mut rest = bytes;
+    while let [letter, tail @ ..] = rest {
+        if *letter == b'\n' {
+            return at_end(&now, tail);
+        }
+        now = letter_read(&now, *letter, rest)?;
+        rest = tail;
+    }
+    Ok(now)
+}
+
+/// The position after the move of one letter, the first of the bytes.
+fn letter_read(position: &Position, letter: u8, bytes: &[u8]) -> Result<Position, Stop>
+    ensures { result ≡ letter_read position.now letter (length bytes.now) }
+{
+    let Some(column) = column_named(position, letter) else {
+        return Err(stop(InputKind::BadColumn, bytes));
+    };
+    match position.play(column) {
+        Ok(next) => Ok(next),
+        Err(MoveFault::GameOver) => Err(stop(InputKind::GameOver, bytes)),
+        Err(MoveFault::ColumnFull) => Err(stop(InputKind::ColumnFull, bytes)),
+    }
+}
+
+/// The column with a letter: `a` is the first.
+fn column_named(position: &Position, letter: u8) -> Option<Column>
+    ensures named { result ≡ column_named position.now letter }
+    ensures within { IfSome result (λ column. column < length position.now.columns) }
+{
+    if letter < b'a' {
+        return None;
+    }
+    position.size().column(letter - b'a')
+}
