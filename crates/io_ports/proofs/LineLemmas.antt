@@ -77,7 +77,12 @@ next_line-unfed (b ∷ bs) short all some =
 
 -- the same of what the words say
 long_is_cut : (bytes : List ℕ) → 8192 < line_len bytes → IsCut bytes Long (take 8192 bytes) false bytes
-long_is_cut bytes long = (refl, refl, omega (arith, line_len-le bytes), no_feed bytes 8193 (omega arith))
+long_is_cut bytes long = record {
+  stays = refl;
+  front = refl;
+  long = omega (arith, line_len-le bytes);
+  no_feed = no_feed bytes 8193 (omega arith);
+}
 
 -- what stands at the end of a line that a line feed ends
 feed_there : (bytes : List ℕ) → line_len bytes < length bytes → bytes ≡ (take (line_len bytes) bytes ++ 10 ∷ []) ++ drop (line_len bytes + 1) bytes
@@ -89,18 +94,23 @@ feed_there bytes found =
 
 fed_is_cut : (bytes : List ℕ) → line_len bytes ≤ 8192 → line_len bytes < length bytes
     → IsCut bytes Line (take (line_len bytes) bytes) true (drop (line_len bytes + 1) bytes)
-fed_is_cut bytes short found =
-    (feed_there bytes found, λ never. cc, no_feed bytes (line_len bytes) (omega arith), omega (arith, length-take-le (line_len bytes) bytes (line_len-le bytes)))
+fed_is_cut bytes short found = record {
+  whole = feed_there bytes found;
+  last = λ never. cc;
+  no_feed = no_feed bytes (line_len bytes) (omega arith);
+  short = omega (arith, length-take-le (line_len bytes) bytes (line_len-le bytes));
+}
 
 unfed_is_cut : (bytes : List ℕ) → line_len bytes ≤ 8192 → line_len bytes ≡ length bytes → 0 < length bytes → IsCut bytes Line bytes false []
 unfed_is_cut bytes short all some =
     let whole : take (line_len bytes) bytes ≡ bytes = take_all (line_len bytes) bytes (omega (arith, all)) in
-    let P : List ℕ → Type 0 = λ l. All (λ b. b ≢ 10) l in (
-      sym (append-nil (bytes ++ []) ∙ append-nil bytes),
-      λ _. (λ none. absurd (omega (arith, ap length none)), refl),
-      subst P whole (no_feed bytes (line_len bytes) (omega arith)),
-      omega (arith, all),
-    )
+    let P : List ℕ → Type 0 = λ l. All (λ b. b ≢ 10) l in
+    record {
+      whole = sym (append-nil (bytes ++ []) ∙ append-nil bytes);
+      last = λ _. (λ none. absurd (omega (arith, ap length none)), refl);
+      no_feed = subst P whole (no_feed bytes (line_len bytes) (omega arith));
+      short = omega (arith, all);
+    }
 
 abbrev IsCutBy : List ℕ → Cut → Type 0
 IsCutBy bytes cut = IsCut bytes cut.got cut.text cut.fed cut.rest

@@ -31,9 +31,22 @@ feed true = 10 ∷ []
 feed false = []
 
 -- The same without a function: what each answer says of the bytes.
+pub record IsLine (bytes text : List ℕ) (fed : Bool) (rest : List ℕ) : Type 0 where
+  pub whole : bytes ≡ text ++ feed fed ++ rest
+  -- the last line, where the input doesn't end in a line feed
+  pub last : fed ≡ false → (text ≢ []) × (rest ≡ [])
+  pub no_feed : All (λ b. b ≢ 10) text
+  pub short : length text ≤ 8192
+
+pub record IsLong (bytes text rest : List ℕ) : Type 0 where
+  pub stays : rest ≡ bytes
+  pub front : text ≡ take 8192 bytes
+  pub long : 8192 < length bytes
+  pub no_feed : All (λ b. b ≢ 10) (take 8193 bytes)
+
 abbrev pub IsCut : List ℕ → LineGot → List ℕ → Bool → List ℕ → Type 0
-IsCut bytes Line text fed rest = (bytes ≡ text ++ feed fed ++ rest) × (fed ≡ false → (text ≢ []) × (rest ≡ [])) × All (λ b. b ≢ 10) text × (length text ≤ 8192)
-IsCut bytes Long text fed rest = (rest ≡ bytes) × (text ≡ take 8192 bytes) × (8192 < length bytes) × All (λ b. b ≢ 10) (take 8193 bytes)
+IsCut bytes Line text fed rest = IsLine bytes text fed rest
+IsCut bytes Long text fed rest = IsLong bytes text rest
 IsCut bytes Done text fed rest = (bytes ≡ []) × (text ≡ []) × (rest ≡ [])
 IsCut bytes Failed text fed rest = ⊥
 

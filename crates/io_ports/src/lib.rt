@@ -1,6 +1,7 @@
 //! Sources and sinks of bytes: what the product reads from and writes to, in memory and over std's readers and
-//! writers, and the loops that every command shares. Each device counts its faults, and a call fails only where that
-//! count rose, so that no caller can give up and blame a device. It rests on the words of `device_rules` alone.
+//! writers, the loops that every command shares, and the lines of an input. Each device counts its faults, and a call
+//! fails only where that count rose, so that no caller can give up and blame a device. It rests on the words of
+//! `device_rules`, and on `bstr` to find the end of a line.
 #![tactic(auto)]
 
 mod adapters;

@@ -39,7 +39,11 @@ impl Model for Lines {
 
     ghost Value = { Cutting };
 
-    ghost view = { λ lines. record { ahead = drop lines.given lines.ahead; text = take lines.text lines.ahead; fed = lines.fed } };
+    ghost view = { λ lines. record {
+      ahead = drop lines.given lines.ahead;
+      text = take lines.text lines.ahead;
+      fed = lines.fed;
+    } };
 
     ghost invariant = { λ lines. (lines.given ≤ length lines.ahead) × (lines.text ≤ length lines.ahead) };
 }
@@ -60,8 +64,8 @@ impl Lines {
     /// Gets the next line of the source: `text` lends it, and `fed` says whether a line feed ended it. After `Done` and
     /// after `Failed`, which comes only where the source's count of faults rose, `text` lends no byte.
     pub fn next<S: Source>(&mut self, source: &mut S) -> LineGot
-        ensures gives { Gives (prepend_known self.old.ahead (S.left source.old)) (prepend_known self.new.ahead (S.left source.new))
-            result self.new.text self.new.fed }
+        ensures gives { Gives (prepend_known self.old.ahead (S.left source.old))
+            (prepend_known self.new.ahead (S.left source.new)) result self.new.text self.new.fed }
         ensures done { result ≡ LineGot.Done → self.new.text ≡ [] }
         ensures kept { result ≡ LineGot.Failed → (self.new.text ≡ []) × (self.new.fed ≡ false) }
         ensures short { length self.new.text ≤ 8192 }
@@ -111,7 +115,8 @@ impl Lines {
 fn gather<S: Source>(ahead: &mut Ahead, source: &mut S) -> Result<usize, Failed>
     ensures len { IfOk result (λ n. n ≡ line_len ahead.new) }
     ensures whole { IfOk result (λ n. n ≡ length ahead.new → n ≤ LONGEST → IsAtEnd (S.left source.new)) }
-    ensures bytes { Keeps (prepend_known ahead.old (S.left source.old)) (prepend_known ahead.new (S.left source.new)) }
+    ensures bytes { Keeps (prepend_known ahead.old (S.left source.old))
+        (prepend_known ahead.new (S.left source.new)) }
     ensures cause { HasCause (S.faults source.old) (S.faults source.new) result }
 {
     let mut searched = 0;
