@@ -1,2 +1,4 @@
+pub mod Counts
 pub mod Memory
 pub mod Transfers
+pub mod Lines

@@ -1,10 +1,7 @@
 -- The states of a source and a sink in memory, as their callers see them, and what a call makes of them.
-use Rattle.std.specs.Prelude.{ℕ, ◌+◌, ◌-◌, ◌^◌, ◌==◌, ◌++◌, ◌||◌, min, Bool, List, length, drop}
+use Rattle.std.specs.Prelude.{ℕ, ◌-◌, ◌==◌, ◌++◌, ◌||◌, min, Bool, List, length, drop}
 use Rattle.std.specs.List.{list_any}
-
--- One more, of a u64 that stops at its last value.
-abbrev pub one_more : ℕ → ℕ
-one_more n = min (n + 1) (2 ^ 64 - 1)
+use Rattle.io_ports.specs.Counts.{one_more}
 
 -- Whether the call of this number is one of those that fail.
 abbrev pub stands_in : List ℕ → ℕ → Bool
@@ -50,7 +47,7 @@ read_count supply room = min supply.piece (min room (length supply.left))
 abbrev pub write_count : Store → ℕ → ℕ
 write_count store len = min len store.room
 
--- A source that has given n bytes, and a sink that has taken them.
+-- A source that has given n bytes, and a sink that has taken these.
 abbrev pub after_read : Supply → ℕ → Supply
 after_read supply n = record supply { left = drop n supply.left; calls = made supply.calls }
 

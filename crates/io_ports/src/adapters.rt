@@ -1,9 +1,9 @@
 //! Std's readers and writers as a source and a sink: the edge that a proof can't look behind. Each keeps a count of the
 //! errors that the inner object gave, and tells of its bytes what that object tells.
-ghost use Rattle.std.specs.Prelude.{◌≡◌, length, ◌<◌, ◌≤◌, IfOk, MatchResult};
+ghost use Rattle.std.specs.Prelude.{◌≡◌, length, ◌<◌, ◌≤◌, IfOk};
 ghost use Rattle.std.specs.Io.KnownBytes.{ReadConsumes, WriteAppends, Keeps};
 ghost use Rattle.device_rules.specs.Devices.{HasCause};
-ghost use Rattle.io_ports.specs.Memory.{one_more};
+ghost use Rattle.io_ports.specs.Counts.{CountsErr};
 
 use crate::{Failed, Sink, Source};
 use std::io::{Read, Write};
@@ -16,6 +16,7 @@ pub struct StdSource<R: Read> {
 }
 
 impl<R: Read> StdSource<R> {
+    /// A source over this reader, with no fault yet.
     pub fn new(inner: R) -> StdSource<R>
         ensures inner { result.inner ≡ inner }
         ensures faults { result.faults ≡ 0 }
@@ -32,9 +33,10 @@ impl<R: Read> Source for StdSource<R> {
     fn read(&mut self, buf: &mut [u8]) -> Result<usize, Failed>
         requires { 0 < length buf.old }
         ensures within { IfOk result (λ n. n ≤ length buf.new) }
-        ensures bytes { ReadConsumes (R.remaining self.old.inner) (R.remaining self.new.inner) result buf.new }
+        ensures bytes { ReadConsumes (R.remaining self.old.inner) (R.remaining self.new.inner)
+            result buf.new }
         ensures cause { HasCause self.old.faults self.new.faults result }
-        ensures counted { MatchResult result (λ _. self.new.faults ≡ self.old.faults) (λ _. self.new.faults ≡ one_more self.old.faults) }
+        ensures counted { CountsErr self.old.faults self.new.faults result }
     {
         match self.inner.read(buf) {
             Ok(count) => Ok(count),
@@ -54,6 +56,7 @@ pub struct StdSink<W: Write> {
 }
 
 impl<W: Write> StdSink<W> {
+    /// A sink over this writer, with no fault yet.
     pub fn new(inner: W) -> StdSink<W>
         ensures inner { result.inner ≡ inner }
         ensures faults { result.faults ≡ 0 }
@@ -70,9 +73,10 @@ impl<W: Write> Sink for StdSink<W> {
     fn write(&mut self, piece: &[u8]) -> Result<usize, Failed>
         requires { 0 < length piece.now }
         ensures within { IfOk result (λ n. (1 ≤ n) × (n ≤ length piece.now)) }
-        ensures bytes { WriteAppends (W.contents self.old.inner) (W.contents self.new.inner) result piece.now }
+        ensures bytes { WriteAppends (W.contents self.old.inner) (W.contents self.new.inner)
+            result piece.now }
         ensures cause { HasCause self.old.faults self.new.faults result }
-        ensures counted { MatchResult result (λ _. self.new.faults ≡ self.old.faults) (λ _. self.new.faults ≡ one_more self.old.faults) }
+        ensures counted { CountsErr self.old.faults self.new.faults result }
     {
         match self.inner.write(piece) {
             Ok(count) if count > 0 => Ok(count),
@@ -86,7 +90,7 @@ impl<W: Write> Sink for StdSink<W> {
     fn flush(&mut self) -> Result<(), Failed>
         ensures bytes { Keeps (W.contents self.old.inner) (W.contents self.new.inner) }
         ensures cause { HasCause self.old.faults self.new.faults result }
-        ensures counted { MatchResult result (λ _. self.new.faults ≡ self.old.faults) (λ _. self.new.faults ≡ one_more self.old.faults) }
+        ensures counted { CountsErr self.old.faults self.new.faults result }
     {
         match self.inner.flush() {
             Ok(()) => Ok(()),

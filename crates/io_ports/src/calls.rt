@@ -1,7 +1,8 @@
 //! The numbered calls of a device in memory. The source and the sink count alike, so what a call's number decides
 //! stands here once. Counts stop at the last value of their type; the numbers of failing calls lie far below it.
 ghost use Rattle.std.specs.Prelude.{◌≡◌, ◌≤◌, IfOk};
-ghost use Rattle.io_ports.specs.Memory.{one_more, stands_in};
+ghost use Rattle.io_ports.specs.Counts.{one_more};
+ghost use Rattle.io_ports.specs.Memory.{stands_in};
 
 use std::alloc::{AllocError, Global};
 

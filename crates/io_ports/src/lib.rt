@@ -1,16 +1,20 @@
 //! Sources and sinks of bytes: what the product reads from and writes to, in memory and over std's readers and
-//! writers, and the loops that every command shares. Each device counts its faults, and a call fails only where that
-//! count rose, so that no caller can give up and blame a device. It rests on the words of `device_rules` alone.
+//! writers, the loops that every command shares, and the lines of an input. Each device counts its faults, and a call
+//! fails only where that count rose, so that no caller can give up and blame a device. It rests on the words of
+//! `device_rules`, and on `bstr` to find the end of a line.
 #![tactic(auto)]
 
 mod adapters;
+mod ahead;
 mod calls;
+mod line_reader;
 mod memory;
 mod null;
 mod ports;
 mod transfers;
 
 pub use adapters::{StdSink, StdSource};
+pub use line_reader::{LineGot, Lines, each_text_is_cut};
 pub use memory::{MemSink, MemSource};
 pub use null::NullSink;
 pub use ports::{Failed, Sink, Source};
@@ -19,9 +23,24 @@ pub use transfers::{put_all, read_all};
 #[cfg(test)]
 mod tests {
     use super::*;
+    use std::io;
     use std::test::Fail;
 
     const TEXT: &[u8] = b"four in a row";
+
+    // A writer that takes nothing and can't hand on what it has.
+    #[derive(Drop)]
+    struct Stuck;
+
+    impl io::Write for Stuck {
+        fn write(&mut self, _piece: &[u8]) -> io::Result<usize> {
+            Ok(0)
+        }
+
+        fn flush(&mut self) -> io::Result<()> {
+            Err(io::Error::from(io::ErrorKind::BrokenPipe))
+        }
+    }
 
     #[test]
     fn std_readers_and_writers_pass_bytes_through(rt: HostRuntime) -> Result<(), Fail> {
@@ -35,6 +54,9 @@ mod tests {
         put_all(&mut sink, &buf[..count])?;
         sink.flush()?;
         assert_eq!(rt; written.as_slice(), TEXT);
+        let mut stuck = StdSink::new(Stuck);
+        assert_eq!(rt; put_all(&mut stuck, TEXT), Err(Failed));
+        assert_eq!(rt; stuck.flush(), Err(Failed));
         Ok(())
     }
 
@@ -93,5 +115,58 @@ mod tests {
         let mut sink = NullSink::new();
         assert_eq!(rt; put_all(&mut sink, TEXT), Ok(()));
         assert_eq!(rt; sink.flush(), Ok(()));
+    }
+
+    // A line with a line feed, an empty one, one with a carriage return and a last one without a line feed.
+    #[test]
+    fn lines_are_the_same_in_any_pieces(rt: HostRuntime) -> Result<(), Fail> {
+        let text: &[u8] = b"one\n\nthree\r\nlast";
+        let rows: [(LineGot, &[u8], bool); 6] = [
+            (LineGot::Line, b"one", true),
+            (LineGot::Line, b"", true),
+            (LineGot::Line, b"three\r", true),
+            (LineGot::Line, b"last", false),
+            (LineGot::Done, b"", false),
+            (LineGot::Done, b"", false),
+        ];
+        for piece in [1, 4, 256] {
+            let mut source = MemSource::new(rt.alloc(), text, piece, &[2])?;
+            let mut lines = Lines::new();
+            let mut failed = false;
+            for (got, text, fed) in rows {
+                let mut now = lines.next(&mut source);
+                if now == LineGot::Failed {
+                    failed = true;
+                    assert_eq!(rt; lines.text(), b"".as_slice());
+                    now = lines.next(&mut source);
+                }
+                assert_eq!(rt; now, got, "in pieces of {piece}");
+                assert_eq!(rt; lines.text(), text, "in pieces of {piece}");
+                assert_eq!(rt; lines.fed(), fed, "in pieces of {piece}");
+            }
+            assert!(rt; failed, "in pieces of {piece}");
+        }
+        Ok(())
+    }
+
+    // The longest line, and then one that has a byte more.
+    #[test]
+    fn a_line_has_at_most_8192_bytes(rt: HostRuntime) -> Result<(), Fail> {
+        let longest = vec![in rt.alloc(); b'a'; 8192]?;
+        let front = vec![in rt.alloc(); b'b'; 8192]?;
+        let mut text = longest.clone()?;
+        text.push(b'\n')?;
+        text.extend_from_slice(&front)?;
+        text.push(b'b')?;
+        let mut source = MemSource::new(rt.alloc(), &text, 1000, &[])?;
+        let mut lines = Lines::new();
+        assert_eq!(rt; lines.next(&mut source), LineGot::Line);
+        assert_eq!(rt; lines.text(), longest.as_slice());
+        assert!(rt; lines.fed());
+        for _ in 0..2 {
+            assert_eq!(rt; lines.next(&mut source), LineGot::Long);
+            assert_eq!(rt; lines.text(), front.as_slice());
+        }
+        Ok(())
     }
 }

@@ -45,7 +45,8 @@ impl MemSource {
         fail: &[u32],
     ) -> Result<MemSource, AllocError>
         requires { 1 ≤ piece }
-        ensures { IfOk result (λ source. source ≡ record { left = bytes.now; piece = piece; calls = fresh fail.now }) }
+        ensures { IfOk result (λ source. source ≡
+            record { left = bytes.now; piece = piece; calls = fresh fail.now }) }
     {
         Ok(MemSource {
             bytes: Vec::from_slice(alloc, bytes)?,
@@ -112,7 +113,8 @@ impl MemSink {
     /// An empty sink with room for `room` bytes. Calls of `write` and of `flush` are numbered together, from 1, and
     /// those whose numbers stand in `fail` answer `Failed`, as does a write while no room is free.
     pub fn new(alloc: Global, room: usize, fail: &[u32]) -> Result<MemSink, AllocError>
-        ensures { IfOk result (λ sink. sink ≡ record { written = []; room = room; calls = fresh fail.now }) }
+        ensures { IfOk result (λ sink. sink ≡
+            record { written = []; room = room; calls = fresh fail.now }) }
     {
         Ok(MemSink {
             bytes: Vec::with_capacity(alloc, room)?,

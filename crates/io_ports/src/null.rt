@@ -10,6 +10,7 @@ use crate::{Failed, Sink};
 pub struct NullSink;
 
 impl NullSink {
+    /// A sink to write to for nothing.
     pub fn new() -> NullSink {
         NullSink
     }

@@ -1,0 +1,239 @@
+-- Where a line ends, and what a reader gives of the bytes that it holds.
+use Rattle.std.proofs.Common.{◌≡◌, ◌≢◌, ℕ, ◌+◌, ◌-◌, ◌<◌, ◌≤◌, min, Bool, true, false, cond, not, eqb, ltb, List, [], ◌∷◌, ◌++◌, length, take, drop, get_or, All, Option, Some, None, refl, sym, ap, ◌∙◌, subst, inl, inr, arith, append_assoc}
+use Rattle.std.proofs.lemmas.List.{append-nil, take_all, take-append-le, drop-append-le, take-append-drop, drop_more, drop_all, length-take-le, length-append, length-drop, get_or-take, take_rest}
+use Rattle.std.proofs.lemmas.List.Folds.{prefix_len-append}
+use Rattle.std.proofs.lemmas.List.Sums.{prefix_len-le-length, position_or_len_is, fails_before_first, passes_at_first}
+use Rattle.std.proofs.lemmas.Bool.{eqb-true, eq-eqb, lt-ltb, le-ltb, cases_lt}
+use Rattle.std.specs.Io.KnownBytes.{Keeps, IsAtEnd, prepend_known}
+use Rattle.bstr.specs.Find.{IsFirstByte, is_byte}
+use Rattle.io_ports.specs.Lines.{Cut, line_len, next_line, IsCut, EachTextIsCut, Gives}
+use Rattle.io_ports.specs.declared.line_reader.LineGot.TheVariants.{Line, Long, Done, Failed}
+
+fails : (b : Bool) → (b ≡ true → ⊥) → b ≡ false
+fails true never = absurd (never refl)
+fails false never = refl
+
+pub line_len-le : (xs : List ℕ) → line_len xs ≤ length xs
+line_len-le xs = prefix_len-le-length (λ b. not (eqb b 10)) xs
+
+-- a search that found none
+pub line_len-none : (xs : List ℕ) → IsFirstByte (is_byte 10) xs None → line_len xs ≡ length xs
+line_len-none xs nowhere =
+    position_or_len_is (λ b. eqb b 10) xs (length xs) 0 (omega arith)
+    (λ k below. fails (eqb (get_or xs k 0) 10) (nowhere k (omega arith) below))
+    (λ past. absurd (omega arith))
+
+-- a search that found one
+pub line_len-found : (xs : List ℕ) (at : ℕ) → IsFirstByte (is_byte 10) xs (Some at) → line_len xs ≡ at
+line_len-found xs at found =
+    position_or_len_is (λ b. eqb b 10) xs at 0 (omega (arith, found.0.high))
+    (λ k below. fails (eqb (get_or xs k 0) 10) (found.0.before k (omega arith) below))
+    (λ _. found.1)
+
+-- the front has none, so the line ends in what follows
+pub line_len-append_none : (xs ys : List ℕ) → line_len xs ≡ length xs → line_len (xs ++ ys) ≡ length xs + line_len ys
+line_len-append_none xs ys none =
+    prefix_len-append (λ b. not (eqb b 10)) xs ys
+    ∙ ap (λ t. cond t (length xs + line_len ys) (line_len xs)) (eq-eqb (line_len xs) (length xs) none)
+
+-- the front has one
+pub line_len-append_found : (xs ys : List ℕ) → line_len xs < length xs → line_len (xs ++ ys) ≡ line_len xs
+line_len-append_found xs ys found =
+    let other : eqb (line_len xs) (length xs) ≡ false = fails _ (λ same. absurd (omega (arith, eqb-true (line_len xs) (length xs) same))) in
+    prefix_len-append (λ b. not (eqb b 10)) xs ys ∙ ap (λ t. cond t (length xs + line_len ys) (line_len xs)) other
+
+-- no byte of a line is a line feed
+pub no_feed : (xs : List ℕ) (n : ℕ) → n ≤ line_len xs → All (λ b. b ≢ 10) (take n xs)
+no_feed xs n within k d below same =
+    let total = length-take-le n xs (omega (arith, line_len-le xs)) in
+    let here : k < n = omega arith in
+    let at : get_or (take n xs) k d ≡ get_or xs k d = get_or-take n xs k d here in
+    let other : eqb (get_or xs k d) 10 ≡ false = fails_before_first (λ b. eqb b 10) xs k d (omega arith) in
+    cc (other, eq-eqb (get_or xs k d) 10 (sym at ∙ same))
+
+-- what `next_line` is in each case
+next_line-long : (bytes : List ℕ) → 8192 < line_len bytes → next_line bytes ≡ record { got = Long; text = take 8192 bytes; fed = false; rest = bytes }
+next_line-long [] long = absurd (omega arith)
+next_line-long (b ∷ bs) long = rw (lt-ltb 8192 (line_len (b ∷ bs)) long) refl
+
+next_line-fed : (bytes : List ℕ) → line_len bytes ≤ 8192 → line_len bytes < length bytes
+    → next_line bytes ≡ record { got = Line; text = take (line_len bytes) bytes; fed = true; rest = drop (line_len bytes + 1) bytes }
+next_line-fed [] short found = absurd (omega arith)
+next_line-fed (b ∷ bs) short found =
+    rw (le-ltb 8192 (line_len (b ∷ bs)) short) (rw (lt-ltb (line_len (b ∷ bs)) (length (b ∷ bs)) found) refl)
+
+-- n is the length of the line
+next_line-fed_at : (bytes : List ℕ) (n : ℕ) → n ≡ line_len bytes → n ≤ 8192 → n < length bytes
+    → next_line bytes ≡ record { got = Line; text = take n bytes; fed = true; rest = drop (n + 1) bytes }
+next_line-fed_at bytes n is short found =
+    next_line-fed bytes (omega (arith, is)) (omega (arith, is))
+    ∙ ap (λ m. record { got = Line; text = take m bytes; fed = true; rest = drop (m + 1) bytes }) (sym is)
+
+next_line-unfed : (bytes : List ℕ) → line_len bytes ≤ 8192 → line_len bytes ≡ length bytes → 0 < length bytes
+    → next_line bytes ≡ record { got = Line; text = bytes; fed = false; rest = [] }
+next_line-unfed [] short all some = absurd (omega arith)
+next_line-unfed (b ∷ bs) short all some =
+    rw (le-ltb 8192 (line_len (b ∷ bs)) short) (rw (le-ltb (line_len (b ∷ bs)) (length (b ∷ bs)) (omega (arith, all))) refl)
+
+-- the same of what the words say
+long_is_cut : (bytes : List ℕ) → 8192 < line_len bytes → IsCut bytes Long (take 8192 bytes) false bytes
+long_is_cut bytes long = record {
+  stays = refl;
+  front = refl;
+  long = omega (arith, line_len-le bytes);
+  no_feed = no_feed bytes 8193 (omega arith);
+}
+
+-- what stands at the end of a line that a line feed ends
+feed_there : (bytes : List ℕ) → line_len bytes < length bytes → bytes ≡ (take (line_len bytes) bytes ++ 10 ∷ []) ++ drop (line_len bytes + 1) bytes
+feed_there bytes found =
+    let n = line_len bytes in
+    let is_feed : get_or bytes n 0 ≡ 10 = eqb-true (get_or bytes n 0) 10 (passes_at_first (λ b. eqb b 10) bytes 0 found) in
+    let rest : drop n bytes ≡ 10 ∷ drop (n + 1) bytes = drop_more bytes n 0 found ∙ ap (λ b. b ∷ drop (n + 1) bytes) is_feed in
+    sym (take-append-drop n bytes) ∙ ap (λ l. take n bytes ++ l) rest ∙ sym (append_assoc (take n bytes) (10 ∷ []) (drop (n + 1) bytes))
+
+fed_is_cut : (bytes : List ℕ) → line_len bytes ≤ 8192 → line_len bytes < length bytes
+    → IsCut bytes Line (take (line_len bytes) bytes) true (drop (line_len bytes + 1) bytes)
+fed_is_cut bytes short found = record {
+  whole = feed_there bytes found;
+  last = λ never. cc;
+  no_feed = no_feed bytes (line_len bytes) (omega arith);
+  short = omega (arith, length-take-le (line_len bytes) bytes (line_len-le bytes));
+}
+
+unfed_is_cut : (bytes : List ℕ) → line_len bytes ≤ 8192 → line_len bytes ≡ length bytes → 0 < length bytes → IsCut bytes Line bytes false []
+unfed_is_cut bytes short all some =
+    let whole : take (line_len bytes) bytes ≡ bytes = take_all (line_len bytes) bytes (omega (arith, all)) in
+    let P : List ℕ → Type 0 = λ l. All (λ b. b ≢ 10) l in
+    record {
+      whole = sym (append-nil (bytes ++ []) ∙ append-nil bytes);
+      last = λ _. (λ none. absurd (omega (arith, ap length none)), refl);
+      no_feed = subst P whole (no_feed bytes (line_len bytes) (omega arith));
+      short = omega (arith, all);
+    }
+
+abbrev IsCutBy : List ℕ → Cut → Type 0
+IsCutBy bytes cut = IsCut bytes cut.got cut.text cut.fed cut.rest
+
+pub each_text_is_cut : EachTextIsCut
+each_text_is_cut [] = (refl, refl, refl)
+each_text_is_cut (b ∷ bs) =
+    let bytes = b ∷ bs in
+    elim (cases_lt 8192 (line_len bytes)) [
+      | inl long ↦ subst (IsCutBy bytes) (sym (next_line-long bytes long)) (long_is_cut bytes long)
+      | inr short ↦
+          elim (cases_lt (line_len bytes) (length bytes)) [
+            | inl found ↦ subst (IsCutBy bytes) (sym (next_line-fed bytes short found)) (fed_is_cut bytes short found)
+            | inr all ↦
+                let whole : line_len bytes ≡ length bytes = omega (arith, line_len-le bytes) in
+                subst (IsCutBy bytes) (sym (next_line-unfed bytes short whole (omega arith))) (unfed_is_cut bytes short whole (omega arith))
+          ]
+    ]
+
+-- ---- what a reader gives, where it holds the front of the bytes that are not given
+
+line_len-front : (xs ys : List ℕ) → line_len xs ≤ line_len (xs ++ ys)
+line_len-front xs ys =
+    elim (cases_lt (line_len xs) (length xs)) [
+      | inl found ↦ omega (arith, line_len-append_found xs ys found)
+      | inr all ↦
+          let whole : line_len xs ≡ length xs = omega (arith, line_len-le xs) in
+          omega (arith, line_len-append_none xs ys whole)
+    ]
+
+pub Gives-long : (a b : Option (List ℕ)) (held : List ℕ) → Keeps a (prepend_known held b) → 8192 < line_len held
+    → Gives a (prepend_known held b) Long (take 8192 held) false
+Gives-long None b held kept long = tt
+Gives-long (Some x) None held kept long = absurd kept
+Gives-long (Some x) (Some y) held kept long =
+    let bytes = held ++ y in
+    let P : List ℕ → Type 0 = λ l. record { got = Long; text = take 8192 held; fed = false; rest = bytes } ≡ next_line l in
+    let front : take 8192 bytes ≡ take 8192 held = take-append-le 8192 held y (omega (arith, line_len-le held)) in
+    subst P kept
+    (ap (λ t. record { got = Long; text = t; fed = false; rest = bytes }) (sym front)
+    ∙ sym (next_line-long bytes (omega (arith, line_len-front held y))))
+
+Gives-fed : (a b : Option (List ℕ)) (held : List ℕ) (n : ℕ) → Keeps a (prepend_known held b) → n ≡ line_len held → n ≤ 8192 → n < length held
+    → Gives a (prepend_known (drop (n + 1) held) b) Line (take n held) true
+Gives-fed None b held n kept is short found = tt
+Gives-fed (Some x) None held n kept is short found = absurd kept
+Gives-fed (Some x) (Some y) held n kept is short found =
+    let bytes = held ++ y in
+    let P : List ℕ → Type 0 = λ l. record { got = Line; text = take n held; fed = true; rest = drop (n + 1) held ++ y } ≡ next_line l in
+    let front : take n bytes ≡ take n held = take-append-le n held y (omega arith) in
+    let after : drop (n + 1) bytes ≡ drop (n + 1) held ++ y = drop-append-le (n + 1) held y (omega arith) in
+    let ends : n ≡ line_len bytes = is ∙ sym (line_len-append_found held y (omega (arith, is))) in
+    subst P kept
+    (ap (λ t. record { got = Line; text = t; fed = true; rest = drop (n + 1) held ++ y }) (sym front)
+    ∙ ap (λ r. record { got = Line; text = take n bytes; fed = true; rest = r }) (sym after)
+    ∙ sym (next_line-fed_at bytes n ends short (omega (arith, length-append held y))))
+
+Gives-unfed : (a b : Option (List ℕ)) (held : List ℕ) (n : ℕ) → Keeps a (prepend_known held b) → n ≡ line_len held → n ≤ 8192 → n ≡ length held → 0 < length held → IsAtEnd b
+    → Gives a (prepend_known (drop n held) b) Line (take n held) false
+Gives-unfed None b held n kept is short all some end = tt
+Gives-unfed (Some x) None held n kept is short all some end = absurd kept
+Gives-unfed (Some x) (Some y) held n kept is short all some end =
+    let P : List ℕ → Type 0 = λ l. record { got = Line; text = take n held; fed = false; rest = drop n held ++ y } ≡ next_line l in
+    let front : take n held ≡ held = take_all n held (omega (arith, all)) in
+    let after : drop n held ++ y ≡ [] = ap (λ l. l ++ y) (drop_all n held (omega (arith, all))) ∙ end in
+    let whole : held ≡ x = sym (append-nil held) ∙ ap (λ l. held ++ l) (sym end) ∙ kept in
+    subst P whole
+    (ap (λ t. record { got = Line; text = t; fed = false; rest = drop n held ++ y }) front
+    ∙ ap (λ r. record { got = Line; text = held; fed = false; rest = r }) after
+    ∙ sym (next_line-unfed held (omega (arith, is)) (sym is ∙ all) some))
+
+-- a line, which a line feed ended where it is not all that is held
+pub Gives-line : (a b : Option (List ℕ)) (held : List ℕ) (n m : ℕ) (fed : Bool) → Keeps a (prepend_known held b) → n ≡ line_len held → n ≤ 8192 → 0 < length held
+    → (n ≡ length held → n ≤ 8192 → IsAtEnd b) → fed ≡ ltb n (length held) → m ≡ min (length held) (n + 1)
+    → Gives a (prepend_known (drop m held) b) Line (take n held) fed
+Gives-line a b held n m fed kept is short some whole fed_is m_is =
+    let G : ℕ → Bool → Type 0 = λ k f. Gives a (prepend_known (drop k held) b) Line (take n held) f in
+    elim (cases_lt n (length held)) [
+      | inl found ↦
+          let taken : n + 1 ≡ m = omega (arith, m_is) in
+          let ended : true ≡ fed = sym (fed_is ∙ lt-ltb n (length held) found) in
+          subst (λ k. G k fed) taken (subst (G (n + 1)) ended (Gives-fed a b held n kept is short found))
+      | inr past ↦
+          let all : n ≡ length held = omega (arith, is, line_len-le held) in
+          let taken : n ≡ m = omega (arith, m_is) in
+          let open_end : false ≡ fed = sym (fed_is ∙ le-ltb n (length held) past) in
+          subst (λ k. G k fed) taken (subst (G n) open_end (Gives-unfed a b held n kept is short all some (whole all short)))
+    ]
+
+pub Gives-done : (a b : Option (List ℕ)) (held : List ℕ) → Keeps a (prepend_known held b) → held ≡ [] → IsAtEnd b → Gives a (prepend_known held b) Done [] false
+Gives-done None b held kept none end = tt
+Gives-done (Some x) None held kept none end = absurd kept
+Gives-done (Some x) (Some y) held kept none end =
+    let P : List ℕ → Type 0 = λ l. record { got = Done; text = []; fed = false; rest = held ++ y } ≡ next_line l in
+    let empty : held ++ y ≡ [] = ap (λ l. l ++ y) none ∙ end in
+    subst P kept (ap (λ r. record { got = Done; text = []; fed = false; rest = r }) empty ∙ ap next_line (sym empty))
+
+pub Gives-failed : (a b : Option (List ℕ)) (held : List ℕ) → Keeps a (prepend_known held b) → Gives a (prepend_known held b) Failed [] false
+Gives-failed None b held kept = tt
+Gives-failed (Some x) None held kept = absurd kept
+Gives-failed (Some x) (Some y) held kept = kept
+
+-- ---- a search that goes on behind what was searched
+
+joined : (held : List ℕ) (s : ℕ) → s ≤ length held → line_len (take s held) ≡ s → line_len held ≡ s + line_len (take (length held - s) (drop s held))
+joined held s within none =
+    let long : length (take s held) ≡ s = length-take-le s held within in
+    let rest : take (length held - s) (drop s held) ≡ drop s held = take_rest held s in
+    ap line_len (sym (take-append-drop s held)) ∙ line_len-append_none (take s held) (drop s held) (none ∙ sym long)
+    ∙ ap (λ m. m + line_len (drop s held)) long ∙ ap (λ l. s + line_len l) (sym rest)
+
+-- held is what is looked at of the bytes: all of them
+pub search-found : (held bytes : List ℕ) (s at : ℕ) → held ≡ bytes → s ≤ length bytes → line_len (take s bytes) ≡ s
+    → IsFirstByte (is_byte 10) (take (length held - s) (drop s held)) (Some at) → s + at ≡ line_len bytes
+search-found held bytes s at same within none found =
+    let rest = take (length held - s) (drop s held) in
+    let there : rest ≡ take (length bytes - s) (drop s bytes) = ap (λ l. take (length l - s) (drop s l)) same in
+    sym (joined bytes s within none ∙ ap (λ l. s + line_len l) (sym there) ∙ ap (λ m. s + m) (line_len-found rest at found))
+
+pub search-none : (held bytes : List ℕ) (s : ℕ) → held ≡ bytes → s ≤ length bytes → line_len (take s bytes) ≡ s
+    → IsFirstByte (is_byte 10) (take (length held - s) (drop s held)) None → line_len bytes ≡ length bytes
+search-none held bytes s same within none nowhere =
+    let rest = take (length held - s) (drop s held) in
+    let there : rest ≡ take (length bytes - s) (drop s bytes) = ap (λ l. take (length l - s) (drop s l)) same in
+    let whole : line_len bytes ≡ s + line_len rest = joined bytes s within none ∙ ap (λ l. s + line_len l) (sym there) in
+    omega (arith, whole, line_len-none rest nowhere, ap length (take_rest held s), length-drop s held, ap length same)

@@ -1,0 +1,69 @@
+-- The lines of an input: what the next one is, as a function of the bytes that were not given yet.
+use Rattle.std.specs.Prelude.{◌≡◌, ◌≢◌, ℕ, ◌+◌, ◌<◌, ◌≤◌, ◌==◌, ◌++◌, Bool, true, false, if◌then◌else◌, nat_lt, List, [], ◌∷◌, length, take, drop, Option, None, Some, ⊤, All}
+use Rattle.std.specs.List.{position_or_len}
+use Rattle.io_ports.specs.declared.line_reader.LineGot.{LineGot}
+use Rattle.io_ports.specs.declared.line_reader.LineGot.TheVariants.{Line, Long, Done, Failed}
+
+-- An answer, the text that it lends, whether a line feed ended it, and the bytes that are not given after it.
+pub record Cut : Type 0 where
+  pub got : LineGot
+  pub text : List ℕ
+  pub fed : Bool
+  pub rest : List ℕ
+
+-- How many bytes stand before the first line feed, or in all where there is none.
+abbrev pub line_len : List ℕ → ℕ
+line_len bytes = position_or_len (λ b. b == 10) bytes
+
+-- The first line of the bytes: too long where more than 8,192 of them come without a line feed, and none where no byte is left.
+abbrev pub next_line : List ℕ → Cut
+next_line [] = record { got = Done; text = []; fed = false; rest = [] }
+next_line (b ∷ bs) =
+    let bytes = b ∷ bs in
+    let len = line_len bytes in
+    if nat_lt 8192 len then record { got = Long; text = take 8192 bytes; fed = false; rest = bytes }
+    else if nat_lt len (length bytes) then record { got = Line; text = take len bytes; fed = true; rest = drop (len + 1) bytes }
+    else record { got = Line; text = bytes; fed = false; rest = [] }
+
+-- A line feed, where there is one.
+abbrev pub feed : Bool → List ℕ
+feed true = 10 ∷ []
+feed false = []
+
+-- The same without a function: what each answer says of the bytes.
+pub record IsLine (bytes text : List ℕ) (fed : Bool) (rest : List ℕ) : Type 0 where
+  pub whole : bytes ≡ text ++ feed fed ++ rest
+  -- the last line, where the input doesn't end in a line feed
+  pub last : fed ≡ false → (text ≢ []) × (rest ≡ [])
+  pub no_feed : All (λ b. b ≢ 10) text
+  pub short : length text ≤ 8192
+
+pub record IsLong (bytes text rest : List ℕ) : Type 0 where
+  pub stays : rest ≡ bytes
+  pub front : text ≡ take 8192 bytes
+  pub long : 8192 < length bytes
+  pub no_feed : All (λ b. b ≢ 10) (take 8193 bytes)
+
+abbrev pub IsCut : List ℕ → LineGot → List ℕ → Bool → List ℕ → Type 0
+IsCut bytes Line text fed rest = IsLine bytes text fed rest
+IsCut bytes Long text fed rest = IsLong bytes text rest
+IsCut bytes Done text fed rest = (bytes ≡ []) × (text ≡ []) × (rest ≡ [])
+IsCut bytes Failed text fed rest = ⊥
+
+-- Each text has a next line, which is as those words say.
+abbrev pub EachTextIsCut : Type 0
+EachTextIsCut = (bytes : List ℕ) → let cut = next_line bytes in IsCut bytes cut.got cut.text cut.fed cut.rest
+
+-- A call went from the first bytes not given to the second, where they are known: to those after the next line, or,
+-- where the source failed, to the same.
+abbrev pub Gives : Option (List ℕ) → Option (List ℕ) → LineGot → List ℕ → Bool → Type 0
+Gives None new got text fed = ⊤
+Gives (Some bytes) None got text fed = ⊥
+Gives (Some bytes) (Some rest) Failed text fed = rest ≡ bytes
+Gives (Some bytes) (Some rest) got text fed = record { got = got; text = text; fed = fed; rest = rest } ≡ next_line bytes
+
+-- What a reader of lines holds: the bytes that it took from the source and hasn't given, and the line that it lends.
+pub record Cutting : Type 0 where
+  pub ahead : List ℕ
+  pub text : List ℕ
+  pub fed : Bool

@@ -1,0 +1,80 @@
+//! The bytes that a reader of lines took from its source and hasn't given up, in a buffer of fixed size. They are moved
+//! to the front of it once half of it was given up, so no more bytes are ever moved than were given up before.
+ghost use Rattle.std.specs.Prelude.{◌≡◌, [], ◌+◌, ◌<◌, ◌≤◌, length, take, drop, IfOk, OnErr};
+ghost use Rattle.std.specs.Io.KnownBytes.{Keeps, IsAtEnd, prepend_known};
+ghost use Rattle.device_rules.specs.Devices.{HasCause};
+
+use crate::{Failed, Source};
+use std::marker::Model;
+
+/// The most bytes that a line may have.
+pub(crate) const LONGEST: usize = 8192;
+
+const CAPACITY: usize = 2 * LONGEST;
+
+#[derive(Drop)]
+pub(crate) struct Ahead {
+    buffer: [u8; CAPACITY],
+    start: usize,
+    end: usize,
+}
+
+impl Model for Ahead {
+    ghost use Rattle.std.specs.Prelude.{ℕ, List, slice_range, ◌≤◌, ◌<◌};
+
+    ghost Value = { List ℕ };
+
+    ghost view = { λ ahead. slice_range ahead.buffer ahead.start ahead.end };
+
+    ghost invariant = { λ ahead. (ahead.start < 8192) × (ahead.start ≤ ahead.end) × (ahead.end ≤ 16384) };
+}
+
+impl Ahead {
+    pub(crate) fn new() -> Ahead
+        ensures { result ≡ [] }
+    {
+        Ahead {
+            buffer: [0; CAPACITY],
+            start: 0,
+            end: 0,
+        }
+    }
+
+    pub(crate) fn bytes(&self) -> &[u8]
+        ensures { result.now ≡ self.now }
+    {
+        &self.buffer[self.start..self.end]
+    }
+
+    /// Gives up the first bytes.
+    pub(crate) fn skip(&mut self, count: usize)
+        requires { count ≤ length self.old }
+        ensures { self.new ≡ drop count self.old }
+    {
+        let (start, end) = (self.start + count, self.end);
+        if start < LONGEST {
+            self.start = start;
+        } else {
+            self.buffer.copy_within(start..end, 0);
+            self.start = 0;
+            self.end = end - start;
+        }
+    }
+
+    /// Takes more bytes from the source behind those held, and answers how many: none at the end of the input.
+    pub(crate) fn fill<S: Source>(&mut self, source: &mut S) -> Result<usize, Failed>
+        requires { length self.old ≤ LONGEST }
+        ensures front { take (length self.old) self.new ≡ self.old }
+        ensures count { IfOk result (λ n. length self.new ≡ length self.old + n) }
+        ensures bytes { Keeps (prepend_known self.old (S.left source.old))
+            (prepend_known self.new (S.left source.new)) }
+        ensures end { IfOk result (λ n. n ≡ 0 → IsAtEnd (S.left source.new)) }
+        ensures refused { OnErr result (self.new ≡ self.old) }
+        ensures cause { HasCause (S.faults source.old) (S.faults source.new) result }
+    {
+        let end = self.end;
+        let count = source.read(&mut self.buffer[end..])?;
+        self.end = end + count;
+        Ok(count)
+    }
+}

@@ -1,0 +1,141 @@
+//! The lines of a source, one at a time, in buffers of fixed size: an input of any length is read in the memory that
+//! the reader itself has. What the next line is depends on the bytes alone and not on how the source cuts them, and a
+//! fault of the source loses none of them.
+ghost use Rattle.std.specs.Prelude.{◌≡◌, ◌≢◌, ◌≤◌, [], false, length, All, IfOk};
+ghost use Rattle.std.specs.Io.KnownBytes.{Keeps, IsAtEnd, prepend_known};
+ghost use Rattle.device_rules.specs.Devices.{HasCause, Rose};
+ghost use Rattle.io_ports.specs.Lines.{EachTextIsCut, Gives, line_len};
+
+use crate::ahead::{Ahead, LONGEST};
+use crate::{Failed, Source};
+use bstr::ByteSlice;
+use std::marker::Model;
+
+/// What a reader of lines has got.
+#[derive(Clone, Copy, Debug, PartialEq, Eq)]
+pub enum LineGot {
+    /// The next line.
+    Line,
+    /// More than 8,192 bytes come without a line feed. The reader stays where it is.
+    Long,
+    /// The input ended, and no byte of a line is left.
+    Done,
+    /// The source failed. The bytes that were taken so far are kept, and the next call goes on with them.
+    Failed,
+}
+
+/// A reader of lines.
+#[derive(Drop)]
+pub struct Lines {
+    ahead: Ahead,
+    given: usize,
+    text: usize,
+    fed: bool,
+}
+
+impl Model for Lines {
+    ghost use Rattle.std.specs.Prelude.{◌≤◌, length, take, drop};
+    ghost use Rattle.io_ports.specs.Lines.{Cutting};
+
+    ghost Value = { Cutting };
+
+    ghost view = { λ lines. record {
+      ahead = drop lines.given lines.ahead;
+      text = take lines.text lines.ahead;
+      fed = lines.fed;
+    } };
+
+    ghost invariant = { λ lines. (lines.given ≤ length lines.ahead) × (lines.text ≤ length lines.ahead) };
+}
+
+impl Lines {
+    /// A reader that has taken nothing yet.
+    pub fn new() -> Lines
+        ensures { result ≡ record { ahead = []; text = []; fed = false } }
+    {
+        Lines {
+            ahead: Ahead::new(),
+            given: 0,
+            text: 0,
+            fed: false,
+        }
+    }
+
+    /// Gets the next line of the source: `text` lends it, and `fed` says whether a line feed ended it. After `Done` and
+    /// after `Failed`, which comes only where the source's count of faults rose, `text` lends no byte.
+    pub fn next<S: Source>(&mut self, source: &mut S) -> LineGot
+        ensures gives { Gives (prepend_known self.old.ahead (S.left source.old))
+            (prepend_known self.new.ahead (S.left source.new)) result self.new.text self.new.fed }
+        ensures done { result ≡ LineGot.Done → self.new.text ≡ [] }
+        ensures kept { result ≡ LineGot.Failed → (self.new.text ≡ []) × (self.new.fed ≡ false) }
+        ensures short { length self.new.text ≤ 8192 }
+        ensures no_feed { All (λ b. b ≢ 10) self.new.text }
+        ensures later { S.faults source.old ≤ S.faults source.new }
+        ensures failed { result ≡ LineGot.Failed → Rose (S.faults source.old) (S.faults source.new) }
+    {
+        self.ahead.skip(self.given);
+        self.given = 0;
+        self.text = 0;
+        self.fed = false;
+        let Ok(len) = gather(&mut self.ahead, source) else {
+            return LineGot::Failed;
+        };
+        let held = self.ahead.bytes().len();
+        if held == 0 {
+            return LineGot::Done;
+        }
+        if len > LONGEST {
+            self.text = LONGEST;
+            return LineGot::Long;
+        }
+        self.text = len;
+        self.fed = len < held;
+        self.given = held.min(len + 1);
+        LineGot::Line
+    }
+
+    /// The line that the last call of `next` got, without its line feed, or the first 8,192 bytes of one that is too
+    /// long. No byte where there was none.
+    pub fn text(&self) -> &[u8]
+        ensures { result.now ≡ self.now.text }
+    {
+        &self.ahead.bytes()[..self.text]
+    }
+
+    /// Whether a line feed ended that line.
+    pub fn fed(&self) -> bool
+        ensures { result ≡ self.now.fed }
+    {
+        self.fed
+    }
+}
+
+/// Reads until what is held decides the next line: a line feed stands in it, it is too long for a line, or it is all
+/// that is left. The answer is how many bytes stand before the line feed, or in all.
+fn gather<S: Source>(ahead: &mut Ahead, source: &mut S) -> Result<usize, Failed>
+    ensures len { IfOk result (λ n. n ≡ line_len ahead.new) }
+    ensures whole { IfOk result (λ n. n ≡ length ahead.new → n ≤ LONGEST → IsAtEnd (S.left source.new)) }
+    ensures bytes { Keeps (prepend_known ahead.old (S.left source.old))
+        (prepend_known ahead.new (S.left source.new)) }
+    ensures cause { HasCause (S.faults source.old) (S.faults source.new) result }
+{
+    let mut searched = 0;
+    loop {
+        let held = ahead.bytes();
+        if let Some(at) = (&held[searched..]).find_byte(b'\n') {
+            return Ok(searched + at);
+        }
+        searched = held.len();
+        if searched > LONGEST {
+            return Ok(searched);
+        }
+        if ahead.fill(source)? == 0 {
+            return Ok(searched);
+        }
+    }
+}
+
+/// A law: each text has a next line, of at most 8,192 bytes and none of them a line feed, and the rest follows it.
+pub fn each_text_is_cut()
+    ensures { EachTextIsCut }
+{}
