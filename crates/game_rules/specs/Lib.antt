@@ -5,3 +5,4 @@ pub mod Cost
 pub mod Text
 pub mod Grammar
 pub mod Laws
+pub mod Number
