@@ -1,0 +1,5 @@
+pub mod Squares
+pub mod Rules
+pub mod Calm
+pub mod Laws
+pub mod Plan
