@@ -27,23 +27,23 @@ disjoint p s white black = one (man_at p s) white black
 
 -- ---- lines
 
-Among-ways : (way : Way) → Among way ways
+pub Among-ways : (way : Way) → Among way ways
 Among-ways H = inl refl
 Among-ways V = inr (inl refl)
 Among-ways U = inr (inr (inl refl))
 Among-ways D = inr (inr (inr (inl refl)))
 
 -- the first square of a line is its anchor
-step_none : (way : Way) (s : Square) → step_of way s 0 ≡ s
+pub step_none : (way : Way) (s : Square) → step_of way s 0 ≡ s
 step_none H (c, r) = ap (λ n. (n, r)) (omega arith)
 step_none V (c, r) = ap (λ n. (c, n)) (omega arith)
 step_none U (c, r) = let over : c + 0 ≡ c = omega arith in let up : r + 0 ≡ r = omega arith in rw (over, up) refl
 step_none D (c, r) = let over : c + 0 ≡ c = omega arith in let up : r - 0 ≡ r = omega arith in rw (over, up) refl
 
-each_step : (test : Square → Bool) (way : Way) (s : Square) → list_all test (line_at way s) ≡ true → (i : ℕ) → i < line_length → test (step_of way s i) ≡ true
+pub each_step : (test : Square → Bool) (way : Way) (s : Square) → list_all test (line_at way s) ≡ true → (i : ℕ) → i < line_length → test (step_of way s i) ≡ true
 each_step test way s h i low = all_gives test (line_at way s) (step_of way s i) h (Among-map (step_of way s) (below line_length) i (Among-below line_length i low))
 
-from_steps : (test : Square → Bool) (way : Way) (s : Square) → ((i : ℕ) → i < line_length → test (step_of way s i) ≡ true) → list_all test (line_at way s) ≡ true
+pub from_steps : (test : Square → Bool) (way : Way) (s : Square) → ((i : ℕ) → i < line_length → test (step_of way s i) ≡ true) → list_all test (line_at way s) ≡ true
 from_steps test way s each =
     and_from _ _ (each 0 (lit< tt)) (and_from _ _ (each 1 (lit< tt)) (and_from _ _ (each 2 (lit< tt)) (and_from _ _ (each 3 (lit< tt)) refl)))
 
@@ -60,7 +60,7 @@ line_from_four p side h =
       owned = each_step (has_man p side) along.0 (column.0, row.0 + 1) both.1;
     }
 
-on_board_parts : (b : Board) (c r : ℕ) → on_board b (c, r) ≡ true → (c < b.cols) × (1 ≤ r) × (r ≤ b.rows)
+pub on_board_parts : (b : Board) (c r : ℕ) → on_board b (c, r) ≡ true → (c < b.cols) × (1 ≤ r) × (r ≤ b.rows)
 on_board_parts b c r h =
     let both = and_parts _ _ h in let rows = and_parts _ _ both.1 in
     (ltb-true c b.cols both.0, leb-true 1 r rows.0, leb-true r b.rows rows.1)
@@ -123,7 +123,7 @@ four_same p q side board same =
     all_same [] = refl
     all_same (s ∷ ss) = ap (λ b. b && list_all (has_man p side) ss) (same s) ∙ ap (λ b. has_man q side s && b) (all_same ss)
 
-cases_square : (s t : Square) → (s ≡ t) ⊎ (s.0 ≡ t.0 → s.1 ≢ t.1)
+pub cases_square : (s t : Square) → (s ≡ t) ⊎ (s.0 ≡ t.0 → s.1 ≢ t.1)
 cases_square (a, b) (c, d) = elim (cases_eq a c) [
   | inr apart ↦ inr (λ same. absurd (apart same))
   | inl column ↦ elim (cases_eq b d) [
@@ -133,7 +133,7 @@ cases_square (a, b) (c, d) = elim (cases_eq a c) [
 ]
 
 -- the other side's men are as before
-other_kept : (p : Position) (column : ℕ) → has_room p column ≡ true → (s : Square) → has_man (after_move p column) (other (side_to_move p)) s ≡ has_man p (other (side_to_move p)) s
+pub other_kept : (p : Position) (column : ℕ) → has_room p column ≡ true → (s : Square) → has_man (after_move p column) (other (side_to_move p)) s ≡ has_man p (other (side_to_move p)) s
 other_kept p column room s = elim (cases_square s (column, height p column + 1)) [
   | inl here ↦ rw here (ap (is_man (other (side_to_move p))) (placed p column (room_column p column room)) ∙ not_own (side_to_move p)
       ∙ sym (ap (is_man (other (side_to_move p))) (was_empty p column)))
