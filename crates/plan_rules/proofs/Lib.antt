@@ -1,1 +1,8 @@
 mod Vectors
+pub mod Squares
+pub mod Turns
+pub mod Table
+pub mod Lawful
+pub mod Plans
+pub mod Grounds
+pub mod Strategy

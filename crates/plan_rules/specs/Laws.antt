@@ -1,7 +1,7 @@
 -- What the laws of a rule say: how a fitting instance begins, what each move of White's in its zone is answered by,
 -- what White never owns, and that men elsewhere change nothing of this. Each law is over the rule's own parts, so that
 -- whatever has such parts can promise it.
-use Rattle.std.specs.Prelude.{◌≡◌, ℕ, ◌+◌, ◌<◌, ◌≤◌, Bool, true, false, List, Option, Some, None, Contains}
+use Rattle.std.specs.Prelude.{◌≡◌, ℕ, ◌+◌, ◌<◌, ◌≤◌, Bool, true, false, List, Option, Some, None, slice_get}
 use Rattle.game_rules.specs.Board.{Square}
 use Rattle.game_rules.specs.Position.{Position, board_of, height, man_at, has_man, side_to_move, after_move}
 use Rattle.game_rules.specs.declared.Side.{Side}
@@ -47,7 +47,7 @@ StepLaw zone fitted calm reply = (p q : Position) (last : Square) → fitted p �
 pub record AreTrue (upper pair : Square → Bool) (twin : List (Square × Square)) (q : Position) : Type 0 where
   pub uppers : (u : Square) → upper u ≡ true → has_man q White u ≡ false
   pub pairs : (u : Square) → pair u ≡ true → has_man q White u ≡ true → has_man q White (above u) ≡ false
-  pub twins : (u v : Square) → Contains twin (u, v) → has_man q White u ≡ true → has_man q White v ≡ false
+  pub twins : (i : ℕ) (u v : Square) → slice_get twin i ≡ Some (u, v) → has_man q White u ≡ true → has_man q White v ≡ false
 
 -- an instance that fitted and is calm makes its own facts true
 abbrev pub FactLaw : (Position → Bool) → (Position → Bool) → List Square → List Square → Option (Square × Square) → Type 0
