@@ -103,7 +103,7 @@ full_from_filled p filled = not_from_false _ (false_from_ne_true _ (λ some.
 -- ---- the end
 
 -- a test at each square decides a line
-four_same : (p q : Position) (side : Side) → board_of p ≡ board_of q → ((s : Square) → has_man p side s ≡ has_man q side s) → has_four p side ≡ has_four q side
+pub four_same : (p q : Position) (side : Side) → board_of p ≡ board_of q → ((s : Square) → has_man p side s ≡ has_man q side s) → has_four p side ≡ has_four q side
 four_same p q side board same =
     any_same (four_along p side) (four_along q side) ways (λ way _.
     ap (λ n. list_any (four_in_column p side way) (below n)) cols
