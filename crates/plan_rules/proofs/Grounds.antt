@@ -122,7 +122,7 @@ module _ (p q : Position) (ws : List Written) (plan : IsPlan p ws)
   still_low u h = omega (arith, (playable_parts p u h).1, height_stays p q stay u.0)
 
   -- two members, by their places
-  members_together : (i j : ℕ) (v w : Written) → i ≢ j → IsMember ws i v → IsMember ws j w → together v w ≡ true
+  pub members_together : (i j : ℕ) (v w : Written) → i ≢ j → IsMember ws i v → IsMember ws j w → together v w ≡ true
   members_together i j v w apart left right = elim (cases_order i j) [
     | inl same ↦ absurd (apart same)
     | inr order ↦ elim order [

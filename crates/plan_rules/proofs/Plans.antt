@@ -24,7 +24,7 @@ member_of test ws h =
     let found = any_gives test ws h in let at = Among-get ws found.0 found.1 in
     record { place = at.0; member = found.0; is_member = at.1; has_it = found.2 }
 
-any_member : (test : Written → Bool) (ws : List Written) → SomeMember ws (λ w. test w ≡ true) → list_any test ws ≡ true
+pub any_member : (test : Written → Bool) (ws : List Written) → SomeMember ws (λ w. test w ≡ true) → list_any test ws ≡ true
 any_member test ws some = any_from test ws some.member (get-Among ws some.place some.member some.is_member) some.has_it
 
 each_member : (test : Written → Bool) (ws : List Written) → list_all test ws ≡ true → (i : ℕ) (w : Written) → IsMember ws i w → test w ≡ true
