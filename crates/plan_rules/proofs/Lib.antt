@@ -6,3 +6,5 @@ pub mod Lawful
 pub mod Plans
 pub mod Grounds
 pub mod Strategy
+pub mod Words
+pub mod Claimeven
