@@ -1,19 +1,19 @@
 -- What stands on the squares of a zone, as one of a list of words; and what each rule needs of its own zone.
 use Rattle.std.proofs.Common.{◌≡◌, ◌≢◌, ◌⊎◌, ℕ, zero, suc, ◌+◌, ◌<◌, ◌≤◌, Bool, true, false, not, ◌&&◌, ◌||◌, List, [], ◌∷◌, map, filter, Option, Some, None, is_none, refl, sym, ap, ◌∙◌, subst, inl, inr, arith}
 use Rattle.std.specs.List.{list_all, list_any, slice_get, slice_index_or}
-use Rattle.std.proofs.lemmas.Bool.{cases_Bool, and_parts, and_from, or_cases, false_from_ne_true, not_from_false}
+use Rattle.std.proofs.lemmas.Bool.{cases_Bool, and_parts, and_from, and_right, or_cases, false_from_ne_true, not_from_false}
 use Rattle.game_rules.specs.Board.{Square, on_board}
-use Rattle.game_rules.specs.Position.{Position, board_of, height, man_at, is_man, has_man, same_side}
+use Rattle.game_rules.specs.Position.{Position, board_of, height, man_at, is_man, has_man, same_side, after_move}
 use Rattle.game_rules.specs.declared.Side.{Side}
 use Rattle.game_rules.specs.declared.Side.TheVariants.{White, Black}
 use Rattle.game_rules.proofs.Lists.{Among, all_gives}
-use Rattle.game_rules.proofs.Moves.{same_side_is}
-use Rattle.plan_rules.specs.Squares.{holds, above, is_empty, is_playable, word_at}
+use Rattle.game_rules.proofs.Moves.{same_side_is, board_moved}
+use Rattle.plan_rules.specs.Squares.{same_square, holds, above, is_empty, is_playable, word_at}
 use Rattle.plan_rules.specs.Rules.{Written, zone_of, fits}
 use Rattle.plan_rules.specs.Calm.{Word, same_man, same_word, is_one_of}
 use Rattle.plan_rules.specs.Laws.{LocalLaw, IsFounded, AreTrue}
 use Rattle.plan_rules.proofs.Squares.{holds_gives, holds_from}
-use Rattle.plan_rules.proofs.Turns.{empty_parts, playable_man, playable_parts, filled_under}
+use Rattle.plan_rules.proofs.Turns.{empty_parts, playable_man, playable_parts, filled_under, beside, stays}
 use Rattle.plan_rules.proofs.Grounds.{fits_on_board, fits_empty}
 
 -- ---- words
@@ -102,3 +102,12 @@ free_over_from q u low playable =
 -- nothing is owed to others
 pub no_facts : (q : Position) → AreTrue (holds []) (holds []) [] q
 no_facts q = record { uppers = λ u h. absurd (cc h); pairs = λ u h white. absurd (cc h); twins = λ i u v h white. absurd (cc h) }
+
+-- ---- after White's move
+
+-- another square that was empty still is
+pub empty_now : (q : Position) (s u : Square) → is_playable q s ≡ true → on_board (board_of q) u ≡ true → same_square u s ≡ false → man_at q u ≡ None → is_empty (after_move q s.0) u ≡ true
+empty_now q s u playable on apart none = and_from _ _ (ap (λ b. on_board b u) (board_moved q s.0) ∙ on) (ap is_none (beside q s u playable apart ∙ none))
+
+pub filled_now : (q : Position) (s u : Square) (m : Side) → is_playable q s ≡ true → man_at q u ≡ Some m → is_empty (after_move q s.0) u ≡ false
+filled_now q s u m playable man = and_right _ _ (ap is_none (stays q s u m playable man))
