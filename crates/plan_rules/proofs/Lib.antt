@@ -15,3 +15,6 @@ pub mod Aftereven
 pub mod Before
 pub mod Specialbefore
 pub mod Baseclaim
+pub mod Highinverse
+pub mod Columns
+pub mod Pairs

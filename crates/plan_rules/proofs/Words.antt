@@ -6,7 +6,7 @@ use Rattle.game_rules.specs.Board.{Square, on_board}
 use Rattle.game_rules.specs.Position.{Position, board_of, height, man_at, is_man, has_man, same_side, after_move}
 use Rattle.game_rules.specs.declared.Side.{Side}
 use Rattle.game_rules.specs.declared.Side.TheVariants.{White, Black}
-use Rattle.game_rules.proofs.Lists.{Among, all_gives}
+use Rattle.game_rules.proofs.Lists.{Among, any_gives, all_gives}
 use Rattle.game_rules.proofs.Moves.{same_side_is, board_moved}
 use Rattle.plan_rules.specs.Squares.{same_square, holds, above, is_empty, is_playable, word_at}
 use Rattle.plan_rules.specs.Rules.{Written, zone_of, fits}
@@ -111,3 +111,9 @@ empty_now q s u playable on apart none = and_from _ _ (ap (λ b. on_board b u) (
 
 pub filled_now : (q : Position) (s u : Square) (m : Side) → is_playable q s ≡ true → man_at q u ≡ Some m → is_empty (after_move q s.0) u ≡ false
 filled_now q s u m playable man = and_right _ _ (ap is_none (stays q s u m playable man))
+
+-- words of one list, changed each in the same way, are words of another
+pub mapped : (change : Word → Word) (words targets : List Word) (word : Word) → is_one_of words word ≡ true → list_all (λ v. is_one_of targets (change v)) words ≡ true → is_one_of targets (change word) ≡ true
+mapped change words targets word one all =
+    let found = any_gives (same_word word) words one in
+    ap (λ v. is_one_of targets (change v)) (same_word_is word found.0 found.2) ∙ all_gives (λ v. is_one_of targets (change v)) words found.0 all found.1
