@@ -18,3 +18,4 @@ pub mod Baseclaim
 pub mod Highinverse
 pub mod Columns
 pub mod Pairs
+pub mod Lowinverse

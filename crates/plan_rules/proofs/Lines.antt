@@ -13,7 +13,7 @@ use Rattle.plan_rules.specs.Squares.{holds, is_empty, is_playable, Line, squares
 use Rattle.plan_rules.specs.Rules.{Written, is_open_line}
 use Rattle.plan_rules.specs.Laws.{Owns, IsFounded, Answers, StepLaw}
 use Rattle.plan_rules.proofs.Squares.{holds_gives}
-use Rattle.plan_rules.proofs.Turns.{filled_height, filled_under}
+use Rattle.plan_rules.proofs.Turns.{filled_height, filled_under, man_from}
 
 pub each_of_gives : (chosen test : Square → Bool) (us : List Square) (u : Square) → each_of chosen test us ≡ true → holds us u ≡ true → chosen u ≡ true → test u ≡ true
 each_of_gives chosen test us u h owned yes_chosen = elim (or_cases _ _ (all_gives (λ u. not (chosen u) || test u) us u h (holds_gives us u owned))) [
@@ -45,13 +45,8 @@ line_black p q g h stay filled u in_line = elim (cases_Bool (is_none (man_at p u
 pub black_under : (q : Position) (u v : Square) → 1 ≤ u.1 → v.0 ≡ u.0 → u.1 < v.1 → has_man q White v ≡ true → has_man q White u ≡ false → has_man q Black u ≡ true
 black_under q u v low same over white no_white = black_left (man_at q u) (ap is_none some.1) no_white
   where
-    white_man : (m : Option Side) → is_man White m ≡ true → m ≡ Some White
-    white_man None h = absurd (cc h)
-    white_man (Some White) h = refl
-    white_man (Some Black) h = absurd (cc h)
-
     some : (m : Side) × (man_at q u ≡ Some m)
-    some = let top = filled_height q v White (white_man (man_at q v) white) in filled_under q u low (omega (arith, top.1, ap (height q) same))
+    some = let top = filled_height q v White (man_from q White v white) in filled_under q u low (omega (arith, top.1, ap (height q) same))
 
 -- a rule that owns no square is never asked
 pub no_step : (fitted calm : Position → Bool) (reply : Position → Square → Option Square) → StepLaw [] fitted calm reply

@@ -22,7 +22,7 @@ use Rattle.plan_rules.specs.Calm.{is_calm}
 use Rattle.plan_rules.specs.Laws.{IsLineOf, Answers, AreTrue, Owns, IsHeld}
 use Rattle.plan_rules.specs.Plan.{empty_part, IsMember, SomeMember, IsPlan, plan_reply, after_turn, after_turns, duel, is_playable_list, is_nil, IsKept, IsAnswered}
 use Rattle.plan_rules.proofs.Squares.{holds_gives, holds_from, Among-get, get-Among, find_one, same_square_is}
-use Rattle.plan_rules.proofs.Turns.{playable_from, playable_on_board, playable_parts, playable_room, playable_man, playable_empty, placed, beside, stays, side_after, Turned, turn}
+use Rattle.plan_rules.proofs.Turns.{man_from, has_from, playable_from, playable_on_board, playable_parts, playable_room, playable_man, playable_empty, placed, beside, stays, side_after, Turned, turn}
 use Rattle.plan_rules.proofs.Table.{always_calm, zones_apart}
 use Rattle.plan_rules.proofs.Lawful.{Lawful}
 use Rattle.plan_rules.proofs.Plans.{any_member}
@@ -39,23 +39,6 @@ legal_square q column room =
     playable_from q (column, height q column + 1)
     (on_board_from (board_of q) column (height q column + 1) (room_column q column room) (omega arith) (omega (arith, room_height q column room)))
     (man_past (men_in q column) (height q column + 1) (omega arith)) (omega arith)
-
-is_man_some : (side : Side) (m : Option Side) → is_man side m ≡ true → m ≡ Some side
-is_man_some side None h = cc
-is_man_some White (Some White) h = refl
-is_man_some White (Some Black) h = cc
-is_man_some Black (Some White) h = cc
-is_man_some Black (Some Black) h = refl
-
-man_from : (q : Position) (side : Side) (u : Square) → has_man q side u ≡ true → man_at q u ≡ Some side
-man_from q side u h = is_man_some side (man_at q u) h
-
-has_from : (q : Position) (side : Side) (u : Square) → man_at q u ≡ Some side → has_man q side u ≡ true
-has_from q side u h = ap (is_man side) h ∙ own side
-  where
-    own : (side : Side) → is_man side (Some side) ≡ true
-    own White = refl
-    own Black = refl
 
 -- the facts look at White's men alone
 facts_same : (upper pair : Square → Bool) (twin : List (Square × Square)) (q r : Position) → ((u : Square) → has_man q White u ≡ has_man r White u)

@@ -40,6 +40,24 @@ height_stays p q stay c = elim (cases_eq (height p c) 0) [
       (filled_height q (c, height p c) top.0 (stay (c, height p c) top.0 top.1)).1
 ]
 
+-- a side's man, as a test and as what stands there
+is_man_some : (side : Side) (m : Option Side) → is_man side m ≡ true → m ≡ Some side
+is_man_some side None h = cc
+is_man_some White (Some White) h = refl
+is_man_some White (Some Black) h = cc
+is_man_some Black (Some White) h = cc
+is_man_some Black (Some Black) h = refl
+
+pub man_from : (q : Position) (side : Side) (u : Square) → has_man q side u ≡ true → man_at q u ≡ Some side
+man_from q side u h = is_man_some side (man_at q u) h
+
+pub has_from : (q : Position) (side : Side) (u : Square) → man_at q u ≡ Some side → has_man q side u ≡ true
+has_from q side u h = ap (is_man side) h ∙ own side
+  where
+    own : (side : Side) → is_man side (Some side) ≡ true
+    own White = refl
+    own Black = refl
+
 -- ---- playable squares
 
 pub playable_parts : (q : Position) (u : Square) → is_playable q u ≡ true → (u.0 < length q.columns) × (u.1 ≡ height q u.0 + 1) × (u.1 ≤ q.rows)
