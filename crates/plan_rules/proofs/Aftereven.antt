@@ -1,15 +1,13 @@
 -- Aftereven: where White stands above each empty square of the line, all of the line is Black's.
-use Rattle.std.proofs.Common.{◌≡◌, ℕ, ◌+◌, ◌<◌, ◌≤◌, true, false, ◌&&◌, Option, Some, None, refl, ◌∙◌, arith}
-use Rattle.std.specs.List.{list_any}
-use Rattle.game_rules.specs.Board.{Square, below, on_board}
-use Rattle.game_rules.specs.Position.{Position, board_of, has_man}
-use Rattle.game_rules.specs.declared.Side.TheVariants.{White, Black}
+use Rattle.std.proofs.Common.{◌+◌, Some, refl, ◌∙◌, arith}
+use Rattle.game_rules.specs.Board.{below}
+use Rattle.game_rules.specs.Position.{board_of}
 use Rattle.game_rules.proofs.Lists.{any_gives}
 use Rattle.game_rules.proofs.Ends.{on_board_parts}
-use Rattle.plan_rules.specs.Squares.{Line, squares_of, above}
+use Rattle.plan_rules.specs.Squares.{Line, squares_of}
 use Rattle.plan_rules.specs.Rules.{aftereven, fits, reply_to, barred, is_supported, some_above}
 use Rattle.plan_rules.specs.Calm.{is_calm}
-use Rattle.plan_rules.specs.Laws.{BarLaw, StartLaw}
+use Rattle.plan_rules.specs.Laws.{BarLaw}
 use Rattle.plan_rules.proofs.Grounds.{fits_more}
 use Rattle.plan_rules.proofs.Words.{no_facts}
 use Rattle.plan_rules.proofs.Lines.{each_of_gives, open_lies, line_square_on, line_black, black_under, no_step}

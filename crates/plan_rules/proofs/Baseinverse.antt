@@ -1,17 +1,17 @@
 -- Baseinverse: each of the two squares is answered by the other, so White never owns both.
-use Rattle.std.proofs.Common.{◌≡◌, ◌≢◌, ◌⊎◌, ℕ, ◌+◌, ◌<◌, ◌≤◌, zero, suc, Bool, true, false, not, ◌&&◌, cond, List, [], ◌∷◌, Option, Some, None, refl, sym, ap, ◌∙◌, subst, inl, inr, arith}
+use Rattle.std.proofs.Common.{◌≡◌, ◌≢◌, ℕ, ◌+◌, ◌<◌, ◌≤◌, zero, suc, true, false, List, Option, Some, None, refl, sym, ap, ◌∙◌, subst, inl, inr, arith}
 use Rattle.std.specs.List.{slice_get}
 use Rattle.std.proofs.lemmas.Bool.{ltb-true, and_parts, and_from, false_from_ne_true}
 use Rattle.game_rules.specs.Board.{Square, on_board}
-use Rattle.game_rules.specs.Position.{Position, board_of, height, man_at, has_man, side_to_move, after_move}
-use Rattle.game_rules.specs.declared.Side.TheVariants.{White, Black}
+use Rattle.game_rules.specs.Position.{Position, board_of, height, man_at, has_man, after_move}
+use Rattle.game_rules.specs.declared.Side.TheVariants.{White}
 use Rattle.game_rules.proofs.Lists.{Among}
-use Rattle.plan_rules.specs.Squares.{same_square, holds, above, is_playable, word_at}
-use Rattle.plan_rules.specs.Rules.{baseinverse, zone_of, line_of, fits, reply_to, upper_of, pair_of, twin_of, as_list, barred, is_supported}
-use Rattle.plan_rules.specs.Calm.{inverse_words, is_one_of, is_calm}
+use Rattle.plan_rules.specs.Squares.{same_square, is_playable, word_at}
+use Rattle.plan_rules.specs.Rules.{baseinverse, zone_of, fits, reply_to, upper_of, pair_of, twin_of, as_list, barred, is_supported}
+use Rattle.plan_rules.specs.Calm.{inverse_words, is_calm}
 use Rattle.plan_rules.specs.Laws.{StartLaw, LocalLaw, StepLaw, FactLaw, BarLaw, Answers}
 use Rattle.plan_rules.proofs.Squares.{same_square_refl, other_column, holds_gives, holds_from}
-use Rattle.plan_rules.proofs.Turns.{Turned, turn, answer_at, low_kept}
+use Rattle.plan_rules.proofs.Turns.{turn, answer_at, low_kept}
 use Rattle.plan_rules.proofs.Grounds.{fits_shape}
 use Rattle.plan_rules.proofs.Words.{narrow, are_white, is_free, free_from, words_local, zone_on_board, zone_none, foot_low}
 use Rattle.plan_rules.proofs.Lawful.{Lawful}

@@ -1,9 +1,9 @@
 -- Before: where White stands directly above each empty square of the line, all of the line is Black's.
-use Rattle.std.proofs.Common.{◌≡◌, ◌⊎◌, ℕ, ◌+◌, ◌<◌, ◌≤◌, true, false, ◌&&◌, ◌||◌, Option, Some, None, refl, ◌∙◌, inl, inr, arith}
+use Rattle.std.proofs.Common.{◌≡◌, true, false, ◌||◌, Some, refl, ◌∙◌, inl, inr, arith}
 use Rattle.std.proofs.lemmas.Bool.{both_ways, and_parts, or_cases, false_from_ne_true}
-use Rattle.game_rules.specs.Board.{Square, on_board}
+use Rattle.game_rules.specs.Board.{Square}
 use Rattle.game_rules.specs.Position.{Position, board_of, has_man}
-use Rattle.game_rules.specs.declared.Side.TheVariants.{White, Black}
+use Rattle.game_rules.specs.declared.Side.TheVariants.{White}
 use Rattle.game_rules.proofs.Ends.{on_board_parts}
 use Rattle.plan_rules.specs.Squares.{Line, squares_of, above}
 use Rattle.plan_rules.specs.Rules.{before, fits, reply_to, barred, is_supported, is_open_line, is_low_line, Facts}

@@ -1,17 +1,17 @@
 -- Claimeven: the lower square is answered by the upper, so the upper is never White's.
-use Rattle.std.proofs.Common.{◌≡◌, ◌≢◌, ◌⊎◌, ℕ, ◌+◌, ◌<◌, ◌≤◌, Bool, true, false, not, ◌&&◌, List, [], ◌∷◌, Option, Some, None, refl, sym, ap, ◌∙◌, subst, inl, inr, arith}
+use Rattle.std.proofs.Common.{◌≡◌, true, false, List, [], ◌∷◌, Some, None, refl, sym, subst, inl, inr, arith}
 use Rattle.std.proofs.lemmas.Bool.{cond-true, false_from_ne_true}
 use Rattle.game_rules.specs.Board.{Square, on_board}
-use Rattle.game_rules.specs.Position.{Position, board_of, height, man_at, has_man, side_to_move, after_move}
-use Rattle.game_rules.specs.declared.Side.TheVariants.{White, Black}
+use Rattle.game_rules.specs.Position.{board_of, man_at, has_man, after_move}
+use Rattle.game_rules.specs.declared.Side.TheVariants.{White}
 use Rattle.game_rules.proofs.Lists.{Among}
 use Rattle.game_rules.proofs.Ends.{on_board_parts}
-use Rattle.plan_rules.specs.Squares.{same_square, holds, above, is_playable, word_at}
-use Rattle.plan_rules.specs.Rules.{claimeven, zone_of, line_of, fits, reply_to, upper_of, pair_of, twin_of, barred, is_supported}
-use Rattle.plan_rules.specs.Calm.{even_words, is_one_of, is_calm}
+use Rattle.plan_rules.specs.Squares.{same_square, above, is_playable, word_at}
+use Rattle.plan_rules.specs.Rules.{claimeven, zone_of, fits, reply_to, upper_of, pair_of, twin_of, barred, is_supported}
+use Rattle.plan_rules.specs.Calm.{even_words, is_calm}
 use Rattle.plan_rules.specs.Laws.{StartLaw, LocalLaw, StepLaw, FactLaw, BarLaw, Answers}
 use Rattle.plan_rules.proofs.Squares.{same_square_refl, other_row, holds_gives, holds_from}
-use Rattle.plan_rules.proofs.Turns.{Turned, turn, answer_at, low_above}
+use Rattle.plan_rules.proofs.Turns.{turn, answer_at, low_above}
 use Rattle.plan_rules.proofs.Words.{narrow, is_white, is_free, is_free_over, free_from, free_over_from, words_local, zone_on_board, zone_none}
 use Rattle.plan_rules.proofs.Lawful.{Lawful}
 

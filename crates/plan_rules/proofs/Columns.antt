@@ -1,19 +1,18 @@
 -- The men on some squares of one column: which man stands where, how many there are, and what one man more changes.
-use Rattle.std.proofs.Common.{◌≡◌, ◌≢◌, ◌⊎◌, ℕ, zero, suc, ◌+◌, ◌-◌, ◌%◌, ◌<◌, ◌≤◌, Bool, true, false, List, [], ◌∷◌, ◌++◌, length, Option, Some, None, refl, sym, ap, ◌∙◌, subst, inl, inr, arith}
+use Rattle.std.proofs.Common.{◌≡◌, ◌≢◌, ℕ, zero, suc, ◌+◌, ◌<◌, ◌≤◌, true, List, [], ◌∷◌, ◌++◌, length, Option, Some, None, refl, sym, ap, ◌∙◌, inl, inr, arith}
 use Rattle.std.specs.List.{slice_get}
-use Rattle.std.proofs.lemmas.Bool.{cases_lt, false_from_ne_true}
+use Rattle.std.proofs.lemmas.Bool.{cases_lt}
 use Rattle.game_rules.specs.Board.{Square}
 use Rattle.game_rules.specs.Position.{Position, men_in, height, man_at, side_to_move, after_move}
 use Rattle.game_rules.specs.declared.Side.{Side}
-use Rattle.game_rules.specs.declared.Side.TheVariants.{White, Black}
 use Rattle.game_rules.proofs.Lists.{Among}
 use Rattle.game_rules.proofs.Moves.{man_past}
-use Rattle.plan_rules.specs.Squares.{same_square, holds, above, column_up, is_playable, put_first, men_on}
-use Rattle.plan_rules.proofs.Squares.{holds_from, other_column, other_row, column_gives}
-use Rattle.plan_rules.proofs.Turns.{filled_under, playable_parts, playable_man, placed, beside, height_here}
+use Rattle.plan_rules.specs.Squares.{above, column_up, is_playable, put_first, men_on}
+use Rattle.plan_rules.proofs.Squares.{other_column, other_row, column_gives}
+use Rattle.plan_rules.proofs.Turns.{filled_under, playable_parts, placed, beside, height_here}
 
 -- past the height of the column there is no man
-none_on : (q : Position) (n : ℕ) (u : Square) → height q u.0 < u.1 → men_on q (column_up u n) ≡ []
+pub none_on : (q : Position) (n : ℕ) (u : Square) → height q u.0 < u.1 → men_on q (column_up u n) ≡ []
 none_on q zero u past = refl
 none_on q (suc n) u past =
     let none : man_at q u ≡ None = man_past (men_in q u.0) u.1 past in
@@ -95,3 +94,11 @@ pushed_on q s m (suc n) u playable side low same under high = elim (cases_lt u.1
         none_on (after_move q s.0) n (above u) (omega (arith, height_here q s playable, parts.1, ap (λ (v : Square). v.1) at, ap (height (after_move q s.0)) (ap (λ (v : Square). v.0) at))) in
         let none_before : men_on q (column_up u (suc n)) ≡ [] = none_on q (suc n) u (omega (arith, parts.1, ap (λ (v : Square). v.1) at, ap (height q) (ap (λ (v : Square). v.0) at))) in
         ap (λ k. put_first k (men_on (after_move q s.0) (column_up (above u) n))) now ∙ ap (λ men. m ∷ men) none_now ∙ ap (λ men. men ++ m ∷ []) (sym none_before)
+
+pub men_on_append : (q : Position) (us vs : List Square) → men_on q (us ++ vs) ≡ men_on q us ++ men_on q vs
+men_on_append q [] vs = refl
+men_on_append q (u ∷ us) vs = more (man_at q u) (men_on_append q us vs)
+  where
+    more : (m : Option Side) → men_on q (us ++ vs) ≡ men_on q us ++ men_on q vs → put_first m (men_on q (us ++ vs)) ≡ put_first m (men_on q us) ++ men_on q vs
+    more None h = h
+    more (Some m) h = ap (λ men. m ∷ men) h

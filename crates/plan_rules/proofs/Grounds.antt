@@ -1,21 +1,22 @@
 -- Why the columns of a zone are filled below it when White plays there: the zone was founded at the plan's position, or
 -- White's square stands on the column itself, or the zone is an inverse and both floors were filled by a Baseinverse.
-use Rattle.std.proofs.Common.{◌≡◌, ◌≢◌, ◌⊎◌, ℕ, zero, suc, ◌+◌, ◌-◌, ◌*◌, ◌%◌, ◌<◌, ◌≤◌, Bool, true, false, not, ◌&&◌, ◌||◌, List, [], ◌∷◌, ◌++◌, Option, Some, None, is_none, refl, sym, ap, ◌∙◌, subst, inl, inr, arith}
-use Rattle.std.specs.List.{list_all, list_any}
-use Rattle.std.proofs.lemmas.Bool.{cases_lt, cases_order, both_ways, and_parts, or_cases, ltb-true, leb-true, eqb-true}
+use Rattle.std.proofs.Common.{◌≡◌, ◌≢◌, ◌⊎◌, ℕ, ◌+◌, ◌-◌, ◌<◌, ◌≤◌, true, false, List, [], ◌∷◌, ◌++◌, Option, Some, None, is_none, refl, sym, ap, ◌∙◌, subst, inl, inr, arith}
+use Rattle.std.specs.List.{list_all}
+use Rattle.std.proofs.lemmas.Bool.{cases_lt, cases_order, both_ways, and_parts, or_cases, ltb-true, leb-true}
 use Rattle.game_rules.specs.Board.{Square, on_board}
 use Rattle.game_rules.specs.Position.{Position, board_of, height, man_at}
 use Rattle.game_rules.specs.declared.Side.{Side}
 use Rattle.game_rules.specs.declared.Side.TheVariants.{White, Black}
 use Rattle.game_rules.proofs.Ends.{on_board_parts}
 use Rattle.game_rules.proofs.Lists.{Among}
-use Rattle.plan_rules.specs.Squares.{holds, above, under, column_up, span, is_even, is_empty, is_playable}
-use Rattle.plan_rules.specs.Rules.{Written, claimeven, baseinverse, lowinverse, highinverse, baseclaim, vertical, aftereven, before, specialbefore, zone_of, is_standing, is_low_column, has_shape, is_shaped, is_grounded, fits_besides, fits, rests_on, stands_over, together}
-use Rattle.plan_rules.specs.Calm.{Word, is_one_of, inverse_words, is_calm}
+use Rattle.plan_rules.specs.Squares.{holds, above, under, column_up, span, is_empty, is_playable, men_on}
+use Rattle.plan_rules.specs.Rules.{Written, claimeven, baseinverse, lowinverse, highinverse, baseclaim, vertical, aftereven, before, specialbefore, zone_of, is_standing, has_shape, is_shaped, is_grounded, fits_besides, fits, rests_on, stands_over, together}
+use Rattle.plan_rules.specs.Calm.{is_one_of, inverse_words, is_calm}
 use Rattle.plan_rules.specs.Laws.{IsFounded}
-use Rattle.plan_rules.specs.Plan.{IsMember, SomeMember, IsPlan}
+use Rattle.plan_rules.specs.Plan.{IsMember, SomeMember, IsPlan, bottoms_of, HasFloors}
 use Rattle.plan_rules.proofs.Squares.{holds_gives, holds_from, holds_append, holds_left, holds_right, column_gives, column_from}
-use Rattle.plan_rules.proofs.Turns.{playable_parts, playable_empty, playable_on_board, filled_height, filled_under, height_stays}
+use Rattle.plan_rules.proofs.Turns.{playable_parts, playable_empty, playable_on_board, filled_height, empty_height, filled_under, height_stays}
+use Rattle.plan_rules.proofs.Columns.{none_on, men_on_append}
 use Rattle.plan_rules.proofs.Table.{RestsOn, together_sym, floor_owner}
 
 pub fits_shape : (w : Written) (p : Position) → fits w p ≡ true → has_shape w (board_of p) ≡ true
@@ -114,6 +115,9 @@ filled : (m : Option Side) → is_none m ≡ false → (side : Side) × (m ≡ S
 filled None h = absurd (cc h)
 filled (Some side) h = (side, refl)
 
+some_pair : (a b : Square × Square) → Some a ≡ Some b → a ≡ b
+some_pair a b h = cc
+
 module _ (p q : Position) (ws : List Written) (plan : IsPlan p ws)
     (stay : (u : Square) (m : Side) → man_at p u ≡ Some m → man_at q u ≡ Some m)
     (calms : (i : ℕ) (w : Written) → IsMember ws i w → is_calm w q ≡ true) where
@@ -187,6 +191,53 @@ module _ (p q : Position) (ws : List Written) (plan : IsPlan p ws)
                 two_founded (zone_of w) x y q two (omega (arith, low_x.1)) low_y
           ]
     ]
+
+  -- an inverse has both floors, or neither and no man
+  two_floors : (i : ℕ) (w : Written) (x y : Square) → IsMember ws i w → is_standing w ≡ false → ((a b : Square) → rests_on a b w ≡ false)
+      → ((v : Written) → stands_over w v ≡ true → rests_on x y v ≡ true) → TwoColumns (zone_of w) x y → is_grounded p x y ≡ true
+      → (height q x.0 < x.1 → height q y.0 < y.1 → men_on q (zone_of w) ≡ []) → HasFloors q (zone_of w) (x, y)
+  two_floors i w x y member moving none over two grounded empty = elim (or_cases _ _ grounded) [
+    | inl bottoms ↦ let both = and_parts _ _ bottoms in inl (still_low x both.0, still_low y both.1)
+    | inr floors ↦
+        let both = and_parts _ _ floors in
+        let at_x = on_board_parts (board_of p) (under x).0 (under x).1 (playable_on_board p (under x) both.0) in
+        let at_y = on_board_parts (board_of p) (under y).0 (under y).1 (playable_on_board p (under y) both.1) in
+        told at_x.1 at_y.1 (man_at q (under x)) refl (man_at q (under y)) refl (floors_alike i w x y member moving none over two both.0)
+  ]
+    where
+      told : 1 ≤ x.1 - 1 → 1 ≤ y.1 - 1 → (a : Option Side) → man_at q (under x) ≡ a → (b : Option Side) → man_at q (under y) ≡ b
+          → is_none (man_at q (under x)) ≡ is_none (man_at q (under y)) → HasFloors q (zone_of w) (x, y)
+      told low_x low_y None at_x None at_y alike =
+          let past_x : height q x.0 < x.1 - 1 = empty_height q (under x) at_x low_x in
+          let past_y : height q y.0 < y.1 - 1 = empty_height q (under y) at_y low_y in
+          inr (omega arith, omega arith, empty (omega arith) (omega arith))
+      told low_x low_y None at_x (Some b) at_y alike = absurd (cc (alike, at_x, at_y))
+      told low_x low_y (Some a) at_x None at_y alike = absurd (cc (alike, at_x, at_y))
+      told low_x low_y (Some a) at_x (Some b) at_y alike =
+          let up_x = (filled_height q (under x) a at_x).1 in
+          let up_y = (filled_height q (under y) b at_y).1 in
+          inl (omega arith, omega arith)
+
+  pub has_floors : (i : ℕ) (w : Written) (bottoms : Square × Square) → IsMember ws i w → bottoms_of w ≡ Some bottoms → HasFloors q (zone_of w) bottoms
+  has_floors i (claimeven x) bottoms member is = absurd (cc is)
+  has_floors i (baseinverse s t) bottoms member is = absurd (cc is)
+  has_floors i (lowinverse x x_top y y_top) bottoms member is =
+      let fit = plan.fitting i (lowinverse x x_top y y_top) member in
+      subst (HasFloors q (span x x_top ++ span y y_top)) (some_pair (x, y) bottoms is)
+      (two_floors i (lowinverse x x_top y y_top) x y member refl (λ a b. refl) (λ v h. h) (low_two x x_top y y_top p fit) (fits_more (lowinverse x x_top y y_top) p fit)
+      (λ past_x past_y. men_on_append q (span x x_top) (span y y_top)
+      ∙ ap (λ men. men ++ men_on q (span y y_top)) (none_on q (x_top.1 + 1 - x.1) x past_x) ∙ none_on q (y_top.1 + 1 - y.1) y past_y))
+  has_floors i (highinverse x y) bottoms member is =
+      let fit = plan.fitting i (highinverse x y) member in
+      subst (HasFloors q (column_up x 3 ++ column_up y 3)) (some_pair (x, y) bottoms is)
+      (two_floors i (highinverse x y) x y member refl (λ a b. refl) (λ v h. h) (high_two x y p fit) (fits_more (highinverse x y) p fit)
+      (λ past_x past_y. men_on_append q (column_up x 3) (column_up y 3)
+      ∙ ap (λ men. men ++ men_on q (column_up y 3)) (none_on q 3 x past_x) ∙ none_on q 3 y past_y))
+  has_floors i (baseclaim a b e) bottoms member is = absurd (cc is)
+  has_floors i (vertical e) bottoms member is = absurd (cc is)
+  has_floors i (aftereven g) bottoms member is = absurd (cc is)
+  has_floors i (before g) bottoms member is = absurd (cc is)
+  has_floors i (specialbefore g f e0) bottoms member is = absurd (cc is)
 
   pub founded : (i : ℕ) (w : Written) → IsMember ws i w → (s : Square) → is_playable q s ≡ true → holds (zone_of w) s ≡ true → IsFounded (zone_of w) q
   founded i (claimeven x) member s playable owned = founded_by (x ∷ above x ∷ []) q (λ u among. elim (holds_gives (x ∷ above x ∷ []) u among) [

@@ -1,21 +1,18 @@
 -- Highinverse: what is proved of White's move in one column, with the other beside it, holds of both columns, since the
 -- calm words are the same in both orders.
-use Rattle.std.proofs.Common.{◌≡◌, ◌≢◌, ◌⊎◌, ℕ, zero, suc, ◌+◌, ◌<◌, ◌≤◌, Bool, true, false, not, ◌&&◌, ◌||◌, ◌==◌, cond, List, [], ◌∷◌, ◌++◌, Option, Some, None, is_none, refl, sym, ap, ◌∙◌, subst, inl, inr, arith}
-use Rattle.std.proofs.lemmas.Bool.{ltb-true, and_parts, and_from, or_cases, both_ways, not-true, eq-eqb, ne_eqb, cond-true, cond-false, false_from_ne_true}
+use Rattle.std.proofs.Common.{◌≡◌, ◌≢◌, ◌+◌, ◌≤◌, true, false, ◌==◌, List, [], ◌∷◌, ◌++◌, Some, None, refl, sym, ap, ◌∙◌, subst, inl, inr, arith}
+use Rattle.std.proofs.lemmas.Bool.{and_parts, and_from, or_cases, eq-eqb, ne_eqb, cond-true, cond-false, false_from_ne_true}
 use Rattle.game_rules.specs.Board.{Square, on_board}
 use Rattle.game_rules.specs.Position.{Position, board_of, height, man_at, has_man, side_to_move, after_move}
-use Rattle.game_rules.specs.declared.Side.{Side}
 use Rattle.game_rules.specs.declared.Side.TheVariants.{White, Black}
 use Rattle.game_rules.proofs.Lists.{Among}
-use Rattle.game_rules.proofs.Moves.{board_moved}
 use Rattle.game_rules.proofs.Ends.{on_board_parts}
-use Rattle.plan_rules.specs.Squares.{same_square, holds, above, column_up, is_empty, is_playable, word_at}
-use Rattle.std.specs.List.{list_all}
-use Rattle.plan_rules.specs.Rules.{highinverse, zone_of, line_of, fits, high_reply, reply_to, upper_of, pair_of, twin_of, barred, is_supported}
+use Rattle.plan_rules.specs.Squares.{same_square, above, column_up, is_playable, word_at}
+use Rattle.plan_rules.specs.Rules.{highinverse, zone_of, fits, high_reply, reply_to, upper_of, pair_of, twin_of, barred, is_supported}
 use Rattle.plan_rules.specs.Calm.{Word, high_words, is_one_of, is_calm}
 use Rattle.plan_rules.specs.Laws.{StartLaw, LocalLaw, StepLaw, FactLaw, BarLaw, Answers}
 use Rattle.plan_rules.proofs.Squares.{same_square_refl, other_column, other_row, holds_gives, holds_from, holds_append}
-use Rattle.plan_rules.proofs.Turns.{Turned, turn, answer_at, beside, low_kept, low_above, low_over}
+use Rattle.plan_rules.proofs.Turns.{turn, answer_at, low_kept, low_above, low_over}
 use Rattle.plan_rules.proofs.Grounds.{TwoColumns, high_two}
 use Rattle.plan_rules.proofs.Words.{narrow, mapped, are_white, is_free, is_free_over, free_from, free_over_from, words_local, zone_on_board, zone_none, foot_low, empty_now, filled_now}
 use Rattle.plan_rules.proofs.Lawful.{Lawful}

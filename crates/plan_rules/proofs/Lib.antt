@@ -5,6 +5,8 @@ pub mod Table
 pub mod Lawful
 pub mod Plans
 pub mod Grounds
+pub mod Even
+pub mod AllRules
 pub mod Strategy
 pub mod Words
 pub mod Claimeven
@@ -19,3 +21,4 @@ pub mod Highinverse
 pub mod Columns
 pub mod Pairs
 pub mod Lowinverse
+pub mod Theorems

@@ -1,17 +1,15 @@
 -- What the three rules with a line of Black's share: the line's squares that are filled at the plan's position are
 -- Black's, and an empty one under a man of White's is filled later.
-use Rattle.std.proofs.Common.{◌≡◌, ◌≢◌, ◌⊎◌, ℕ, ◌+◌, ◌<◌, ◌≤◌, Bool, true, false, not, ◌&&◌, ◌||◌, List, [], ◌∷◌, Option, Some, None, is_none, refl, sym, ap, ◌∙◌, subst, inl, inr, arith}
-use Rattle.std.specs.List.{list_all, list_any}
-use Rattle.std.proofs.lemmas.Bool.{cases_Bool, both_ways, and_parts, and_from, or_cases, not-true, false_from_ne_true}
+use Rattle.std.proofs.Common.{◌≡◌, ◌<◌, ◌≤◌, Bool, true, false, not, ◌||◌, List, [], Option, Some, None, is_none, refl, ap, inl, inr, arith}
+use Rattle.std.proofs.lemmas.Bool.{cases_Bool, both_ways, and_parts, and_from, or_cases, not-true}
 use Rattle.game_rules.specs.Board.{Square, on_board}
 use Rattle.game_rules.specs.Position.{Position, board_of, height, man_at, is_man, has_man}
 use Rattle.game_rules.specs.declared.Side.{Side}
 use Rattle.game_rules.specs.declared.Side.TheVariants.{White, Black}
 use Rattle.game_rules.proofs.Lists.{all_gives}
-use Rattle.game_rules.proofs.Ends.{on_board_parts}
-use Rattle.plan_rules.specs.Squares.{holds, is_empty, is_playable, Line, squares_of, lies_on, each_of}
-use Rattle.plan_rules.specs.Rules.{Written, is_open_line}
-use Rattle.plan_rules.specs.Laws.{Owns, IsFounded, Answers, StepLaw}
+use Rattle.plan_rules.specs.Squares.{holds, is_empty, Line, squares_of, lies_on, each_of}
+use Rattle.plan_rules.specs.Rules.{is_open_line}
+use Rattle.plan_rules.specs.Laws.{Owns, StepLaw}
 use Rattle.plan_rules.proofs.Squares.{holds_gives}
 use Rattle.plan_rules.proofs.Turns.{filled_height, filled_under, man_from}
 

@@ -1,22 +1,22 @@
 -- Lowinverse: below the tops White's square is answered by the one above; a top is answered in the other column, which
 -- shifts that column by one. What is proved of White's move in one column, with the other beside it, holds of both.
-use Rattle.std.proofs.Common.{◌≡◌, ◌≢◌, ◌⊎◌, ℕ, zero, suc, ◌+◌, ◌-◌, ◌%◌, ◌<◌, ◌≤◌, Bool, true, false, not, ◌&&◌, ◌||◌, ◌==◌, cond, List, [], ◌∷◌, ◌++◌, length, Option, Some, None, is_none, refl, sym, ap, ◌∙◌, subst, inl, inr, arith}
-use Rattle.std.specs.List.{list_all, list_any, slice_get}
-use Rattle.std.proofs.lemmas.Bool.{cases_eq, cases_lt, ltb-true, leb-true, eqb-true, eq-eqb, and_parts, and_from, or_cases, or_left, or_right, cond-true, cond-false, false_from_ne_true}
+use Rattle.std.proofs.Common.{◌≡◌, ◌≢◌, ◌⊎◌, ℕ, zero, suc, ◌+◌, ◌-◌, ◌%◌, ◌<◌, ◌≤◌, true, ◌&&◌, List, [], ◌∷◌, ◌++◌, length, Option, Some, None, refl, sym, ap, ◌∙◌, subst, inl, inr, arith}
+use Rattle.std.specs.List.{slice_get}
+use Rattle.std.proofs.lemmas.Bool.{cases_lt, leb-true, eqb-true, eq-eqb, and_parts, and_from, or_cases, or_left, or_right, cond-true, cond-false, false_from_ne_true}
 use Rattle.std.proofs.lemmas.List.{length_push}
 use Rattle.game_rules.specs.Board.{Square, on_board}
-use Rattle.game_rules.specs.Position.{Position, board_of, height, man_at, is_man, has_man, men_in, side_to_move, has_room, lowest_empty, other, after_move}
+use Rattle.game_rules.specs.Position.{Position, board_of, height, man_at, has_man, men_in, side_to_move, has_room, lowest_empty, other, after_move}
 use Rattle.game_rules.specs.declared.Side.{Side}
 use Rattle.game_rules.specs.declared.Side.TheVariants.{White, Black}
 use Rattle.game_rules.proofs.Lists.{Among, any_gives, Among-append_cases, Among-append_left, Among-append_right}
 use Rattle.game_rules.proofs.Moves.{man_past}
 use Rattle.game_rules.proofs.Ends.{on_board_parts}
-use Rattle.plan_rules.specs.Squares.{same_square, holds, above, under, is_even, is_odd, column_up, span, is_playable, put_first, men_on}
-use Rattle.plan_rules.specs.Rules.{lowinverse, zone_of, line_of, is_low_column, fits, reply_to, upper_of, pair_of, twin_of, barred, is_supported}
-use Rattle.plan_rules.specs.Calm.{is_paired, is_topped, is_capped, is_shifted, is_calm_low, is_calm}
+use Rattle.plan_rules.specs.Squares.{same_square, above, under, is_odd, column_up, span, is_playable, put_first, men_on}
+use Rattle.plan_rules.specs.Rules.{lowinverse, zone_of, is_low_column, fits, reply_to, upper_of, pair_of, twin_of, barred, is_supported}
+use Rattle.plan_rules.specs.Calm.{is_paired, is_topped, is_shifted, is_calm_low, is_calm}
 use Rattle.plan_rules.specs.Laws.{StartLaw, LocalLaw, StepLaw, FactLaw, BarLaw, Answers}
-use Rattle.plan_rules.proofs.Squares.{same_square_refl, same_square_is, other_column, other_row, holds_gives, holds_from, holds_append, holds_left, holds_right, column_gives, column_from}
-use Rattle.plan_rules.proofs.Turns.{man_from, answer_at, beside, low_above, low_kept, side_after, playable_parts, playable_man, playable_room, height_beside}
+use Rattle.plan_rules.proofs.Squares.{same_square_refl, other_column, other_row, holds_gives, holds_from, holds_append, column_gives, column_from}
+use Rattle.plan_rules.proofs.Turns.{man_from, answer_at, low_above, side_after, playable_parts, playable_room, height_beside}
 use Rattle.plan_rules.proofs.Grounds.{TwoColumns, low_two, fits_shape}
 use Rattle.plan_rules.proofs.Words.{zone_on_board, zone_none, foot_low}
 use Rattle.plan_rules.proofs.Columns.{man_on, length_within, length_on, length_full, same_on, beside_on, pushed_on}
@@ -37,7 +37,7 @@ length_column : (u : Square) (n : ℕ) → length (column_up u n) ≡ n
 length_column u zero = refl
 length_column u (suc n) = omega (arith, length_column (above u) n)
 
-calm_gives : (q : Position) (u v : Square) (n m : ℕ) → is_calm_low q (column_up u n) (column_up v m) ≡ true → CalmLow n m (men_on q (column_up u n)) (men_on q (column_up v m))
+pub calm_gives : (q : Position) (u v : Square) (n m : ℕ) → is_calm_low q (column_up u n) (column_up v m) ≡ true → CalmLow n m (men_on q (column_up u n)) (men_on q (column_up v m))
 calm_gives q u v n m h = elim (or_cases _ _ h) [
   | inl left ↦ elim (or_cases _ _ left) [
     | inl paired ↦ let both = and_parts _ _ paired in both_paired both.0 both.1

@@ -1,6 +1,6 @@
 -- The men of a Lowinverse's column as lists: paired, topped and shifted, where White stands in them, and what two men
 -- more make of them.
-use Rattle.std.proofs.Common.{◌≡◌, ◌≢◌, ◌⊎◌, ℕ, zero, suc, ◌+◌, ◌%◌, ◌<◌, ◌≤◌, Bool, true, false, List, [], ◌∷◌, ◌++◌, length, Option, Some, None, refl, sym, ap, ◌∙◌, arith}
+use Rattle.std.proofs.Common.{◌≡◌, ℕ, zero, suc, ◌%◌, ◌<◌, true, List, [], ◌∷◌, ◌++◌, length, Some, refl, arith}
 use Rattle.std.specs.List.{slice_get}
 use Rattle.game_rules.specs.declared.Side.{Side}
 use Rattle.game_rules.specs.declared.Side.TheVariants.{White, Black}
@@ -21,6 +21,13 @@ shifted_odd (White ∷ []) h = absurd (cc h)
 shifted_odd (White ∷ White ∷ men) h = absurd (cc h)
 shifted_odd (White ∷ Black ∷ men) h = omega (arith, shifted_odd men h)
 shifted_odd (Black ∷ men) h = omega (arith, paired_even men h)
+
+pub topped_length : (men : List Side) → is_topped men ≡ true → length men % 2 ≡ 1
+topped_length [] h = absurd (cc h)
+topped_length (White ∷ []) h = refl
+topped_length (White ∷ White ∷ men) h = absurd (cc h)
+topped_length (White ∷ Black ∷ men) h = omega (arith, topped_length men h)
+topped_length (Black ∷ men) h = absurd (cc h)
 
 -- ---- men more
 

@@ -1,16 +1,14 @@
 -- A plan in words of squares and lines, and the test of it.
-use Rattle.std.proofs.Common.{◌≡◌, ◌≢◌, ◌⊎◌, ℕ, zero, suc, ◌+◌, ◌-◌, ◌<◌, ◌≤◌, Bool, true, false, not, ◌&&◌, ◌||◌, List, [], ◌∷◌, length, Option, Some, None, is_none, refl, sym, ap, ◌∙◌, subst, inl, inr, arith}
-use Rattle.std.specs.List.{list_all, list_any, slice_get}
-use Rattle.std.proofs.lemmas.Bool.{cases_Bool, cases_order, both_ways, and_parts, and_from, or_cases, or_left, or_right, not-true, not_from_false, false_from_ne_true}
-use Rattle.game_rules.specs.Board.{Board, Square, below, on_board, ways, line_at, step_of}
+use Rattle.std.proofs.Common.{◌≡◌, ℕ, zero, suc, ◌+◌, ◌<◌, Bool, true, not, ◌||◌, List, [], ◌∷◌, Option, Some, None, is_none, refl, sym, ap, subst, inl, inr, arith}
+use Rattle.std.specs.List.{list_all, list_any}
+use Rattle.std.proofs.lemmas.Bool.{cases_Bool, both_ways, and_parts, and_from, or_cases, or_left, or_right, not-true, not_from_false, false_from_ne_true}
+use Rattle.game_rules.specs.Board.{Board, Square, below, on_board, ways}
 use Rattle.game_rules.specs.Position.{Position, board_of, has_man, side_to_move, same_side, end_of}
-use Rattle.game_rules.specs.declared.Side.{Side}
 use Rattle.game_rules.specs.declared.Side.TheVariants.{White, Black}
 use Rattle.game_rules.specs.declared.End.{End}
-use Rattle.game_rules.specs.declared.Way.{Way}
-use Rattle.game_rules.proofs.Lists.{Among, any_gives, any_from, all_gives, all_from, Among-below}
+use Rattle.game_rules.proofs.Lists.{any_gives, any_from, all_gives, all_from, Among-below}
 use Rattle.game_rules.proofs.Moves.{same_side_is}
-use Rattle.game_rules.proofs.Ends.{on_board_parts, on_board_from, Among-ways, each_step, step_none}
+use Rattle.game_rules.proofs.Ends.{on_board_parts, Among-ways, each_step, step_none}
 use Rattle.plan_rules.specs.Squares.{holds, is_empty, Line, squares_of, lies_on}
 use Rattle.plan_rules.specs.Rules.{Written, zone_of, fits, facts_of, barred, is_supported, together}
 use Rattle.plan_rules.specs.Plan.{each_two, every_square, every_line, has_owner, empty_part, is_barred, is_plan, IsMember, SomeMember, IsPlan}

@@ -1,32 +1,32 @@
 -- From the laws of each instance and the table alone: whatever White plays, Black has a reply, each zone stays calm, and
 -- White never has a line.
-use Rattle.std.proofs.Common.{◌≡◌, ◌≢◌, ◌⊎◌, ℕ, zero, suc, ◌+◌, ◌<◌, ◌≤◌, Bool, true, false, not, ◌&&◌, ◌||◌, cond, List, [], ◌∷◌, map, length, Option, Some, None, is_none, refl, sym, ap, ◌∙◌, subst, inl, inr, arith}
-use Rattle.std.specs.List.{list_all, list_any, slice_get, find, flat_map}
+use Rattle.std.proofs.Common.{◌≡◌, ◌≢◌, ◌⊎◌, ℕ, zero, suc, ◌+◌, ◌*◌, ◌<◌, ◌≤◌, Bool, true, false, cond, List, [], ◌∷◌, map, length, Option, Some, None, is_none, refl, sym, ap, ◌∙◌, subst, inl, inr, arith}
+use Rattle.std.specs.List.{slice_get, find, flat_map}
 use Rattle.std.specs.Option.{option_map, option_map_or, option_and_then}
-use Rattle.std.proofs.lemmas.Bool.{cases_Bool, cases_eq, both_ways, and_parts, and_from, false_from_ne_true, not_from_true}
-use Rattle.game_rules.specs.Board.{Square, below, on_board, line_length, step_of}
-use Rattle.game_rules.specs.Position.{Position, board_of, men_in, height, man_at, has_man, is_man, other, side_to_move, has_room, has_four, is_full, end_of, is_legal, after_move, empty_count, moved, open_columns}
-use Rattle.game_rules.specs.Value.{wins, same_end, value}
-use Rattle.game_rules.specs.Laws.{HasLine}
+use Rattle.std.proofs.lemmas.Bool.{cases_eq, both_ways, and_parts, and_from, cond-true, false_from_ne_true, not_from_true}
+use Rattle.game_rules.specs.Board.{Square, below, on_board}
+use Rattle.game_rules.specs.Position.{Position, board_of, men_in, height, man_at, has_man, other, side_to_move, has_room, has_four, is_full, end_of, is_legal, after_move, empty_count, moved, open_columns}
+use Rattle.game_rules.specs.Value.{wins, same_end}
 use Rattle.game_rules.specs.declared.Side.{Side}
 use Rattle.game_rules.specs.declared.Side.TheVariants.{White, Black}
 use Rattle.game_rules.specs.declared.End.{End}
 use Rattle.game_rules.specs.declared.End.TheVariants as ends
 use Rattle.game_rules.proofs.Lists.{Among, any_gives, any_from, all_gives, all_from, Among-below, Among-flat_map_gives, Among-filter, Among-filter_gives, Among-map, chosen}
 use Rattle.game_rules.proofs.Moves.{man_past, board_moved, room_column, room_height, empty_count_moved, side_moved}
-use Rattle.game_rules.proofs.Values.{goes_on_empty, wins_own, wins_other, value_at_end}
+use Rattle.game_rules.proofs.Values.{wins_own, wins_other, value_at_end}
 use Rattle.game_rules.proofs.Ends.{on_board_from, line_from_four, four_from_line, four_same, each_step, from_steps, ended_told, legal_parts, none_for_other, other_kept, disjoint, white_end}
 use Rattle.plan_rules.specs.Squares.{same_square, holds, above, is_empty, is_playable, Line, squares_of, lies_on}
-use Rattle.plan_rules.specs.Rules.{Written, zone_of, line_of, fits, reply_to, Facts, upper_of, pair_of, twin_of, as_list, facts_of, barred, is_supported, together}
+use Rattle.plan_rules.specs.Rules.{Written, zone_of, line_of, reply_to, upper_of, pair_of, twin_of, as_list, facts_of, barred}
 use Rattle.plan_rules.specs.Calm.{is_calm}
 use Rattle.plan_rules.specs.Laws.{IsLineOf, Answers, AreTrue, Owns, IsHeld}
-use Rattle.plan_rules.specs.Plan.{empty_part, IsMember, SomeMember, IsPlan, plan_reply, after_turn, after_turns, duel, is_playable_list, is_nil, IsKept, IsAnswered}
+use Rattle.plan_rules.specs.Plan.{empty_part, IsMember, IsPlan, plan_reply, after_turn, after_turns, duel, is_playable_list, is_nil, IsKept, IsAnswered, IsTurn}
 use Rattle.plan_rules.proofs.Squares.{holds_gives, holds_from, Among-get, get-Among, find_one, same_square_is}
-use Rattle.plan_rules.proofs.Turns.{man_from, has_from, playable_from, playable_on_board, playable_parts, playable_room, playable_man, playable_empty, placed, beside, stays, side_after, Turned, turn}
+use Rattle.plan_rules.proofs.Turns.{man_from, has_from, playable_from, playable_on_board, playable_room, playable_man, beside, stays, side_after, Turned, turn}
 use Rattle.plan_rules.proofs.Table.{always_calm, zones_apart}
 use Rattle.plan_rules.proofs.Lawful.{Lawful}
 use Rattle.plan_rules.proofs.Plans.{any_member}
-use Rattle.plan_rules.proofs.Grounds.{founded, members_together}
+use Rattle.plan_rules.proofs.Grounds.{founded, members_together, has_floors}
+use Rattle.plan_rules.proofs.Even.{calm_even}
 
 Among-map_gives : {X Y : Type 0} (f : X → Y) (xs : List X) (y : Y) → Among y (map f xs) → (x : X) × Among x xs × (f x ≡ y)
 Among-map_gives f [] y among = absurd among
@@ -85,12 +85,14 @@ module _ (laws : (w : Written) → Lawful w) (p : Position) (ws : List Written) 
       own : (w : Written) → Among w ws → AreTrue (holds (upper_of w)) (holds (pair_of w)) (as_list (twin_of w)) q
       own w among = let at = Among-get ws w among in (laws w).keeps p q (plan.fitting at.0 w at.1) (calms at.0 w at.1)
 
-  first_kept : IsKept p ws p
+  pub first_kept : IsKept p ws p
   first_kept = record {
     board = refl;
     white = plan.white;
     stay = λ u m h. h;
     calms = calm;
+    even = λ i w member. calm_even w p (calm i w member);
+    floors = has_floors p p ws plan (λ u m h. h) calm;
     facts = facts_true p calm;
     no_four = (ended_told p plan.going).0;
   }
@@ -233,6 +235,9 @@ module _ (laws : (w : Written) → Lawful w) (p : Position) (ws : List Written) 
     white = side_after (after_move q s.0) answer.to answer.playable ∙ ap other turn_now;
     stay = λ u m man. stays (after_move q s.0) answer.to u m answer.playable (stays q s u m playable (kept.stay u m man));
     calms = answer.calms;
+    even = λ i w member. calm_even w (after_move (after_move q s.0) answer.to.0) (answer.calms i w member);
+    floors = has_floors p (after_move (after_move q s.0) answer.to.0) ws plan
+        (λ u m man. stays (after_move q s.0) answer.to u m answer.playable (stays q s u m playable (kept.stay u m man))) answer.calms;
     facts = facts_true (after_move (after_move q s.0) answer.to.0) answer.calms;
     no_four = ap (λ side. has_four (after_move (after_move q s.0) answer.to.0) (other side)) (sym turn_now)
         ∙ four_same (after_move (after_move q s.0) answer.to.0) (after_move q s.0) (other (side_to_move (after_move q s.0))) (board_moved (after_move q s.0) answer.to.0)
@@ -301,6 +306,25 @@ module _ (laws : (w : Written) → Lawful w) (p : Position) (ws : List Written) 
   pub answered_at : (columns : List ℕ) (q : Position) → after_turns ws p columns ≡ Some q → (column : ℕ) → is_legal q column ≡ true → IsAnswered ws q column
   answered_at columns q h column legal = (take_turn q (kept_at columns q h) column legal).is_answered
 
+  -- a duel whose first column is legal goes on with the position after White's move, and the duel after Black's reply
+  duel_opens : (q : Position) (column : ℕ) (columns : List ℕ) → is_legal q column ≡ true → (one : Turn q column)
+      → duel ws q (column ∷ columns) ≡ q ∷ after_move q column ∷ duel ws one.next columns
+  duel_opens q column columns legal one =
+      cond-true (is_none (end_of q)) (q ∷ after_move q column ∷ option_map_or (λ next. duel ws next columns) (after_turn ws q column) []) (q ∷ []) (ap is_none (legal_parts q column legal).0)
+      ∙ ap (λ t. q ∷ after_move q column ∷ option_map_or (λ next. duel ws next columns) t []) one.is_next
+
+  list_opens : (q : Position) (column : ℕ) (columns : List ℕ) → is_playable_list ws q (column ∷ columns) ≡ true → (one : Turn q column) → is_playable_list ws one.next columns ≡ true
+  list_opens q column columns played one =
+      sym (ap (λ t. option_map_or (λ next. is_playable_list ws next columns) t (is_nil columns)) one.is_next) ∙ (and_parts (is_legal q column) _ played).1
+
+  duel_first : (q : Position) (columns : List ℕ) → slice_get (duel ws q columns) 0 ≡ Some q
+  duel_first q [] = refl
+  duel_first q (column ∷ columns) = either (is_none (end_of q)) (after_move q column ∷ option_map_or (λ next. duel ws next columns) (after_turn ws q column) [])
+    where
+      either : (b : Bool) (rest : List Position) → slice_get (cond b (q ∷ rest) (q ∷ [])) 0 ≡ Some q
+      either true rest = refl
+      either false rest = refl
+
   -- no position of the duel has a line of White's
   no_four_along : (columns : List ℕ) (q : Position) → IsKept p ws q → is_playable_list ws q columns ≡ true → (i : ℕ) (r : Position) → slice_get (duel ws q columns) i ≡ Some r → has_four r White ≡ false
   no_four_along [] q kept played zero r h = let same : q ≡ r = cc in subst (λ q. has_four q White ≡ false) same kept.no_four
@@ -308,15 +332,58 @@ module _ (laws : (w : Written) → Lawful w) (p : Position) (ws : List Written) 
   no_four_along (column ∷ columns) q kept played i r h =
       let both = and_parts (is_legal q column) _ played in
       let one = take_turn q kept column both.0 in
-      let more : is_playable_list ws one.next columns ≡ true = sym (ap (λ t. option_map_or (λ next. is_playable_list ws next columns) t (is_nil columns)) one.is_next) ∙ both.1 in
-      at i one (λ j. no_four_along columns one.next one.is_kept more j r)
-      (sym (ap (λ b. slice_get (cond b (q ∷ after_move q column ∷ option_map_or (λ next. duel ws next columns) (after_turn ws q column) []) (q ∷ [])) i) (ap is_none (legal_parts q column both.0).0)
-      ∙ ap (λ t. slice_get (q ∷ after_move q column ∷ option_map_or (λ next. duel ws next columns) t []) i) one.is_next) ∙ h)
+      at i one (λ j. no_four_along columns one.next one.is_kept (list_opens q column columns played one) j r)
+      (ap (λ positions. slice_get positions i) (sym (duel_opens q column columns both.0 one)) ∙ h)
     where
       at : (i : ℕ) (one : Turn q column) → ((j : ℕ) → slice_get (duel ws one.next columns) j ≡ Some r → has_four r White ≡ false) → slice_get (q ∷ after_move q column ∷ duel ws one.next columns) i ≡ Some r → has_four r White ≡ false
       at zero one later h = let same : q ≡ r = cc in subst (λ q. has_four q White ≡ false) same kept.no_four
       at (suc zero) one later h = let same : after_move q column ≡ r = cc in subst (λ q. has_four q White ≡ false) same one.is_answered.no_four
       at (suc (suc i)) one later h = later i h
+
+  -- each of White's columns opens a turn of the duel
+  turn_along : (columns : List ℕ) (q : Position) → IsKept p ws q → is_playable_list ws q columns ≡ true → (i column : ℕ) → slice_get columns i ≡ Some column → IsTurn p ws (duel ws q columns) i column
+  turn_along [] q kept played i column at = absurd (cc at)
+  turn_along (first ∷ columns) q kept played zero column at =
+      let here : first ≡ column = cc in
+      subst (IsTurn p ws (duel ws q (first ∷ columns)) 0) here (opening (and_parts (is_legal q first) _ played).0)
+    where
+      opening : is_legal q first ≡ true → IsTurn p ws (duel ws q (first ∷ columns)) 0 first
+      opening legal = from (take_turn q kept first legal)
+        where
+          from : Turn q first → IsTurn p ws (duel ws q (first ∷ columns)) 0 first
+          from one = record {
+            now = q;
+            is_now = ap (λ positions. slice_get positions 0) (duel_opens q first columns legal one);
+            kept = kept;
+            legal = legal;
+            answered = one.is_answered;
+            after_white = ap (λ positions. slice_get positions 1) (duel_opens q first columns legal one);
+            after_black = ap (λ positions. slice_get positions 2) (duel_opens q first columns legal one) ∙ duel_first one.next columns ∙ ap (λ r. Some r) one.next_is;
+          }
+  turn_along (first ∷ columns) q kept played (suc i) column at =
+      let legal = (and_parts (is_legal q first) _ played).0 in
+      let one = take_turn q kept first legal in
+      later legal one (turn_along columns one.next one.is_kept (list_opens q first columns played one) i column at)
+    where
+      shifted : (legal : is_legal q first ≡ true) (one : Turn q first) (j k : ℕ) → k ≡ j + 2 → slice_get (duel ws q (first ∷ columns)) k ≡ slice_get (duel ws one.next columns) j
+      shifted legal one j k two = ap (λ positions. slice_get positions k) (duel_opens q first columns legal one) ∙ ap (λ k. slice_get (q ∷ after_move q first ∷ duel ws one.next columns) k) place
+        where
+          place : k ≡ suc (suc j)
+          place = omega arith
+
+      later : (legal : is_legal q first ≡ true) (one : Turn q first) → IsTurn p ws (duel ws one.next columns) i column → IsTurn p ws (duel ws q (first ∷ columns)) (suc i) column
+      later legal one rest = record {
+        now = rest.now;
+        is_now = shifted legal one (2 * i) (2 * suc i) (omega arith) ∙ rest.is_now;
+        kept = rest.kept;
+        legal = rest.legal;
+        answered = rest.answered;
+        after_white = shifted legal one (2 * i + 1) (2 * suc i + 1) (omega arith) ∙ rest.after_white;
+        after_black = shifted legal one (2 * i + 2) (2 * suc i + 2) (omega arith) ∙ rest.after_black;
+      }
+
+  pub turn_in_duel : (columns : List ℕ) → is_playable_list ws p columns ≡ true → (i column : ℕ) → slice_get columns i ≡ Some column → IsTurn p ws (duel ws p columns) i column
+  turn_in_duel columns played i column at = turn_along columns p first_kept played i column at
 
   pub no_four_in_duel : (columns : List ℕ) → is_playable_list ws p columns ≡ true → (i : ℕ) (r : Position) → slice_get (duel ws p columns) i ≡ Some r → has_four r White ≡ false
   no_four_in_duel columns played i r h = no_four_along columns p first_kept played i r h

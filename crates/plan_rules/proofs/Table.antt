@@ -1,12 +1,12 @@
 -- The table of instances that may stand together: it is the same in both orders, zones that stand together share no
 -- square, and an inverse over two floors rests on one Baseinverse.
-use Rattle.std.proofs.Common.{◌≡◌, ◌≢◌, ◌⊎◌, ℕ, ◌+◌, ◌-◌, ◌<◌, ◌≤◌, Bool, true, false, not, ◌&&◌, ◌||◌, ◌==◌, List, [], ◌∷◌, Option, Some, None, refl, sym, ap, ◌∙◌, subst, inl, inr, arith}
-use Rattle.std.specs.List.{list_all, list_any}
+use Rattle.std.proofs.Common.{◌≡◌, ◌+◌, ◌-◌, ◌<◌, ◌≤◌, true, false, not, ◌||◌, ◌==◌, List, [], ◌∷◌, Some, refl, sym, ap, subst, inl, inr, arith}
+use Rattle.std.specs.List.{list_all}
 use Rattle.std.proofs.lemmas.Bool.{both_ways, and_parts, and_from, or_cases, or_left, or_right, ltb-true, eqb-true, eq-eqb, not-true, not_from_false, false_from_ne_true}
 use Rattle.game_rules.specs.Board.{Square}
 use Rattle.game_rules.specs.Position.{Position}
 use Rattle.game_rules.proofs.Lists.{Among, all_gives, all_from}
-use Rattle.plan_rules.specs.Squares.{same_square, holds, above, under, Line}
+use Rattle.plan_rules.specs.Squares.{holds, above, under, Line}
 use Rattle.plan_rules.specs.Rules.{Written, claimeven, baseinverse, lowinverse, highinverse, baseclaim, vertical, aftereven, before, specialbefore, zone_of, line_of, is_standing, no_shared_square, no_shared_column, is_over, rests_on, stands_over, together}
 use Rattle.plan_rules.specs.Calm.{is_calm}
 use Rattle.plan_rules.proofs.Squares.{same_square_is, holds_gives, holds_from}

@@ -1,6 +1,6 @@
 -- Playable squares and filled columns, and what a move of White's and a reply of Black's change.
-use Rattle.std.proofs.Common.{◌≡◌, ◌≢◌, ◌⊎◌, ℕ, zero, suc, ◌+◌, ◌<◌, ◌≤◌, Bool, true, false, ◌&&◌, List, length, Option, Some, None, is_none, refl, sym, ap, ◌∙◌, subst, inl, inr, arith}
-use Rattle.std.proofs.lemmas.Bool.{cases_eq, cases_lt, both_ways, and_parts, and_from, ltb-true, leb-true, eqb-true, eq-eqb}
+use Rattle.std.proofs.Common.{◌≡◌, ◌≢◌, ◌⊎◌, ℕ, ◌+◌, ◌<◌, ◌≤◌, Bool, true, false, length, Option, Some, None, is_none, refl, sym, ap, ◌∙◌, subst, inl, inr, arith}
+use Rattle.std.proofs.lemmas.Bool.{cases_eq, cases_lt, both_ways, and_parts, and_from, eqb-true, eq-eqb}
 use Rattle.game_rules.specs.Board.{Square, on_board}
 use Rattle.game_rules.specs.Position.{Position, board_of, men_in, height, man_at, has_man, is_man, other, side_to_move, has_room, after_move}
 use Rattle.game_rules.specs.declared.Side.{Side}
@@ -9,7 +9,7 @@ use Rattle.game_rules.proofs.Moves as moves
 use Rattle.game_rules.proofs.Moves.{man_past, man_within, men_moved, men_beside, board_moved, height_moved, side_moved, room_from}
 use Rattle.game_rules.proofs.Ends.{on_board_parts}
 use Rattle.plan_rules.specs.Squares.{same_square, above, is_empty, is_playable}
-use Rattle.plan_rules.proofs.Squares.{same_square_refl, same_square_is}
+use Rattle.plan_rules.proofs.Squares.{same_square_is}
 
 -- ---- men and heights
 

@@ -2,12 +2,11 @@
 -- decides.
 use Rattle.std.proofs.Common.{◌≡◌, ℕ, ◌+◌, Bool, true, false, List, [], ◌∷◌, ◌++◌, Option, Some, None, refl}
 use Rattle.std.specs.Option.{option_map, option_map_or}
-use Rattle.game_rules.specs.Board.{Board, Square}
+use Rattle.game_rules.specs.Board.{Square}
 use Rattle.game_rules.specs.Position.{Position, empty_position, height, end_of, after_move, played}
 use Rattle.game_rules.specs.declared.End.{End}
 use Rattle.game_rules.specs.declared.End.TheVariants as ends
-use Rattle.game_rules.specs.declared.Way.{Way}
-use Rattle.game_rules.specs.declared.Way.TheVariants.{H, V, U, D}
+use Rattle.game_rules.specs.declared.Way.TheVariants.{H, U}
 use Rattle.plan_rules.specs.Rules.{Written, claimeven, baseinverse, lowinverse, highinverse, baseclaim, vertical, aftereven, before, specialbefore, together}
 use Rattle.plan_rules.specs.Plan.{is_plan, plan_reply, after_turn}
 

@@ -1,8 +1,8 @@
 -- Vertical: White never owns a square of a pair together with the one above.
-use Rattle.std.proofs.Common.{◌≡◌, true, false, Option, Some, None, refl}
+use Rattle.std.proofs.Common.{None, refl}
 use Rattle.std.proofs.lemmas.Bool.{both_ways, and_parts}
 use Rattle.game_rules.specs.Board.{Square}
-use Rattle.game_rules.specs.Position.{Position, has_man}
+use Rattle.game_rules.specs.Position.{has_man}
 use Rattle.game_rules.specs.declared.Side.TheVariants.{White}
 use Rattle.plan_rules.specs.Squares.{above}
 use Rattle.plan_rules.specs.Rules.{vertical, fits, reply_to, barred, is_supported}

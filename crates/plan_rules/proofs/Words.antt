@@ -1,18 +1,18 @@
 -- What stands on the squares of a zone, as one of a list of words; and what each rule needs of its own zone.
-use Rattle.std.proofs.Common.{◌≡◌, ◌≢◌, ◌⊎◌, ℕ, zero, suc, ◌+◌, ◌<◌, ◌≤◌, Bool, true, false, not, ◌&&◌, ◌||◌, List, [], ◌∷◌, map, filter, Option, Some, None, is_none, refl, sym, ap, ◌∙◌, subst, inl, inr, arith}
-use Rattle.std.specs.List.{list_all, list_any, slice_get, slice_index_or}
-use Rattle.std.proofs.lemmas.Bool.{cases_Bool, and_parts, and_from, and_right, or_cases, false_from_ne_true, not_from_false}
+use Rattle.std.proofs.Common.{◌≡◌, ◌⊎◌, ℕ, ◌+◌, ◌≤◌, Bool, true, false, not, ◌&&◌, List, [], ◌∷◌, filter, Option, Some, None, is_none, refl, ap, ◌∙◌, subst, inl, inr, arith}
+use Rattle.std.specs.List.{list_all, slice_index_or}
+use Rattle.std.proofs.lemmas.Bool.{and_parts, and_from, and_right, or_cases, false_from_ne_true}
 use Rattle.game_rules.specs.Board.{Square, on_board}
-use Rattle.game_rules.specs.Position.{Position, board_of, height, man_at, is_man, has_man, same_side, after_move}
+use Rattle.game_rules.specs.Position.{Position, board_of, height, man_at, is_man, after_move}
 use Rattle.game_rules.specs.declared.Side.{Side}
-use Rattle.game_rules.specs.declared.Side.TheVariants.{White, Black}
+use Rattle.game_rules.specs.declared.Side.TheVariants.{White}
 use Rattle.game_rules.proofs.Lists.{Among, any_gives, all_gives}
 use Rattle.game_rules.proofs.Moves.{same_side_is, board_moved}
 use Rattle.plan_rules.specs.Squares.{same_square, holds, above, is_empty, is_playable, word_at}
 use Rattle.plan_rules.specs.Rules.{Written, zone_of, fits}
 use Rattle.plan_rules.specs.Calm.{Word, same_man, same_word, is_one_of}
 use Rattle.plan_rules.specs.Laws.{LocalLaw, IsFounded, AreTrue}
-use Rattle.plan_rules.proofs.Squares.{holds_gives, holds_from}
+use Rattle.plan_rules.proofs.Squares.{holds_from}
 use Rattle.plan_rules.proofs.Turns.{empty_parts, playable_man, playable_parts, filled_under, beside, stays}
 use Rattle.plan_rules.proofs.Grounds.{fits_on_board, fits_empty}
 
@@ -112,8 +112,12 @@ empty_now q s u playable on apart none = and_from _ _ (ap (λ b. on_board b u) (
 pub filled_now : (q : Position) (s u : Square) (m : Side) → is_playable q s ≡ true → man_at q u ≡ Some m → is_empty (after_move q s.0) u ≡ false
 filled_now q s u m playable man = and_right _ _ (ap is_none (stays q s u m playable man))
 
+-- what is so of each word of a list
+pub told_of : (test : Word → Bool) (words : List Word) (word : Word) → is_one_of words word ≡ true → list_all test words ≡ true → test word ≡ true
+told_of test words word one all =
+    let found = any_gives (same_word word) words one in
+    ap test (same_word_is word found.0 found.2) ∙ all_gives test words found.0 all found.1
+
 -- words of one list, changed each in the same way, are words of another
 pub mapped : (change : Word → Word) (words targets : List Word) (word : Word) → is_one_of words word ≡ true → list_all (λ v. is_one_of targets (change v)) words ≡ true → is_one_of targets (change word) ≡ true
-mapped change words targets word one all =
-    let found = any_gives (same_word word) words one in
-    ap (λ v. is_one_of targets (change v)) (same_word_is word found.0 found.2) ∙ all_gives (λ v. is_one_of targets (change v)) words found.0 all found.1
+mapped change words targets word one all = told_of (λ v. is_one_of targets (change v)) words word one all

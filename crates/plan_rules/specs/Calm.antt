@@ -1,6 +1,6 @@
 -- Calm men: the cases of a zone in which its rule has an answer to each move of White's, and no others. They look at
 -- the squares of the zone alone, and are this project's own profile "after Allis".
-use Rattle.std.specs.Prelude.{ℕ, Bool, true, false, ◌&&◌, ◌||◌, ◌==◌, List, [], ◌∷◌, ◌++◌, length, Option, Some, None}
+use Rattle.std.specs.Prelude.{ℕ, Bool, true, false, ◌&&◌, ◌||◌, ◌==◌, List, [], ◌∷◌, length, Option, Some, None}
 use Rattle.std.specs.List.{list_any}
 use Rattle.game_rules.specs.Board.{Square}
 use Rattle.game_rules.specs.Position.{Position, same_side}

@@ -1,16 +1,16 @@
 -- A plan of Black's at a position, and the play that follows it. A plan is this project's own profile "after Allis";
 -- the play is the game's, with Black's moves by the plan.
-use Rattle.std.specs.Prelude.{◌≡◌, ℕ, ◌+◌, ◌<◌, Bool, true, false, not, ◌&&◌, ◌||◌, if◌then◌else◌, List, [], ◌∷◌, Option, Some, None, is_none, option_and_then, slice_get}
+use Rattle.std.specs.Prelude.{◌≡◌, ◌⊎◌, ℕ, ◌+◌, ◌*◌, ◌<◌, ◌≤◌, Bool, true, false, not, ◌&&◌, ◌||◌, if◌then◌else◌, List, [], ◌∷◌, length, Option, Some, None, is_none, option_and_then, slice_get}
 use Rattle.std.specs.List.{list_all, list_any, find}
 use Rattle.std.specs.Option.{option_map, option_map_or}
 use Rattle.game_rules.specs.Board.{Board, Square, below, ways}
 use Rattle.game_rules.specs.Position.{Position, board_of, height, man_at, has_man, side_to_move, same_side, has_four, end_of, is_legal, after_move}
 use Rattle.game_rules.specs.declared.Side.{Side}
 use Rattle.game_rules.specs.declared.Side.TheVariants.{White, Black}
-use Rattle.plan_rules.specs.Squares.{holds, is_empty, is_playable, Line, squares_of, lies_on}
-use Rattle.plan_rules.specs.Rules.{Written, zone_of, fits, reply_to, facts_of, barred, is_supported, together}
+use Rattle.plan_rules.specs.Squares.{holds, is_even, men_on, is_empty, is_playable, Line, squares_of, lies_on}
+use Rattle.plan_rules.specs.Rules.{Written, claimeven, baseinverse, lowinverse, highinverse, baseclaim, vertical, aftereven, before, specialbefore, zone_of, fits, reply_to, facts_of, barred, is_supported, together}
 use Rattle.plan_rules.specs.Calm.{is_calm}
-use Rattle.plan_rules.specs.Laws.{AreTrue, Owns}
+use Rattle.plan_rules.specs.Laws.{AreTrue}
 
 -- ---- a plan
 
@@ -108,14 +108,34 @@ after_turns ws q (column ∷ columns) = if is_legal q column then option_and_the
 
 -- ---- what a plan keeps
 
+-- the bottoms of an inverse
+abbrev pub bottoms_of : Written → Option (Square × Square)
+bottoms_of (claimeven x) = None
+bottoms_of (baseinverse s t) = None
+bottoms_of (lowinverse x x_top y y_top) = Some (x, y)
+bottoms_of (highinverse x y) = Some (x, y)
+bottoms_of (baseclaim a b e) = None
+bottoms_of (vertical e) = None
+bottoms_of (aftereven g) = None
+bottoms_of (before g) = None
+bottoms_of (specialbefore g f e0) = None
+
+-- both columns are filled up to the bottoms of the zone, or neither is, and the zone has no man
+abbrev pub HasFloors : Position → List Square → Square × Square → Type 0
+HasFloors q zone (x, y) =
+    ((x.1 ≤ height q x.0 + 1) × (y.1 ≤ height q y.0 + 1)) ⊎ ((height q x.0 + 1 < x.1) × (height q y.0 + 1 < y.1) × (men_on q zone ≡ []))
+
 -- at each position of the duel with White to move
 pub record IsKept (p : Position) (ws : List Written) (q : Position) : Type 0 where
   pub board : board_of p ≡ board_of q
   pub white : side_to_move q ≡ White
   -- the men of the plan's position are still there
   pub stay : (u : Square) (side : Side) → man_at p u ≡ Some side → man_at q u ≡ Some side
-  -- the men of each zone are calm
+  -- the men of each zone are calm, and their number is even
   pub calms : (i : ℕ) (w : Written) → IsMember ws i w → is_calm w q ≡ true
+  pub even : (i : ℕ) (w : Written) → IsMember ws i w → is_even (length (men_on q (zone_of w))) ≡ true
+  -- each inverse has both floors, or neither
+  pub floors : (i : ℕ) (w : Written) (bottoms : Square × Square) → IsMember ws i w → bottoms_of w ≡ Some bottoms → HasFloors q (zone_of w) bottoms
   -- what standing members rest on is true
   pub facts : AreTrue (facts_of p ws).upper (facts_of p ws).pair (facts_of p ws).twin q
   pub no_four : has_four q White ≡ false
@@ -127,3 +147,13 @@ pub record IsAnswered (ws : List Written) (q : Position) (column : ℕ) : Type 0
   pub reply : Square
   pub is_reply : plan_reply ws (after_move q column) (column, height q column + 1) ≡ Some reply
   pub playable : is_playable (after_move q column) reply ≡ true
+
+-- one turn of a duel: the positions before it, after White's move and after Black's reply stand next to one another
+pub record IsTurn (p : Position) (ws : List Written) (positions : List Position) (i column : ℕ) : Type 0 where
+  pub now : Position
+  pub is_now : slice_get positions (2 * i) ≡ Some now
+  pub kept : IsKept p ws now
+  pub legal : is_legal now column ≡ true
+  pub answered : IsAnswered ws now column
+  pub after_white : slice_get positions (2 * i + 1) ≡ Some (after_move now column)
+  pub after_black : slice_get positions (2 * i + 2) ≡ Some (after_move (after_move now column) answered.reply.0)

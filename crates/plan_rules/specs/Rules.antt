@@ -1,7 +1,7 @@
 -- The nine rules, each by cases over squares and sets of squares: what an instance owns, where it fits, what it
 -- answers, which sets of squares it promises that White never owns whole, what it gives to other rules and what it
 -- rests on. They are this project's own profile "after Allis".
-use Rattle.std.specs.Prelude.{ℕ, ◌+◌, Bool, true, false, not, ◌&&◌, ◌||◌, ◌==◌, nat_lt, nat_le, if◌then◌else◌, List, [], ◌∷◌, ◌++◌, Option, Some, None}
+use Rattle.std.specs.Prelude.{◌+◌, Bool, true, false, not, ◌&&◌, ◌||◌, ◌==◌, nat_lt, nat_le, if◌then◌else◌, List, [], ◌∷◌, ◌++◌, Option, Some, None}
 use Rattle.std.specs.List.{list_all, list_any, flat_map}
 use Rattle.game_rules.specs.Board.{Board, Square, below, on_board}
 use Rattle.game_rules.specs.Position.{Position, board_of, has_man, lowest_empty}

@@ -1,6 +1,6 @@
 -- Words for squares and sets of squares. What is empty and what is playable is a rule of the game; columns of squares
 -- and the words on them are this project's own.
-use Rattle.std.specs.Prelude.{ℕ, zero, suc, ◌+◌, ◌-◌, ◌%◌, Bool, true, false, not, ◌&&◌, ◌||◌, ◌==◌, List, [], ◌∷◌, map, Option, Some, None, is_none}
+use Rattle.std.specs.Prelude.{ℕ, zero, suc, ◌+◌, ◌-◌, ◌%◌, Bool, not, ◌&&◌, ◌||◌, ◌==◌, List, [], ◌∷◌, map, Option, Some, None, is_none}
 use Rattle.std.specs.List.{list_all, list_any}
 use Rattle.game_rules.specs.Board.{Board, Square, on_board, line_at, is_line}
 use Rattle.game_rules.specs.Position.{Position, board_of, height, man_at}
