@@ -22,3 +22,4 @@ pub mod Columns
 pub mod Pairs
 pub mod Lowinverse
 pub mod Theorems
+pub mod ColumnWords

@@ -8,9 +8,10 @@ ghost use Rattle.game_rules.specs.Value.{value, wins};
 ghost use Rattle.game_rules.specs.Laws.{HasLine};
 ghost use Rattle.game_rules.specs.declared.Side.TheVariants as sides;
 ghost use Rattle.game_rules.specs.declared.End.TheVariants as ends;
-ghost use Rattle.plan_rules.specs.Squares.{holds, is_empty, is_even, is_playable, men_on};
+ghost use Rattle.plan_rules.specs.Squares.{holds, column_up, is_empty, is_even, is_odd, is_playable, men_on};
 ghost use Rattle.plan_rules.specs.Rules.{Written, zone_of, line_of, fits, reply_to, upper_of, pair_of, twin_of, barred, is_supported, together};
-ghost use Rattle.plan_rules.specs.Calm.{is_calm};
+ghost use Rattle.plan_rules.specs.Calm.{is_paired, is_capped, is_shifted, is_calm};
+ghost use Rattle.plan_rules.specs.Columns.{IsPairedColumn, IsCappedColumn, IsShiftedColumn};
 ghost use Rattle.plan_rules.specs.Laws.{StartLaw, LocalLaw, StepLaw, FactLaw, BarLaw};
 ghost use Rattle.plan_rules.specs.Plan.{is_plan, IsMember, IsPlan, IsKept, IsAnswered, IsTurn, after_turns, duel, is_playable_list};
 
@@ -47,6 +48,14 @@ pub fn white_owns_no_barred_set()
 /// a pair is White's together with the one above, and of two twins not both are White's.
 pub fn an_instance_keeps_what_it_promises()
     ensures { (w : Written) → FactLaw (fits w) (is_calm w) (upper_of w) (pair_of w) (twin_of w) }
+{}
+
+/// The three kinds of column of a Lowinverse, said by its squares: paired, capped and shifted.
+pub fn columns_of_a_lowinverse_in_words()
+    ensures paired { (p : Position) (bottom : Square) (size : ℕ) → 1 ≤ bottom.1 → (is_paired (men_on p (column_up bottom size)) ≡ true) ↔ IsPairedColumn p bottom size }
+    ensures capped { (p : Position) (bottom : Square) (size : ℕ) → 1 ≤ bottom.1 → is_odd size ≡ true
+        → (is_capped size (men_on p (column_up bottom size)) ≡ true) ↔ IsCappedColumn p bottom size }
+    ensures shifted { (p : Position) (bottom : Square) (size : ℕ) → 1 ≤ bottom.1 → (is_shifted (men_on p (column_up bottom size)) ≡ true) ↔ IsShiftedColumn p bottom size }
 {}
 
 /// A calm zone holds an even number of men.
