@@ -7,7 +7,8 @@ use Rattle.game_rules.specs.Position.{Position, empty_position, height, end_of, 
 use Rattle.game_rules.specs.declared.End.{End}
 use Rattle.game_rules.specs.declared.End.TheVariants as ends
 use Rattle.game_rules.specs.declared.Way.TheVariants.{H, U}
-use Rattle.plan_rules.specs.Rules.{Written, claimeven, baseinverse, lowinverse, highinverse, baseclaim, vertical, aftereven, before, specialbefore, together}
+use Rattle.plan_rules.specs.Rules.{Written, claimeven, baseinverse, lowinverse, highinverse, baseclaim, vertical, aftereven, before, specialbefore, facts_of, barred, together}
+use Rattle.plan_rules.specs.Squares.{holds}
 use Rattle.plan_rules.specs.Plan.{is_plan, plan_reply, after_turn}
 
 -- whether a list is a plan after some moves on a board
@@ -132,3 +133,7 @@ specialbefore_replies = refl
 
 specialbefore_to_the_end : answered 5 4 (0 ∷ 1 ∷ 1 ∷ 0 ∷ 0 ∷ 1 ∷ 1 ∷ 0 ∷ 3 ∷ 3 ∷ 2 ∷ 4 ∷ 4 ∷ 3 ∷ 4 ∷ 4 ∷ []) (diagonal ++ specialbefore ((1, 1), U) (3, 4) (2, 2) ∷ []) (2 ∷ 2 ∷ []) ≡ Some (((2, 2), Some (3, 4)) ∷ ((2, 3), Some (2, 4)) ∷ [], Some ends.Draw)
 specialbefore_to_the_end = refl
+
+-- White may own the bottom and the middle of one column of a Highinverse
+bottom_and_middle : (p : Position) → barred (highinverse (2, 2) (3, 2)) (facts_of p []) (holds ((3, 2) ∷ (3, 3) ∷ [])) ≡ false
+bottom_and_middle p = refl

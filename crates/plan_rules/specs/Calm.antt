@@ -13,6 +13,7 @@ use Rattle.plan_rules.specs.Rules.{Written, claimeven, baseinverse, lowinverse, 
 abbrev pub Word : Type 0
 Word = List (Option Side)
 
+-- two squares hold the same
 abbrev pub same_man : Option Side → Option Side → Bool
 same_man None None = true
 same_man None (Some m) = false
@@ -25,6 +26,7 @@ same_word [] (n ∷ ns) = false
 same_word (m ∷ ms) [] = false
 same_word (m ∷ ms) (n ∷ ns) = same_man m n && same_word ms ns
 
+-- the word is one of the list
 abbrev pub is_one_of : List Word → Word → Bool
 is_one_of words word = list_any (same_word word) words
 
@@ -38,13 +40,15 @@ white = Some White
 abbrev pub black : Option Side
 black = Some Black
 
+-- Claimeven: the lower square, and the upper
 abbrev pub even_words : List Word
 even_words = (none ∷ none ∷ []) ∷ (white ∷ black ∷ []) ∷ []
 
+-- Baseinverse: s, and t
 abbrev pub inverse_words : List Word
 inverse_words = (none ∷ none ∷ []) ∷ (white ∷ black ∷ []) ∷ (black ∷ white ∷ []) ∷ []
 
--- a, b, e and the square above b
+-- Baseclaim: a, b, e, and the square above b
 abbrev pub claim_words : List Word
 claim_words =
     (none ∷ none ∷ none ∷ none ∷ [])
@@ -52,7 +56,7 @@ claim_words =
     ∷ (white ∷ white ∷ black ∷ black ∷ []) ∷ (black ∷ white ∷ black ∷ white ∷ []) ∷ (white ∷ black ∷ white ∷ black ∷ []) ∷ (black ∷ black ∷ white ∷ white ∷ [])
     ∷ []
 
--- three squares of the one column, read upwards, and then the three of the other
+-- Highinverse: the three squares of the one column, read upwards, and then the three of the other
 abbrev pub high_words : List Word
 high_words =
     (none ∷ none ∷ none ∷ none ∷ none ∷ none ∷ [])
@@ -95,6 +99,7 @@ is_calm_low p us vs =
     || (is_capped (length us) (men_on p us) && is_shifted (men_on p vs))
     || (is_shifted (men_on p us) && is_capped (length vs) (men_on p vs))
 
+-- the cases of each rule; a standing rule is always calm
 abbrev pub is_calm : Written → Position → Bool
 is_calm (claimeven x) p = is_one_of even_words (word_at p (zone_of (claimeven x)))
 is_calm (baseinverse s t) p = is_one_of inverse_words (word_at p (zone_of (baseinverse s t)))

@@ -19,9 +19,11 @@ abbrev pub each_two : (Written → Written → Bool) → List Written → Bool
 each_two test [] = true
 each_two test (w ∷ ws) = list_all (test w) ws && each_two test ws
 
+-- each square of the board passes the test
 abbrev pub every_square : Board → (Square → Bool) → Bool
 every_square board test = list_all (λ c. list_all (λ r. test (c, r + 1)) (below board.rows)) (below board.cols)
 
+-- each line of the board passes the test
 abbrev pub every_line : Board → (Line → Bool) → Bool
 every_line board test = list_all (λ way. every_square board (λ anchor. not (lies_on board (anchor, way)) || test (anchor, way))) ways
 
@@ -92,6 +94,7 @@ duel ws q [] = q ∷ []
 duel ws q (column ∷ columns) =
     if is_none (end_of q) then q ∷ after_move q column ∷ option_map_or (λ next. duel ws next columns) (after_turn ws q column) [] else q ∷ []
 
+-- no column is left
 abbrev pub is_nil : List ℕ → Bool
 is_nil [] = true
 is_nil (column ∷ columns) = false

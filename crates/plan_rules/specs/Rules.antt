@@ -22,6 +22,7 @@ pub data Written : Type 0 where
   before : Line → Written  -- G
   specialbefore : Line → Square → Square → Written  -- G, f, e0
 
+-- which rule it is an instance of
 abbrev pub kind_of : Written → Kind
 kind_of (claimeven x) = kinds.Claimeven
 kind_of (baseinverse s t) = kinds.Baseinverse
@@ -103,6 +104,7 @@ is_open_line p g = lies_on (board_of p) g && list_all (λ u. not (has_man p Whit
 abbrev pub is_low_line : Position → Line → Bool
 is_low_line p g = is_open_line p g && each_of (is_empty p) (λ u. nat_lt u.1 p.rows) (squares_of g)
 
+-- what the position has to offer besides an empty zone
 abbrev pub fits_besides : Written → Position → Bool
 fits_besides (claimeven x) p = true
 fits_besides (baseinverse s t) p = is_playable p s && is_playable p t
@@ -128,6 +130,9 @@ high_reply u v now last =
     else (if same_square last (above u) then Some (above (above u))
     else (if same_square last (above (above u)) then Some v else None))
 
+-- Claimeven: the lower square by the upper. Baseinverse: each by the other. Lowinverse: a top by the playable square of
+-- the other column, each other square by the one above it. Highinverse: as above, in the column of White's square.
+-- Baseclaim: a and b by e while e is empty, else by the square above b; e by b; the square above b by a.
 abbrev pub reply_to : Written → Position → Square → Option Square
 reply_to (claimeven x) now last = if same_square last x then Some (above x) else None
 reply_to (baseinverse s t) now last = if same_square last s then Some t else (if same_square last t then Some s else None)
@@ -157,6 +162,7 @@ pub record Facts : Type 0 where
   pub pair : Square → Bool
   pub twin : List (Square × Square)
 
+-- what an instance itself gives: the upper square of a Claimeven
 abbrev pub upper_of : Written → List Square
 upper_of (claimeven x) = above x ∷ []
 upper_of (baseinverse s t) = []
@@ -180,6 +186,7 @@ pair_of (aftereven g) = []
 pair_of (before g) = []
 pair_of (specialbefore g f e0) = []
 
+-- a Baseinverse gives its two squares as twins
 abbrev pub twin_of : Written → Option (Square × Square)
 twin_of (claimeven x) = None
 twin_of (baseinverse s t) = Some (s, t)
@@ -206,7 +213,7 @@ facts_of p ws = record {
 
 -- ---- what is barred, and what it rests on
 
--- some square above it in its column, of which there are at most ten
+-- some square above it in its column; no board has more than ten rows
 abbrev pub some_above : (Square → Bool) → Square → Bool
 some_above set u = list_any (λ i. set (u.0, u.1 + 1 + i)) (below 10)
 
@@ -228,6 +235,7 @@ barred (aftereven g) facts set = each_of facts.empty (some_above set) (squares_o
 barred (before g) facts set = each_of facts.empty (λ u. set (above u)) (squares_of g)
 barred (specialbefore g f e0) facts set = set f && each_of facts.empty (λ u. set (above u)) (squares_of g)
 
+-- the two squares are twins, in either order
 abbrev pub is_twin : List (Square × Square) → Square → Square → Bool
 is_twin twins u v = list_any (λ twin. (same_square u twin.0 && same_square v twin.1) || (same_square u twin.1 && same_square v twin.0)) twins
 
@@ -245,6 +253,7 @@ is_supported (specialbefore g f e0) facts = is_twin facts.twin f e0 && each_of f
 
 -- ---- which two may stand together
 
+-- no square is in both lists, and no two squares of them stand in one column
 abbrev pub no_shared_square : List Square → List Square → Bool
 no_shared_square us vs = list_all (λ u. not (holds vs u)) us
 
@@ -280,6 +289,7 @@ stands_over (aftereven g) w = false
 stands_over (before g) w = false
 stands_over (specialbefore g f e0) w = false
 
+-- one of the two is standing; or they share no square, and either no column or as said above
 abbrev pub together : Written → Written → Bool
 together v w =
     is_standing v || is_standing w

@@ -7,6 +7,7 @@ use Rattle.game_rules.specs.Position.{Position, board_of, height, man_at}
 use Rattle.game_rules.specs.declared.Side.{Side}
 use Rattle.game_rules.specs.declared.Way.{Way}
 
+-- the same column and the same row
 abbrev pub same_square : Square → Square → Bool
 same_square u v = (u.0 == v.0) && (u.1 == v.1)
 
@@ -36,6 +37,7 @@ column_up u (suc n) = u ∷ column_up (above u) n
 abbrev pub span : Square → Square → List Square
 span bottom top = column_up bottom (top.1 + 1 - bottom.1)
 
+-- a square of the board without a man
 abbrev pub is_empty : Position → Square → Bool
 is_empty p u = on_board (board_of p) u && is_none (man_at p u)
 
@@ -47,9 +49,11 @@ is_playable p u = on_board (board_of p) u && (u.1 == height p u.0 + 1)
 abbrev pub Line : Type 0
 Line = Square × Way
 
+-- its four squares
 abbrev pub squares_of : Line → List Square
 squares_of g = line_at g.1 g.0
 
+-- all four lie on the board
 abbrev pub lies_on : Board → Line → Bool
 lies_on board g = is_line board g.1 g.0
 
