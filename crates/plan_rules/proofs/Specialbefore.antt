@@ -39,8 +39,8 @@ module _ (g : Line) (f e0 : Square) where
   pub specialbefore_bars : BarLaw (fits (specialbefore g f e0)) (is_supported (specialbefore g f e0)) (is_calm (specialbefore g f e0)) (barred (specialbefore g f e0)) (Some g)
   specialbefore_bars p q facts set fitted empty supported calm are_true stay held owns =
       line_black p q g is_open stay (λ u in_line empty_at.
-      let one = each_of_gives facts.empty (λ u. same_square u e0 || facts.upper u || facts.pair u) (squares_of g) u (and_parts _ _ supported).1 in_line (empty u ∙ empty_at) in
-      let over = owns (above u) (each_of_gives facts.empty (λ u. set (above u)) (squares_of g) u (and_parts _ _ held).1 in_line (empty u ∙ empty_at)) in
+      let one : (same_square u e0 || facts.upper u || facts.pair u) ≡ true = each_of_gives facts.empty (λ u. same_square u e0 || facts.upper u || facts.pair u) (squares_of g) u others in_line (empty u ∙ empty_at) in
+      let over : has_man q White (above u) ≡ true = owns (above u) (each_of_gives facts.empty (λ u. set (above u)) (squares_of g) u over_each in_line (empty u ∙ empty_at)) in
       let row = (on_board_parts (board_of p) u.0 u.1 (line_square_on p g is_open u in_line)).1 in
       black_under q u (above u) row refl (omega arith) over (none u one over))
     where
@@ -49,6 +49,12 @@ module _ (g : Line) (f e0 : Square) where
 
       twins : is_twin facts.twin f e0 ≡ true
       twins = (and_parts (is_twin facts.twin f e0) (each_of facts.empty (λ u. same_square u e0 || facts.upper u || facts.pair u) (squares_of g)) supported).0
+
+      others : each_of facts.empty (λ u. same_square u e0 || facts.upper u || facts.pair u) (squares_of g) ≡ true
+      others = (and_parts (is_twin facts.twin f e0) (each_of facts.empty (λ u. same_square u e0 || facts.upper u || facts.pair u) (squares_of g)) supported).1
+
+      over_each : each_of facts.empty (λ u. set (above u)) (squares_of g) ≡ true
+      over_each = (and_parts (set f) (each_of facts.empty (λ u. set (above u)) (squares_of g)) held).1
 
       own_f : set f ≡ true
       own_f = (and_parts (set f) (each_of facts.empty (λ u. set (above u)) (squares_of g)) held).0

@@ -310,7 +310,7 @@ module _ (laws : (w : Written) → Lawful w) (p : Position) (ws : List Written) 
   duel_opens : (q : Position) (column : ℕ) (columns : List ℕ) → is_legal q column ≡ true → (one : Turn q column)
       → duel ws q (column ∷ columns) ≡ q ∷ after_move q column ∷ duel ws one.next columns
   duel_opens q column columns legal one =
-      cond-true (is_none (end_of q)) (q ∷ after_move q column ∷ option_map_or (λ next. duel ws next columns) (after_turn ws q column) []) (q ∷ []) (ap is_none (legal_parts q column legal).0)
+      cond-true (is_legal q column) (q ∷ after_move q column ∷ option_map_or (λ next. duel ws next columns) (after_turn ws q column) []) (q ∷ []) legal
       ∙ ap (λ t. q ∷ after_move q column ∷ option_map_or (λ next. duel ws next columns) t []) one.is_next
 
   list_opens : (q : Position) (column : ℕ) (columns : List ℕ) → is_playable_list ws q (column ∷ columns) ≡ true → (one : Turn q column) → is_playable_list ws one.next columns ≡ true
@@ -319,7 +319,7 @@ module _ (laws : (w : Written) → Lawful w) (p : Position) (ws : List Written) 
 
   duel_first : (q : Position) (columns : List ℕ) → slice_get (duel ws q columns) 0 ≡ Some q
   duel_first q [] = refl
-  duel_first q (column ∷ columns) = either (is_none (end_of q)) (after_move q column ∷ option_map_or (λ next. duel ws next columns) (after_turn ws q column) [])
+  duel_first q (column ∷ columns) = either (is_legal q column) (after_move q column ∷ option_map_or (λ next. duel ws next columns) (after_turn ws q column) [])
     where
       either : (b : Bool) (rest : List Position) → slice_get (cond b (q ∷ rest) (q ∷ [])) 0 ≡ Some q
       either true rest = refl

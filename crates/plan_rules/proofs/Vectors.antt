@@ -1,6 +1,6 @@
 -- The definitions, computed at positions whose answers are known from outside, each plan also without the member that
 -- decides.
-use Rattle.std.proofs.Common.{◌≡◌, ℕ, ◌+◌, Bool, true, false, List, [], ◌∷◌, ◌++◌, Option, Some, None, refl}
+use Rattle.std.proofs.Common.{◌≡◌, ℕ, ◌+◌, Bool, true, false, List, [], ◌∷◌, ◌++◌, length, Option, Some, None, refl}
 use Rattle.std.specs.Option.{option_map, option_map_or}
 use Rattle.game_rules.specs.Board.{Square}
 use Rattle.game_rules.specs.Position.{Position, empty_position, height, end_of, after_move, played}
@@ -9,7 +9,7 @@ use Rattle.game_rules.specs.declared.End.TheVariants as ends
 use Rattle.game_rules.specs.declared.Way.TheVariants.{H, U}
 use Rattle.plan_rules.specs.Rules.{Written, claimeven, baseinverse, lowinverse, highinverse, baseclaim, vertical, aftereven, before, specialbefore, facts_of, barred, together}
 use Rattle.plan_rules.specs.Squares.{holds}
-use Rattle.plan_rules.specs.Plan.{is_plan, plan_reply, after_turn}
+use Rattle.plan_rules.specs.Plan.{is_plan, plan_reply, after_turn, duel, is_playable_list}
 
 -- whether a list is a plan after some moves on a board
 abbrev planned : ℕ → ℕ → List ℕ → List Written → Option Bool
@@ -137,3 +137,17 @@ specialbefore_to_the_end = refl
 -- White may own the bottom and the middle of one column of a Highinverse
 bottom_and_middle : (p : Position) → barred (highinverse (2, 2) (3, 2)) (facts_of p []) (holds ((3, 2) ∷ (3, 3) ∷ [])) ≡ false
 bottom_and_middle p = refl
+
+-- whether a list of White's columns is playable, and how many positions the duel over it has
+abbrev dueled : List Written → List ℕ → Option (Bool × ℕ)
+dueled ws columns = option_map (λ p. (is_playable_list ws p columns, length (duel ws p columns))) (played (empty_position (record { cols = 4; rows = 4 })) [])
+
+-- eight turns fill the board; a ninth column isn't legal, nor is one that is full
+whole_duel : dueled six_zones (2 ∷ 2 ∷ 3 ∷ 2 ∷ 0 ∷ 0 ∷ 1 ∷ 1 ∷ []) ≡ Some (true, 17)
+whole_duel = refl
+
+past_the_end : dueled six_zones (2 ∷ 2 ∷ 3 ∷ 2 ∷ 0 ∷ 0 ∷ 1 ∷ 1 ∷ 0 ∷ []) ≡ Some (false, 17)
+past_the_end = refl
+
+full_column : dueled six_zones (2 ∷ 2 ∷ 2 ∷ 3 ∷ 2 ∷ []) ≡ Some (false, 9)
+full_column = refl

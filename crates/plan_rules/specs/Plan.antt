@@ -88,11 +88,11 @@ after_turn ws q column =
     else None
 
 -- The duel: the position, that after White's first move, that after Black's answer, and so on, up to the end of White's
--- columns or of the game.
+-- columns or of the game. A column that isn't legal ends it too.
 abbrev pub duel : List Written → Position → List ℕ → List Position
 duel ws q [] = q ∷ []
 duel ws q (column ∷ columns) =
-    if is_none (end_of q) then q ∷ after_move q column ∷ option_map_or (λ next. duel ws next columns) (after_turn ws q column) [] else q ∷ []
+    if is_legal q column then q ∷ after_move q column ∷ option_map_or (λ next. duel ws next columns) (after_turn ws q column) [] else q ∷ []
 
 -- no column is left
 abbrev pub is_nil : List ℕ → Bool
