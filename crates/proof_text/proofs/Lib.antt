@@ -1,0 +1,4 @@
+mod Vectors
+pub mod Append
+pub mod Sound
+pub mod Refusals
