@@ -1,8 +1,8 @@
 -- The one spelling of each lemma and verdict: words with a space between each two, and numbers in decimal.
-use Rattle.std.specs.Prelude.{◌≤◌, ◌<◌, ℕ, Bool, false, ◌==◌, List, [], ◌∷◌, ◌++◌, map, length, codes, decimal, flat_map, ⊤, ◌&&◌, nat_le}
+use Rattle.std.specs.Prelude.{◌≡◌, ◌≤◌, ◌<◌, ℕ, Bool, true, false, ◌==◌, List, [], ◌∷◌, ◌++◌, map, length, codes, decimal, flat_map, ⊤, ◌&&◌, nat_le}
 use Rattle.std.specs.List.{AllByRecursion, join_with_byte, list_all}
 use Rattle.game_rules.specs.Grammar.{letter_of, move_list}
-use Rattle.proof_text.specs.Lemma.{Cite, Reason, ByEnd, ByOne, ByAll, Lemma}
+use Rattle.proof_text.specs.Lemma.{Cite, Reason, ByEnd, ByOne, ByAll, Lemma, Line, ALemma, ARemark, AVerdict}
 use Rattle.proof_text.specs.declared.Claim.{Claim}
 use Rattle.proof_text.specs.declared.Claim.TheVariants.{WhiteWins, WhiteFails, BlackWins, BlackFails}
 use Rattle.proof_text.specs.declared.Verdict.{Verdict}
@@ -99,3 +99,9 @@ VerdictFits (Win n) = IsNumber n
 VerdictFits (Loss n) = IsNumber n
 VerdictFits (Draw n m) = IsNumber n × IsNumber m
 VerdictFits Unknown = ⊤
+
+-- The bytes are a line on a board with so many columns, and say this.
+abbrev pub IsLine : ℕ → List ℕ → Line → Type 0
+IsLine cols bytes (ALemma l) = Fits cols l × (bytes ≡ lemma_text l)
+IsLine cols bytes ARemark = is_remark bytes ≡ true
+IsLine cols bytes (AVerdict v) = VerdictFits v × (bytes ≡ verdict_text v)
