@@ -4,3 +4,5 @@ pub mod Sound
 pub mod Refusals
 pub mod Words
 pub mod Spelled
+pub mod Pieces
+pub mod Fold

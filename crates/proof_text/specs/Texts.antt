@@ -8,7 +8,7 @@ use Rattle.game_rules.specs.Grammar.{game_text, last_feed}
 use Rattle.game_rules.specs.declared.InputFault.{InputFault}
 use Rattle.proof_text.specs.Lemma.{Lemma, Line, ALemma, ARemark, AVerdict}
 use Rattle.proof_text.specs.Right.{Shown, AreRight, IsVerdict}
-use Rattle.proof_text.specs.Checked.{unless, or_then, Standing, line_refusal, shown_of}
+use Rattle.proof_text.specs.Checked.{unless, or_then, Standing, line_refusal, shown_of, with_line}
 use Rattle.proof_text.specs.Spelling.{lemma_text, verdict_text, line_of, is_remark, Fits, VerdictFits}
 use Rattle.proof_text.specs.Reading.{read_line}
 use Rattle.proof_text.specs.declared.Verdict.{Verdict}
@@ -124,6 +124,31 @@ verdict_answer next lemmas (Some v) = Accepted v lemmas
 abbrev pub lines_answer : Position → List (List ℕ) → Option (ℕ × Why) → Answer
 lines_answer root lines (Some (k, why)) = Refused (k + first_number) why
 lines_answer root lines None = verdict_answer (length lines + first_number) (length (standing root lines).known) (standing root lines).verdict
+
+-- ---- line by line
+
+-- what stands after one more line, given by its bytes
+abbrev pub with_said : Standing → Option Line → Standing
+with_said s None = s
+with_said s (Some line) = with_line s line
+
+abbrev pub with_bytes : Standing → List ℕ → Standing
+with_bytes s bytes = with_said s (read_line (length s.root.columns) bytes)
+
+abbrev pub line_answer : Option Why → ℕ → Answer → Answer
+line_answer None at later = later
+line_answer (Some why) at later = Refused at why
+
+-- the answer to further lines, the first of which has this number, behind what stands
+abbrev pub check_from : Standing → ℕ → List (List ℕ) → Answer
+check_from s at [] = verdict_answer at (length s.known) s.verdict
+check_from s at (line ∷ lines) = line_answer (bytes_refusal s at line) at (check_from (with_bytes s line) (at + 1) lines)
+
+-- what stands before the first line
+abbrev pub start : Position → Standing
+start root = record { root = root; known = []; verdict = None }
+
+-- ---- whole texts
 
 -- the answer to the lines behind a game
 abbrev pub answer_of : Position → List (List ℕ) → Answer
