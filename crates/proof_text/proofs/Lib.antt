@@ -6,3 +6,4 @@ pub mod Words
 pub mod Spelled
 pub mod Pieces
 pub mod Fold
+pub mod Accepted
