@@ -7,3 +7,4 @@ pub mod Spelled
 pub mod Pieces
 pub mod Fold
 pub mod Accepted
+pub mod Whole

@@ -37,14 +37,14 @@ digits_decimal n h = decimal_by_steps (λ n ds. IsDigits ds) (λ n low. ((omega 
 number_small : (n : ℕ) → IsNumber n → n < 2 ^ 64
 number_small n h = omega (arith, h.1)
 
-plain_decimal : (n : ℕ) → IsNumber n → IsPlain (decimal n)
+pub plain_decimal : (n : ℕ) → IsNumber n → IsPlain (decimal n)
 plain_decimal n h = all_each (λ byte. (48 ≤ byte) × (byte ≤ 57)) (λ byte. 43 ≤ byte) (decimal n) (λ byte digit. omega arith) (digits_decimal n (number_small n h))
 
 plain_letters : (columns : List ℕ) → IsPlain (map letter_of columns)
 plain_letters [] = tt
 plain_letters (column ∷ columns) = (omega arith, plain_letters columns)
 
-plain_moves : (path : List ℕ) → IsPlain (move_list path)
+pub plain_moves : (path : List ℕ) → IsPlain (move_list path)
 plain_moves [] = (lit< tt, tt)
 plain_moves (column ∷ columns) = plain_letters (column ∷ columns)
 
