@@ -8,3 +8,4 @@ pub mod Pieces
 pub mod Fold
 pub mod Accepted
 pub mod Whole
+pub mod Fitting

@@ -25,6 +25,7 @@ use Rattle.proof_text.specs.Texts.{is_feed, pieces, last_line, lines_in, longest
 use Rattle.proof_text.proofs.Append.{all_append, all_each, length_shown}
 use Rattle.proof_text.proofs.Spelled.{plain_decimal, plain_moves, line_bytes}
 use Rattle.proof_text.proofs.Pieces.{IsFeedless, feedless_high, pieces_line, pieces_last, pieces_feedless, pieces_some, joined, cut_lines, lines_append, joined_lines}
+use Rattle.proof_text.proofs.Fitting.{verdict_length}
 use Rattle.proof_text.proofs.Fold.{answer_by_lines}
 use Rattle.proof_text.proofs.Accepted.{AreAccepted, accepted_lines, lines_accepted}
 use Rattle.proof_text.specs.declared.Verdict.{Verdict}
@@ -190,14 +191,6 @@ whole_accepted bytes v count h =
 
 -- ---- what is right is accepted
 
--- a verdict's line isn't long
-verdict_short : (v : Verdict) → VerdictFits v → length (verdict_text v) ≤ longest_line
-verdict_short (Win n) h = omega (arith, length-decimal-le 8 n (lit< tt) (omega (arith, h.1)) (omega (arith, h.1)))
-verdict_short (Loss n) h = omega (arith, length-decimal-le 8 n (lit< tt) (omega (arith, h.1)) (omega (arith, h.1)))
-verdict_short (Draw n m) h =
-    omega (arith, length-append (decimal n) (32 ∷ decimal m), length-decimal-le 8 n (lit< tt) (omega (arith, h.0.1)) (omega (arith, h.0.1)), length-decimal-le 8 m (lit< tt) (omega (arith, h.1.1)) (omega (arith, h.1.1)))
-verdict_short Unknown h = omega arith
-
 -- the lines of entries that fit have no line feed
 feedless_entries : (cols : ℕ) (entries : List Entry) → AllByRecursion (EntryFits cols) entries → AllByRecursion IsFeedless (map entry_text entries)
 feedless_entries cols [] h = tt
@@ -252,5 +245,5 @@ right_accepted bytes v count text =
     ap check_of text.spelled
     ∙ text_answer text.board text.columns text.root (entry_lines text.entries ++ (verdict_text v ++ last_feed text.ended)) text.has_board text.has_moves
     ∙ ap (check_from (start text.root) first_number) (lines_behind text.board.cols text.entries v text.ended text.fit text.verdict_fits)
-    ∙ lines_accepted text.root [] first_number text.entries text.after v fit text.right text.verdict_fits text.verdict_right text.short (verdict_short v text.verdict_fits) text.few
+    ∙ lines_accepted text.root [] first_number text.entries text.after v fit text.right text.verdict_fits text.verdict_right text.short (omega (arith, verdict_length v text.verdict_fits)) text.few
     ∙ ap (Accepted v) (shown_count text.root (lemmas_among text.entries) text.after text.right ∙ sym text.counted)
