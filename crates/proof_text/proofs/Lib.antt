@@ -9,3 +9,4 @@ pub mod Fold
 pub mod Accepted
 pub mod Whole
 pub mod Fitting
+pub mod Written

@@ -115,7 +115,7 @@ game_of_lines board columns root next more has_board has_moves =
     let second : take game_front (moves_line columns) ≡ moves_line columns = take_all game_front (moves_line columns) (omega arith) in
     ap game_at (ap (λ bytes. bytes ++ 10 ∷ line_of (take game_front (moves_line columns))) first ∙ ap (λ bytes. board_line board ++ 10 ∷ line_of bytes) second) ∙ read
 
-cols_of_root : (board : Board) (columns : List ℕ) (root : Position) → played (empty_position board) columns ≡ Some root → length root.columns ≡ board.cols
+pub cols_of_root : (board : Board) (columns : List ℕ) (root : Position) → played (empty_position board) columns ≡ Some root → length root.columns ≡ board.cols
 cols_of_root board columns root h = ap (λ (b : Board). b.cols) (board_along columns (empty_position board) root h) ∙ length-replicate board.cols []
 
 -- each lemma shows one thing
