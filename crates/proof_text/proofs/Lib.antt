@@ -10,3 +10,4 @@ pub mod Accepted
 pub mod Whole
 pub mod Fitting
 pub mod Written
+pub mod First

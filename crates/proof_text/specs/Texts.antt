@@ -57,6 +57,13 @@ game_of (board ∷ []) = take game_front board
 game_of (board ∷ moves ∷ []) = take game_front board ++ 10 ∷ take game_front moves
 game_of (board ∷ moves ∷ next ∷ more) = take game_front board ++ 10 ∷ line_of (take game_front moves)
 
+-- the same with the lines whole
+abbrev pub whole_game_of : List (List ℕ) → List ℕ
+whole_game_of [] = []
+whole_game_of (board ∷ []) = board
+whole_game_of (board ∷ moves ∷ []) = board ++ 10 ∷ moves
+whole_game_of (board ∷ moves ∷ next ∷ more) = board ++ 10 ∷ line_of moves
+
 -- the lines behind them
 abbrev pub behind_game : List (List ℕ) → List (List ℕ)
 behind_game [] = []
