@@ -1,11 +1,10 @@
 -- The first line that fails, line by line, and texts without a head or a game.
-use Rattle.std.proofs.Common.{◌≡◌, ◌⊎◌, ℕ, zero, suc, ◌+◌, ◌-◌, ◌<◌, ◌≤◌, Bool, true, false, ◌&&◌, nat_le, cond, List, [], ◌∷◌, ◌++◌, length, take, drop, Option, Some, None, Result, Ok, Err, refl, sym, ap, ◌∙◌, subst, append_assoc, append-nil, inl, inr, arith}
-use Rattle.std.specs.List.{range_with_len, AllByRecursion}
+use Rattle.std.proofs.Common.{◌≡◌, ◌⊎◌, ℕ, zero, suc, ◌+◌, ◌<◌, ◌≤◌, Bool, true, false, ◌&&◌, nat_le, cond, List, [], ◌∷◌, ◌++◌, length, take, drop, Option, Some, None, Ok, Err, refl, sym, ap, ◌∙◌, append_assoc, append-nil, inl, inr, arith}
+use Rattle.std.specs.List.{range_with_len}
 use Rattle.std.specs.Str.{bytes_eq}
-use Rattle.std.proofs.lemmas.List.{length-append, length-take-le, take-append-drop, take_all, take-append-le}
+use Rattle.std.proofs.lemmas.List.{length-append, length-take-le, take-append-drop, take_all}
 use Rattle.std.proofs.lemmas.Slice.Eq.{bytes_eq-Decides}
-use Rattle.std.proofs.lemmas.Bool.{cases_Bool, cases_lt, cases_eq, lt-leb, and_left, and_right, false_from_ne_true}
-use Rattle.game_rules.specs.Board.{below}
+use Rattle.std.proofs.lemmas.Bool.{cases_lt, cases_eq, lt-leb, and_left, and_right, false_from_ne_true}
 use Rattle.game_rules.specs.Position.{Position}
 use Rattle.game_rules.specs.Text.{game_at}
 use Rattle.game_rules.proofs.Prefix.{same_prefix}
@@ -13,11 +12,11 @@ use Rattle.game_rules.specs.declared.InputFault.{InputFault}
 use Rattle.proof_text.specs.Checked.{unless, or_then, Standing}
 use Rattle.proof_text.specs.Spelling.{line_of}
 use Rattle.proof_text.specs.Reading.{read_line}
-use Rattle.proof_text.specs.Texts.{pieces, lines_in, longest_line, most_lines, game_front, first_number, game_of, whole_game_of, behind_game, said_refusal, bytes_refusal, refusal_at, first_or, first_some, standing, Answer, NoGame, Refused, Accepted, verdict_answer, lines_answer, line_answer, with_bytes, check_from, start, answer_of, game_answer, first_line, pieces_answer, check_of}
+use Rattle.proof_text.specs.Texts.{pieces, lines_in, longest_line, most_lines, game_front, first_number, game_of, whole_game_of, behind_game, said_refusal, bytes_refusal, refusal_at, first_or, first_some, standing, NoGame, Refused, verdict_answer, lines_answer, line_answer, with_bytes, check_from, start, answer_of, game_answer, first_line, pieces_answer, check_of}
 use Rattle.proof_text.proofs.Pieces.{IsFeedless, lines_line, lines_last}
 use Rattle.proof_text.proofs.Fold.{answer_by_lines}
 use Rattle.proof_text.specs.declared.Why.{Why}
-use Rattle.proof_text.specs.declared.Why.TheVariants.{BadLine, EndedEarly}
+use Rattle.proof_text.specs.declared.Why.TheVariants.{BadLine}
 
 -- ---- the first place
 
@@ -27,7 +26,7 @@ module _ {X : Type 0} (f : ℕ → Option X) where
   first_at (suc n) a k x low high here before = elim (cases_eq a k) [
     | inl same ↦ ap (λ found. first_or found a (first_some f (range_with_len (a + 1) n))) (ap f same ∙ here) ∙ ap (λ a. Some (a, x)) same
     | inr later ↦ ap (λ found. first_or found a (first_some f (range_with_len (a + 1) n))) (before a (omega arith) (omega arith))
-      ∙ first_at n (a + 1) k x (omega arith) (omega arith) here (λ i low high. before i (omega arith) high)
+        ∙ first_at n (a + 1) k x (omega arith) (omega arith) here (λ i low high. before i (omega arith) high)
   ]
 
   first_none : (n a : ℕ) → ((i : ℕ) → a ≤ i → i < a + n → f i ≡ None) → first_some f (range_with_len a n) ≡ None
@@ -98,7 +97,7 @@ front_decides line rest also h =
     let long : 120 ≤ length (take game_front line) = omega (arith, length-take-le game_front line h) in
     same_prefix (take game_front line) rest long
     ∙ sym (ap (λ whole. game_at (whole ++ also)) (sym (take-append-drop game_front line)) ∙ ap game_at (append_assoc (take game_front line) (drop game_front line) also)
-      ∙ same_prefix (take game_front line) (drop game_front line ++ also) long)
+    ∙ same_prefix (take game_front line) (drop game_front line ++ also) long)
 
 moves_decide : (board moves rest also : List ℕ) → game_front ≤ length moves → game_at (board ++ 10 ∷ (take game_front moves ++ rest)) ≡ game_at (board ++ 10 ∷ (moves ++ also))
 moves_decide board moves rest also h =
@@ -106,8 +105,8 @@ moves_decide board moves rest also h =
     let long : 120 ≤ length front = omega (arith, length-append board (10 ∷ take game_front moves), length-take-le game_front moves h) in
     ap game_at (sym (append_assoc board (10 ∷ take game_front moves) rest)) ∙ same_prefix front rest long
     ∙ sym (ap (λ whole. game_at (board ++ 10 ∷ (whole ++ also))) (sym (take-append-drop game_front moves))
-      ∙ ap (λ text. game_at (board ++ 10 ∷ text)) (append_assoc (take game_front moves) (drop game_front moves) also)
-      ∙ ap game_at (sym (append_assoc board (10 ∷ take game_front moves) (drop game_front moves ++ also))) ∙ same_prefix front (drop game_front moves ++ also) long)
+    ∙ ap (λ text. game_at (board ++ 10 ∷ text)) (append_assoc (take game_front moves) (drop game_front moves) also)
+    ∙ ap game_at (sym (append_assoc board (10 ∷ take game_front moves) (drop game_front moves ++ also))) ∙ same_prefix front (drop game_front moves ++ also) long)
 
 -- Looking at the fronts of the two lines alone changes neither whether they are a game nor their fault.
 pub fronts_decide : (ps : List (List ℕ)) → game_at (game_of ps) ≡ game_at (whole_game_of ps)

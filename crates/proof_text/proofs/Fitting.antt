@@ -1,10 +1,9 @@
 -- Every right lemma behind a game has a spelling, while its number has one; and no spelling is long.
-use Rattle.std.proofs.Common.{◌≡◌, ◌⊎◌, ℕ, zero, suc, ◌+◌, ◌*◌, ◌<◌, ◌≤◌, ◌^◌, Bool, true, false, ◌&&◌, nat_le, cond, List, [], ◌∷◌, ◌++◌, map, filter, length, Option, Some, None, codes, refl, sym, ap, ◌∙◌, subst, inl, inr, arith, lit<, lit≤}
-use Rattle.std.specs.List.{AllByRecursion, list_any, join_with_byte, sum_by, range_with_len}
+use Rattle.std.proofs.Common.{◌≡◌, ℕ, ◌+◌, ◌*◌, ◌<◌, ◌≤◌, true, nat_le, List, [], ◌∷◌, ◌++◌, map, filter, length, Some, None, refl, sym, ap, ◌∙◌, subst, inl, inr, arith, lit<}
+use Rattle.std.specs.List.{AllByRecursion}
 use Rattle.std.specs.Fmt.{decimal}
 use Rattle.std.proofs.lemmas.List.{length-append, length-map}
 use Rattle.std.proofs.lemmas.List.FromFn.{length-range_with_len}
-use Rattle.std.proofs.lemmas.List.Sums.{sum_by-cons}
 use Rattle.std.proofs.lemmas.Fmt.{length-decimal-le}
 use Rattle.std.proofs.lemmas.Bool.{cases_Bool, and_parts, leb-true}
 use Rattle.game_rules.specs.Board.{Board, is_board, is_cols, is_rows, below}
@@ -17,9 +16,9 @@ use Rattle.game_rules.proofs.Ends.{legal_parts}
 use Rattle.game_rules.proofs.BoardLine.{empty_count_within}
 use Rattle.game_rules.proofs.Grammar.{board_along}
 use Rattle.proof_text.specs.Lemma.{Cite, Reason, ByEnd, ByOne, ByAll, Lemma}
-use Rattle.proof_text.specs.Right.{Shown, Shows, IsCited, HasReason, IsRight, AreRight, IsVerdict}
-use Rattle.proof_text.specs.Spelling.{spaced, claim_word, cite_word, reason_words, lemma_words, lemma_text, verdict_text, greatest_number, longest_path, most_cites, IsNumber, CiteFits, ReasonFits, Fits, VerdictFits}
-use Rattle.proof_text.proofs.Append.{Shows_number, length_shown, all_each}
+use Rattle.proof_text.specs.Right.{Shown, IsCited, HasReason, IsRight, AreRight, IsVerdict}
+use Rattle.proof_text.specs.Spelling.{spaced, claim_word, cite_word, reason_words, lemma_text, verdict_text, greatest_number, longest_path, most_cites, IsNumber, CiteFits, ReasonFits, Fits, VerdictFits}
+use Rattle.proof_text.proofs.Append.{Shows_number}
 use Rattle.proof_text.specs.declared.Claim.{Claim}
 use Rattle.proof_text.specs.declared.Claim.TheVariants.{WhiteWins, WhiteFails, BlackWins, BlackFails}
 use Rattle.proof_text.specs.declared.Verdict.{Verdict}
@@ -86,9 +85,11 @@ reason_fits known p claim (ByAll cites) narrow few h =
     let count : length cites ≡ length (open_columns p) = sym (length-map cites (λ (cite : Cite). cite.column)) ∙ ap length h.playable in
     let some : 1 ≤ length (open_columns p) = some_open p h.goes_on in
     let within : length (open_columns p) ≤ length (below (length p.columns)) = open_within (below (length p.columns)) p in
-    let cols : length (below (length p.columns)) ≡ length p.columns = length-range_with_len 0 (length p.columns) in
-    (omega arith, omega arith,
-      cites_fit known p claim (length p.columns) few cites (subst (AllByRecursion (λ column. column < length p.columns)) (sym h.playable) (open_columns_within p)) h.cited)
+    let cols : length (below (length p.columns)) ≡ length p.columns = length-range_with_len 0 (length p.columns) in (
+      omega arith,
+      omega arith,
+      cites_fit known p claim (length p.columns) few cites (subst (AllByRecursion (λ column. column < length p.columns)) (sym h.playable) (open_columns_within p)) h.cited,
+    )
 
 -- the boards have at most ten columns
 narrow_board : (board : Board) → is_board board ≡ true → board.cols ≤ most_cites

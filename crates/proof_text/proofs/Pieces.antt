@@ -1,6 +1,6 @@
 -- A text and its lines: cut at its line feeds, it gives the lines that it was joined from.
-use Rattle.std.proofs.Common.{◌≡◌, ◌⊎◌, ℕ, zero, suc, ◌+◌, ◌<◌, ◌≤◌, Bool, true, false, ◌==◌, cond, List, [], ◌∷◌, ◌++◌, map, length, take, refl, sym, ap, ◌∙◌, subst, append_assoc, append-nil, inl, inr, arith}
-use Rattle.std.specs.List.{All, AllByRecursion, slice_split, onto_first, join_with_byte, flat_map}
+use Rattle.std.proofs.Common.{◌≡◌, ℕ, ◌≤◌, Bool, true, false, List, [], ◌∷◌, ◌++◌, refl, sym, ap, ◌∙◌, subst, append_assoc, append-nil, inl, inr, arith}
+use Rattle.std.specs.List.{All, AllByRecursion, onto_first, join_with_byte, flat_map}
 use Rattle.std.proofs.lemmas.List.Elements.{All-nil, All-cons}
 use Rattle.std.proofs.lemmas.List.Concat.{flat_map-cons}
 use Rattle.std.proofs.lemmas.List.Splits.{slice_split_none, slice_split_at, slice_split-cons_yes, slice_split-cons_no, join_with_byte-slice_split}
@@ -123,7 +123,8 @@ joined_lines (piece ∷ next ∷ more) [] last h =
 joined_lines (piece ∷ next ∷ more) (line ∷ lines) last h =
     let same : piece ≡ line = cc in
     let rest : lines_in (next ∷ more) ≡ lines ++ last ∷ [] = cc in
-    let later = joined_lines (next ∷ more) lines last rest in
-    (later.0,
+    let later = joined_lines (next ∷ more) lines last rest in (
+      later.0,
       ap (λ piece. piece ++ 10 ∷ join_with_byte 10 (next ∷ more)) same ∙ ap (λ text. line ++ 10 ∷ text) later.1
-      ∙ sym (ap (λ text. text ++ (last ++ last_feed later.0)) (flat_map-cons line_of line lines) ∙ append_assoc (line_of line) (flat_map line_of lines) _ ∙ append_assoc line (10 ∷ []) _))
+          ∙ sym (ap (λ text. text ++ (last ++ last_feed later.0)) (flat_map-cons line_of line lines) ∙ append_assoc (line_of line) (flat_map line_of lines) _ ∙ append_assoc line (10 ∷ []) _),
+    )

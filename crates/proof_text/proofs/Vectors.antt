@@ -1,11 +1,11 @@
 -- The answer to whole texts, computed where it is known from outside.
-use Rattle.std.proofs.Common.{◌≡◌, ℕ, List, [], ◌∷◌, ◌++◌, map, take, drop, ◌+◌, codes, refl}
+use Rattle.std.proofs.Common.{◌≡◌, ℕ, List, [], ◌∷◌, ◌++◌, take, drop, ◌+◌, codes, refl}
 use Rattle.game_rules.specs.declared.InputKind.TheVariants.{BadHeader}
 use Rattle.std.specs.List.{flat_map}
 use Rattle.std.specs.Fmt.{digits}
 use Rattle.game_rules.specs.Text.{game_at, read_game, board_at}
 use Rattle.proof_text.specs.Spelling.{line_of}
-use Rattle.proof_text.specs.Texts.{Answer, NoGame, Accepted, Refused, check_of}
+use Rattle.proof_text.specs.Texts.{NoGame, Accepted, Refused, check_of}
 use Rattle.proof_text.specs.declared.Verdict.TheVariants.{Draw, Loss}
 use Rattle.proof_text.specs.declared.Why.TheVariants.{BadLine, BadPath, NoSuchLemma, WrongPosition, WrongClaim, MissingMove, BadVerdict, EndedEarly}
 

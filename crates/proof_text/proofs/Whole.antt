@@ -1,27 +1,24 @@
 -- A whole text is accepted exactly where it is right.
-use Rattle.std.proofs.Common.{◌≡◌, ◌⊎◌, ℕ, zero, suc, ◌+◌, ◌<◌, ◌≤◌, min, Bool, true, false, ◌&&◌, ◌||◌, ◌==◌, nat_le, cond, List, [], ◌∷◌, ◌++◌, map, length, take, Option, Some, None, Result, Ok, Err, codes, refl, sym, ap, ◌∙◌, subst, append_assoc, append-nil, inl, inr, arith, lit<, lit≤}
-use Rattle.std.specs.List.{AllByRecursion, list_all, join_with_byte, flat_map, sum_by}
+use Rattle.std.proofs.Common.{◌≡◌, ℕ, suc, ◌+◌, ◌≤◌, Bool, true, false, ◌||◌, ◌==◌, nat_le, List, [], ◌∷◌, ◌++◌, map, length, take, Some, Result, Ok, Err, codes, refl, sym, ap, ◌∙◌, subst, append_assoc, append-nil, inl, inr, arith}
+use Rattle.std.specs.List.{AllByRecursion, list_all, join_with_byte, flat_map}
 use Rattle.std.specs.Str.{bytes_eq}
 use Rattle.std.specs.Fmt.{decimal}
-use Rattle.std.proofs.lemmas.List.{length-append, length-map, length-take, take_all, length-replicate}
-use Rattle.std.proofs.lemmas.List.Concat.{flat_map-cons}
+use Rattle.std.proofs.lemmas.List.{length-append, length-take, take_all, length-replicate}
 use Rattle.std.proofs.lemmas.List.Folds.{flat_map-map}
-use Rattle.std.proofs.lemmas.List.Sums.{sum_by-cons}
-use Rattle.std.proofs.lemmas.Fmt.{length-decimal-le}
 use Rattle.std.proofs.lemmas.Slice.Eq.{bytes_eq-Decides}
 use Rattle.std.proofs.lemmas.Bool.{and_parts, leb-true, or_cases, eqb-true}
 use Rattle.game_rules.specs.Board.{Board, is_board, is_cols, is_rows}
-use Rattle.game_rules.specs.Position.{Position, board_of, empty_position, played}
+use Rattle.game_rules.specs.Position.{Position, empty_position, played}
 use Rattle.game_rules.specs.Text.{game_at}
-use Rattle.game_rules.specs.Grammar.{letter_of, move_list, board_line, moves_line, last_feed, game_text, IsGameText}
+use Rattle.game_rules.specs.Grammar.{move_list, board_line, moves_line, last_feed, game_text}
 use Rattle.game_rules.proofs.Lists.{chosen}
 use Rattle.game_rules.proofs.Prefix.{game_short}
 use Rattle.game_rules.proofs.Grammar.{read_in_grammar, grammar_read, board_along}
 use Rattle.game_rules.specs.declared.InputFault.{InputFault}
-use Rattle.proof_text.specs.Lemma.{Lemma, Line, ALemma, ARemark, AVerdict}
-use Rattle.proof_text.specs.Right.{Shown, AreRight, IsVerdict}
-use Rattle.proof_text.specs.Spelling.{spaced, lemma_text, verdict_text, verdict_words, line_of, is_remark, IsNumber, Fits, VerdictFits, IsLine}
-use Rattle.proof_text.specs.Texts.{is_feed, pieces, last_line, lines_in, longest_line, game_front, most_lines, first_number, game_of, behind_game, Answer, NoGame, Refused, Accepted, answer_of, game_answer, first_line, pieces_answer, check_of, Entry, LemmaEntry, RemarkEntry, entry_text, entry_lines, lemmas_among, EntryFits, head_of, IsRightText, start, check_from}
+use Rattle.proof_text.specs.Lemma.{Lemma, ALemma, ARemark, AVerdict}
+use Rattle.proof_text.specs.Right.{Shown, AreRight}
+use Rattle.proof_text.specs.Spelling.{lemma_text, verdict_text, line_of, VerdictFits}
+use Rattle.proof_text.specs.Texts.{pieces, last_line, lines_in, game_front, first_number, game_of, behind_game, Refused, Accepted, answer_of, game_answer, first_line, pieces_answer, check_of, Entry, LemmaEntry, RemarkEntry, entry_text, entry_lines, lemmas_among, EntryFits, head_of, IsRightText, start, check_from}
 use Rattle.proof_text.proofs.Append.{all_append, all_each, length_shown}
 use Rattle.proof_text.proofs.Spelled.{plain_decimal, plain_moves, line_bytes}
 use Rattle.proof_text.proofs.Pieces.{IsFeedless, feedless_high, pieces_line, pieces_last, pieces_feedless, pieces_some, joined, cut_lines, lines_append, joined_lines}
@@ -30,7 +27,6 @@ use Rattle.proof_text.proofs.Fold.{answer_by_lines}
 use Rattle.proof_text.proofs.Accepted.{AreAccepted, accepted_lines, lines_accepted}
 use Rattle.proof_text.specs.declared.Verdict.{Verdict}
 use Rattle.proof_text.specs.declared.Verdict.TheVariants.{Win, Loss, Draw, Unknown}
-use Rattle.proof_text.specs.declared.Why.{Why}
 use Rattle.proof_text.specs.declared.Why.TheVariants.{BadLine}
 
 -- ---- the lines of a game
@@ -68,13 +64,13 @@ feedless_board board h =
     let rows = rows_small board.rows both.1 in
     let low : 4 ≤ board.cols = leb-true 4 board.cols wide.0 in
     feedless_high (board_line board) (high_append (codes "board ") (decimal board.cols ++ (codes " " ++ decimal board.rows)) (high_text (codes "board ") refl)
-      (high_append (decimal board.cols) (codes " " ++ decimal board.rows) (high_decimal board.cols (omega arith) (leb-true board.cols 10 wide.1))
-      (high_append (codes " ") (decimal board.rows) (high_text (codes " ") refl) (high_decimal board.rows rows.0 rows.1))))
+    (high_append (decimal board.cols) (codes " " ++ decimal board.rows) (high_decimal board.cols (omega arith) (leb-true board.cols 10 wide.1))
+    (high_append (codes " ") (decimal board.rows) (high_text (codes " ") refl) (high_decimal board.rows rows.0 rows.1))))
 
 feedless_moves : (columns : List ℕ) → IsFeedless (moves_line columns)
 feedless_moves columns =
     feedless_high (moves_line columns) (high_append (codes "moves ") (move_list columns) (high_text (codes "moves ") refl)
-      (all_each (λ byte. 43 ≤ byte) (λ byte. 32 ≤ byte) (move_list columns) (λ byte low. omega arith) (plain_moves columns)))
+    (all_each (λ byte. 43 ≤ byte) (λ byte. 32 ≤ byte) (move_list columns) (λ byte low. omega arith) (plain_moves columns)))
 
 -- the two lines that a game was read from are its lines, whole
 lines_of_game : (first second : List ℕ) (root : Position) → IsFeedless first → IsFeedless second → game_at (take game_front first ++ 10 ∷ line_of (take game_front second)) ≡ Ok root
@@ -184,9 +180,9 @@ whole_accepted bytes v count h =
     of_pieces first more cut feedless h = elim (chosen (bytes_eq first first_line) (game_answer (game_at (game_of more)) (behind_game more)) (Refused 1 BadLine) (Accepted v count) h) [
       | inr other ↦ absurd (cc other.1)
       | inl named ↦
-        let game = accepted_game (game_at (game_of more)) (behind_game more) v count named.1 in
-        of_game more game.0 (cut ∙ ap (λ first. first ∷ more) ((bytes_eq-Decides first first_line).0 named.0)) feedless.1 game.1
-        (accepted_lines game.0 [] first_number (behind_game more) v count (sym (answer_by_lines game.0 (behind_game more)) ∙ game.2))
+          let game = accepted_game (game_at (game_of more)) (behind_game more) v count named.1 in
+          of_game more game.0 (cut ∙ ap (λ first. first ∷ more) ((bytes_eq-Decides first first_line).0 named.0)) feedless.1 game.1
+          (accepted_lines game.0 [] first_number (behind_game more) v count (sym (answer_by_lines game.0 (behind_game more)) ∙ game.2))
     ]
 
 -- ---- what is right is accepted
@@ -229,8 +225,8 @@ unfolding check_of
 text_answer board columns root text has_board has_moves =
     ap (λ bytes. pieces_answer (pieces bytes)) (sym (regrouped (board_line board) (moves_line columns) text))
     ∙ ap pieces_answer (pieces_line first_line (board_line board ++ 10 ∷ (moves_line columns ++ 10 ∷ text)) (feedless_high first_line (high_text first_line refl))
-      ∙ ap (λ more. first_line ∷ more) (pieces_line (board_line board) (moves_line columns ++ 10 ∷ text) (feedless_board board has_board)
-      ∙ ap (λ more. board_line board ∷ more) (pieces_line (moves_line columns) text (feedless_moves columns))))
+    ∙ ap (λ more. first_line ∷ more) (pieces_line (board_line board) (moves_line columns ++ 10 ∷ text) (feedless_board board has_board)
+    ∙ ap (λ more. board_line board ∷ more) (pieces_line (moves_line columns) text (feedless_moves columns))))
     ∙ of_pieces (pieces_some text)
   where
     of_pieces : (next : List ℕ) × (more : List (List ℕ)) × (pieces text ≡ next ∷ more)

@@ -1,6 +1,6 @@
 -- A proof that stands written whole is a right text.
-use Rattle.std.proofs.Common.{◌≡◌, ◌⊎◌, ℕ, zero, suc, ◌+◌, ◌<◌, ◌≤◌, Bool, true, false, List, [], ◌∷◌, ◌++◌, map, length, Option, Some, None, refl, sym, ap, ◌∙◌, subst, append_assoc, append-nil, inl, inr, arith}
-use Rattle.std.specs.List.{AllByRecursion, flat_map}
+use Rattle.std.proofs.Common.{◌≡◌, ℕ, ◌+◌, ◌≤◌, true, List, [], ◌∷◌, ◌++◌, map, length, Option, Some, None, refl, sym, ap, ◌∙◌, subst, append_assoc, arith}
+use Rattle.std.specs.List.{AllByRecursion}
 use Rattle.std.proofs.lemmas.List.{length-append, length-map, length-replicate}
 use Rattle.std.proofs.lemmas.Grind.{flat_map-append}
 use Rattle.std.proofs.lemmas.List.Folds.{flat_map-map}
@@ -9,10 +9,10 @@ use Rattle.game_rules.specs.Board.{Board, is_board}
 use Rattle.game_rules.specs.Position.{Position, board_of, empty_position, played}
 use Rattle.game_rules.proofs.Grammar.{board_along}
 use Rattle.proof_text.specs.Lemma.{Lemma}
-use Rattle.proof_text.specs.Right.{Shown, AreRight, IsVerdict}
-use Rattle.proof_text.specs.Spelling.{lemma_text, verdict_text, verdict_line, line_of, lemma_line, lines_of, is_remark, greatest_number, Fits}
-use Rattle.proof_text.specs.Texts.{longest_line, most_lines, first_number, Answer, Accepted, check_of, Entry, LemmaEntry, RemarkEntry, entry_text, entry_lines, lemmas_among, EntryFits, head_of, IsRightText}
-use Rattle.proof_text.specs.Written.{IsRemarkLine, remark_line, HasWritten, IsProof}
+use Rattle.proof_text.specs.Right.{AreRight}
+use Rattle.proof_text.specs.Spelling.{lemma_text, verdict_line, line_of, lines_of, is_remark, greatest_number, Fits}
+use Rattle.proof_text.specs.Texts.{longest_line, Accepted, check_of, Entry, LemmaEntry, RemarkEntry, entry_text, entry_lines, lemmas_among, EntryFits, head_of, IsRightText}
+use Rattle.proof_text.specs.Written.{IsRemarkLine, remark_line, IsProof}
 use Rattle.proof_text.proofs.Append.{all_append, all_left, all_right, all_each}
 use Rattle.proof_text.proofs.Fitting.{right_all_fit, right_verdict_fits, lemma_length}
 use Rattle.proof_text.proofs.Whole.{cols_of_root, shown_count, right_accepted}
@@ -79,20 +79,26 @@ text_of : (white_remark : Option (List ℕ)) (white : List Lemma) (black_remark 
     → entry_lines (entries_of white_remark white black_remark black) ++ last ≡ remark_line white_remark ++ (lines_of white ++ (remark_line black_remark ++ (lines_of black ++ last)))
 text_of white_remark white black_remark black last =
     ap (λ text. text ++ last) (lines_remark white_remark (map LemmaEntry white ++ (remark_entries black_remark ++ map LemmaEntry black))
-      ∙ ap (λ text. remark_line white_remark ++ text) (lines_append (map LemmaEntry white) (remark_entries black_remark ++ map LemmaEntry black)
-      ∙ ap (λ text. text ++ entry_lines (remark_entries black_remark ++ map LemmaEntry black)) (lines_map white)
-      ∙ ap (λ text. lines_of white ++ text) (lines_remark black_remark (map LemmaEntry black) ∙ ap (λ text. remark_line black_remark ++ text) (lines_map black))))
+    ∙ ap (λ text. remark_line white_remark ++ text) (lines_append (map LemmaEntry white) (remark_entries black_remark ++ map LemmaEntry black)
+    ∙ ap (λ text. text ++ entry_lines (remark_entries black_remark ++ map LemmaEntry black)) (lines_map white)
+    ∙ ap (λ text. lines_of white ++ text) (lines_remark black_remark (map LemmaEntry black) ∙ ap (λ text. remark_line black_remark ++ text) (lines_map black))))
     ∙ append_assoc (remark_line white_remark) (lines_of white ++ (remark_line black_remark ++ lines_of black)) last
     ∙ ap (λ text. remark_line white_remark ++ text) (append_assoc (lines_of white) (remark_line black_remark ++ lines_of black) last
-      ∙ ap (λ text. lines_of white ++ text) (append_assoc (remark_line black_remark) (lines_of black) last))
+    ∙ ap (λ text. lines_of white ++ text) (append_assoc (remark_line black_remark) (lines_of black) last))
 
 size_of : (white_remark : Option (List ℕ)) (white : List Lemma) (black_remark : Option (List ℕ)) (black : List Lemma)
     → length (entries_of white_remark white black_remark black) ≤ length white + length black + 2
 size_of white_remark white black_remark black =
-    omega (arith, length-append (remark_entries white_remark) (map LemmaEntry white ++ (remark_entries black_remark ++ map LemmaEntry black)),
+    omega (
+      arith,
+      length-append (remark_entries white_remark) (map LemmaEntry white ++ (remark_entries black_remark ++ map LemmaEntry black)),
       length-append (map LemmaEntry white) (remark_entries black_remark ++ map LemmaEntry black),
       length-append (remark_entries black_remark) (map LemmaEntry black),
-      length-map white LemmaEntry, length-map black LemmaEntry, few_remarks white_remark, few_remarks black_remark)
+      length-map white LemmaEntry,
+      length-map black LemmaEntry,
+      few_remarks white_remark,
+      few_remarks black_remark,
+    )
 
 -- what holds of each remark and each lemma holds of each entry
 each_entry : (P : Entry → Type 0) (white_remark : Option (List ℕ)) (white : List Lemma) (black_remark : Option (List ℕ)) (black : List Lemma)
@@ -101,8 +107,8 @@ each_entry : (P : Entry → Type 0) (white_remark : Option (List ℕ)) (white : 
 each_entry P white_remark white black_remark black each one two ls =
     all_remark P white_remark (map LemmaEntry white ++ (remark_entries black_remark ++ map LemmaEntry black)) each one
     (all_append P (map LemmaEntry white) (remark_entries black_remark ++ map LemmaEntry black)
-      (all_lemmas P white (all_left (λ l. P (LemmaEntry l)) white black ls))
-      (all_remark P black_remark (map LemmaEntry black) each two (all_lemmas P black (all_right (λ l. P (LemmaEntry l)) white black ls))))
+    (all_lemmas P white (all_left (λ l. P (LemmaEntry l)) white black ls))
+    (all_remark P black_remark (map LemmaEntry black) each two (all_lemmas P black (all_right (λ l. P (LemmaEntry l)) white black ls))))
 
 -- a verdict at the end of what is written, within the number of lemmas that have a spelling
 pub proof_right : (board : Board) (columns : List ℕ) (root : Position) (text : List ℕ) (v : Verdict) (proof : IsProof root (head_of board columns) text v)

@@ -1,6 +1,6 @@
 -- Which line of a proof is refused, and by which name: the tests of each kind of line in their order, the first that
 -- fails giving the name.
-use Rattle.std.specs.Prelude.{ℕ, ◌+◌, Bool, true, false, not, ◌==◌, List, [], ◌∷◌, ◌++◌, map, length, Option, Some, None, is_none, bytes_eq, ◌&&◌}
+use Rattle.std.specs.Prelude.{◌+◌, Bool, true, false, not, ◌==◌, List, [], ◌∷◌, ◌++◌, map, length, Option, Some, None, is_none, bytes_eq, ◌&&◌}
 use Rattle.game_rules.specs.Position.{Position, other, side_to_move, has_room, after_move, end_of, played, open_columns, same_position}
 use Rattle.game_rules.specs.declared.End.{End}
 use Rattle.proof_text.specs.Lemma.{claim_for, same_claim, claim_of_end, Cite, Reason, ByEnd, ByOne, ByAll, Lemma, Line, ALemma, ARemark, AVerdict}

@@ -1,5 +1,5 @@
 -- Whole texts of proofs: which are right, and what is wrong with the others. A text is taken as a whole list of bytes.
-use Rattle.std.specs.Prelude.{◌≡◌, ◌≤◌, ℕ, ◌+◌, Bool, true, ◌&&◌, ◌==◌, nat_le, if◌then◌else◌, List, [], ◌∷◌, ◌++◌, length, take, drop, filter_map, Option, Some, None, option_and_then, option_map, Result, Ok, Err, slice_index_or, codes, bytes_eq, flat_map}
+use Rattle.std.specs.Prelude.{◌≡◌, ◌≤◌, ℕ, ◌+◌, Bool, true, ◌&&◌, ◌==◌, nat_le, if◌then◌else◌, List, [], ◌∷◌, ◌++◌, length, take, filter_map, Option, Some, None, Result, Ok, Err, slice_index_or, codes, bytes_eq, flat_map}
 use Rattle.std.specs.List.{slice_split, AllByRecursion}
 use Rattle.game_rules.specs.Board.{Board, is_board, below}
 use Rattle.game_rules.specs.Position.{Position, empty_position, played}
