@@ -8,7 +8,7 @@ use Rattle.proof_text.specs.Right.{Shown, AreRight, IsVerdict}
 use Rattle.proof_text.specs.Checked.{unless, Standing, line_refusal, shown_of, with_line}
 use Rattle.proof_text.specs.Spelling.{lemma_text, verdict_text, VerdictFits, IsLine}
 use Rattle.proof_text.specs.Reading.{read_line}
-use Rattle.proof_text.specs.Texts.{most_lines, longest_line, said_refusal, bytes_refusal, Answer, Accepted, verdict_answer, with_said, with_bytes, line_answer, check_from, Entry, LemmaEntry, RemarkEntry, entry_text, lemmas_among, EntryFits}
+use Rattle.proof_text.specs.Texts.{most_lines, longest_line, said_refusal, bytes_refusal, CheckAnswer, Accepted, verdict_answer, with_said, with_bytes, line_answer, check_from, Entry, LemmaEntry, RemarkEntry, entry_text, lemmas_among, EntryFits}
 use Rattle.proof_text.proofs.Refusals.{none_or, line_of_none, none_of_line, right_of_none, none_of_right, verdict_of_none, none_of_verdict}
 use Rattle.proof_text.proofs.Spelled.{line_read, line_spelled}
 use Rattle.proof_text.proofs.Fold.{bytes_of_none}
@@ -32,7 +32,7 @@ pub record AreAccepted (root : Position) (known : List Shown) (at : ℕ) (lines 
 
 -- ---- what is accepted is right
 
-answer_parts : (r : Option Why) (at : ℕ) (later : Answer) (v : Verdict) (count : ℕ) → line_answer r at later ≡ Accepted v count → (r ≡ None) × (later ≡ Accepted v count)
+answer_parts : (r : Option Why) (at : ℕ) (later : CheckAnswer) (v : Verdict) (count : ℕ) → line_answer r at later ≡ Accepted v count → (r ≡ None) × (later ≡ Accepted v count)
 answer_parts None at later v count h = (refl, h)
 answer_parts (Some why) at later v count h = cc
 

@@ -10,7 +10,7 @@ use Rattle.game_rules.specs.Text.{game_at}
 use Rattle.game_rules.proofs.Prefix.{same_prefix}
 use Rattle.game_rules.specs.declared.InputFault.{InputFault}
 use Rattle.proof_text.specs.Checked.{unless, or_then, Standing}
-use Rattle.proof_text.specs.Spelling.{line_of}
+use Rattle.proof_text.specs.Spelling.{as_line}
 use Rattle.proof_text.specs.Reading.{read_line}
 use Rattle.proof_text.specs.Texts.{pieces, lines_in, longest_line, most_lines, game_front, first_number, game_of, whole_game_of, behind_game, said_refusal, bytes_refusal, refusal_at, first_or, first_some, standing, NoGame, Refused, verdict_answer, lines_answer, line_answer, with_bytes, check_from, start, answer_of, game_answer, first_line, pieces_answer, check_of}
 use Rattle.proof_text.proofs.Pieces.{IsFeedless, lines_line, lines_last}
@@ -82,7 +82,7 @@ check_last s at byte line h = ap (check_from s at) (lines_last byte line h)
 pub long_board : (board : List ℕ) (more : List (List ℕ)) → game_front ≤ length board → game_at (game_of (board ∷ more)) ≡ game_at (take game_front board)
 long_board board [] h = refl
 long_board board (moves ∷ []) h = same_prefix (take game_front board) (10 ∷ take game_front moves) (omega (arith, length-take-le game_front board h))
-long_board board (moves ∷ next ∷ more) h = same_prefix (take game_front board) (10 ∷ line_of (take game_front moves)) (omega (arith, length-take-le game_front board h))
+long_board board (moves ∷ next ∷ more) h = same_prefix (take game_front board) (10 ∷ as_line (take game_front moves)) (omega (arith, length-take-le game_front board h))
 
 -- and where the second is, the first and its front
 pub long_moves : (board moves : List ℕ) (more : List (List ℕ)) → game_front ≤ length moves → game_at (game_of (board ∷ moves ∷ more)) ≡ game_at (take game_front board ++ 10 ∷ take game_front moves)
@@ -123,9 +123,9 @@ fronts_decide (board ∷ moves ∷ []) = elim (cases_lt (length board) game_fron
   ]
 ]
 fronts_decide (board ∷ moves ∷ next ∷ more) = elim (cases_lt (length board) game_front) [
-  | inr long ↦ front_decides board (10 ∷ line_of (take game_front moves)) (10 ∷ line_of moves) long
-  | inl short ↦ ap (λ board. game_at (board ++ 10 ∷ line_of (take game_front moves))) (take_all game_front board (omega arith)) ∙ elim (cases_lt (length moves) game_front) [
-    | inl both ↦ ap (λ moves. game_at (board ++ 10 ∷ line_of moves)) (take_all game_front moves (omega arith))
+  | inr long ↦ front_decides board (10 ∷ as_line (take game_front moves)) (10 ∷ as_line moves) long
+  | inl short ↦ ap (λ board. game_at (board ++ 10 ∷ as_line (take game_front moves))) (take_all game_front board (omega arith)) ∙ elim (cases_lt (length moves) game_front) [
+    | inl both ↦ ap (λ moves. game_at (board ++ 10 ∷ as_line moves)) (take_all game_front moves (omega arith))
     | inr long ↦ moves_decide board moves (10 ∷ []) (10 ∷ []) long
   ]
 ]

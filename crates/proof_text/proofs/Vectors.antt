@@ -4,14 +4,14 @@ use Rattle.game_rules.specs.declared.InputKind.TheVariants.{BadHeader}
 use Rattle.std.specs.List.{flat_map}
 use Rattle.std.specs.Fmt.{digits}
 use Rattle.game_rules.specs.Text.{game_at, read_game, board_at}
-use Rattle.proof_text.specs.Spelling.{line_of}
+use Rattle.proof_text.specs.Spelling.{as_line}
 use Rattle.proof_text.specs.Texts.{NoGame, Accepted, Refused, check_of}
 use Rattle.proof_text.specs.declared.Verdict.TheVariants.{Draw, Loss}
 use Rattle.proof_text.specs.declared.Why.TheVariants.{BadLine, BadPath, NoSuchLemma, WrongPosition, WrongClaim, MissingMove, BadVerdict, EndedEarly}
 
 -- a proof on the 4 by 4 board
 abbrev four : List ℕ → List (List ℕ) → List ℕ
-four moves lines = flat_map line_of (codes "victor 1" ∷ codes "board 4 4" ∷ (codes "moves " ++ moves) ∷ lines)
+four moves lines = flat_map as_line (codes "victor 1" ∷ codes "board 4 4" ∷ (codes "moves " ++ moves) ∷ lines)
 
 full_board_draw : check_of (four (codes "cdccddcdaaaabbbb") (codes "1 - W- end" ∷ codes "2 - B- end" ∷ codes "value draw 1 2" ∷ [])) ≡ Accepted (Draw 1 2) 2
 unfolding check_of game_at read_game board_at digits

@@ -17,7 +17,7 @@ use Rattle.game_rules.proofs.Grammar.{read_in_grammar, grammar_read, board_along
 use Rattle.game_rules.specs.declared.InputFault.{InputFault}
 use Rattle.proof_text.specs.Lemma.{Lemma, ALemma, ARemark, AVerdict}
 use Rattle.proof_text.specs.Right.{Shown, AreRight}
-use Rattle.proof_text.specs.Spelling.{lemma_text, verdict_text, line_of, VerdictFits}
+use Rattle.proof_text.specs.Spelling.{lemma_text, verdict_text, as_line, VerdictFits}
 use Rattle.proof_text.specs.Texts.{pieces, last_line, lines_in, game_front, first_number, game_of, behind_game, Refused, Accepted, answer_of, game_answer, first_line, pieces_answer, check_of, Entry, LemmaEntry, RemarkEntry, entry_text, entry_lines, lemmas_among, EntryFits, head_of, IsRightText, start, check_from}
 use Rattle.proof_text.proofs.Append.{all_append, all_each, length_shown}
 use Rattle.proof_text.proofs.Spelled.{plain_decimal, plain_moves, line_bytes}
@@ -73,19 +73,19 @@ feedless_moves columns =
     (all_each (λ byte. 43 ≤ byte) (λ byte. 32 ≤ byte) (move_list columns) (λ byte low. omega arith) (plain_moves columns)))
 
 -- the two lines that a game was read from are its lines, whole
-lines_of_game : (first second : List ℕ) (root : Position) → IsFeedless first → IsFeedless second → game_at (take game_front first ++ 10 ∷ line_of (take game_front second)) ≡ Ok root
+lines_of_game : (first second : List ℕ) (root : Position) → IsFeedless first → IsFeedless second → game_at (take game_front first ++ 10 ∷ as_line (take game_front second)) ≡ Ok root
     → (board : Board) × (columns : List ℕ) × (is_board board ≡ true) × (played (empty_position board) columns ≡ Some root) × (first ≡ board_line board) × (second ≡ moves_line columns)
 lines_of_game first second root one two h =
-    let text = take game_front first ++ 10 ∷ line_of (take game_front second) in
+    let text = take game_front first ++ 10 ∷ as_line (take game_front second) in
     let short : length text ≤ 119 = game_short text root h in
-    let size : length text ≡ length (take game_front first) + length (10 ∷ line_of (take game_front second)) = length-append (take game_front first) (10 ∷ line_of (take game_front second)) in
-    let more : length (line_of (take game_front second)) ≡ length (take game_front second) + 1 = length-append (take game_front second) (10 ∷ []) in
+    let size : length text ≡ length (take game_front first) + length (10 ∷ as_line (take game_front second)) = length-append (take game_front first) (10 ∷ as_line (take game_front second)) in
+    let more : length (as_line (take game_front second)) ≡ length (take game_front second) + 1 = length-append (take game_front second) (10 ∷ []) in
     let first_short : length first ≤ game_front = omega (arith, length-take game_front first) in
     let second_short : length second ≤ game_front = omega (arith, length-take game_front second) in
-    let whole : text ≡ first ++ 10 ∷ line_of second = ap (λ bytes. bytes ++ 10 ∷ line_of (take game_front second)) (take_all game_front first first_short) ∙ ap (λ bytes. first ++ 10 ∷ line_of bytes) (take_all game_front second second_short) in
+    let whole : text ≡ first ++ 10 ∷ as_line second = ap (λ bytes. bytes ++ 10 ∷ as_line (take game_front second)) (take_all game_front first first_short) ∙ ap (λ bytes. first ++ 10 ∷ as_line bytes) (take_all game_front second second_short) in
     let game = read_in_grammar text root h in
-    let spelled : first ++ 10 ∷ line_of second ≡ game_text game.board game.columns game.ended = sym whole ∙ game.spelled in
-    let cut : pieces (first ++ 10 ∷ line_of second) ≡ first ∷ second ∷ [] ∷ [] = pieces_line first (line_of second) one ∙ ap (λ more. first ∷ more) (pieces_line second [] two) in
+    let spelled : first ++ 10 ∷ as_line second ≡ game_text game.board game.columns game.ended = sym whole ∙ game.spelled in
+    let cut : pieces (first ++ 10 ∷ as_line second) ≡ first ∷ second ∷ [] ∷ [] = pieces_line first (as_line second) one ∙ ap (λ more. first ∷ more) (pieces_line second [] two) in
     let also : pieces (game_text game.board game.columns game.ended) ≡ board_line game.board ∷ pieces (moves_line game.columns ++ last_feed game.ended) =
     pieces_line (board_line game.board) (moves_line game.columns ++ last_feed game.ended) (feedless_board game.board game.has_board) in
     let same : first ∷ second ∷ [] ∷ [] ≡ board_line game.board ∷ pieces (moves_line game.columns ++ last_feed game.ended) = sym cut ∙ ap pieces spelled ∙ also in
@@ -109,7 +109,7 @@ game_of_lines board columns root next more has_board has_moves =
     let rest : length (moves_line columns ++ 10 ∷ []) ≡ length (moves_line columns) + 1 = length-append (moves_line columns) (10 ∷ []) in
     let first : take game_front (board_line board) ≡ board_line board = take_all game_front (board_line board) (omega arith) in
     let second : take game_front (moves_line columns) ≡ moves_line columns = take_all game_front (moves_line columns) (omega arith) in
-    ap game_at (ap (λ bytes. bytes ++ 10 ∷ line_of (take game_front (moves_line columns))) first ∙ ap (λ bytes. board_line board ++ 10 ∷ line_of bytes) second) ∙ read
+    ap game_at (ap (λ bytes. bytes ++ 10 ∷ as_line (take game_front (moves_line columns))) first ∙ ap (λ bytes. board_line board ++ 10 ∷ as_line bytes) second) ∙ read
 
 pub cols_of_root : (board : Board) (columns : List ℕ) (root : Position) → played (empty_position board) columns ≡ Some root → length root.columns ≡ board.cols
 cols_of_root board columns root h = ap (λ (b : Board). b.cols) (board_along columns (empty_position board) root h) ∙ length-replicate board.cols []
@@ -123,8 +123,8 @@ regrouped board moves text = ap (λ more. first_line ++ 10 ∷ more) (sym (appen
 
 -- ---- what is accepted is right
 
-entry_lines_map : (entries : List Entry) → flat_map line_of (map entry_text entries) ≡ entry_lines entries
-entry_lines_map entries = flat_map-map line_of entry_text entries
+entry_lines_map : (entries : List Entry) → flat_map as_line (map entry_text entries) ≡ entry_lines entries
+entry_lines_map entries = flat_map-map as_line entry_text entries
 
 accepted_game : (r : Result Position InputFault) (lines : List (List ℕ)) (v : Verdict) (count : ℕ) → game_answer r lines ≡ Accepted v count → (root : Position) × (r ≡ Ok root) × (answer_of root lines ≡ Accepted v count)
 accepted_game (Err fault) lines v count h = cc

@@ -1,5 +1,5 @@
--- A proof that stands written whole is a right text.
-use Rattle.std.proofs.Common.{◌≡◌, ℕ, ◌+◌, ◌≤◌, true, List, [], ◌∷◌, ◌++◌, map, length, Option, Some, None, refl, sym, ap, ◌∙◌, subst, append_assoc, arith}
+-- What may stand while a proof is written, and that a proof that stands whole is a right text.
+use Rattle.std.proofs.Common.{false, inl, inr, append-nil, ◌≡◌, ℕ, ◌+◌, ◌≤◌, true, List, [], ◌∷◌, ◌++◌, map, length, Option, Some, None, refl, sym, ap, ◌∙◌, subst, append_assoc, arith}
 use Rattle.std.specs.List.{AllByRecursion}
 use Rattle.std.proofs.lemmas.List.{length-append, length-map, length-replicate}
 use Rattle.std.proofs.lemmas.Grind.{flat_map-append}
@@ -9,11 +9,13 @@ use Rattle.game_rules.specs.Board.{Board, is_board}
 use Rattle.game_rules.specs.Position.{Position, board_of, empty_position, played}
 use Rattle.game_rules.proofs.Grammar.{board_along}
 use Rattle.proof_text.specs.Lemma.{Lemma}
-use Rattle.proof_text.specs.Right.{AreRight}
-use Rattle.proof_text.specs.Spelling.{lemma_text, verdict_line, line_of, lines_of, is_remark, greatest_number, Fits}
-use Rattle.proof_text.specs.Texts.{longest_line, Accepted, check_of, Entry, LemmaEntry, RemarkEntry, entry_text, entry_lines, lemmas_among, EntryFits, head_of, IsRightText}
-use Rattle.proof_text.specs.Written.{IsRemarkLine, remark_line, IsProof}
-use Rattle.proof_text.proofs.Append.{all_append, all_left, all_right, all_each}
+use Rattle.proof_text.specs.Right.{Shown, AreRight}
+use Rattle.proof_text.specs.Spelling.{lemma_text, verdict_line, as_line, lines_of, is_remark, greatest_number, Fits}
+use Rattle.proof_text.specs.Texts.{first_line, longest_line, Accepted, check_of, Entry, LemmaEntry, RemarkEntry, entry_text, entry_lines, lemmas_among, EntryFits, head_of, IsRightText}
+use Rattle.proof_text.specs.Written.{IsRemarkLine, remark_line, AreSided, HasWritten, MayStand, IsProof}
+use Rattle.game_rules.specs.Grammar.{board_line, moves_line, game_text, IsGameText}
+use Rattle.game_rules.specs.declared.Side.TheVariants.{White, Black}
+use Rattle.proof_text.proofs.Append.{AreRight_append, all_append, all_left, all_right, all_each}
 use Rattle.proof_text.proofs.Fitting.{right_all_fit, right_verdict_fits, lemma_length}
 use Rattle.proof_text.proofs.Whole.{cols_of_root, shown_count, right_accepted}
 use Rattle.proof_text.specs.declared.Verdict.{Verdict}
@@ -42,14 +44,14 @@ lemmas_remark None more = refl
 lemmas_remark (Some bytes) more = refl
 
 lines_append : (entries more : List Entry) → entry_lines (entries ++ more) ≡ entry_lines entries ++ entry_lines more
-lines_append entries more = flat_map-append (λ entry. line_of (entry_text entry)) entries more
+lines_append entries more = flat_map-append (λ entry. as_line (entry_text entry)) entries more
 
 lines_map : (ls : List Lemma) → entry_lines (map LemmaEntry ls) ≡ lines_of ls
-lines_map ls = flat_map-map (λ entry. line_of (entry_text entry)) LemmaEntry ls
+lines_map ls = flat_map-map (λ entry. as_line (entry_text entry)) LemmaEntry ls
 
 lines_remark : (remark : Option (List ℕ)) (more : List Entry) → entry_lines (remark_entries remark ++ more) ≡ remark_line remark ++ entry_lines more
 lines_remark None more = refl
-lines_remark (Some bytes) more = flat_map-cons (λ entry. line_of (entry_text entry)) (RemarkEntry bytes) more
+lines_remark (Some bytes) more = flat_map-cons (λ entry. as_line (entry_text entry)) (RemarkEntry bytes) more
 
 -- what holds of remarks and of lemmas
 all_remark : (P : Entry → Type 0) (remark : Option (List ℕ)) (more : List Entry) → ((bytes : List ℕ) → (is_remark bytes ≡ true) × (length bytes ≤ longest_line) → P (RemarkEntry bytes))
@@ -150,3 +152,89 @@ pub proof_accepted : (board : Board) (columns : List ℕ) (root : Position) (tex
     → is_board board ≡ true → played (empty_position board) columns ≡ Some root → length proof.after ≤ greatest_number → check_of text ≡ Accepted v (length proof.after)
 proof_accepted board columns root text v proof has_board has_moves few =
     right_accepted text v (length proof.after) (proof_right board columns root text v proof has_board has_moves few)
+
+-- ---- texts that are being written
+
+-- the head alone
+pub head_stands : (root : Position) (head : List ℕ) → MayStand root head head
+head_stands root head =
+    record {
+      after = [];
+      last = [];
+      written = record {
+        white_remark = None;
+        white = [];
+        black_remark = None;
+        black = [];
+        right = refl;
+        white_sided = tt;
+        black_sided = tt;
+        white_remarked = tt;
+        black_remarked = tt;
+        spelled = sym (append-nil head);
+      };
+      ends = inl refl;
+    }
+
+-- the first question's remark and lemmas
+pub white_stands : (root : Position) (head : List ℕ) (remark : Option (List ℕ)) (white : List Lemma) (after : List Shown)
+    → AreRight root [] white after → AreSided White white → IsRemarkLine remark → MayStand root head (head ++ (remark_line remark ++ lines_of white))
+white_stands root head remark white after right sided remarked =
+    record {
+      after = after;
+      last = [];
+      written = record {
+        white_remark = remark;
+        white = white;
+        black_remark = None;
+        black = [];
+        right = subst (λ ls. AreRight root [] ls after) (sym (append-nil white)) right;
+        white_sided = sided;
+        black_sided = tt;
+        white_remarked = remarked;
+        black_remarked = tt;
+        spelled = ap (λ text. head ++ (remark_line remark ++ text)) (sym (append-nil (lines_of white)));
+      };
+      ends = inl refl;
+    }
+
+-- both questions', and the last line
+pub both_written : (root : Position) (head : List ℕ) (remark : Option (List ℕ)) (white : List Lemma) (mid : List Shown) (also : Option (List ℕ)) (black : List Lemma) (after : List Shown) (last : List ℕ)
+    → AreRight root [] white mid → AreRight root mid black after → AreSided White white → AreSided Black black → IsRemarkLine remark → IsRemarkLine also
+    → HasWritten root head (head ++ (remark_line remark ++ (lines_of white ++ (remark_line also ++ (lines_of black ++ last))))) after last
+both_written root head remark white mid also black after last first second white_sided black_sided remarked also_remarked =
+    record {
+      white_remark = remark;
+      white = white;
+      black_remark = also;
+      black = black;
+      right = AreRight_append root [] mid after white black first second;
+      white_sided = white_sided;
+      black_sided = black_sided;
+      white_remarked = remarked;
+      black_remarked = also_remarked;
+      spelled = refl;
+    }
+
+pub black_stands : (root : Position) (head : List ℕ) (remark : Option (List ℕ)) (white : List Lemma) (mid : List Shown) (also : Option (List ℕ)) (black : List Lemma) (after : List Shown)
+    → AreRight root [] white mid → AreRight root mid black after → AreSided White white → AreSided Black black → IsRemarkLine remark → IsRemarkLine also
+    → MayStand root head (head ++ (remark_line remark ++ (lines_of white ++ (remark_line also ++ lines_of black))))
+black_stands root head remark white mid also black after first second white_sided black_sided remarked also_remarked =
+    subst (MayStand root head) (ap (λ text. head ++ (remark_line remark ++ (lines_of white ++ (remark_line also ++ text)))) (append-nil (lines_of black)))
+    (record { after = after; last = []; written = both_written root head remark white mid also black after [] first second white_sided black_sided remarked also_remarked; ends = inl refl })
+
+-- a whole proof may stand
+pub proof_stands : (root : Position) (head text : List ℕ) (v : Verdict) → IsProof root head text v → MayStand root head text
+proof_stands root head text v proof = record { after = proof.after; last = verdict_line v; written = proof.written; ends = inr (v, proof.verdict, refl) }
+
+-- ---- the head
+
+-- the head of a proof for a game whose text is given, with its last line feed or without
+pub head_of_fed : (bytes : List ℕ) (root : Position) (text : IsGameText bytes root) → text.ended ≡ true → head_of text.board text.columns ≡ first_line ++ 10 ∷ bytes
+head_of_fed bytes root text fed = ap (λ game. first_line ++ 10 ∷ game) (sym (text.spelled ∙ ap (game_text text.board text.columns) fed))
+
+pub head_of_bare : (bytes : List ℕ) (root : Position) (text : IsGameText bytes root) → text.ended ≡ false → head_of text.board text.columns ≡ first_line ++ 10 ∷ as_line bytes
+head_of_bare bytes root text bare = ap (λ game. first_line ++ 10 ∷ game) (sym (ap as_line (text.spelled ∙ ap (game_text text.board text.columns) bare) ∙ feed (board_line text.board) (moves_line text.columns)))
+  where
+    feed : (board moves : List ℕ) → (board ++ (10 ∷ (moves ++ []))) ++ 10 ∷ [] ≡ board ++ (10 ∷ (moves ++ 10 ∷ []))
+    feed board moves = append_assoc board (10 ∷ (moves ++ [])) (10 ∷ []) ∙ ap (λ moves. board ++ 10 ∷ (moves ++ 10 ∷ [])) (append-nil moves)

@@ -7,7 +7,7 @@ use Rattle.game_rules.specs.declared.Side.{Side}
 use Rattle.game_rules.specs.declared.Side.TheVariants.{White, Black}
 use Rattle.proof_text.specs.Lemma.{claim_side, Lemma}
 use Rattle.proof_text.specs.Right.{Shown, AreRight, IsVerdict}
-use Rattle.proof_text.specs.Spelling.{line_of, lines_of, verdict_line, is_remark}
+use Rattle.proof_text.specs.Spelling.{as_line, lines_of, verdict_line, is_remark}
 use Rattle.proof_text.specs.Texts.{longest_line}
 use Rattle.proof_text.specs.declared.Verdict.{Verdict}
 
@@ -18,7 +18,7 @@ IsRemarkLine (Some bytes) = (is_remark bytes ≡ true) × (length bytes ≤ long
 
 abbrev pub remark_line : Option (List ℕ) → List ℕ
 remark_line None = []
-remark_line (Some bytes) = line_of bytes
+remark_line (Some bytes) = as_line bytes
 
 -- the lemmas claim something of this side
 abbrev pub AreSided : Side → List Lemma → Type 0

@@ -11,9 +11,9 @@ ghost use Rattle.game_rules.specs.declared.End.TheVariants as ends;
 ghost use Rattle.proof_text.specs.Lemma.{claim_holds, Lemma, Line};
 ghost use Rattle.proof_text.specs.Right.{Shown, IsRight, AreRight, IsVerdict, AreTrue, IsTrueVerdict};
 ghost use Rattle.proof_text.specs.Checked.{Standing, lemma_refusal, verdict_stands, line_refusal};
-ghost use Rattle.proof_text.specs.Spelling.{lemma_text, verdict_text, line_of, greatest_number, Fits, VerdictFits, IsLine};
+ghost use Rattle.proof_text.specs.Spelling.{lemma_text, verdict_text, as_line, greatest_number, Fits, VerdictFits, IsLine};
 ghost use Rattle.proof_text.specs.Reading.{read_line};
-ghost use Rattle.proof_text.specs.Texts.{is_feed, pieces, lines_in, first_number, game_of, whole_game_of, behind_game, standing, refusal_at, Answer, NoGame, Refused, Accepted, verdict_answer, check_from, start, answer_of, first_line, check_of, head_of, IsRightText};
+ghost use Rattle.proof_text.specs.Texts.{is_feed, pieces, lines_in, first_number, game_of, whole_game_of, behind_game, standing, refusal_at, CheckAnswer, NoGame, Refused, Accepted, verdict_answer, check_from, start, answer_of, first_line, check_of, head_of, IsRightText};
 ghost use Rattle.proof_text.specs.Written.{IsProof};
 ghost use Rattle.proof_text.specs.declared.Verdict.{Verdict};
 ghost use Rattle.proof_text.specs.declared.Claim.TheVariants as claims;
@@ -63,9 +63,9 @@ pub fn a_line_has_no_line_feed()
 /// Lines without line feeds that are joined to a text are the lines of that text, whatever follows.
 pub fn a_text_is_cut_into_the_lines_that_it_was_joined_from()
     ensures pieces { (lines : List (List ℕ)) (rest : List ℕ) → AllByRecursion (λ line. AllByRecursion (λ byte. is_feed byte ≡ false) line) lines
-        → pieces (flat_map line_of lines ++ rest) ≡ lines ++ pieces rest }
+        → pieces (flat_map as_line lines ++ rest) ≡ lines ++ pieces rest }
     ensures lines { (lines : List (List ℕ)) → AllByRecursion (λ line. AllByRecursion (λ byte. is_feed byte ≡ false) line) lines
-        → lines_in (pieces (flat_map line_of lines)) ≡ lines }
+        → lines_in (pieces (flat_map as_line lines)) ≡ lines }
 {}
 
 /// Right lemmas from the root of a game have spellings, while their numbers are within those of the grammar; and so has
