@@ -1,0 +1,56 @@
+-- What stands written of a proof: its head, then for each of two questions the remarks and the right lemmas, and last
+-- the verdict.
+use Rattle.std.specs.Prelude.{◌≡◌, ◌≤◌, ◌⊎◌, ℕ, true, List, [], ◌++◌, length, Option, Some, None, ⊤}
+use Rattle.std.specs.List.{AllByRecursion}
+use Rattle.game_rules.specs.Position.{Position}
+use Rattle.game_rules.specs.declared.Side.{Side}
+use Rattle.game_rules.specs.declared.Side.TheVariants.{White, Black}
+use Rattle.proof_text.specs.Lemma.{claim_side, Lemma}
+use Rattle.proof_text.specs.Right.{Shown, AreRight, IsVerdict}
+use Rattle.proof_text.specs.Spelling.{as_line, lines_of, verdict_line, is_remark}
+use Rattle.proof_text.specs.Texts.{longest_line}
+use Rattle.proof_text.specs.declared.Verdict.{Verdict}
+
+-- a remark that may stand as a line, and its line; where there is none, nothing
+abbrev pub IsRemarkLine : Option (List ℕ) → Type 0
+IsRemarkLine None = ⊤
+IsRemarkLine (Some bytes) = (is_remark bytes ≡ true) × (length bytes ≤ longest_line)
+
+abbrev pub remark_line : Option (List ℕ) → List ℕ
+remark_line None = []
+remark_line (Some bytes) = as_line bytes
+
+-- the lemmas claim something of this side
+abbrev pub AreSided : Side → List Lemma → Type 0
+AreSided side ls = AllByRecursion (λ l. claim_side l.claim ≡ side) ls
+
+-- Behind its head the text has, for the question whether White wins and then for the one whether Black does, a remark or
+-- none and lemmas of that side; all lemmas are right and show what stands after. Behind them comes the last line.
+pub record HasWritten (root : Position) (head : List ℕ) (text : List ℕ) (after : List Shown) (last : List ℕ) : Type 0 where
+  pub white_remark : Option (List ℕ)
+  pub white : List Lemma
+  pub black_remark : Option (List ℕ)
+  pub black : List Lemma
+  pub right : AreRight root [] (white ++ black) after
+  pub white_sided : AreSided White white
+  pub black_sided : AreSided Black black
+  pub white_remarked : IsRemarkLine white_remark
+  pub black_remarked : IsRemarkLine black_remark
+  pub spelled : text ≡ head ++ (remark_line white_remark ++ (lines_of white ++ (remark_line black_remark ++ (lines_of black ++ last))))
+
+-- nothing more, or a right verdict
+abbrev pub IsLastLine : Position → List Shown → List ℕ → Type 0
+IsLastLine root after last = (last ≡ []) ⊎ ((v : Verdict) × IsVerdict root after v × (last ≡ verdict_line v))
+
+-- a text as it may stand while it is being written
+pub record MayStand (root : Position) (head : List ℕ) (text : List ℕ) : Type 0 where
+  pub after : List Shown
+  pub last : List ℕ
+  pub written : HasWritten root head text after last
+  pub ends : IsLastLine root after last
+
+-- a whole proof with this verdict
+pub record IsProof (root : Position) (head : List ℕ) (text : List ℕ) (v : Verdict) : Type 0 where
+  pub after : List Shown
+  pub written : HasWritten root head text after (verdict_line v)
+  pub verdict : IsVerdict root after v
