@@ -1,5 +1,5 @@
 -- The lines of the code as the plain data of the definitions.
-use Rattle.std.specs.Prelude.{ℕ, List, [], ◌∷◌, map, flat_map}
+use Rattle.std.specs.Prelude.{◌≡◌, ℕ, List, [], ◌∷◌, map, flat_map, Option, Some, None, Result, Ok, Err}
 use Rattle.proof_text.specs.Lemma.{Cite as PlainCite, Reason as PlainReason, ByEnd, ByOne, ByAll, Lemma as PlainLemma, Line as PlainLine, ALemma, ARemark, AVerdict}
 use Rattle.proof_text.specs.Spelling.{lemma_line, verdict_line}
 use Rattle.cert_format.specs.declared.lines.Cite.{Cite}
@@ -8,6 +8,7 @@ use Rattle.cert_format.specs.declared.lines.Reason.TheVariants.{Ended, One, All}
 use Rattle.cert_format.specs.declared.lines.Lemma.{Lemma}
 use Rattle.cert_format.specs.declared.lines.Line.{Line}
 use Rattle.cert_format.specs.declared.lines.Line.TheVariants as lines
+use Rattle.cert_format.specs.declared.lines.LineFault.{LineFault}
 
 abbrev pub cite_of : Cite → PlainCite
 cite_of cite = record { column = cite.column; lemma = cite.lemma }
@@ -34,3 +35,8 @@ abbrev pub printed : PlainLine → List ℕ
 printed (ALemma l) = lemma_line l
 printed ARemark = []
 printed (AVerdict v) = verdict_line v
+
+-- What a reader of the code gives, beside what the definition reads: the same line, or a fault where there is none.
+abbrev pub Reads : Result Line LineFault → Option PlainLine → Type 0
+Reads (Ok line) read = read ≡ Some (line_of line)
+Reads (Err fault) read = read ≡ None

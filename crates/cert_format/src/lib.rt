@@ -4,8 +4,14 @@
 
 mod line_text;
 mod lines;
+mod number;
 mod output;
+mod reading;
+#[cfg(test)]
+mod tests;
 
 pub use lines::{Cite, Lemma, Line, LineFault, Reason};
+pub use number::number_between;
 pub use output::{LemmaOut, print_line};
 pub use proof_text::{Claim, Verdict};
+pub use reading::read_line;

@@ -84,7 +84,7 @@ no_space [] h = All-nil (λ (byte : ℕ). (byte == 32) ≡ false)
 no_space (byte ∷ word) h = All-cons (λ (byte : ℕ). (byte == 32) ≡ false) byte word (ne_eqb byte 32 (λ (e : byte ≡ 32). omega arith)) (no_space word h.1)
 
 -- words are told by their row
-words_of_spaced : (word : List ℕ) (words : List (List ℕ)) → AllByRecursion IsPlain (word ∷ words) → words_of (spaced (word ∷ words)) ≡ word ∷ words
+pub words_of_spaced : (word : List ℕ) (words : List (List ℕ)) → AllByRecursion IsPlain (word ∷ words) → words_of (spaced (word ∷ words)) ≡ word ∷ words
 words_of_spaced word [] h = slice_split_none (λ byte. byte == 32) word (no_space word h.0)
 words_of_spaced word (next ∷ words) h =
     slice_split_at (λ byte. byte == 32) word 32 (spaced (next ∷ words)) (no_space word h.0) refl ∙ ap (λ rest. word ∷ rest) (words_of_spaced next words h.1)

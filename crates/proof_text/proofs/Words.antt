@@ -2,19 +2,19 @@
 use Rattle.std.proofs.Common.{◌≡◌, ℕ, ◌+◌, ◌<◌, ◌≤◌, ◌^◌, true, false, ◌&&◌, ◌==◌, nat_le, nat_lt, List, [], ◌∷◌, ◌++◌, map, length, Option, Some, None, codes, refl, ap, ◌∙◌, subst, inl, inr, arith}
 use Rattle.std.specs.List.{AllByRecursion, list_all}
 use Rattle.std.specs.Str.{bytes_eq}
-use Rattle.std.specs.Str.Parse.{digits_value}
 use Rattle.std.specs.Fmt.{decimal}
 use Rattle.std.specs.Option.{option_map}
-use Rattle.std.proofs.lemmas.Fmt.{decimal_is_IsNumeral}
 use Rattle.std.proofs.lemmas.List.{length-map}
 use Rattle.std.specs.Bool.{if◌then◌else◌}
 use Rattle.std.proofs.lemmas.Slice.Eq.{bytes_eq-Decides}
 use Rattle.std.proofs.lemmas.Bool.{and_parts, and_from, ltb-true, lt-ltb, leb-true, le-leb, eqb-true, ne_eqb}
 use Rattle.game_rules.specs.Grammar.{letter_of, move_list}
 use Rattle.game_rules.proofs.Lists.{chosen}
+use Rattle.game_rules.proofs.Numbers as numbers
+use Rattle.game_rules.proofs.Numbers.{number_gives}
 use Rattle.proof_text.specs.Lemma.{Cite, Reason, ByEnd, ByOne, ByAll, Lemma}
 use Rattle.proof_text.specs.Spelling.{claim_word, cite_word, reason_words, lemma_words, verdict_words, greatest_number, longest_path, most_cites, IsNumber, CiteFits, ReasonFits, Fits, VerdictFits}
-use Rattle.proof_text.specs.Reading.{◌>>=◌, number_as, number_of, is_letter, column_of, path_of, claim_of, letter_word, cite_of, cites_of, one_of, all_of, only, reason_of, lemma_of, with_one, with_two, verdict_of}
+use Rattle.proof_text.specs.Reading.{◌>>=◌, number_of, is_letter, column_of, path_of, claim_of, letter_word, cite_of, cites_of, one_of, all_of, only, reason_of, lemma_of, with_one, with_two, verdict_of}
 use Rattle.proof_text.specs.declared.Claim.{Claim}
 use Rattle.proof_text.specs.declared.Claim.TheVariants.{WhiteWins, WhiteFails, BlackWins, BlackFails}
 use Rattle.proof_text.specs.declared.Verdict.{Verdict}
@@ -40,26 +40,10 @@ small : (n : ℕ) → IsNumber n → n < 2 ^ 64
 small n h = omega (arith, h.1)
 
 pub number_read : (word : List ℕ) (n : ℕ) → number_of word ≡ Some n → (word ≡ decimal n) × IsNumber n
-number_read word n h = as_number (digits_value 10 word) h
-  where
-    as_number : (m : ℕ) → number_as word m ≡ Some n → (word ≡ decimal n) × IsNumber n
-    as_number m h = elim (chosen (nat_le 1 m && nat_le m greatest_number && bytes_eq word (decimal m)) (Some m) None (Some n) h) [
-      | inr other ↦ absurd (cc other.1)
-      | inl found ↦
-          let same : m ≡ n = cc in
-          let both = and_parts (nat_le 1 m && nat_le m greatest_number) (bytes_eq word (decimal m)) found.0 in
-          let bounds = and_parts (nat_le 1 m) (nat_le m greatest_number) both.0 in
-          (is_text word (decimal m) both.1 ∙ ap decimal same, (subst (λ k. 1 ≤ k) same (leb-true 1 m bounds.0), subst (λ k. k ≤ greatest_number) same (leb-true m greatest_number bounds.1)))
-    ]
+number_read word n h = let told = number_gives 1 greatest_number word n h in (told.2, (told.0, told.1))
 
 pub number_spelled : (n : ℕ) → IsNumber n → number_of (decimal n) ≡ Some n
-number_spelled n h =
-    let value : digits_value 10 (decimal n) ≡ n = (decimal_is_IsNumeral n (small n h)).1 in
-    ap (number_as (decimal n)) value
-    ∙ found (and_from _ _ (and_from _ _ (le-leb 1 n h.0) (le-leb n greatest_number h.1)) ((bytes_eq-Decides (decimal n) (decimal n)).1 refl))
-  where
-    found : (nat_le 1 n && nat_le n greatest_number && bytes_eq (decimal n) (decimal n)) ≡ true → number_as (decimal n) n ≡ Some n
-    found e = rw e refl
+number_spelled n h = numbers.number_spelled 1 greatest_number n (decimal n) h.0 h.1 (small n h) refl
 
 -- ---- letters
 

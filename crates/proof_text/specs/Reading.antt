@@ -1,8 +1,8 @@
 -- How a line of a proof is read: as words, which a space parts, each of which has to be the spelling of its part. The
 -- letters are those of the board's columns.
-use Rattle.std.specs.Prelude.{ℕ, ◌+◌, ◌-◌, Bool, ◌&&◌, ◌==◌, nat_le, nat_lt, if◌then◌else◌, List, [], ◌∷◌, map, length, Option, Some, None, option_and_then, option_map, codes, decimal, bytes_eq}
+use Rattle.std.specs.Prelude.{ℕ, ◌+◌, ◌-◌, Bool, ◌&&◌, ◌==◌, nat_le, nat_lt, if◌then◌else◌, List, [], ◌∷◌, map, length, Option, Some, None, option_and_then, option_map, codes, bytes_eq}
 use Rattle.std.specs.List.{list_all, slice_split}
-use Rattle.std.specs.Str.Parse.{digits_value}
+use Rattle.game_rules.specs.Number.{number_between}
 use Rattle.proof_text.specs.Lemma.{Cite, Reason, ByEnd, ByOne, ByAll, Lemma, Line, ALemma, ARemark, AVerdict}
 use Rattle.proof_text.specs.Spelling.{greatest_number, longest_path, most_cites, is_remark}
 use Rattle.proof_text.specs.declared.Claim.{Claim}
@@ -18,12 +18,9 @@ found >>= next = option_and_then next found
 abbrev pub words_of : List ℕ → List (List ℕ)
 words_of bytes = slice_split (λ byte. byte == 32) bytes
 
--- the number whose decimal spelling a word is
-abbrev pub number_as : List ℕ → ℕ → Option ℕ
-number_as word n = if nat_le 1 n && nat_le n greatest_number && bytes_eq word (decimal n) then Some n else None
-
+-- the number that a word spells
 abbrev pub number_of : List ℕ → Option ℕ
-number_of word = number_as word (digits_value 10 word)
+number_of word = number_between 1 greatest_number word
 
 abbrev pub is_letter : ℕ → ℕ → Bool
 is_letter cols byte = nat_le 97 byte && nat_lt byte (97 + cols)

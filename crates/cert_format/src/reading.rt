@@ -1,0 +1,216 @@
+//! The reading of a line, word by word. Each reader gives what the definition of the same name gives of its words.
+ghost use Rattle.std.specs.Prelude.{◌≡◌, ◌<◌, ◌∷◌, [], Some, None, if◌then◌else◌, IfSome, MatchOption, length, map, option_map, position, ◌==◌};
+ghost use Rattle.std.specs.Str.{bytes_eq};
+ghost use Rattle.std.specs.List.{list_all};
+ghost use Rattle.proof_text.specs.Lemma.{ByOne, ByAll};
+ghost use Rattle.proof_text.specs.Spelling.{is_printable, is_remark};
+ghost use Rattle.proof_text.specs.declared.Verdict.TheVariants.{Draw};
+ghost use Rattle.proof_text.specs.Reading.{words_of, number_of, is_letter, column_of, path_of, claim_of, letter_word, cite_of, one_of, all_of, reason_of, lemma_of, with_two, verdict_of, read_line};
+ghost use Rattle.cert_format.specs.Shape as shape;
+ghost use Rattle.cert_format.specs.Shape.{Reads};
+
+use crate::lines::{Cite, LONGEST_PATH, Lemma, Line, LineFault, MOST_CITES, Reason};
+use crate::number::number_between;
+use arrayvec::ArrayVec;
+use board_bits::{Column, Size};
+use proof_text::{Claim, Verdict};
+
+/// No number of a proof is greater.
+const GREATEST_NUMBER: u32 = 10_000_000;
+
+/// What the bytes say as a line of a proof on a board of this size, without their line feed. `LineFault` comes exactly
+/// where they are no line: where no lemma, remark or verdict is spelled so.
+pub fn read_line(bytes: &[u8], size: Size) -> Result<Line, LineFault>
+    ensures { Reads result (read_line size.cols bytes.now) }
+{
+    if is_remark(bytes) {
+        return Ok(Line::Remark);
+    }
+    let (word, rest) = split_word(bytes);
+    if is_word(word, b"value") {
+        return Ok(Line::Verdict(verdict_of(rest.ok_or(LineFault)?).ok_or(LineFault)?));
+    }
+    Ok(Line::Lemma(lemma_of(bytes, size).ok_or(LineFault)?))
+}
+
+/// Whether the bytes are `#` and printable bytes behind it.
+fn is_remark(bytes: &[u8]) -> bool
+    ensures { result ≡ is_remark bytes.now }
+{
+    match bytes {
+        [first, text @ ..] => *first == b'#' && are_printable(text),
+        [] => false,
+    }
+}
+
+fn are_printable(bytes: &[u8]) -> bool
+    ensures { result ≡ list_all is_printable bytes.now }
+{
+    bytes.iter().all(|byte| (b' '..=b'~').contains(byte))
+}
+
+fn lemma_of(bytes: &[u8], size: Size) -> Option<Lemma>
+    ensures { option_map shape.lemma_of result ≡ lemma_of size.cols (words_of bytes.now) }
+{
+    let (number, rest) = split_word(bytes);
+    let (path, rest) = split_word(rest?);
+    let (claim, rest) = split_word(rest?);
+    Some(Lemma {
+        number: number_of(number)?,
+        path: path_of(path, size)?,
+        claim: claim_of(claim)?,
+        reason: reason_of(rest?, size)?,
+    })
+}
+
+/// The letters of at most a hundred columns, or `-` for none.
+fn path_of(word: &[u8], size: Size) -> Option<ArrayVec<Column, LONGEST_PATH>>
+    ensures { option_map (λ path. path.items) result ≡ path_of size.cols word.now }
+{
+    let mut path = ArrayVec::new();
+    if is_word(word, b"-") {
+        return Some(path);
+    }
+    if word.is_empty() || word.len() > LONGEST_PATH {
+        return None;
+    }
+    for letter in word {
+        path.push(column_of(*letter, size)?);
+    }
+    Some(path)
+}
+
+/// The column that a word of one letter names.
+fn letter_word(word: &[u8], size: Size) -> Option<Column>
+    ensures { result ≡ letter_word size.cols word.now }
+{
+    match word {
+        [letter] => column_of(*letter, size),
+        _ => None,
+    }
+}
+
+/// The column that the letter names, if it is one of the board's.
+fn column_of(letter: u8, size: Size) -> Option<Column>
+    ensures { result ≡ (if is_letter size.cols letter then Some (column_of letter) else None) }
+{
+    size.column(letter.checked_sub(b'a')?)
+}
+
+fn claim_of(word: &[u8]) -> Option<Claim>
+    ensures { result ≡ claim_of word.now }
+{
+    match word {
+        b"W+" => Some(Claim::WhiteWins),
+        b"W-" => Some(Claim::WhiteFails),
+        b"B+" => Some(Claim::BlackWins),
+        b"B-" => Some(Claim::BlackFails),
+        _ => None,
+    }
+}
+
+fn reason_of(bytes: &[u8], size: Size) -> Option<Reason>
+    ensures { option_map shape.reason_of result ≡ reason_of size.cols (words_of bytes.now) }
+{
+    let (word, rest) = split_word(bytes);
+    match rest {
+        None if is_word(word, b"end") => Some(Reason::Ended),
+        Some(rest) if is_word(word, b"one") => Some(Reason::One(one_of(rest, size)?)),
+        Some(rest) if is_word(word, b"all") => Some(Reason::All(all_of(rest, size)?)),
+        _ => None,
+    }
+}
+
+/// A letter and a number, as two words.
+fn one_of(bytes: &[u8], size: Size) -> Option<Cite>
+    ensures { option_map (λ cite. ByOne (shape.cite_of cite)) result ≡ one_of size.cols (words_of bytes.now) }
+{
+    let (letter, number) = split_word(bytes);
+    Some(Cite {
+        column: letter_word(letter, size)?,
+        lemma: number_of(number?)?,
+    })
+}
+
+/// At most ten cites, each a word.
+fn all_of(bytes: &[u8], size: Size) -> Option<ArrayVec<Cite, MOST_CITES>>
+    ensures { option_map (λ cites. ByAll (map shape.cite_of cites.items)) result ≡ all_of size.cols (words_of bytes.now) }
+{
+    let mut cites = ArrayVec::new();
+    let mut left = Some(bytes);
+    while let Some(words) = left {
+        if cites.is_full() {
+            return None;
+        }
+        let (word, rest) = split_word(words);
+        cites.push(cite_of(word, size)?);
+        left = rest;
+    }
+    Some(cites)
+}
+
+/// A letter, a colon and a number.
+fn cite_of(word: &[u8], size: Size) -> Option<Cite>
+    ensures { option_map shape.cite_of result ≡ cite_of size.cols word.now }
+{
+    let [letter, b':', number @ ..] = word else {
+        return None;
+    };
+    Some(Cite {
+        column: column_of(*letter, size)?,
+        lemma: number_of(number)?,
+    })
+}
+
+/// The verdict whose words stand behind the first word of its line.
+fn verdict_of(bytes: &[u8]) -> Option<Verdict>
+    ensures { result ≡ verdict_of (words_of bytes.now) }
+{
+    let (word, rest) = split_word(bytes);
+    match rest {
+        None if is_word(word, b"unknown") => Some(Verdict::Unknown),
+        Some(rest) if is_word(word, b"win") => Some(Verdict::Win(number_of(rest)?)),
+        Some(rest) if is_word(word, b"loss") => Some(Verdict::Loss(number_of(rest)?)),
+        Some(rest) if is_word(word, b"draw") => draw_of(rest),
+        _ => None,
+    }
+}
+
+/// A draw with its two numbers.
+fn draw_of(bytes: &[u8]) -> Option<Verdict>
+    ensures { result ≡ with_two Draw (words_of bytes.now) }
+{
+    let (white, black) = split_word(bytes);
+    Some(Verdict::Draw(number_of(white)?, number_of(black?)?))
+}
+
+/// The number that a word spells, from 1 to 10,000,000.
+fn number_of(word: &[u8]) -> Option<u32>
+    ensures { result ≡ number_of word.now }
+{
+    number_between(1, GREATEST_NUMBER, word)
+}
+
+/// The first word, and what stands behind the space after it, if there is one.
+fn split_word(bytes: &[u8]) -> (&[u8], Option<&[u8]>)
+    ensures words { MatchOption result.1 (words_of bytes.now ≡ result.0.now ∷ []) (λ rest. words_of bytes.now ≡ result.0.now ∷ words_of rest.now) }
+    ensures shorter { IfSome result.1 (λ rest. length rest.now < length bytes.now) }
+{
+    match first_space(bytes) {
+        Some(end) => (&bytes[..end], Some(&bytes[end + 1..])),
+        None => (bytes, None),
+    }
+}
+
+fn first_space(bytes: &[u8]) -> Option<usize>
+    ensures place { result ≡ position (λ byte. byte == 32) bytes.now }
+    ensures within { IfSome result (λ end. end < length bytes.now) }
+{
+    bytes.iter().position(|byte| *byte == b' ')
+}
+
+fn is_word(word: &[u8], text: &[u8]) -> bool
+    ensures { result ≡ bytes_eq word.now text.now }
+{
+    word == text
+}
