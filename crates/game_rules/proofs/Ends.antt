@@ -349,8 +349,8 @@ same_man (Some Black) None same = absurd (cc (same Black))
 same_man (Some Black) (Some White) same = absurd (cc (same Black))
 same_man (Some Black) (Some Black) same = refl
 
-pub same_position : (p q : Position) → board_of p ≡ board_of q → ((side : Side) (s : Square) → has_man p side s ≡ has_man q side s) → p ≡ q
-same_position p q board same =
+pub same_by_squares : (p q : Position) → board_of p ≡ board_of q → ((side : Side) (s : Square) → has_man p side s ≡ has_man q side s) → p ≡ q
+same_by_squares p q board same =
     let rows : p.rows ≡ q.rows = ap (λ (b : Board). b.rows) board in
     let columns : p.columns ≡ q.columns = ext_get_or [] p.columns q.columns (ap (λ (b : Board). b.cols) board)
     (λ c _. same_men (men_in p c) (men_in q c) (λ r. same_man (man_at p (c, r)) (man_at q (c, r)) (λ side. same side (c, r)))) in

@@ -4,8 +4,11 @@ use Rattle.std.specs.List.{slice_get}
 use Rattle.std.proofs.lemmas.List.{get_or-set_same, get_or-set_other, length_push}
 use Rattle.std.proofs.lemmas.List.Sums.{sum_by-set}
 use Rattle.std.proofs.lemmas.List.Elements.{All-set}
-use Rattle.std.proofs.lemmas.Bool.{cases_eq, and_parts, and_from, ltb-true, lt-ltb, eq-eqb, ne_eqb}
-use Rattle.game_rules.specs.Position.{Position, board_of, other, same_side, men_in, height, man_in, man_at, man_count, side_to_move, has_room, empty_count, after_move, IsStacked}
+use Rattle.std.proofs.lemmas.Bool.{cases_eq, and_parts, and_from, ltb-true, lt-ltb, eqb-true, eq-eqb, ne_eqb}
+use Rattle.std.proofs.lemmas.Slice.Eq.{slice_eq-Decides}
+use Rattle.std.specs.Bool.{Decides}
+use Rattle.std.specs.Cmp.Lexicographic.{pointwise}
+use Rattle.game_rules.specs.Position.{Position, board_of, other, same_side, same_position, men_in, height, man_in, man_at, man_count, side_to_move, has_room, empty_count, after_move, IsStacked}
 use Rattle.game_rules.specs.declared.Side.{Side}
 use Rattle.game_rules.specs.declared.Side.TheVariants.{White, Black}
 
@@ -28,6 +31,24 @@ other_side Black Black h = cc
 pub other_other : (side : Side) → other (other side) ≡ side
 other_other White = refl
 other_other Black = refl
+
+-- the test of two positions tells whether they are equal
+pub same_side_Decides : (a b : Side) → Decides (same_side a b) (a ≡ b)
+same_side_Decides a b = (same_side_is a b, λ e. rw e (same_side_refl b))
+
+pub same_position_Decides : (p q : Position) → Decides (same_position p q) (p ≡ q)
+same_position_Decides p q = (to, from)
+  where
+    columns : Decides (pointwise (pointwise same_side) p.columns q.columns) (p.columns ≡ q.columns)
+    columns = slice_eq-Decides (λ (a b : List Side). slice_eq-Decides same_side_Decides a b (pointwise same_side a b) refl) p.columns q.columns (pointwise (pointwise same_side) p.columns q.columns) refl
+
+    to : same_position p q ≡ true → p ≡ q
+    to h =
+        let both = and_parts (p.rows == q.rows) (pointwise (pointwise same_side) p.columns q.columns) h in
+        ap (λ n. record p { rows = n }) (eqb-true p.rows q.rows both.0) ∙ ap (λ men. record q { columns = men }) (columns.0 both.1)
+
+    from : p ≡ q → same_position p q ≡ true
+    from e = and_from _ _ (eq-eqb p.rows q.rows (ap (λ (r : Position). r.rows) e)) (columns.1 (ap (λ (r : Position). r.columns) e))
 
 -- ---- a column
 

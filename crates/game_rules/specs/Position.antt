@@ -2,6 +2,7 @@
 -- no man can hang over an empty square. White's and Black's squares are what `has_man` tells.
 use Rattle.std.specs.Prelude.{ℕ, zero, suc, ◌+◌, ◌-◌, ◌%◌, ◌≤◌, Bool, true, false, not, ◌&&◌, ◌==◌, nat_lt, if◌then◌else◌, List, [], ◌∷◌, ◌++◌, map, length, replicate, sum_by, filter, Option, Some, None, is_none, slice_get, slice_set, slice_index_or, All}
 use Rattle.std.specs.List.{list_all, list_any}
+use Rattle.std.specs.Cmp.Lexicographic.{pointwise}
 use Rattle.game_rules.specs.Board.{Board, Square, below, line_at, is_line, ways}
 use Rattle.game_rules.specs.declared.Side.{Side}
 use Rattle.game_rules.specs.declared.Side.TheVariants.{White, Black}
@@ -118,3 +119,7 @@ open_columns p = filter (has_room p) (below (length p.columns))
 
 abbrev pub moved : Position → List Position
 moved p = map (after_move p) (open_columns p)
+
+-- whether two positions are the same: their rows, and each column man by man
+abbrev pub same_position : Position → Position → Bool
+same_position p q = p.rows == q.rows && pointwise (pointwise same_side) p.columns q.columns

@@ -4,7 +4,7 @@
 ghost use Rattle.std.specs.Prelude.{◌≡◌, ◌↔◌, ℕ, Bool, map, ◌+◌, ◌%◌, ◌<◌, ◌≤◌, true, false, not, cond, ◌||◌, List, length, is_some};
 ghost use Rattle.std.specs.List.{list_any, list_all};
 ghost use Rattle.game_rules.specs.Board.{Board, Square, on_board};
-ghost use Rattle.game_rules.specs.Position.{Position, board_of, empty_position, has_man, man_at, man_count, side_to_move, other, same_side, has_room, is_legal, after_move, played, end_of, empty_count, moved, IsStacked};
+ghost use Rattle.game_rules.specs.Position.{Position, board_of, empty_position, has_man, man_at, man_count, side_to_move, other, same_side, has_room, is_legal, after_move, played, end_of, empty_count, moved, IsStacked, same_position};
 ghost use Rattle.game_rules.specs.Value.{value, wins, best_of};
 ghost use Rattle.game_rules.specs.Cost.{count, count_until, decides, moved_out};
 ghost use Rattle.game_rules.specs.Laws.{HasLine, IsFilled, DropsMan};
@@ -21,6 +21,11 @@ pub fn sides_are_disjoint()
 /// A position is told by its board and the two sets of squares.
 pub fn squares_tell_the_position()
     ensures { (p q : Position) → board_of p ≡ board_of q → ((side : Side) (s : Square) → has_man p side s ≡ has_man q side s) → p ≡ q }
+{}
+
+/// The test of two positions tells whether they are the same.
+pub fn same_position_is_equality()
+    ensures { (p q : Position) → (same_position p q ≡ true) ↔ (p ≡ q) }
 {}
 
 /// A legal move adds exactly the lowest empty square of its column to the squares of the side to move.

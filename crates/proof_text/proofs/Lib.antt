@@ -1,0 +1,9 @@
+mod Vectors
+pub mod Append
+pub mod Sound
+pub mod Refusals
+pub mod Words
+pub mod Spelled
+pub mod Pieces
+pub mod Fold
+pub mod Accepted

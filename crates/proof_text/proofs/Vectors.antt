@@ -1,0 +1,107 @@
+-- The answer to whole texts, computed where it is known from outside.
+use Rattle.std.proofs.Common.{◌≡◌, ℕ, List, [], ◌∷◌, ◌++◌, map, take, drop, ◌+◌, codes, refl}
+use Rattle.game_rules.specs.declared.InputKind.TheVariants.{BadHeader}
+use Rattle.std.specs.List.{flat_map}
+use Rattle.std.specs.Fmt.{digits}
+use Rattle.game_rules.specs.Text.{game_at, read_game, board_at}
+use Rattle.proof_text.specs.Spelling.{line_of}
+use Rattle.proof_text.specs.Texts.{Answer, NoGame, Accepted, Refused, check_of}
+use Rattle.proof_text.specs.declared.Verdict.TheVariants.{Draw, Loss}
+use Rattle.proof_text.specs.declared.Why.TheVariants.{BadLine, BadPath, NoSuchLemma, WrongPosition, WrongClaim, MissingMove, BadVerdict, EndedEarly}
+
+-- a proof on the 4 by 4 board
+abbrev four : List ℕ → List (List ℕ) → List ℕ
+four moves lines = flat_map line_of (codes "victor 1" ∷ codes "board 4 4" ∷ (codes "moves " ++ moves) ∷ lines)
+
+full_board_draw : check_of (four (codes "cdccddcdaaaabbbb") (codes "1 - W- end" ∷ codes "2 - B- end" ∷ codes "value draw 1 2" ∷ [])) ≡ Accepted (Draw 1 2) 2
+unfolding check_of game_at read_game board_at digits
+full_board_draw = refl
+
+four_at_root : check_of (four (codes "abababa") (codes "1 - W+ end" ∷ codes "value loss 1" ∷ [])) ≡ Accepted (Loss 1) 1
+unfolding check_of game_at read_game board_at digits
+four_at_root = refl
+
+-- two squares are left
+abbrev two_left : List (List ℕ)
+two_left = codes "1 bb W- end" ∷ codes "2 b W- one b 1" ∷ codes "3 - W- all b:2" ∷ codes "4 bb B- end" ∷ codes "5 b B- all b:4" ∷ codes "6 - B- one b 5" ∷ codes "value draw 3 6" ∷ []
+
+two_squares_left : check_of (four (codes "cdccddcdaaaabb") two_left) ≡ Accepted (Draw 3 6) 6
+unfolding check_of game_at read_game board_at digits
+two_squares_left = refl
+
+-- two paths lead to one position
+abbrev shared : List (List ℕ)
+shared =
+    codes "1 aabb W- end" ∷ codes "2 aab W- one b 1" ∷ codes "3 aa W- all b:2" ∷ codes "4 a W- one a 3" ∷ codes "5 bba W- one a 1" ∷ codes "6 bb W- all a:5" ∷ codes "7 b W- one b 6" ∷ codes "8 - W- all a:4 b:7"
+    ∷ codes "9 aabb B- end" ∷ codes "10 aab B- all b:9" ∷ codes "11 aa B- one b 10" ∷ codes "12 abab B- end" ∷ codes "13 aba B- all b:12" ∷ codes "14 ab B- one a 13" ∷ codes "15 a B- all a:11 b:14" ∷ codes "16 - B- one a 15" ∷ codes "value draw 8 16" ∷ []
+
+shared_position : check_of (four (codes "cdccddcdaabb") shared) ≡ Accepted (Draw 8 16) 16
+unfolding check_of game_at read_game board_at digits
+shared_position = refl
+
+-- ---- what is refused: one line of a right text is replaced
+
+abbrev instead : ℕ → List ℕ → List (List ℕ) → List (List ℕ)
+instead at line lines = take at lines ++ (line ∷ drop (at + 1) lines)
+
+cut_off : check_of (take 103 (four (codes "cdccddcdaaaabb") two_left)) ≡ Refused 8 BadLine
+unfolding check_of game_at read_game board_at digits
+cut_off = refl
+
+no_such_lemma : check_of (four (codes "cdccddcdaaaabb") (instead 1 (codes "2 b W- one b 2") two_left)) ≡ Refused 5 NoSuchLemma
+unfolding check_of game_at read_game board_at digits
+no_such_lemma = refl
+
+wrong_claim : check_of (four (codes "cdccddcdaaaabb") (instead 0 (codes "1 bb W+ end") two_left)) ≡ Refused 4 WrongClaim
+unfolding check_of game_at read_game board_at digits
+wrong_claim = refl
+
+bad_verdict : check_of (four (codes "cdccddcdaaaabb") (instead 6 (codes "value draw 3 4") two_left)) ≡ Refused 10 BadVerdict
+unfolding check_of game_at read_game board_at digits
+bad_verdict = refl
+
+no_verdict : check_of (four (codes "cdccddcdaaaabb") (take 6 two_left)) ≡ Refused 10 EndedEarly
+unfolding check_of game_at read_game board_at digits
+no_verdict = refl
+
+missing_move : check_of (four (codes "cdccddcdaabb") (instead 7 (codes "8 - W- all a:4") shared)) ≡ Refused 11 MissingMove
+unfolding check_of game_at read_game board_at digits
+missing_move = refl
+
+wrong_position : check_of (four (codes "cdccddcdaabb") (instead 4 (codes "5 bba W- one a 2") shared)) ≡ Refused 8 WrongPosition
+unfolding check_of game_at read_game board_at digits
+wrong_position = refl
+
+bad_path : check_of (four (codes "cdccddcdaabb") (instead 0 (codes "1 aaaa W- end") shared)) ≡ Refused 4 BadPath
+unfolding check_of game_at read_game board_at digits
+bad_path = refl
+
+-- without a first line, and without a game
+nothing : check_of [] ≡ Refused 1 BadLine
+unfolding check_of game_at read_game board_at digits
+nothing = refl
+
+no_game : check_of (codes "victor 1") ≡ NoGame (record { kind = BadHeader; at = 0 })
+unfolding check_of game_at read_game board_at digits
+no_game = refl
+
+no_moves : check_of (codes "victor 1" ++ (10 ∷ (codes "board 4 4" ++ 10 ∷ []))) ≡ NoGame (record { kind = BadHeader; at = 10 })
+unfolding check_of game_at read_game board_at digits
+no_moves = refl
+
+-- a remark is a line, and nothing may follow the verdict
+remarks : check_of (four (codes "abababa") (codes "# a remark" ∷ codes "1 - W+ end" ∷ codes "#" ∷ codes "value loss 1" ∷ [])) ≡ Accepted (Loss 1) 1
+unfolding check_of game_at read_game board_at digits
+remarks = refl
+
+behind_verdict : check_of (four (codes "abababa") (codes "1 - W+ end" ∷ codes "value loss 1" ∷ codes "# a remark" ∷ [])) ≡ Refused 6 BadLine
+unfolding check_of game_at read_game board_at digits
+behind_verdict = refl
+
+empty_line : check_of (four (codes "abababa") (codes "1 - W+ end" ∷ [] ∷ codes "value loss 1" ∷ [])) ≡ Refused 5 BadLine
+unfolding check_of game_at read_game board_at digits
+empty_line = refl
+
+leading_zero : check_of (four (codes "abababa") (codes "01 - W+ end" ∷ codes "value loss 1" ∷ [])) ≡ Refused 4 BadLine
+unfolding check_of game_at read_game board_at digits
+leading_zero = refl

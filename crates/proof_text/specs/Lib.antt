@@ -1,0 +1,7 @@
+pub mod Lemma
+pub mod Right
+pub mod Checked
+pub mod Spelling
+pub mod Reading
+pub mod Texts
+pub mod Written

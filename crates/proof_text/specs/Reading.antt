@@ -1,0 +1,109 @@
+-- How a line of a proof is read: as words, which a space parts, each of which has to be the spelling of its part. The
+-- letters are those of the board's columns.
+use Rattle.std.specs.Prelude.{ℕ, ◌+◌, ◌-◌, Bool, ◌&&◌, ◌==◌, nat_le, nat_lt, if◌then◌else◌, List, [], ◌∷◌, map, length, Option, Some, None, option_and_then, option_map, codes, decimal, bytes_eq}
+use Rattle.std.specs.List.{list_all, slice_split}
+use Rattle.std.specs.Str.Parse.{digits_value}
+use Rattle.proof_text.specs.Lemma.{Cite, Reason, ByEnd, ByOne, ByAll, Lemma, Line, ALemma, ARemark, AVerdict}
+use Rattle.proof_text.specs.Spelling.{greatest_number, longest_path, most_cites, is_remark}
+use Rattle.proof_text.specs.declared.Claim.{Claim}
+use Rattle.proof_text.specs.declared.Claim.TheVariants.{WhiteWins, WhiteFails, BlackWins, BlackFails}
+use Rattle.proof_text.specs.declared.Verdict.{Verdict}
+use Rattle.proof_text.specs.declared.Verdict.TheVariants.{Win, Loss, Draw, Unknown}
+
+infixl 10 ◌>>=◌
+abbrev pub ◌>>=◌ : {A B : Type 0} → Option A → (A → Option B) → Option B
+found >>= next = option_and_then next found
+
+-- the words of a line
+abbrev pub words_of : List ℕ → List (List ℕ)
+words_of bytes = slice_split (λ byte. byte == 32) bytes
+
+-- the number whose decimal spelling a word is
+abbrev pub number_as : List ℕ → ℕ → Option ℕ
+number_as word n = if nat_le 1 n && nat_le n greatest_number && bytes_eq word (decimal n) then Some n else None
+
+abbrev pub number_of : List ℕ → Option ℕ
+number_of word = number_as word (digits_value 10 word)
+
+abbrev pub is_letter : ℕ → ℕ → Bool
+is_letter cols byte = nat_le 97 byte && nat_lt byte (97 + cols)
+
+abbrev pub column_of : ℕ → ℕ
+column_of byte = byte - 97
+
+-- letters one after the other, or `-` for none
+abbrev pub path_of : ℕ → List ℕ → Option (List ℕ)
+path_of cols word = if bytes_eq word (codes "-") then Some [] else (if nat_le 1 (length word) && nat_le (length word) longest_path && list_all (is_letter cols) word then Some (map column_of word) else None)
+
+abbrev pub claim_of : List ℕ → Option Claim
+claim_of word = if bytes_eq word (codes "W+") then Some WhiteWins else (if bytes_eq word (codes "W-") then Some WhiteFails else (if bytes_eq word (codes "B+") then Some BlackWins else (if bytes_eq word (codes "B-") then Some BlackFails else None)))
+
+-- a word of one letter
+abbrev pub letter_word : ℕ → List ℕ → Option ℕ
+letter_word cols (byte ∷ []) = if is_letter cols byte then Some (column_of byte) else None
+letter_word cols word = None
+
+-- a letter, a colon and a number
+abbrev pub cite_of : ℕ → List ℕ → Option Cite
+cite_of cols (letter ∷ colon ∷ digits) = if is_letter cols letter && colon == 58 then option_map (λ n. record { column = column_of letter; lemma = n }) (number_of digits) else None
+cite_of cols word = None
+
+abbrev pub cites_of : ℕ → List (List ℕ) → Option (List Cite)
+cites_of cols [] = Some []
+cites_of cols (word ∷ words) = do
+  cite ← cite_of cols word
+  cites ← cites_of cols words
+  Some (cite ∷ cites)
+
+abbrev pub one_of : ℕ → List (List ℕ) → Option Reason
+one_of cols (letter ∷ number ∷ []) = do
+  column ← letter_word cols letter
+  n ← number_of number
+  Some (ByOne (record { column = column; lemma = n }))
+one_of cols words = None
+
+abbrev pub all_of : ℕ → List (List ℕ) → Option Reason
+all_of cols words = if nat_le 1 (length words) && nat_le (length words) most_cites then option_map ByAll (cites_of cols words) else None
+
+-- nothing may follow
+abbrev pub only : {X : Type 0} → X → List (List ℕ) → Option X
+only x [] = Some x
+only x (word ∷ words) = None
+
+abbrev pub reason_of : ℕ → List (List ℕ) → Option Reason
+reason_of cols [] = None
+reason_of cols (word ∷ words) = if bytes_eq word (codes "end") then only ByEnd words else (if bytes_eq word (codes "one") then one_of cols words else (if bytes_eq word (codes "all") then all_of cols words else None))
+
+abbrev pub lemma_of : ℕ → List (List ℕ) → Option Lemma
+lemma_of cols (number ∷ path ∷ claim ∷ reason) = do
+  n ← number_of number
+  moves ← path_of cols path
+  said ← claim_of claim
+  why ← reason_of cols reason
+  Some (record { number = n; path = moves; claim = said; reason = why })
+lemma_of cols words = None
+
+-- a verdict with one number, and with two
+abbrev pub with_one : (ℕ → Verdict) → List (List ℕ) → Option Verdict
+with_one verdict (number ∷ []) = option_map verdict (number_of number)
+with_one verdict words = None
+
+abbrev pub with_two : (ℕ → ℕ → Verdict) → List (List ℕ) → Option Verdict
+with_two verdict (first ∷ second ∷ []) = do
+  n ← number_of first
+  m ← number_of second
+  Some (verdict n m)
+with_two verdict words = None
+
+-- the words behind `value`
+abbrev pub verdict_of : List (List ℕ) → Option Verdict
+verdict_of [] = None
+verdict_of (word ∷ words) = if bytes_eq word (codes "win") then with_one Win words else (if bytes_eq word (codes "loss") then with_one Loss words else (if bytes_eq word (codes "draw") then with_two Draw words else (if bytes_eq word (codes "unknown") then only Unknown words else None)))
+
+abbrev pub line_of_words : ℕ → List (List ℕ) → Option Line
+line_of_words cols [] = None
+line_of_words cols (word ∷ words) = if bytes_eq word (codes "value") then option_map AVerdict (verdict_of words) else option_map ALemma (lemma_of cols (word ∷ words))
+
+-- what a line of a proof behind the game says, on a board with so many columns
+abbrev pub read_line : ℕ → List ℕ → Option Line
+read_line cols bytes = if is_remark bytes then Some ARemark else line_of_words cols (words_of bytes)

@@ -1,0 +1,50 @@
+//! The text of a proof, as definitions that code cites: what a lemma claims and when it is right, the one spelling of
+//! each line, how a line is read, which line of a text is refused and why, and what stands written of a text.
+//!
+//! The definitions stand in `specs/`. The enums here are those that code and definitions share, and each function of
+//! `laws` is a law about the definitions: its contract is the theorem, and its body is empty.
+#![tactic(auto)]
+
+/// What a lemma says of its position: that a side wins under perfect play, or that it doesn't.
+#[derive(Clone, Copy, Debug, PartialEq, Eq, Hash)]
+pub enum Claim {
+    /// White wins, written `W+`.
+    WhiteWins,
+    /// White doesn't win, written `W-`.
+    WhiteFails,
+    /// Black wins, written `B+`.
+    BlackWins,
+    /// Black doesn't win, written `B-`.
+    BlackFails,
+}
+
+/// What a proof says of its root, for the side to move there, with the numbers of the lemmas that show it.
+#[derive(Clone, Copy, Debug, PartialEq, Eq, Hash)]
+pub enum Verdict {
+    Win(u32),
+    Loss(u32),
+    /// First the lemma by which White doesn't win, then the one by which Black doesn't.
+    Draw(u32, u32),
+    Unknown,
+}
+
+/// Why a line of a proof is refused.
+#[derive(Clone, Copy, Debug, PartialEq, Eq, Hash)]
+pub enum Why {
+    /// The line is none of a proof, stands behind the verdict, or has another number than the next lemma's.
+    BadLine,
+    /// The path isn't a list of legal moves from the root.
+    BadPath,
+    /// A lemma is cited that doesn't stand before.
+    NoSuchLemma,
+    /// The position isn't one where the reason serves, or a cited lemma stands at another position.
+    WrongPosition,
+    /// The claim isn't one that the reason serves, or a cited lemma claims something else.
+    WrongClaim,
+    /// The columns cited aren't those that the reason wants.
+    MissingMove,
+    /// The lemmas that the verdict names don't show it.
+    BadVerdict,
+    /// The text ends before its verdict.
+    EndedEarly,
+}
