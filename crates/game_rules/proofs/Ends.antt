@@ -27,14 +27,14 @@ disjoint p s white black = one (man_at p s) white black
 
 -- ---- lines
 
-Among-ways : (way : Way) → Among way ways
+pub Among-ways : (way : Way) → Among way ways
 Among-ways H = inl refl
 Among-ways V = inr (inl refl)
 Among-ways U = inr (inr (inl refl))
 Among-ways D = inr (inr (inr (inl refl)))
 
 -- the first square of a line is its anchor
-step_none : (way : Way) (s : Square) → step_of way s 0 ≡ s
+pub step_none : (way : Way) (s : Square) → step_of way s 0 ≡ s
 step_none H (c, r) = ap (λ n. (n, r)) (omega arith)
 step_none V (c, r) = ap (λ n. (c, n)) (omega arith)
 step_none U (c, r) = let over : c + 0 ≡ c = omega arith in let up : r + 0 ≡ r = omega arith in rw (over, up) refl

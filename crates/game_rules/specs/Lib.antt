@@ -5,3 +5,5 @@ pub mod Cost
 pub mod Text
 pub mod Grammar
 pub mod Laws
+pub mod Squares
+pub mod Groups

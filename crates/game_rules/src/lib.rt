@@ -6,6 +6,7 @@
 //! body is empty. Nothing here knows how a position is kept in memory.
 #![tactic(auto)]
 
+pub mod board_laws;
 pub mod laws;
 pub mod text_laws;
 
