@@ -1,4 +1,5 @@
 pub mod Places
+pub mod Masks
 pub mod OrderTable
 pub mod Searches
 pub mod MoveFields

@@ -250,7 +250,7 @@ fn is_line(size: Size, way: Way, anchor: (u8, u8)) -> bool
     ensures { result ≡ is_line size way anchor }
 {
     for i in 0..LINE_LENGTH {
-        if !size.has(step_of(way, anchor, i)) {
+        if !size.has_at(step_of(way, anchor, i)) {
             return false;
         }
     }

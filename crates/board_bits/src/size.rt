@@ -98,8 +98,15 @@ impl Size {
         Column { index }
     }
 
-    /// Whether the board has the square with this column and row.
-    pub(crate) fn has(&self, square: (u8, u8)) -> bool
+    /// Whether the board has the square.
+    pub fn has(&self, s: Square) -> bool
+        ensures { result ≡ on_board self.now s }
+    {
+        self.has_at((s.column().index(), s.row()))
+    }
+
+    /// Whether the board has a square with this column and row.
+    pub(crate) fn has_at(&self, square: (u8, u8)) -> bool
         ensures value { result ≡ on_board self.now square }
         ensures row { IsTrue result → (1 ≤ square.1) × (square.1 ≤ 10) }
     {
@@ -110,7 +117,7 @@ impl Size {
     pub fn square(&self, c: Column, row: u8) -> Option<Square>
         ensures { result ≡ (if on_board self.now (c, row) then Some (c, row) else None) }
     {
-        if self.has((c.index(), row)) {
+        if self.has_at((c.index(), row)) {
             Some(Square { column: c, row })
         } else {
             None
@@ -169,6 +176,15 @@ impl Model for Square {
     ghost invariant = { λ square. (1 ≤ square.row) × (square.row ≤ 10) };
 
     ghost inverse = { λ s. record { column = s.0; row = s.1 } };
+}
+
+impl Default for Square {
+    fn default() -> Self {
+        Square {
+            column: Column::default(),
+            row: 1,
+        }
+    }
 }
 
 impl Square {
