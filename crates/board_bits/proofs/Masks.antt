@@ -1,15 +1,18 @@
 -- What a mask's marks say of its squares.
-use Rattle.std.proofs.Common.{◌≡◌, ◌≢◌, ◌⊎◌, ℕ, zero, suc, ◌+◌, ◌-◌, ◌*◌, ◌<◌, ◌≤◌, Bool, true, false, not, ◌&&◌, ◌||◌, List, [], ◌∷◌, ◌++◌, length, take, replicate, set, get_or, refl, sym, ap, ◌∙◌, subst, inl, inr, arith}
+use Rattle.std.proofs.Common.{◌≡◌, ◌≢◌, ◌⊎◌, ℕ, zero, suc, ◌+◌, ◌-◌, ◌*◌, ◌<◌, ◌≤◌, Bool, true, false, not, ◌&&◌, ◌||◌, List, [], ◌∷◌, ◌++◌, length, take, replicate, set, get_or, Some, refl, sym, ap, ◌∙◌, subst, inl, inr, arith}
 use Rattle.std.specs.List.{list_any, list_all}
-use Rattle.std.proofs.lemmas.Bool.{cases_Bool, cases_eq, both_ways, false_from_ne_true, or_cases, or_right}
+use Rattle.std.proofs.lemmas.Bool.{cases_Bool, cases_eq, both_ways, false_from_ne_true, or_cases, and_parts, and_from}
 use Rattle.std.proofs.lemmas.List.{get_or-replicate, get_or-set_same, get_or-set_other, take_more}
 use Rattle.std.proofs.lemmas.List.Folds.{list_any-append}
 use Rattle.std.proofs.Math.Bool.{or_comm}
 use Rattle.game_rules.specs.Board.{Square, on_board}
 use Rattle.game_rules.specs.Squares.{same_square, has_square, widest, squares_where, IsSetOf}
+use Rattle.game_rules.specs.Position.{Position, board_of, has_man, IsStacked}
+use Rattle.game_rules.specs.declared.Side.{Side}
 use Rattle.game_rules.proofs.Lists.{Among, any_gives, any_from, all_gives, all_from}
 use Rattle.game_rules.proofs.Ends.{on_board_parts}
-use Rattle.game_rules.proofs.Squares.{agree, same_square_refl, same_square_is, has_gives, has_from, has_where, where_on, where_same, set_where}
+use Rattle.game_rules.proofs.Squares.{agree, same_square_refl, same_square_is, has_gives, has_from, has_where, where_on, where_same, set_where, set_same, man_on_board}
+use Rattle.board_bits.specs.Held.{holds_on_board}
 use Rattle.board_bits.specs.SquarePlaces.{place_of, square_at}
 use Rattle.board_bits.specs.MaskFields.{is_marked, squares_marked, square_on, place_at}
 
@@ -107,3 +110,38 @@ joined_more first places more place mark within before here same k low = elim (c
   | inl at ↦ rw at (get_or-set_same places place mark false within ∙ same ∙ ap (λ b. b || get_or more place false) here)
   | inr apart ↦ get_or-set_other places place k mark false apart ∙ before k (omega arith)
 ]
+
+-- ---- going through a list, and keeping the squares that pass a test
+
+module _ (us : List Square) (i : ℕ) (s : Square) (test : Square → Bool) (within : i < length us) (here : s ≡ get_or us i s) where
+  pub more_passes : (mask next : List Square) → test s ≡ true → IsSetOf (λ u. has_square (take i us) u && test u) mask
+      → IsSetOf (λ u. same_square u s || has_square mask u) next → IsSetOf (λ u. has_square (take (i + 1) us) u && test u) next
+  more_passes mask next passes set one = set_same _ (λ u. has_square (take (i + 1) us) u && test u) next one (λ u.
+      ap (λ b. same_square u s || b) (set.has u) ∙ at u (cases_Bool (same_square u s)) ∙ ap (λ b. b && test u) (more_squares us i s within here u))
+    where
+      at : (u : Square) → (same_square u s ≡ true) ⊎ (same_square u s ≡ false)
+          → (same_square u s || (has_square (take i us) u && test u)) ≡ ((same_square u s || has_square (take i us) u) && test u)
+      at u (inl same) = rw same (sym (ap test (same_square_is u s same) ∙ passes))
+      at u (inr apart) = rw apart refl
+
+  pub more_fails : (mask : List Square) → test s ≡ false → IsSetOf (λ u. has_square (take i us) u && test u) mask
+      → IsSetOf (λ u. has_square (take (i + 1) us) u && test u) mask
+  more_fails mask fails set = set_same _ (λ u. has_square (take (i + 1) us) u && test u) mask set (λ u.
+      at u (cases_Bool (same_square u s)) ∙ ap (λ b. b && test u) (more_squares us i s within here u))
+    where
+      none : (b : Bool) → (b && false) ≡ false
+      none true = refl
+      none false = refl
+
+      at : (u : Square) → (same_square u s ≡ true) ⊎ (same_square u s ≡ false)
+          → (has_square (take i us) u && test u) ≡ ((same_square u s || has_square (take i us) u) && test u)
+      at u (inl same) = rw (ap test (same_square_is u s same) ∙ fails) (none (has_square (take i us) u) ∙ sym (none (same_square u s || has_square (take i us) u)))
+      at u (inr apart) = rw apart refl
+
+-- ---- the squares that hold a side's man
+
+-- where no column is higher than the board, the side's men on the board are all its men
+pub held_men : (p : Position) (side : Side) (us : List Square) → IsStacked p → IsSetOf (holds_on_board p (Some side)) us → IsSetOf (has_man p side) us
+held_men p side us stacked set = set_same (holds_on_board p (Some side)) (has_man p side) us set (λ u. agree _ _
+    (λ h. (and_parts (on_board (board_of p) u) (has_man p side u) h).1)
+    (λ h. and_from _ _ (man_on_board p side u stacked h) h))

@@ -4,6 +4,7 @@
 #![tactic(auto)]
 
 mod game_text;
+mod line;
 mod mask;
 mod order;
 mod position;

@@ -1,7 +1,7 @@
 use Rattle.std.proofs.Common.{sym, ◌∙◌, ap}
 use Rattle.game_rules.specs.Board.{on_board}
 use Rattle.board_bits.proofs.Searches.{broken_line}
-use Rattle.board_bits.proofs.position.is_line.Goals as goal
+use Rattle.board_bits.proofs.line.is_line.Goals as goal
 
 pub returns-then-not-has_at : goal.returns-then-not-has_at
 returns-then-not-has_at c = sym (broken_line (on_board c.args.size) c.args.way c.args.anchor c.loop-i.i c.loop-i-test.true
