@@ -10,7 +10,7 @@ ghost use Rattle.game_rules.specs.declared.InputFault.{InputFault};
 ghost use Rattle.game_rules.specs.declared.End.TheVariants as ends;
 ghost use Rattle.proof_text.specs.Lemma.{claim_holds, Lemma, Line};
 ghost use Rattle.proof_text.specs.Right.{Shown, IsRight, AreRight, IsVerdict, AreTrue, IsTrueVerdict};
-ghost use Rattle.proof_text.specs.Checked.{Standing, lemma_refusal, verdict_stands, line_refusal};
+ghost use Rattle.proof_text.specs.Checked.{Standing, lemma_refusal, verdict_stands, checked, StandsFor};
 ghost use Rattle.proof_text.specs.Spelling.{lemma_text, verdict_text, as_line, greatest_number, Fits, VerdictFits, IsLine};
 ghost use Rattle.proof_text.specs.Reading.{read_line};
 ghost use Rattle.proof_text.specs.Texts.{is_feed, pieces, lines_in, first_number, game_of, whole_game_of, behind_game, standing, refusal_at, CheckAnswer, NoGame, Refused, Accepted, verdict_answer, check_from, start, answer_of, first_line, check_of, head_of, IsRightText};
@@ -38,6 +38,11 @@ pub fn right_lemmas_claim_what_is_true()
 pub fn what_is_right_is_not_refused()
     ensures lemma { (root : Position) (known : List Shown) (l : Lemma) → (lemma_refusal root known l ≡ None) ↔ ((p : Position) × IsRight root known l p) }
     ensures verdict { (root : Position) (known : List Shown) (v : Verdict) → (verdict_stands root known v ≡ true) ↔ IsVerdict root known v }
+{}
+
+/// After lines that were all accepted stands what their right lemmas show, and their verdict.
+pub fn accepted_lines_are_stood_for()
+    ensures { (s t : Standing) (at : ℕ) (lines : List Line) → s.verdict ≡ None → checked s at lines ≡ Ok t → StandsFor s lines t }
 {}
 
 /// A line is read exactly where it is in the grammar, and as what the grammar says; bytes are a line in one way.
