@@ -88,6 +88,9 @@ pub fn the_first_line_that_fails_is_refused()
         → ((i : ℕ) → i < k → refusal_at root lines i ≡ None) → answer_of root lines ≡ Refused (k + first_number) why }
     ensures none { (root : Position) (lines : List (List ℕ)) → ((i : ℕ) → i < length lines → refusal_at root lines i ≡ None)
         → answer_of root lines ≡ verdict_answer (length lines + first_number) (length (standing root lines).known) (standing root lines).verdict }
+    ensures only { (root : Position) (lines : List (List ℕ)) (at : ℕ) (why : Why) → answer_of root lines ≡ Refused at why
+        → ((k : ℕ) × (k < length lines) × (at ≡ k + first_number) × (refusal_at root lines k ≡ Some why) × ((i : ℕ) → i < k → refusal_at root lines i ≡ None))
+        ⊎ ((at ≡ length lines + first_number) × (why ≡ whys.EndedEarly) × ((standing root lines).verdict ≡ None) × ((i : ℕ) → i < length lines → refusal_at root lines i ≡ None)) }
     ensures one_by_one { (root : Position) (lines : List (List ℕ)) → answer_of root lines ≡ check_from (start root) first_number lines }
 {}
 
@@ -96,6 +99,7 @@ pub fn the_first_line_that_fails_is_refused()
 pub fn a_text_has_a_head_and_a_game()
     ensures head { (bytes : List ℕ) (first : List ℕ) (more : List (List ℕ)) → pieces bytes ≡ first ∷ more → first ≢ first_line → check_of bytes ≡ Refused 1 whys.BadLine }
     ensures fault { (bytes : List ℕ) (more : List (List ℕ)) (fault : InputFault) → pieces bytes ≡ first_line ∷ more → game_at (game_of more) ≡ Err fault → check_of bytes ≡ NoGame fault }
+    ensures only_fault { (bytes : List ℕ) (fault : InputFault) → check_of bytes ≡ NoGame fault → (more : List (List ℕ)) × (pieces bytes ≡ first_line ∷ more) × (game_at (game_of more) ≡ Err fault) }
     ensures game { (bytes : List ℕ) (more : List (List ℕ)) (root : Position) → pieces bytes ≡ first_line ∷ more → game_at (game_of more) ≡ Ok root
         → check_of bytes ≡ check_from (start root) first_number (behind_game more) }
     ensures front { (more : List (List ℕ)) → game_at (game_of more) ≡ game_at (whole_game_of more) }
