@@ -134,3 +134,7 @@ module _ (closed : Side → Position → Bool) where
   pub cost_both : (p : Position) → wins White p ≡ false → cost closed p ≡ count closed White p + count closed Black p
   unfolding cost
   cost_both p h = rw h refl
+
+  pub cost_first : (p : Position) → count closed White p ≤ cost closed p
+  unfolding cost
+  cost_first p = omega arith

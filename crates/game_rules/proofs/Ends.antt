@@ -103,7 +103,7 @@ full_from_filled p filled = not_from_false _ (false_from_ne_true _ (λ some.
 -- ---- the end
 
 -- a test at each square decides a line
-four_same : (p q : Position) (side : Side) → board_of p ≡ board_of q → ((s : Square) → has_man p side s ≡ has_man q side s) → has_four p side ≡ has_four q side
+pub four_same : (p q : Position) (side : Side) → board_of p ≡ board_of q → ((s : Square) → has_man p side s ≡ has_man q side s) → has_four p side ≡ has_four q side
 four_same p q side board same =
     any_same (four_along p side) (four_along q side) ways (λ way _.
     ap (λ n. list_any (four_in_column p side way) (below n)) cols
@@ -123,7 +123,7 @@ four_same p q side board same =
     all_same [] = refl
     all_same (s ∷ ss) = ap (λ b. b && list_all (has_man p side) ss) (same s) ∙ ap (λ b. has_man q side s && b) (all_same ss)
 
-cases_square : (s t : Square) → (s ≡ t) ⊎ (s.0 ≡ t.0 → s.1 ≢ t.1)
+pub cases_square : (s t : Square) → (s ≡ t) ⊎ (s.0 ≡ t.0 → s.1 ≢ t.1)
 cases_square (a, b) (c, d) = elim (cases_eq a c) [
   | inr apart ↦ inr (λ same. absurd (apart same))
   | inl column ↦ elim (cases_eq b d) [
@@ -133,7 +133,7 @@ cases_square (a, b) (c, d) = elim (cases_eq a c) [
 ]
 
 -- the other side's men are as before
-other_kept : (p : Position) (column : ℕ) → has_room p column ≡ true → (s : Square) → has_man (after_move p column) (other (side_to_move p)) s ≡ has_man p (other (side_to_move p)) s
+pub other_kept : (p : Position) (column : ℕ) → has_room p column ≡ true → (s : Square) → has_man (after_move p column) (other (side_to_move p)) s ≡ has_man p (other (side_to_move p)) s
 other_kept p column room s = elim (cases_square s (column, height p column + 1)) [
   | inl here ↦ rw here (ap (is_man (other (side_to_move p))) (placed p column (room_column p column room)) ∙ not_own (side_to_move p)
       ∙ sym (ap (is_man (other (side_to_move p))) (was_empty p column)))

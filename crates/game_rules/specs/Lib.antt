@@ -7,3 +7,4 @@ pub mod Grammar
 pub mod Laws
 pub mod Squares
 pub mod Groups
+pub mod Number

@@ -1,22 +1,20 @@
 -- The lines behind a game are accepted exactly where they are lemmas, remarks and a verdict that are right.
-use Rattle.std.proofs.Common.{◌≡◌, ◌⊎◌, ℕ, zero, suc, ◌+◌, ◌<◌, ◌≤◌, Bool, true, false, ◌&&◌, nat_le, List, [], ◌∷◌, ◌++◌, map, length, Option, Some, None, is_none, refl, sym, ap, ◌∙◌, subst, append_assoc, append-nil, inl, inr, arith}
+use Rattle.std.proofs.Common.{◌≡◌, ℕ, ◌+◌, ◌≤◌, Bool, true, ◌&&◌, nat_le, List, [], ◌∷◌, ◌++◌, map, length, Option, Some, None, refl, sym, ap, ◌∙◌, subst, arith}
 use Rattle.std.specs.List.{AllByRecursion}
-use Rattle.std.proofs.lemmas.List.{length-append}
 use Rattle.std.proofs.lemmas.Bool.{and_parts, and_from, leb-true, le-leb}
 use Rattle.game_rules.specs.Position.{Position, played}
 use Rattle.proof_text.specs.Lemma.{Lemma, Line, ALemma, ARemark, AVerdict}
-use Rattle.proof_text.specs.Right.{Shown, IsRight, AreRight, IsVerdict}
-use Rattle.proof_text.specs.Checked.{unless, or_then, Standing, content_refusal, line_refusal, shown_of, with_line}
-use Rattle.proof_text.specs.Spelling.{lemma_text, verdict_text, is_remark, Fits, VerdictFits, IsLine}
+use Rattle.proof_text.specs.Right.{Shown, AreRight, IsVerdict}
+use Rattle.proof_text.specs.Checked.{unless, Standing, line_refusal, shown_of, with_line}
+use Rattle.proof_text.specs.Spelling.{lemma_text, verdict_text, VerdictFits, IsLine}
 use Rattle.proof_text.specs.Reading.{read_line}
-use Rattle.proof_text.specs.Texts.{most_lines, longest_line, said_refusal, bytes_refusal, Answer, NoGame, Refused, Accepted, verdict_answer, with_said, with_bytes, line_answer, check_from, Entry, LemmaEntry, RemarkEntry, entry_text, lemmas_among, EntryFits}
-use Rattle.proof_text.proofs.Append.{length_shown}
+use Rattle.proof_text.specs.Texts.{most_lines, longest_line, said_refusal, bytes_refusal, CheckAnswer, Accepted, verdict_answer, with_said, with_bytes, line_answer, check_from, Entry, LemmaEntry, RemarkEntry, entry_text, lemmas_among, EntryFits}
 use Rattle.proof_text.proofs.Refusals.{none_or, line_of_none, none_of_line, right_of_none, none_of_right, verdict_of_none, none_of_verdict}
 use Rattle.proof_text.proofs.Spelled.{line_read, line_spelled}
 use Rattle.proof_text.proofs.Fold.{bytes_of_none}
 use Rattle.proof_text.specs.declared.Verdict.{Verdict}
 use Rattle.proof_text.specs.declared.Why.{Why}
-use Rattle.proof_text.specs.declared.Why.TheVariants.{BadLine, BadVerdict, EndedEarly}
+use Rattle.proof_text.specs.declared.Why.TheVariants.{BadLine}
 
 -- The lines are right ones, from the number `at` on, behind what is known.
 pub record AreAccepted (root : Position) (known : List Shown) (at : ℕ) (lines : List (List ℕ)) (v : Verdict) (count : ℕ) : Type 0 where
@@ -34,7 +32,7 @@ pub record AreAccepted (root : Position) (known : List Shown) (at : ℕ) (lines 
 
 -- ---- what is accepted is right
 
-answer_parts : (r : Option Why) (at : ℕ) (later : Answer) (v : Verdict) (count : ℕ) → line_answer r at later ≡ Accepted v count → (r ≡ None) × (later ≡ Accepted v count)
+answer_parts : (r : Option Why) (at : ℕ) (later : CheckAnswer) (v : Verdict) (count : ℕ) → line_answer r at later ≡ Accepted v count → (r ≡ None) × (later ≡ Accepted v count)
 answer_parts None at later v count h = (refl, h)
 answer_parts (Some why) at later v count h = cc
 
@@ -49,7 +47,7 @@ ended_lines s at (line ∷ lines) w v count ended h =
     let none = (line_of_none s found.0 found.2).0 in
     cc (none, ended)
 
-shown_along : (root : Position) (l : Lemma) (p : Position) → played root l.path ≡ Some p → shown_of root l ≡ (p, l.claim) ∷ []
+pub shown_along : (root : Position) (l : Lemma) (p : Position) → played root l.path ≡ Some p → shown_of root l ≡ (p, l.claim) ∷ []
 shown_along root l p h = rw h refl
 
 -- the bounds of a line

@@ -1,11 +1,11 @@
 -- What lemmas show, as more of them follow.
-use Rattle.std.proofs.Common.{◌≡◌, ◌⊎◌, ℕ, zero, suc, ◌+◌, ◌<◌, ◌≤◌, Bool, true, false, List, [], ◌∷◌, ◌++◌, map, length, Option, Some, None, refl, sym, ap, ◌∙◌, subst, append_assoc, append-nil, inl, inr, arith, add-one}
+use Rattle.std.proofs.Common.{◌≡◌, ◌⊎◌, ℕ, zero, suc, ◌+◌, ◌≤◌, List, [], ◌∷◌, ◌++◌, length, Some, refl, sym, ap, ◌∙◌, subst, append_assoc, append-nil, inl, inr, arith, add-one}
 use Rattle.std.proofs.lemmas.List.{length-append}
 use Rattle.std.proofs.lemmas.Option.{some_pair_parts}
 use Rattle.std.specs.List.{slice_get, AllByRecursion}
 use Rattle.game_rules.specs.Position.{Position}
-use Rattle.proof_text.specs.Lemma.{Cite, Reason, ByEnd, ByOne, ByAll, Lemma}
-use Rattle.proof_text.specs.Right.{Shown, lemma_at, Shows, IsCited, HoldsAtEnd, FollowsFromOne, FollowsFromAll, HasReason, IsRight, AreRight, IsVerdict}
+use Rattle.proof_text.specs.Lemma.{Reason, ByEnd, ByOne, ByAll, Lemma}
+use Rattle.proof_text.specs.Right.{Shown, Shows, IsCited, HasReason, IsRight, AreRight, IsVerdict}
 use Rattle.proof_text.specs.declared.Claim.{Claim}
 use Rattle.proof_text.specs.declared.Verdict.{Verdict}
 use Rattle.proof_text.specs.declared.Verdict.TheVariants.{Win, Loss, Draw, Unknown}

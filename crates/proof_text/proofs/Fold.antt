@@ -1,20 +1,19 @@
 -- Looking for the first line that fails is going through the lines one by one.
-use Rattle.std.proofs.Common.{◌≡◌, ◌⊎◌, ℕ, zero, suc, ◌+◌, ◌<◌, ◌≤◌, Bool, true, false, ◌&&◌, nat_le, cond, List, [], ◌∷◌, ◌++◌, map, length, take, Option, Some, None, is_none, refl, sym, ap, ◌∙◌, subst, append_assoc, append-nil, inl, inr, arith}
+use Rattle.std.proofs.Common.{◌≡◌, ℕ, ◌+◌, Bool, true, false, ◌&&◌, nat_le, List, [], ◌∷◌, ◌++◌, length, Option, Some, None, refl, sym, ap, ◌∙◌, append_assoc, append-nil, arith}
 use Rattle.std.specs.List.{range_with_len, filter_map, slice_index_or}
-use Rattle.std.proofs.lemmas.List.{length-append, take_all}
+use Rattle.std.proofs.lemmas.List.{length-append}
 use Rattle.std.proofs.lemmas.List.Elements.{filter_map-append}
 use Rattle.std.proofs.Math.Seq.{take-append_seam}
-use Rattle.game_rules.specs.Board.{below}
 use Rattle.game_rules.specs.Position.{Position}
-use Rattle.proof_text.specs.Lemma.{Lemma, Line, ALemma, ARemark, AVerdict}
+use Rattle.proof_text.specs.Lemma.{Line, ALemma, ARemark, AVerdict}
 use Rattle.proof_text.specs.Right.{Shown}
-use Rattle.proof_text.specs.Checked.{unless, or_then, Standing, content_refusal, line_refusal, shown_of, with_line}
+use Rattle.proof_text.specs.Checked.{first_verdict, unless, Standing, line_refusal, shown_of, with_line}
 use Rattle.proof_text.specs.Reading.{read_line}
-use Rattle.proof_text.specs.Texts.{most_lines, longest_line, first_number, first_verdict, shown_by, standing, said_refusal, bytes_refusal, refusal_at, first_or, first_some, Answer, NoGame, Refused, Accepted, verdict_answer, lines_answer, with_said, with_bytes, line_answer, check_from, start, answer_of}
+use Rattle.proof_text.specs.Texts.{most_lines, longest_line, first_number, shown_by, standing, said_refusal, bytes_refusal, refusal_at, first_or, first_some, verdict_answer, lines_answer, with_said, with_bytes, line_answer, check_from, start, answer_of}
 use Rattle.proof_text.proofs.Refusals.{or_none, line_of_none}
 use Rattle.proof_text.specs.declared.Verdict.{Verdict}
 use Rattle.proof_text.specs.declared.Why.{Why}
-use Rattle.proof_text.specs.declared.Why.TheVariants.{BadLine, EndedEarly}
+use Rattle.proof_text.specs.declared.Why.TheVariants.{BadLine}
 
 -- ---- what stands after one more line
 

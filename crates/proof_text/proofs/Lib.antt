@@ -7,3 +7,8 @@ pub mod Spelled
 pub mod Pieces
 pub mod Fold
 pub mod Accepted
+pub mod Whole
+pub mod Fitting
+pub mod Written
+pub mod First
+pub mod Checking

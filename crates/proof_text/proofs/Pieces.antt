@@ -1,12 +1,12 @@
 -- A text and its lines: cut at its line feeds, it gives the lines that it was joined from.
-use Rattle.std.proofs.Common.{◌≡◌, ◌⊎◌, ℕ, zero, suc, ◌+◌, ◌<◌, ◌≤◌, Bool, true, false, ◌==◌, cond, List, [], ◌∷◌, ◌++◌, map, length, take, refl, sym, ap, ◌∙◌, subst, append_assoc, append-nil, inl, inr, arith}
-use Rattle.std.specs.List.{All, AllByRecursion, slice_split, onto_first, join_with_byte, flat_map}
+use Rattle.std.proofs.Common.{◌≡◌, ℕ, ◌≤◌, Bool, true, false, List, [], ◌∷◌, ◌++◌, refl, sym, ap, ◌∙◌, subst, append_assoc, append-nil, inl, inr, arith}
+use Rattle.std.specs.List.{All, AllByRecursion, onto_first, join_with_byte, flat_map}
 use Rattle.std.proofs.lemmas.List.Elements.{All-nil, All-cons}
 use Rattle.std.proofs.lemmas.List.Concat.{flat_map-cons}
 use Rattle.std.proofs.lemmas.List.Splits.{slice_split_none, slice_split_at, slice_split-cons_yes, slice_split-cons_no, join_with_byte-slice_split}
 use Rattle.std.proofs.lemmas.Bool.{cases_Bool, ne_eqb}
 use Rattle.game_rules.specs.Grammar.{last_feed}
-use Rattle.proof_text.specs.Spelling.{line_of}
+use Rattle.proof_text.specs.Spelling.{as_line}
 use Rattle.proof_text.specs.Texts.{is_feed, pieces, last_line, lines_in}
 use Rattle.proof_text.proofs.Append.{all_each}
 
@@ -66,11 +66,11 @@ pub joined : (bytes : List ℕ) → join_with_byte 10 (pieces bytes) ≡ bytes
 joined bytes = join_with_byte-slice_split 10 bytes
 
 -- Lines that were joined are cut again, whatever follows.
-pub cut_lines : (lines : List (List ℕ)) (rest : List ℕ) → AllByRecursion IsFeedless lines → pieces (flat_map line_of lines ++ rest) ≡ lines ++ pieces rest
+pub cut_lines : (lines : List (List ℕ)) (rest : List ℕ) → AllByRecursion IsFeedless lines → pieces (flat_map as_line lines ++ rest) ≡ lines ++ pieces rest
 cut_lines [] rest h = refl
 cut_lines (line ∷ lines) rest h =
-    ap pieces (ap (λ text. text ++ rest) (flat_map-cons line_of line lines) ∙ append_assoc (line_of line) (flat_map line_of lines) rest ∙ append_assoc line (10 ∷ []) (flat_map line_of lines ++ rest))
-    ∙ pieces_line line (flat_map line_of lines ++ rest) h.0
+    ap pieces (ap (λ text. text ++ rest) (flat_map-cons as_line line lines) ∙ append_assoc (as_line line) (flat_map as_line lines) rest ∙ append_assoc line (10 ∷ []) (flat_map as_line lines ++ rest))
+    ∙ pieces_line line (flat_map as_line lines ++ rest) h.0
     ∙ ap (λ more. line ∷ more) (cut_lines lines rest h.1)
 
 -- ---- lines
@@ -81,9 +81,9 @@ lines_append (line ∷ []) last = refl
 lines_append (line ∷ next ∷ lines) last = ap (λ more. line ∷ more) (lines_append (next ∷ lines) last)
 
 -- the lines of a text of whole lines
-pub whole_lines : (lines : List (List ℕ)) → AllByRecursion IsFeedless lines → lines_in (pieces (flat_map line_of lines)) ≡ lines
+pub whole_lines : (lines : List (List ℕ)) → AllByRecursion IsFeedless lines → lines_in (pieces (flat_map as_line lines)) ≡ lines
 whole_lines lines h =
-    ap (λ text. lines_in (pieces text)) (sym (append-nil (flat_map line_of lines))) ∙ ap lines_in (cut_lines lines [] h)
+    ap (λ text. lines_in (pieces text)) (sym (append-nil (flat_map as_line lines))) ∙ ap lines_in (cut_lines lines [] h)
     ∙ lines_append lines [] ∙ append-nil lines
 
 -- the first line of a text, and the lines behind it
@@ -106,7 +106,7 @@ no_lines (byte ∷ bytes) [] h = cc
 no_lines next (piece ∷ more) h = cc
 
 -- What text it is that has these lines: each with its line feed, but for that of the last, which may be missing.
-pub joined_lines : (ps lines : List (List ℕ)) (last : List ℕ) → lines_in ps ≡ lines ++ last ∷ [] → (ended : Bool) × (join_with_byte 10 ps ≡ flat_map line_of lines ++ (last ++ last_feed ended))
+pub joined_lines : (ps lines : List (List ℕ)) (last : List ℕ) → lines_in ps ≡ lines ++ last ∷ [] → (ended : Bool) × (join_with_byte 10 ps ≡ flat_map as_line lines ++ (last ++ last_feed ended))
 joined_lines [] [] last h = cc
 joined_lines [] (line ∷ lines) last h = cc
 joined_lines ([] ∷ []) [] last h = cc
@@ -123,7 +123,8 @@ joined_lines (piece ∷ next ∷ more) [] last h =
 joined_lines (piece ∷ next ∷ more) (line ∷ lines) last h =
     let same : piece ≡ line = cc in
     let rest : lines_in (next ∷ more) ≡ lines ++ last ∷ [] = cc in
-    let later = joined_lines (next ∷ more) lines last rest in
-    (later.0,
+    let later = joined_lines (next ∷ more) lines last rest in (
+      later.0,
       ap (λ piece. piece ++ 10 ∷ join_with_byte 10 (next ∷ more)) same ∙ ap (λ text. line ++ 10 ∷ text) later.1
-      ∙ sym (ap (λ text. text ++ (last ++ last_feed later.0)) (flat_map-cons line_of line lines) ∙ append_assoc (line_of line) (flat_map line_of lines) _ ∙ append_assoc line (10 ∷ []) _))
+          ∙ sym (ap (λ text. text ++ (last ++ last_feed later.0)) (flat_map-cons as_line line lines) ∙ append_assoc (as_line line) (flat_map as_line lines) _ ∙ append_assoc line (10 ∷ []) _),
+    )

@@ -1,22 +1,22 @@
 -- No refusal comes exactly where a line is right.
-use Rattle.std.proofs.Common.{◌≡◌, ◌⊎◌, ℕ, zero, suc, ◌+◌, Bool, true, false, not, ◌&&◌, ◌==◌, List, [], ◌∷◌, ◌++◌, map, length, Option, Some, None, is_none, refl, sym, ap, ◌∙◌, subst, inl, inr, arith}
+use Rattle.std.proofs.Common.{◌≡◌, ◌+◌, Bool, true, false, not, ◌==◌, List, [], ◌∷◌, map, length, Option, Some, None, is_none, refl, ap, ◌∙◌}
 use Rattle.std.specs.List.{AllByRecursion}
 use Rattle.std.specs.Str.{bytes_eq}
 use Rattle.std.specs.Bool.{Decides}
 use Rattle.std.proofs.lemmas.Slice.Eq.{bytes_eq-Decides}
-use Rattle.std.proofs.lemmas.Bool.{cases_Bool, and_parts, and_from, not-true, not_from_false, eqb-true, eq-eqb}
-use Rattle.game_rules.specs.Position.{Position, other, side_to_move, has_room, after_move, end_of, played, open_columns, same_position}
+use Rattle.std.proofs.lemmas.Bool.{and_parts, and_from, not-true, not_from_false, eqb-true, eq-eqb}
+use Rattle.game_rules.specs.Position.{Position, has_room, after_move, end_of, played, open_columns, same_position}
 use Rattle.game_rules.proofs.Moves.{same_position_Decides}
 use Rattle.game_rules.specs.declared.End.{End}
-use Rattle.proof_text.specs.Lemma.{claim_for, same_claim, claim_of_end, Cite, Reason, ByEnd, ByOne, ByAll, Lemma, Line, ALemma, ARemark, AVerdict}
-use Rattle.proof_text.specs.Right.{Shown, lemma_at, Shows, goes_by_one, IsCited, HasReason, IsRight, IsVerdict}
+use Rattle.proof_text.specs.Lemma.{same_claim, claim_of_end, Cite, Reason, ByEnd, ByOne, ByAll, Lemma, Line}
+use Rattle.proof_text.specs.Right.{Shown, lemma_at, goes_by_one, IsCited, HasReason, IsRight, IsVerdict}
 use Rattle.proof_text.specs.Checked.{unless, or_then, end_refusal, shown_refusal, cite_refusal, cites_refusal, move_refusal, reason_refusal, path_refusal, lemma_refusal, is_shown, verdict_stands, Standing, content_refusal, line_refusal}
 use Rattle.proof_text.specs.declared.Claim.{Claim}
 use Rattle.proof_text.specs.declared.Claim.TheVariants.{WhiteWins, WhiteFails, BlackWins, BlackFails}
 use Rattle.proof_text.specs.declared.Verdict.{Verdict}
 use Rattle.proof_text.specs.declared.Verdict.TheVariants.{Win, Loss, Draw, Unknown}
 use Rattle.proof_text.specs.declared.Why.{Why}
-use Rattle.proof_text.specs.declared.Why.TheVariants.{BadLine, BadPath, NoSuchLemma, WrongPosition, WrongClaim, MissingMove, BadVerdict}
+use Rattle.proof_text.specs.declared.Why.TheVariants.{BadLine, WrongPosition, WrongClaim, MissingMove, BadVerdict}
 
 -- ---- tests
 
@@ -168,9 +168,10 @@ pub verdict_Decides : (root : Position) (known : List Shown) (v : Verdict) → D
 verdict_Decides root known (Win n) = (shown_is root _ (lemma_at known n), is_shown_from root _ (lemma_at known n))
 verdict_Decides root known (Loss n) = (shown_is root _ (lemma_at known n), is_shown_from root _ (lemma_at known n))
 verdict_Decides root known (Draw n m) = (
-    λ h. let both = and_parts (is_shown root WhiteFails (lemma_at known n)) (is_shown root BlackFails (lemma_at known m)) h in
-        (shown_is root WhiteFails (lemma_at known n) both.0, shown_is root BlackFails (lemma_at known m) both.1),
-    λ h. and_from _ _ (is_shown_from root WhiteFails (lemma_at known n) h.0) (is_shown_from root BlackFails (lemma_at known m) h.1))
+  λ h. let both = and_parts (is_shown root WhiteFails (lemma_at known n)) (is_shown root BlackFails (lemma_at known m)) h in
+      (shown_is root WhiteFails (lemma_at known n) both.0, shown_is root BlackFails (lemma_at known m) both.1),
+  λ h. and_from _ _ (is_shown_from root WhiteFails (lemma_at known n) h.0) (is_shown_from root BlackFails (lemma_at known m) h.1),
+)
 verdict_Decides root known Unknown = (λ h. tt, λ h. refl)
 
 pub verdict_of_none : (root : Position) (known : List Shown) (v : Verdict) → unless (verdict_stands root known v) BadVerdict ≡ None → IsVerdict root known v

@@ -1,29 +1,25 @@
 -- What right lemmas claim is true of the value, and so is a right verdict.
-use Rattle.std.proofs.Common.{◌≡◌, ◌⊎◌, ℕ, zero, suc, ◌+◌, Bool, true, false, not, ◌&&◌, cond, List, [], ◌∷◌, ◌++◌, map, filter, length, Option, Some, None, refl, sym, ap, ◌∙◌, subst, inl, inr, arith}
-use Rattle.std.specs.List.{slice_get, list_any, list_all, AllByRecursion}
-use Rattle.std.proofs.lemmas.Bool.{cases_Bool, cases_lt, both_ways, false_from_ne_true, not-true, not-false, not_from_false}
+use Rattle.std.proofs.Common.{◌≡◌, ◌≢◌, ◌↔◌, ℕ, zero, suc, true, false, not, List, [], ◌∷◌, ◌++◌, map, length, None, refl, sym, ap, ◌∙◌, subst, inl, inr}
+use Rattle.std.specs.List.{list_any, list_all, AllByRecursion}
+use Rattle.std.proofs.lemmas.Bool.{both_ways, false_from_ne_true, not-true, not-false, not_from_false}
 use Rattle.game_rules.specs.Board.{below}
 use Rattle.game_rules.specs.Position.{Position, other, same_side, side_to_move, has_room, after_move, end_of, open_columns, moved}
 use Rattle.game_rules.specs.Value.{win_of, same_end, value, wins}
-use Rattle.game_rules.specs.Cost.{decides}
-use Rattle.game_rules.proofs.Lists.{Among, any_from, any_gives, all_gives, all_from, all_any, Among-map, Among-below, Among-filter}
+use Rattle.game_rules.proofs.Lists.{Among, any_from, any_gives, all_gives, all_from, Among-map, Among-below, Among-filter}
 use Rattle.game_rules.proofs.Moves.{same_side_is, other_side, room_column}
 use Rattle.game_rules.proofs.Values.{value_at_end, wins_own, wins_other}
 use Rattle.game_rules.specs.declared.Side.{Side}
 use Rattle.game_rules.specs.declared.Side.TheVariants as sides
 use Rattle.game_rules.specs.declared.End.{End}
 use Rattle.game_rules.specs.declared.End.TheVariants.{White, Black, Draw}
-use Rattle.proof_text.specs.Lemma.{claim_side, claims_win, claim_for, agrees, claim_of_end, claim_holds, Cite, Reason, ByEnd, ByOne, ByAll, Lemma}
-use Rattle.proof_text.specs.Right.{Shown, lemma_at, Shows, goes_by_one, IsCited, HasReason, IsRight, AreRight, IsVerdict}
+use Rattle.proof_text.specs.Lemma.{claim_for, claim_of_end, claim_holds, Cite, Reason, ByEnd, ByOne, ByAll, Lemma}
+use Rattle.proof_text.specs.Right.{Shown, goes_by_one, IsCited, HasReason, AreRight, IsVerdict, AreTrue, IsTrueVerdict}
+use Rattle.proof_text.specs.Texts.{lemmas_among, IsRightText}
 use Rattle.proof_text.proofs.Append.{Shows_push}
 use Rattle.proof_text.specs.declared.Claim.{Claim}
 use Rattle.proof_text.specs.declared.Claim.TheVariants.{WhiteWins, WhiteFails, BlackWins, BlackFails}
 use Rattle.proof_text.specs.declared.Verdict.{Verdict}
 use Rattle.proof_text.specs.declared.Verdict.TheVariants as verdicts
-
--- every claim shown is true
-abbrev pub AllTrue : List Shown → Type 0
-AllTrue known = (n : ℕ) (p : Position) (claim : Claim) → Shows known n p claim → claim_holds claim p ≡ true
 
 -- ---- one move and all moves
 
@@ -65,7 +61,7 @@ moved_among p column room = Among-map (after_move p) (open_columns p) column (Am
 -- ---- lemmas
 
 -- what a right reason shows is true, where everything shown before is
-pub true_reason : (known : List Shown) (p : Position) (claim : Claim) (reason : Reason) → AllTrue known → HasReason known p claim reason → claim_holds claim p ≡ true
+pub true_reason : (known : List Shown) (p : Position) (claim : Claim) (reason : Reason) → AreTrue known → HasReason known p claim reason → claim_holds claim p ≡ true
 true_reason known p claim ByEnd true_before h = ap (claim_of_end claim) (value_at_end p h.end h.ended) ∙ h.holds
 true_reason known p claim (ByOne cite) true_before h = by_one claim p (after_move p cite.column) h.goes_on h.serves (moved_among p cite.column h.playable) (true_before cite.lemma (after_move p cite.column) claim h.cited)
 true_reason known p claim (ByAll cites) true_before h = by_all claim p h.goes_on h.serves (λ q among. each cites (open_columns p) q h.playable h.cited among)
@@ -79,30 +75,23 @@ true_reason known p claim (ByAll cites) true_before h = by_all claim p h.goes_on
         let first : cite.column ≡ column = cc in
         ap (claim_holds claim) (sym here ∙ ap (after_move p) (sym first)) ∙ true_before cite.lemma (after_move p cite.column) claim cited.0
 
-pub AllTrue_none : AllTrue []
-AllTrue_none zero p claim h = cc
-AllTrue_none (suc i) p claim h = cc
+pub AreTrue_none : AreTrue []
+AreTrue_none zero p claim h = cc
+AreTrue_none (suc i) p claim h = cc
 
-pub AllTrue_push : (known : List Shown) (p : Position) (claim : Claim) → AllTrue known → claim_holds claim p ≡ true → AllTrue (known ++ (p, claim) ∷ [])
-AllTrue_push known p claim true_before holds n q said h = elim (Shows_push known n p q claim said h) [
+pub AreTrue_push : (known : List Shown) (p : Position) (claim : Claim) → AreTrue known → claim_holds claim p ≡ true → AreTrue (known ++ (p, claim) ∷ [])
+AreTrue_push known p claim true_before holds n q said h = elim (Shows_push known n p q claim said h) [
   | inl before ↦ true_before n q said before
   | inr same ↦ ap (claim_holds said) (sym same.0) ∙ ap (λ c. claim_holds c p) (sym same.1) ∙ holds
 ]
 
 -- what right lemmas claim is true
-pub true_lemmas : (root : Position) (known : List Shown) (ls : List Lemma) (after : List Shown) → AreRight root known ls after → AllTrue known → AllTrue after
-true_lemmas root known [] after right before = subst AllTrue (sym right) before
+pub true_lemmas : (root : Position) (known : List Shown) (ls : List Lemma) (after : List Shown) → AreRight root known ls after → AreTrue known → AreTrue after
+true_lemmas root known [] after right before = subst AreTrue (sym right) before
 true_lemmas root known (l ∷ ls) after (p, one, rest) before =
-    true_lemmas root (known ++ (p, l.claim) ∷ []) ls after rest (AllTrue_push known p l.claim before (true_reason known p l.claim l.reason before one.reason))
+    true_lemmas root (known ++ (p, l.claim) ∷ []) ls after rest (AreTrue_push known p l.claim before (true_reason known p l.claim l.reason before one.reason))
 
 -- ---- the verdict
-
--- what a verdict says of the value of the root
-abbrev pub IsTrueVerdict : Position → Verdict → Type 0
-IsTrueVerdict root (verdicts.Win n) = value root ≡ win_of (side_to_move root)
-IsTrueVerdict root (verdicts.Loss n) = value root ≡ win_of (other (side_to_move root))
-IsTrueVerdict root (verdicts.Draw n m) = value root ≡ Draw
-IsTrueVerdict root verdicts.Unknown = Unit {0}
 
 true_win : (side : Side) (p : Position) → claim_holds (claim_for side true) p ≡ true → value p ≡ win_of side
 true_win sides.White p h = white (value p) h
@@ -123,8 +112,39 @@ true_draw White white black = cc
 true_draw Black white black = cc
 true_draw Draw white black = refl
 
-pub true_verdict : (root : Position) (known : List Shown) (v : Verdict) → AllTrue known → IsVerdict root known v → IsTrueVerdict root v
+pub true_verdict : (root : Position) (known : List Shown) (v : Verdict) → AreTrue known → IsVerdict root known v → IsTrueVerdict root v
 true_verdict root known (verdicts.Win n) true_before h = true_win (side_to_move root) root (true_before n root _ h)
 true_verdict root known (verdicts.Loss n) true_before h = true_win (other (side_to_move root)) root (true_before n root _ h)
 true_verdict root known (verdicts.Draw n m) true_before h = true_draw (value root) (true_before n root _ h.0) (true_before m root _ h.1)
 true_verdict root known verdicts.Unknown true_before h = tt
+
+-- what the four claims say
+pub claims_say : (p : Position) → ((claim_holds WhiteWins p ≡ true) ↔ (value p ≡ White)) × ((claim_holds WhiteFails p ≡ true) ↔ (value p ≢ White))
+    × ((claim_holds BlackWins p ≡ true) ↔ (value p ≡ Black)) × ((claim_holds BlackFails p ≡ true) ↔ (value p ≢ Black))
+claims_say p = (white (value p), not_white (value p), black (value p), not_black (value p))
+  where
+    white : (e : End) → (same_end White e ≡ true) ↔ (e ≡ White)
+    white White = (λ h. refl, λ h. refl)
+    white Black = (λ h. cc, λ h. cc)
+    white Draw = (λ h. cc, λ h. cc)
+
+    not_white : (e : End) → (not (same_end White e) ≡ true) ↔ (e ≢ White)
+    not_white White = (λ h. cc, λ h. absurd (h refl))
+    not_white Black = (λ h e. cc, λ h. refl)
+    not_white Draw = (λ h e. cc, λ h. refl)
+
+    black : (e : End) → (same_end Black e ≡ true) ↔ (e ≡ Black)
+    black White = (λ h. cc, λ h. cc)
+    black Black = (λ h. refl, λ h. refl)
+    black Draw = (λ h. cc, λ h. cc)
+
+    not_black : (e : End) → (not (same_end Black e) ≡ true) ↔ (e ≢ Black)
+    not_black White = (λ h e. cc, λ h. refl)
+    not_black Black = (λ h. cc, λ h. absurd (h refl))
+    not_black Draw = (λ h e. cc, λ h. refl)
+
+-- in a right text everything is true
+pub true_text : (bytes : List ℕ) (v : Verdict) (count : ℕ) (text : IsRightText bytes v count) → AreTrue text.after × IsTrueVerdict text.root v
+true_text bytes v count text =
+    let shown = true_lemmas text.root [] (lemmas_among text.entries) text.after text.right AreTrue_none in
+    (shown, true_verdict text.root text.after v shown text.verdict_right)

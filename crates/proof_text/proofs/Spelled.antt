@@ -1,6 +1,6 @@
 -- A line is read exactly where it is in the grammar; no spelling has a line feed, and none is that of two lines.
-use Rattle.std.proofs.Common.{◌≡◌, ◌⊎◌, ◌↔◌, ℕ, zero, suc, ◌+◌, ◌/◌, ◌%◌, ◌<◌, ◌≤◌, ◌^◌, Bool, true, false, ◌&&◌, ◌==◌, nat_le, cond, List, [], ◌∷◌, ◌++◌, map, length, Option, Some, None, codes, refl, sym, ap, ◌∙◌, subst, inl, inr, arith, lit<, lit≤}
-use Rattle.std.specs.List.{All, AllByRecursion, list_all, slice_split, join_with_byte}
+use Rattle.std.proofs.Common.{◌≡◌, ℕ, ◌+◌, ◌%◌, ◌<◌, ◌≤◌, ◌^◌, Bool, true, false, ◌==◌, nat_le, cond, List, [], ◌∷◌, map, length, Some, codes, refl, sym, ap, ◌∙◌, subst, inl, inr, arith, lit<, lit≤}
+use Rattle.std.specs.List.{All, AllByRecursion, list_all}
 use Rattle.std.specs.Str.{bytes_eq}
 use Rattle.std.specs.Fmt.{decimal}
 use Rattle.std.specs.Option.{option_map}
@@ -8,11 +8,11 @@ use Rattle.std.proofs.lemmas.Fmt.{decimal_by_steps, decimal_nonempty}
 use Rattle.std.proofs.lemmas.List.Elements.{All-nil, All-cons}
 use Rattle.std.proofs.lemmas.List.Splits.{slice_split_none, slice_split_at, join_with_byte-slice_split}
 use Rattle.std.proofs.lemmas.Slice.Eq.{bytes_eq-Decides}
-use Rattle.std.proofs.lemmas.Bool.{cases_Bool, and_parts, and_from, both_ways, leb-true, eqb-true, ne_eqb, false_from_ne_true}
+use Rattle.std.proofs.lemmas.Bool.{and_parts, leb-true, eqb-true, ne_eqb, false_from_ne_true}
 use Rattle.game_rules.specs.Grammar.{letter_of, move_list}
 use Rattle.game_rules.proofs.Lists.{chosen}
 use Rattle.proof_text.specs.Lemma.{Cite, Reason, ByEnd, ByOne, ByAll, Lemma, Line, ALemma, ARemark, AVerdict}
-use Rattle.proof_text.specs.Spelling.{spaced, claim_word, cite_word, reason_words, lemma_words, verdict_words, lemma_text, verdict_text, is_printable, is_remark, greatest_number, IsNumber, CiteFits, ReasonFits, Fits, VerdictFits, IsLine}
+use Rattle.proof_text.specs.Spelling.{spaced, claim_word, cite_word, reason_words, lemma_words, verdict_words, lemma_text, verdict_text, is_printable, is_remark, IsNumber, CiteFits, ReasonFits, Fits, VerdictFits, IsLine}
 use Rattle.proof_text.specs.Reading.{words_of, lemma_of, verdict_of, line_of_words, read_line}
 use Rattle.proof_text.proofs.Append.{all_append, all_each}
 use Rattle.proof_text.proofs.Words.{map_some, lemma_read, lemma_spelled, verdict_read, verdict_spelled}
@@ -37,14 +37,14 @@ digits_decimal n h = decimal_by_steps (λ n ds. IsDigits ds) (λ n low. ((omega 
 number_small : (n : ℕ) → IsNumber n → n < 2 ^ 64
 number_small n h = omega (arith, h.1)
 
-plain_decimal : (n : ℕ) → IsNumber n → IsPlain (decimal n)
+pub plain_decimal : (n : ℕ) → IsNumber n → IsPlain (decimal n)
 plain_decimal n h = all_each (λ byte. (48 ≤ byte) × (byte ≤ 57)) (λ byte. 43 ≤ byte) (decimal n) (λ byte digit. omega arith) (digits_decimal n (number_small n h))
 
 plain_letters : (columns : List ℕ) → IsPlain (map letter_of columns)
 plain_letters [] = tt
 plain_letters (column ∷ columns) = (omega arith, plain_letters columns)
 
-plain_moves : (path : List ℕ) → IsPlain (move_list path)
+pub plain_moves : (path : List ℕ) → IsPlain (move_list path)
 plain_moves [] = (lit< tt, tt)
 plain_moves (column ∷ columns) = plain_letters (column ∷ columns)
 
@@ -127,14 +127,14 @@ line_read cols bytes line h = elim (chosen (is_remark bytes) (Some ARemark) (lin
     of_words [] e h = cc
     of_words (word ∷ words) e h = elim (chosen (bytes_eq word (codes "value")) (option_map AVerdict (verdict_of words)) (option_map ALemma (lemma_of cols (word ∷ words))) (Some line) h) [
       | inl value ↦
-        let found = map_some AVerdict (verdict_of words) line value.1 in
-        let read = verdict_read words found.0 found.1 in
-        let first : word ≡ codes "value" = (bytes_eq-Decides word (codes "value")).0 value.0 in
-        subst (IsLine cols bytes) found.2 (read.1, spaced_words bytes (word ∷ words) e ∙ ap spaced (ap (λ word. word ∷ words) first ∙ read.0))
+          let found = map_some AVerdict (verdict_of words) line value.1 in
+          let read = verdict_read words found.0 found.1 in
+          let first : word ≡ codes "value" = (bytes_eq-Decides word (codes "value")).0 value.0 in
+          subst (IsLine cols bytes) found.2 (read.1, spaced_words bytes (word ∷ words) e ∙ ap spaced (ap (λ word. word ∷ words) first ∙ read.0))
       | inr other ↦
-        let found = map_some ALemma (lemma_of cols (word ∷ words)) line other.1 in
-        let read = lemma_read cols (word ∷ words) found.0 found.1 in
-        subst (IsLine cols bytes) found.2 (read.1, spaced_words bytes (word ∷ words) e ∙ ap spaced read.0)
+          let found = map_some ALemma (lemma_of cols (word ∷ words)) line other.1 in
+          let read = lemma_read cols (word ∷ words) found.0 found.1 in
+          subst (IsLine cols bytes) found.2 (read.1, spaced_words bytes (word ∷ words) e ∙ ap spaced read.0)
     ]
 
 -- a lemma's spelling is read
@@ -145,7 +145,7 @@ lemma_text_read cols l h =
     let some : 0 < length (decimal l.number) = decimal_nonempty l.number (number_small l.number h.number) in
     let rest = move_list l.path ∷ claim_word l.claim ∷ reason_words l.reason in
     rw (no_remark (decimal l.number) rest plain.0 some) (ap (line_of_words cols) (words_of_spaced (decimal l.number) rest plain)
-      ∙ of_number (decimal l.number) (no_value (decimal l.number) digits) refl)
+    ∙ of_number (decimal l.number) (no_value (decimal l.number) digits) refl)
   where
     of_number : (word : List ℕ) → bytes_eq word (codes "value") ≡ false → word ≡ decimal l.number
         → line_of_words cols (word ∷ move_list l.path ∷ claim_word l.claim ∷ reason_words l.reason) ≡ Some (ALemma l)
@@ -186,6 +186,16 @@ line_spelled cols bytes (AVerdict v) h = ap (read_line cols) h.1 ∙ verdict_tex
 -- bytes are a line in one way
 pub one_line : (cols : ℕ) (bytes : List ℕ) (line other : Line) → IsLine cols bytes line → IsLine cols bytes other → line ≡ other
 one_line cols bytes line other h g = let same : Some line ≡ Some other = sym (line_spelled cols bytes line h) ∙ line_spelled cols bytes other g in cc
+
+-- no spelling is that of two lemmas, of two verdicts, or of a lemma and a verdict
+pub one_lemma : (cols : ℕ) (l m : Lemma) → Fits cols l → Fits cols m → lemma_text l ≡ lemma_text m → l ≡ m
+one_lemma cols l m h g e = let same : ALemma l ≡ ALemma m = one_line cols (lemma_text l) (ALemma l) (ALemma m) (h, refl) (g, e) in cc
+
+pub one_verdict : (v w : Verdict) → VerdictFits v → VerdictFits w → verdict_text v ≡ verdict_text w → v ≡ w
+one_verdict v w h g e = let same : AVerdict v ≡ AVerdict w = one_line 0 (verdict_text v) (AVerdict v) (AVerdict w) (h, refl) (g, e) in cc
+
+pub lemma_no_verdict : (cols : ℕ) (l : Lemma) (v : Verdict) → Fits cols l → VerdictFits v → lemma_text l ≡ verdict_text v → ⊥
+lemma_no_verdict cols l v h g e = let same : ALemma l ≡ AVerdict v = one_line cols (lemma_text l) (ALemma l) (AVerdict v) (h, refl) (g, e) in cc
 
 -- no byte of a line is a line feed
 pub line_bytes : (cols : ℕ) (bytes : List ℕ) (line : Line) → IsLine cols bytes line → AllByRecursion (λ byte. 32 ≤ byte) bytes

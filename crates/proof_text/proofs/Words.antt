@@ -1,21 +1,20 @@
 -- The words of a line: what is read is spelled so and has a spelling, and what is spelled so is read.
-use Rattle.std.proofs.Common.{◌≡◌, ◌⊎◌, ℕ, zero, suc, ◌+◌, ◌-◌, ◌*◌, ◌/◌, ◌%◌, ◌<◌, ◌≤◌, ◌^◌, Bool, true, false, ◌&&◌, ◌==◌, nat_le, nat_lt, cond, List, [], ◌∷◌, ◌++◌, map, length, Option, Some, None, codes, refl, sym, ap, ◌∙◌, subst, inl, inr, arith, lit<}
+use Rattle.std.proofs.Common.{◌≡◌, ℕ, ◌+◌, ◌<◌, ◌≤◌, ◌^◌, true, false, ◌&&◌, ◌==◌, nat_le, nat_lt, List, [], ◌∷◌, ◌++◌, map, length, Option, Some, None, codes, refl, ap, ◌∙◌, subst, inl, inr, arith}
 use Rattle.std.specs.List.{AllByRecursion, list_all}
 use Rattle.std.specs.Str.{bytes_eq}
 use Rattle.std.specs.Str.Parse.{digits_value}
 use Rattle.std.specs.Fmt.{decimal}
-use Rattle.std.specs.Option.{option_map, option_and_then}
-use Rattle.std.proofs.lemmas.Fmt.{decimal_is_IsNumeral, decimal_by_steps, decimal_nonempty}
+use Rattle.std.specs.Option.{option_map}
+use Rattle.std.proofs.lemmas.Fmt.{decimal_is_IsNumeral}
 use Rattle.std.proofs.lemmas.List.{length-map}
 use Rattle.std.specs.Bool.{if◌then◌else◌}
 use Rattle.std.proofs.lemmas.Slice.Eq.{bytes_eq-Decides}
-use Rattle.std.proofs.lemmas.Bool.{cases_Bool, cases_lt, and_parts, and_from, ltb-true, lt-ltb, leb-true, le-leb, eqb-true, eq-eqb, ne_eqb, false_from_ne_true}
+use Rattle.std.proofs.lemmas.Bool.{and_parts, and_from, ltb-true, lt-ltb, leb-true, le-leb, eqb-true, ne_eqb}
 use Rattle.game_rules.specs.Grammar.{letter_of, move_list}
 use Rattle.game_rules.proofs.Lists.{chosen}
-use Rattle.proof_text.specs.Lemma.{Cite, Reason, ByEnd, ByOne, ByAll, Lemma, Line, ALemma, ARemark, AVerdict}
+use Rattle.proof_text.specs.Lemma.{Cite, Reason, ByEnd, ByOne, ByAll, Lemma}
 use Rattle.proof_text.specs.Spelling.{claim_word, cite_word, reason_words, lemma_words, verdict_words, greatest_number, longest_path, most_cites, IsNumber, CiteFits, ReasonFits, Fits, VerdictFits}
-use Rattle.proof_text.specs.Reading.{◌>>=◌, number_as, number_of, is_letter, column_of, path_of, claim_of, letter_word, cite_of, cites_of, one_of, all_of, only, reason_of, lemma_of, with_one, with_two, verdict_of, line_of_words}
-use Rattle.proof_text.proofs.Append.{all_append, all_each}
+use Rattle.proof_text.specs.Reading.{◌>>=◌, number_as, number_of, is_letter, column_of, path_of, claim_of, letter_word, cite_of, cites_of, one_of, all_of, only, reason_of, lemma_of, with_one, with_two, verdict_of}
 use Rattle.proof_text.specs.declared.Claim.{Claim}
 use Rattle.proof_text.specs.declared.Claim.TheVariants.{WhiteWins, WhiteFails, BlackWins, BlackFails}
 use Rattle.proof_text.specs.declared.Verdict.{Verdict}
@@ -47,10 +46,10 @@ number_read word n h = as_number (digits_value 10 word) h
     as_number m h = elim (chosen (nat_le 1 m && nat_le m greatest_number && bytes_eq word (decimal m)) (Some m) None (Some n) h) [
       | inr other ↦ absurd (cc other.1)
       | inl found ↦
-        let same : m ≡ n = cc in
-        let both = and_parts (nat_le 1 m && nat_le m greatest_number) (bytes_eq word (decimal m)) found.0 in
-        let bounds = and_parts (nat_le 1 m) (nat_le m greatest_number) both.0 in
-        (is_text word (decimal m) both.1 ∙ ap decimal same, (subst (λ k. 1 ≤ k) same (leb-true 1 m bounds.0), subst (λ k. k ≤ greatest_number) same (leb-true m greatest_number bounds.1)))
+          let same : m ≡ n = cc in
+          let both = and_parts (nat_le 1 m && nat_le m greatest_number) (bytes_eq word (decimal m)) found.0 in
+          let bounds = and_parts (nat_le 1 m) (nat_le m greatest_number) both.0 in
+          (is_text word (decimal m) both.1 ∙ ap decimal same, (subst (λ k. 1 ≤ k) same (leb-true 1 m bounds.0), subst (λ k. k ≤ greatest_number) same (leb-true m greatest_number bounds.1)))
     ]
 
 pub number_spelled : (n : ℕ) → IsNumber n → number_of (decimal n) ≡ Some n
@@ -90,16 +89,16 @@ letters_read cols (byte ∷ word) h =
 pub path_read : (cols : ℕ) (word path : List ℕ) → path_of cols word ≡ Some path → (word ≡ move_list path) × (length path ≤ longest_path) × AllByRecursion (λ column. column < cols) path
 path_read cols word path h = elim (chosen (bytes_eq word (codes "-")) (Some []) _ (Some path) h) [
   | inl dash ↦
-    let same : [] ≡ path = cc in
-    subst (λ path. (word ≡ move_list path) × (length path ≤ longest_path) × AllByRecursion (λ column. column < cols) path) same (is_text word (codes "-") dash.0, omega arith, tt)
+      let same : [] ≡ path = cc in
+      subst (λ path. (word ≡ move_list path) × (length path ≤ longest_path) × AllByRecursion (λ column. column < cols) path) same (is_text word (codes "-") dash.0, omega arith, tt)
   | inr other ↦ elim (chosen (nat_le 1 (length word) && nat_le (length word) longest_path && list_all (is_letter cols) word) (Some (map column_of word)) None (Some path) other.1) [
     | inr fails ↦ absurd (cc fails.1)
     | inl letters ↦
-      let same : map column_of word ≡ path = cc in
-      let both = and_parts (nat_le 1 (length word) && nat_le (length word) longest_path) (list_all (is_letter cols) word) letters.0 in
-      let size = and_parts (nat_le 1 (length word)) (nat_le (length word) longest_path) both.0 in
-      subst (λ path. (word ≡ move_list path) × (length path ≤ longest_path) × AllByRecursion (λ column. column < cols) path) same
-      (some_letters word (leb-true 1 (length word) size.0) (leb-true (length word) longest_path size.1) (letters_read cols word both.1))
+        let same : map column_of word ≡ path = cc in
+        let both = and_parts (nat_le 1 (length word) && nat_le (length word) longest_path) (list_all (is_letter cols) word) letters.0 in
+        let size = and_parts (nat_le 1 (length word)) (nat_le (length word) longest_path) both.0 in
+        subst (λ path. (word ≡ move_list path) × (length path ≤ longest_path) × AllByRecursion (λ column. column < cols) path) same
+        (some_letters word (leb-true 1 (length word) size.0) (leb-true (length word) longest_path size.1) (letters_read cols word both.1))
   ]
 ]
   where
@@ -165,9 +164,9 @@ letter_word_read cols (byte ∷ next ∷ word) column h = cc
 letter_word_read cols (byte ∷ []) column h = elim (chosen (is_letter cols byte) (Some (column_of byte)) None (Some column) h) [
   | inr other ↦ absurd (cc other.1)
   | inl letter ↦
-    let same : column_of byte ≡ column = cc in
-    let read = letter_read cols byte letter.0 in
-    (ap (λ b. b ∷ []) (read.0 ∙ ap letter_of same), subst (λ c. c < cols) same read.1)
+      let same : column_of byte ≡ column = cc in
+      let read = letter_read cols byte letter.0 in
+      (ap (λ b. b ∷ []) (read.0 ∙ ap letter_of same), subst (λ c. c < cols) same read.1)
 ]
 
 letter_word_spelled : (cols column : ℕ) → column < cols → letter_word cols (letter_of column ∷ []) ≡ Some column
@@ -179,11 +178,11 @@ cite_read cols (letter ∷ []) cite h = cc
 cite_read cols (letter ∷ colon ∷ digits) cite h = elim (chosen (is_letter cols letter && colon == 58) (option_map (λ n. record { column = column_of letter; lemma = n }) (number_of digits)) None (Some cite) h) [
   | inr other ↦ absurd (cc other.1)
   | inl found ↦
-    let both = and_parts (is_letter cols letter) (colon == 58) found.0 in
-    let named = letter_read cols letter both.0 in
-    let number = map_some (λ n. record { column = column_of letter; lemma = n }) (number_of digits) cite found.1 in
-    let read = number_read digits number.0 number.1 in
-    at number.0 number.2 named (eqb-true colon 58 both.1) read
+      let both = and_parts (is_letter cols letter) (colon == 58) found.0 in
+      let named = letter_read cols letter both.0 in
+      let number = map_some (λ n. record { column = column_of letter; lemma = n }) (number_of digits) cite found.1 in
+      let read = number_read digits number.0 number.1 in
+      at number.0 number.2 named (eqb-true colon 58 both.1) read
 ]
   where
     at : (n : ℕ) → record { column = column_of letter; lemma = n } ≡ cite → (letter ≡ letter_of (column_of letter)) × (column_of letter < cols) → colon ≡ 58 → (digits ≡ decimal n) × IsNumber n
@@ -240,14 +239,14 @@ all_read : (cols : ℕ) (words : List (List ℕ)) (reason : Reason) → all_of c
 all_read cols words reason h = elim (chosen (nat_le 1 (length words) && nat_le (length words) most_cites) (option_map ByAll (cites_of cols words)) None (Some reason) h) [
   | inr other ↦ absurd (cc other.1)
   | inl found ↦
-    let size = and_parts (nat_le 1 (length words)) (nat_le (length words) most_cites) found.0 in
-    let cites = map_some ByAll (cites_of cols words) reason found.1 in
-    let read = cites_read cols words cites.0 cites.1 in
-    let count : length words ≡ length cites.0 = ap length read.0 ∙ length-map cites.0 cite_word in
-    let few : 1 ≤ length words = leb-true 1 (length words) size.0 in
-    let many : length words ≤ most_cites = leb-true (length words) most_cites size.1 in
-    subst (λ reason. (codes "all" ∷ words ≡ reason_words reason) × ReasonFits cols reason) cites.2
-    (ap (λ words. codes "all" ∷ words) read.0, (omega arith, omega arith, read.1))
+      let size = and_parts (nat_le 1 (length words)) (nat_le (length words) most_cites) found.0 in
+      let cites = map_some ByAll (cites_of cols words) reason found.1 in
+      let read = cites_read cols words cites.0 cites.1 in
+      let count : length words ≡ length cites.0 = ap length read.0 ∙ length-map cites.0 cite_word in
+      let few : 1 ≤ length words = leb-true 1 (length words) size.0 in
+      let many : length words ≤ most_cites = leb-true (length words) most_cites size.1 in
+      subst (λ reason. (codes "all" ∷ words ≡ reason_words reason) × ReasonFits cols reason) cites.2
+      (ap (λ words. codes "all" ∷ words) read.0, (omega arith, omega arith, read.1))
 ]
 
 only_read : {X : Type 0} (x y : X) (words : List (List ℕ)) → only x words ≡ Some y → (words ≡ []) × (x ≡ y)
@@ -258,8 +257,8 @@ pub reason_read : (cols : ℕ) (words : List (List ℕ)) (reason : Reason) → r
 reason_read cols [] reason h = cc
 reason_read cols (word ∷ words) reason h = elim (chosen (bytes_eq word (codes "end")) (only ByEnd words) _ (Some reason) h) [
   | inl end ↦
-    let nothing = only_read ByEnd reason words end.1 in
-    subst (λ reason. (word ∷ words ≡ reason_words reason) × ReasonFits cols reason) nothing.1 (both (codes "end") [] (is_text word _ end.0) nothing.0, tt)
+      let nothing = only_read ByEnd reason words end.1 in
+      subst (λ reason. (word ∷ words ≡ reason_words reason) × ReasonFits cols reason) nothing.1 (both (codes "end") [] (is_text word _ end.0) nothing.0, tt)
   | inr a ↦ elim (chosen (bytes_eq word (codes "one")) (one_of cols words) _ (Some reason) a.1) [
     | inl one ↦ let read = one_read cols words reason one.1 in (ap (λ first. first ∷ words) (is_text word _ one.0) ∙ read.0, read.1)
     | inr b ↦ elim (chosen (bytes_eq word (codes "all")) (all_of cols words) None (Some reason) b.1) [
@@ -300,9 +299,10 @@ lemma_read cols (number ∷ path ∷ claim ∷ reason) l h =
     let said = claim_read claim third.0 third.1 in
     let why = reason_read cols reason last.0 last.1 in
     let same : record { number = first.0; path = second.0; claim = third.0; reason = last.0 } ≡ l = cc (last.2) in
-    subst (λ l. (number ∷ path ∷ claim ∷ reason ≡ lemma_words l) × Fits cols l) same
-    (four (decimal first.0) (move_list second.0) (claim_word third.0) (reason_words last.0) n.0 moves.0 said why.0,
-      record { number = n.1; short = moves.1; columns = moves.2; reason = why.1 })
+    subst (λ l. (number ∷ path ∷ claim ∷ reason ≡ lemma_words l) × Fits cols l) same (
+      four (decimal first.0) (move_list second.0) (claim_word third.0) (reason_words last.0) n.0 moves.0 said why.0,
+      record { number = n.1; short = moves.1; columns = moves.2; reason = why.1 },
+    )
   where
     four : (a b c : List ℕ) (d : List (List ℕ)) → number ≡ a → path ≡ b → claim ≡ c → reason ≡ d → number ∷ path ∷ claim ∷ reason ≡ a ∷ b ∷ c ∷ d
     four a b c d e f g h = rw (e, f, g, h) refl
@@ -343,20 +343,20 @@ pub verdict_read : (words : List (List ℕ)) (v : Verdict) → verdict_of words 
 verdict_read [] v h = cc
 verdict_read (word ∷ words) v h = elim (chosen (bytes_eq word (codes "win")) (with_one Win words) _ (Some v) h) [
   | inl win ↦
-    let read = one_verdict_read Win words v win.1 in
-    subst (λ v. (codes "value" ∷ word ∷ words ≡ verdict_words v) × VerdictFits v) read.3 (both (codes "win") (decimal read.0 ∷ []) (is_text word _ win.0) read.1, read.2)
+      let read = one_verdict_read Win words v win.1 in
+      subst (λ v. (codes "value" ∷ word ∷ words ≡ verdict_words v) × VerdictFits v) read.3 (both (codes "win") (decimal read.0 ∷ []) (is_text word _ win.0) read.1, read.2)
   | inr a ↦ elim (chosen (bytes_eq word (codes "loss")) (with_one Loss words) _ (Some v) a.1) [
     | inl loss ↦
-      let read = one_verdict_read Loss words v loss.1 in
-      subst (λ v. (codes "value" ∷ word ∷ words ≡ verdict_words v) × VerdictFits v) read.3 (both (codes "loss") (decimal read.0 ∷ []) (is_text word _ loss.0) read.1, read.2)
+        let read = one_verdict_read Loss words v loss.1 in
+        subst (λ v. (codes "value" ∷ word ∷ words ≡ verdict_words v) × VerdictFits v) read.3 (both (codes "loss") (decimal read.0 ∷ []) (is_text word _ loss.0) read.1, read.2)
     | inr b ↦ elim (chosen (bytes_eq word (codes "draw")) (with_two Draw words) _ (Some v) b.1) [
       | inl draw ↦
-        let read = two_verdict_read Draw words v draw.1 in
-        subst (λ v. (codes "value" ∷ word ∷ words ≡ verdict_words v) × VerdictFits v) read.5 (both (codes "draw") (decimal read.0 ∷ decimal read.1 ∷ []) (is_text word _ draw.0) read.2, (read.3, read.4))
+          let read = two_verdict_read Draw words v draw.1 in
+          subst (λ v. (codes "value" ∷ word ∷ words ≡ verdict_words v) × VerdictFits v) read.5 (both (codes "draw") (decimal read.0 ∷ decimal read.1 ∷ []) (is_text word _ draw.0) read.2, (read.3, read.4))
       | inr c ↦ elim (chosen (bytes_eq word (codes "unknown")) (only Unknown words) None (Some v) c.1) [
         | inl unknown ↦
-          let nothing = only_read Unknown v words unknown.1 in
-          subst (λ v. (codes "value" ∷ word ∷ words ≡ verdict_words v) × VerdictFits v) nothing.1 (both (codes "unknown") [] (is_text word _ unknown.0) nothing.0, tt)
+            let nothing = only_read Unknown v words unknown.1 in
+            subst (λ v. (codes "value" ∷ word ∷ words ≡ verdict_words v) × VerdictFits v) nothing.1 (both (codes "unknown") [] (is_text word _ unknown.0) nothing.0, tt)
         | inr none ↦ absurd (cc none.1)
       ]
     ]

@@ -2,8 +2,10 @@
 use Rattle.std.specs.Prelude.{◌≡◌, ℕ, zero, suc, ◌+◌, Bool, true, false, List, [], ◌∷◌, ◌++◌, map, length, Option, Some, None, slice_get, ⊤}
 use Rattle.std.specs.List.{AllByRecursion}
 use Rattle.game_rules.specs.Position.{Position, other, same_side, side_to_move, has_room, after_move, end_of, played, open_columns}
+use Rattle.game_rules.specs.Value.{win_of, value}
 use Rattle.game_rules.specs.declared.End.{End}
-use Rattle.proof_text.specs.Lemma.{claim_side, claims_win, claim_for, agrees, claim_of_end, Cite, Reason, ByEnd, ByOne, ByAll, Lemma}
+use Rattle.game_rules.specs.declared.End.TheVariants as ends
+use Rattle.proof_text.specs.Lemma.{claim_side, claims_win, claim_for, agrees, claim_of_end, claim_holds, Cite, Reason, ByEnd, ByOne, ByAll, Lemma}
 use Rattle.proof_text.specs.declared.Claim.{Claim}
 use Rattle.proof_text.specs.declared.Claim.TheVariants.{WhiteFails, BlackFails}
 use Rattle.proof_text.specs.declared.Verdict.{Verdict}
@@ -74,3 +76,16 @@ IsVerdict root known (Win n) = Shows known n root (claim_for (side_to_move root)
 IsVerdict root known (Loss n) = Shows known n root (claim_for (other (side_to_move root)) true)
 IsVerdict root known (Draw n m) = Shows known n root WhiteFails × Shows known m root BlackFails
 IsVerdict root known Unknown = ⊤
+
+-- ---- what is true
+
+-- every claim shown is true of the value of its position
+abbrev pub AreTrue : List Shown → Type 0
+AreTrue known = (n : ℕ) (p : Position) (claim : Claim) → Shows known n p claim → claim_holds claim p ≡ true
+
+-- what a verdict says of the value of the root
+abbrev pub IsTrueVerdict : Position → Verdict → Type 0
+IsTrueVerdict root (Win n) = value root ≡ win_of (side_to_move root)
+IsTrueVerdict root (Loss n) = value root ≡ win_of (other (side_to_move root))
+IsTrueVerdict root (Draw n m) = value root ≡ ends.Draw
+IsTrueVerdict root Unknown = ⊤

@@ -44,14 +44,14 @@ abbrev pub verdict_text : Verdict → List ℕ
 verdict_text v = spaced (verdict_words v)
 
 -- a text as a line, with its line feed
-abbrev pub line_of : List ℕ → List ℕ
-line_of text = text ++ 10 ∷ []
+abbrev pub as_line : List ℕ → List ℕ
+as_line text = text ++ 10 ∷ []
 
 abbrev pub lemma_line : Lemma → List ℕ
-lemma_line l = line_of (lemma_text l)
+lemma_line l = as_line (lemma_text l)
 
 abbrev pub verdict_line : Verdict → List ℕ
-verdict_line v = line_of (verdict_text v)
+verdict_line v = as_line (verdict_text v)
 
 abbrev pub lines_of : List Lemma → List ℕ
 lines_of ls = flat_map lemma_line ls

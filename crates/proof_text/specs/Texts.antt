@@ -1,5 +1,5 @@
 -- Whole texts of proofs: which are right, and what is wrong with the others. A text is taken as a whole list of bytes.
-use Rattle.std.specs.Prelude.{◌≡◌, ◌≤◌, ℕ, ◌+◌, Bool, true, ◌&&◌, ◌==◌, nat_le, if◌then◌else◌, List, [], ◌∷◌, ◌++◌, length, take, drop, filter_map, Option, Some, None, option_and_then, option_map, Result, Ok, Err, slice_index_or, codes, bytes_eq, flat_map}
+use Rattle.std.specs.Prelude.{◌≡◌, ◌≤◌, ℕ, ◌+◌, Bool, true, ◌&&◌, ◌==◌, nat_le, if◌then◌else◌, List, [], ◌∷◌, ◌++◌, length, take, filter_map, Option, Some, None, Result, Ok, Err, slice_index_or, codes, bytes_eq, flat_map}
 use Rattle.std.specs.List.{slice_split, AllByRecursion}
 use Rattle.game_rules.specs.Board.{Board, is_board, below}
 use Rattle.game_rules.specs.Position.{Position, empty_position, played}
@@ -8,8 +8,8 @@ use Rattle.game_rules.specs.Grammar.{game_text, last_feed}
 use Rattle.game_rules.specs.declared.InputFault.{InputFault}
 use Rattle.proof_text.specs.Lemma.{Lemma, Line, ALemma, ARemark, AVerdict}
 use Rattle.proof_text.specs.Right.{Shown, AreRight, IsVerdict}
-use Rattle.proof_text.specs.Checked.{unless, or_then, Standing, line_refusal, shown_of, with_line}
-use Rattle.proof_text.specs.Spelling.{lemma_text, verdict_text, line_of, is_remark, Fits, VerdictFits}
+use Rattle.proof_text.specs.Checked.{unless, or_then, Standing, line_refusal, shown_of, with_line, first_verdict}
+use Rattle.proof_text.specs.Spelling.{lemma_text, verdict_text, as_line, is_remark, Fits, VerdictFits}
 use Rattle.proof_text.specs.Reading.{read_line}
 use Rattle.proof_text.specs.declared.Verdict.{Verdict}
 use Rattle.proof_text.specs.declared.Why.{Why}
@@ -55,7 +55,14 @@ abbrev pub game_of : List (List ℕ) → List ℕ
 game_of [] = []
 game_of (board ∷ []) = take game_front board
 game_of (board ∷ moves ∷ []) = take game_front board ++ 10 ∷ take game_front moves
-game_of (board ∷ moves ∷ next ∷ more) = take game_front board ++ 10 ∷ line_of (take game_front moves)
+game_of (board ∷ moves ∷ next ∷ more) = take game_front board ++ 10 ∷ as_line (take game_front moves)
+
+-- the same with the lines whole
+abbrev pub whole_game_of : List (List ℕ) → List ℕ
+whole_game_of [] = []
+whole_game_of (board ∷ []) = board
+whole_game_of (board ∷ moves ∷ []) = board ++ 10 ∷ moves
+whole_game_of (board ∷ moves ∷ next ∷ more) = board ++ 10 ∷ as_line moves
 
 -- the lines behind them
 abbrev pub behind_game : List (List ℕ) → List (List ℕ)
@@ -64,13 +71,6 @@ behind_game (board ∷ []) = []
 behind_game (board ∷ moves ∷ more) = lines_in more
 
 -- ---- the first line that fails
-
--- the verdict of some lines, the first if there are more
-abbrev pub first_verdict : List Line → Option Verdict
-first_verdict [] = None
-first_verdict (ALemma l ∷ lines) = first_verdict lines
-first_verdict (ARemark ∷ lines) = first_verdict lines
-first_verdict (AVerdict v ∷ lines) = Some v
 
 -- what the lemmas of some lines show
 abbrev pub shown_by : Position → List Line → List Shown
@@ -111,17 +111,17 @@ first_some f (k ∷ ks) = first_or (f k) k (first_some f ks)
 
 -- what is to be said of a text: it has no game, a line is refused, or it is accepted with its verdict and so many
 -- lemmas
-pub data Answer : Type 0 where
-  NoGame : InputFault → Answer
-  Refused : ℕ → Why → Answer
-  Accepted : Verdict → ℕ → Answer
+pub data CheckAnswer : Type 0 where
+  NoGame : InputFault → CheckAnswer
+  Refused : ℕ → Why → CheckAnswer
+  Accepted : Verdict → ℕ → CheckAnswer
 
 -- where every line stands there has to be a verdict
-abbrev pub verdict_answer : ℕ → ℕ → Option Verdict → Answer
+abbrev pub verdict_answer : ℕ → ℕ → Option Verdict → CheckAnswer
 verdict_answer next lemmas None = Refused next EndedEarly
 verdict_answer next lemmas (Some v) = Accepted v lemmas
 
-abbrev pub lines_answer : Position → List (List ℕ) → Option (ℕ × Why) → Answer
+abbrev pub lines_answer : Position → List (List ℕ) → Option (ℕ × Why) → CheckAnswer
 lines_answer root lines (Some (k, why)) = Refused (k + first_number) why
 lines_answer root lines None = verdict_answer (length lines + first_number) (length (standing root lines).known) (standing root lines).verdict
 
@@ -135,12 +135,12 @@ with_said s (Some line) = with_line s line
 abbrev pub with_bytes : Standing → List ℕ → Standing
 with_bytes s bytes = with_said s (read_line (length s.root.columns) bytes)
 
-abbrev pub line_answer : Option Why → ℕ → Answer → Answer
+abbrev pub line_answer : Option Why → ℕ → CheckAnswer → CheckAnswer
 line_answer None at later = later
 line_answer (Some why) at later = Refused at why
 
 -- the answer to further lines, the first of which has this number, behind what stands
-abbrev pub check_from : Standing → ℕ → List (List ℕ) → Answer
+abbrev pub check_from : Standing → ℕ → List (List ℕ) → CheckAnswer
 check_from s at [] = verdict_answer at (length s.known) s.verdict
 check_from s at (line ∷ lines) = line_answer (bytes_refusal s at line) at (check_from (with_bytes s line) (at + 1) lines)
 
@@ -151,10 +151,10 @@ start root = record { root = root; known = []; verdict = None }
 -- ---- whole texts
 
 -- the answer to the lines behind a game
-abbrev pub answer_of : Position → List (List ℕ) → Answer
+abbrev pub answer_of : Position → List (List ℕ) → CheckAnswer
 answer_of root lines = lines_answer root lines (first_some (refusal_at root lines) (below (length lines)))
 
-abbrev pub game_answer : Result Position InputFault → List (List ℕ) → Answer
+abbrev pub game_answer : Result Position InputFault → List (List ℕ) → CheckAnswer
 game_answer (Err fault) lines = NoGame fault
 game_answer (Ok root) lines = answer_of root lines
 
@@ -162,12 +162,12 @@ game_answer (Ok root) lines = answer_of root lines
 abbrev pub first_line : List ℕ
 first_line = codes "victor 1"
 
-abbrev pub pieces_answer : List (List ℕ) → Answer
+abbrev pub pieces_answer : List (List ℕ) → CheckAnswer
 pieces_answer [] = Refused 1 BadLine
 pieces_answer (first ∷ more) = if bytes_eq first first_line then game_answer (game_at (game_of more)) (behind_game more) else Refused 1 BadLine
 
 -- the answer to a text
-unfoldable pub check_of : List ℕ → Answer
+unfoldable pub check_of : List ℕ → CheckAnswer
 check_of bytes = pieces_answer (pieces bytes)
 
 -- ---- right texts
@@ -182,7 +182,7 @@ entry_text (LemmaEntry l) = lemma_text l
 entry_text (RemarkEntry bytes) = bytes
 
 abbrev pub entry_lines : List Entry → List ℕ
-entry_lines entries = flat_map (λ entry. line_of (entry_text entry)) entries
+entry_lines entries = flat_map (λ entry. as_line (entry_text entry)) entries
 
 abbrev pub lemmas_among : List Entry → List Lemma
 lemmas_among [] = []

@@ -5,6 +5,8 @@
 //! `laws` is a law about the definitions: its contract is the theorem, and its body is empty.
 #![tactic(auto)]
 
+pub mod laws;
+
 /// What a lemma says of its position: that a side wins under perfect play, or that it doesn't.
 #[derive(Clone, Copy, Debug, PartialEq, Eq, Hash)]
 pub enum Claim {

@@ -1,0 +1,26 @@
+-- Words in a row: the first, and each of the others behind a space.
+use Rattle.std.proofs.Common.{◌≡◌, ℕ, List, [], ◌∷◌, ◌++◌, map, flat_map, decimal, refl, sym, ap, ◌∙◌, append_assoc}
+use Rattle.std.proofs.lemmas.List.{append-nil}
+use Rattle.game_rules.specs.Grammar.{move_list}
+use Rattle.proof_text.specs.Lemma.{Lemma}
+use Rattle.proof_text.specs.Spelling.{spaced, claim_word, cite_word, reason_words, lemma_line}
+use Rattle.cert_format.specs.Shape.{cite_of, behind_spaces}
+use Rattle.cert_format.specs.declared.lines.Cite.{Cite}
+
+pub spaced_behind : (word : List ℕ) (words : List (List ℕ)) → spaced (word ∷ words) ≡ word ++ behind_spaces words
+spaced_behind word [] = sym (append-nil word)
+spaced_behind word (next ∷ words) = ap (λ rest. word ++ (32 ∷ rest)) (spaced_behind next words)
+
+pub cites_behind : (cites : List Cite) → flat_map (λ cite. 32 ∷ cite_word (cite_of cite)) cites ≡ behind_spaces (map cite_word (map cite_of cites))
+cites_behind [] = refl
+cites_behind (cite ∷ cites) = ap (λ rest. (32 ∷ cite_word (cite_of cite)) ++ rest) (cites_behind cites)
+
+-- the line of a lemma, put piece by piece
+pub lemma_pieces : (l : Lemma) (before after : List ℕ)
+    → before ≡ ((((([] ++ decimal l.number) ++ 32 ∷ []) ++ move_list l.path) ++ 32 ∷ []) ++ claim_word l.claim) ++ behind_spaces (reason_words l.reason)
+    → after ≡ before ++ 10 ∷ [] → after ≡ lemma_line l
+lemma_pieces l before after pieces last =
+    let rest = claim_word l.claim ++ behind_spaces (reason_words l.reason) in
+    let grouped : before ≡ decimal l.number ++ (32 ∷ (move_list l.path ++ (32 ∷ rest))) = pieces ∙ simp append_assoc in
+    let spelled : spaced (claim_word l.claim ∷ reason_words l.reason) ≡ rest = spaced_behind (claim_word l.claim) (reason_words l.reason) in
+    last ∙ ap (λ text. text ++ 10 ∷ []) (grouped ∙ ap (λ text. decimal l.number ++ (32 ∷ (move_list l.path ++ (32 ∷ text)))) (sym spelled))

@@ -1,0 +1,36 @@
+-- The lines of the code as the plain data of the definitions.
+use Rattle.std.specs.Prelude.{ℕ, List, [], ◌∷◌, map, flat_map}
+use Rattle.proof_text.specs.Lemma.{Cite as PlainCite, Reason as PlainReason, ByEnd, ByOne, ByAll, Lemma as PlainLemma, Line as PlainLine, ALemma, ARemark, AVerdict}
+use Rattle.proof_text.specs.Spelling.{lemma_line, verdict_line}
+use Rattle.cert_format.specs.declared.lines.Cite.{Cite}
+use Rattle.cert_format.specs.declared.lines.Reason.{Reason}
+use Rattle.cert_format.specs.declared.lines.Reason.TheVariants.{Ended, One, All}
+use Rattle.cert_format.specs.declared.lines.Lemma.{Lemma}
+use Rattle.cert_format.specs.declared.lines.Line.{Line}
+use Rattle.cert_format.specs.declared.lines.Line.TheVariants as lines
+
+abbrev pub cite_of : Cite → PlainCite
+cite_of cite = record { column = cite.column; lemma = cite.lemma }
+
+abbrev pub reason_of : Reason → PlainReason
+reason_of Ended = ByEnd
+reason_of (One cite) = ByOne (cite_of cite)
+reason_of (All cites) = ByAll (map cite_of cites.items)
+
+abbrev pub lemma_of : Lemma → PlainLemma
+lemma_of l = record { number = l.number; path = l.path.items; claim = l.claim; reason = reason_of l.reason }
+
+abbrev pub line_of : Line → PlainLine
+line_of (lines.Lemma l) = ALemma (lemma_of l)
+line_of lines.Remark = ARemark
+line_of (lines.Verdict v) = AVerdict v
+
+-- words with a space before each
+abbrev pub behind_spaces : List (List ℕ) → List ℕ
+behind_spaces words = flat_map (λ word. 32 ∷ word) words
+
+-- the bytes of a lemma's or a verdict's line, with its line feed; a remark's aren't told by what it says
+abbrev pub printed : PlainLine → List ℕ
+printed (ALemma l) = lemma_line l
+printed ARemark = []
+printed (AVerdict v) = verdict_line v

@@ -1,0 +1,51 @@
+//! What a line of a proof says. A lemma stands at the position that its path leads to from the root of the proof, and
+//! names the earlier lemmas that its claim rests on.
+use arrayvec::ArrayVec;
+use board_bits::Column;
+use proof_text::{Claim, Verdict};
+
+/// No path is longer: a board has at most a hundred squares.
+pub(crate) const LONGEST_PATH: usize = 100;
+
+/// No reason cites more lemmas: a board has at most ten columns.
+pub(crate) const MOST_CITES: usize = 10;
+
+/// A move, and the number of the lemma that stands at the position after it.
+#[derive(Clone, Copy, Debug, Default, PartialEq, Eq)]
+pub struct Cite {
+    pub column: Column,
+    pub lemma: u32,
+}
+
+/// Why a lemma's claim holds.
+#[derive(Drop)]
+pub enum Reason {
+    /// The game has ended, and the claim is true of its end.
+    Ended,
+    /// One move shows it.
+    One(Cite),
+    /// All moves together show it.
+    All(ArrayVec<Cite, MOST_CITES>),
+}
+
+/// A lemma of a proof: its number, its position as the moves from the root, and what it claims there and why.
+#[derive(Drop)]
+pub struct Lemma {
+    pub number: u32,
+    pub path: ArrayVec<Column, LONGEST_PATH>,
+    pub claim: Claim,
+    pub reason: Reason,
+}
+
+/// A line of a proof behind its game.
+#[derive(Drop)]
+pub enum Line {
+    Lemma(Lemma),
+    /// A line for the reader, which says nothing.
+    Remark,
+    Verdict(Verdict),
+}
+
+/// The bytes are no line of a proof.
+#[derive(Clone, Copy, Debug, PartialEq, Eq)]
+pub struct LineFault;

@@ -1,0 +1,92 @@
+//! Lines put to a sink. Each line is made whole first and then put at once, so that a sink that fails has a front of it.
+ghost use Rattle.std.specs.Prelude.{◌≡◌, ◌≢◌, ◌+◌, ◌<◌, ◌≤◌, length, is_ok, IfOk, OnOk, OnErr};
+ghost use Rattle.device_rules.specs.Devices.{HasCause, Stands};
+ghost use Rattle.proof_text.specs.Lemma.{ARemark};
+ghost use Rattle.proof_text.specs.Spelling.{lemma_line};
+ghost use Rattle.cert_format.specs.Shape.{reason_of, line_of, printed};
+
+use crate::line_text::{lemma_line, verdict_line};
+use crate::lines::{Line, Reason};
+use board_bits::Column;
+use io_ports::{Failed, Sink, put_all};
+use proof_text::Claim;
+use std::marker::Model;
+
+/// Writes the spelling of a lemma or a verdict and a line feed; a remark has none that this value tells. What is read from
+/// the bytes before the line feed is the same line, where its numbers are from 1 to 10,000,000, `All` has at least one
+/// cite, and its columns are those of one board. On `Failed`, which comes only where the sink's count of faults rose, a
+/// front was written.
+pub fn print_line<O: Sink>(line: &Line, out: &mut O) -> Result<(), Failed>
+    requires { line_of line.now ≢ ARemark }
+    ensures written { Stands (is_ok result) (O.written out.old) (O.written out.new) (printed (line_of line.now)) }
+    ensures cause { HasCause (O.faults out.old) (O.faults out.new) result }
+{
+    match line {
+        Line::Lemma(l) => put_all(
+            out,
+            lemma_line(l.number, l.path.as_slice(), l.claim, &l.reason).as_slice(),
+        ),
+        Line::Verdict(verdict) => put_all(out, verdict_line(*verdict).as_slice()),
+        Line::Remark => unreachable!(),
+    }
+}
+
+/// The lemmas of a proof as they are put, numbered from 1. It holds no sink, so that other lines can stand between them.
+#[derive(Drop)]
+pub struct LemmaOut {
+    count: u32,
+}
+
+impl Model for LemmaOut {
+    ghost use Rattle.std.specs.Prelude.{ℕ, ◌≤◌};
+
+    ghost Value = { ℕ };
+
+    ghost view = { λ lemmas. lemmas.count };
+
+    ghost invariant = { λ lemmas. lemmas.count ≤ 10000000 };
+
+    ghost inverse = { λ n. record { count = n } };
+}
+
+impl LemmaOut {
+    /// No lemma was put.
+    pub fn new() -> LemmaOut
+        ensures { result ≡ 0 }
+    {
+        LemmaOut { count: 0 }
+    }
+
+    /// How many lemmas were put, at most 10,000,000.
+    pub fn count(&self) -> u32
+        ensures value { result ≡ self.now }
+        ensures most { result ≤ 10000000 }
+    {
+        self.count
+    }
+
+    /// Puts the line of the next lemma, and answers its number. On `Failed`, which comes only where the sink's count of
+    /// faults rose, a front of the line was written, and the number is given to the lemma that is put next.
+    pub fn put<O: Sink>(
+        &mut self,
+        out: &mut O,
+        path: &[Column],
+        claim: Claim,
+        reason: Reason,
+    ) -> Result<u32, Failed>
+        requires room { self.old < 10000000 }
+        requires short { length path.now ≤ 100 }
+        ensures number { IfOk result (λ n. n ≡ self.old + 1) }
+        ensures counted { OnOk result (self.new ≡ self.old + 1) }
+        ensures kept { OnErr result (self.new ≡ self.old) }
+        ensures written { Stands (is_ok result) (O.written out.old) (O.written out.new)
+            (lemma_line (record { number = self.old + 1; path = path.now; claim = claim; reason = reason_of reason })) }
+        ensures cause { HasCause (O.faults out.old) (O.faults out.new) result }
+    {
+        let number = self.count + 1;
+        let line = lemma_line(number, path, claim, &reason);
+        put_all(out, line.as_slice())?;
+        self.count = number;
+        Ok(number)
+    }
+}

@@ -1,0 +1,6 @@
+pub mod Squares
+pub mod Rules
+pub mod Calm
+pub mod Columns
+pub mod Laws
+pub mod Plan

@@ -1,0 +1,184 @@
+-- Every right lemma behind a game has a spelling, while its number has one; and no spelling is long.
+use Rattle.std.proofs.Common.{◌≡◌, ℕ, ◌+◌, ◌*◌, ◌<◌, ◌≤◌, true, nat_le, List, [], ◌∷◌, ◌++◌, map, filter, length, Some, None, refl, sym, ap, ◌∙◌, subst, inl, inr, arith, lit<}
+use Rattle.std.specs.List.{AllByRecursion}
+use Rattle.std.specs.Fmt.{decimal}
+use Rattle.std.proofs.lemmas.List.{length-append, length-map}
+use Rattle.std.proofs.lemmas.List.FromFn.{length-range_with_len}
+use Rattle.std.proofs.lemmas.Fmt.{length-decimal-le}
+use Rattle.std.proofs.lemmas.Bool.{cases_Bool, and_parts, leb-true}
+use Rattle.game_rules.specs.Board.{Board, is_board, is_cols, is_rows, below}
+use Rattle.game_rules.specs.Position.{Position, board_of, has_room, after_move, end_of, empty_count, is_legal, played, open_columns}
+use Rattle.game_rules.specs.Grammar.{letter_of, move_list}
+use Rattle.game_rules.proofs.Lists.{Among, any_gives, Among-filter, Among-filter_gives, Among-below_gives, chosen}
+use Rattle.game_rules.proofs.Moves.{empty_count_moved, cols_moved, room_column}
+use Rattle.game_rules.proofs.Values.{goes_on_room}
+use Rattle.game_rules.proofs.Ends.{legal_parts}
+use Rattle.game_rules.proofs.BoardLine.{empty_count_within}
+use Rattle.game_rules.proofs.Grammar.{board_along}
+use Rattle.proof_text.specs.Lemma.{Cite, Reason, ByEnd, ByOne, ByAll, Lemma}
+use Rattle.proof_text.specs.Right.{Shown, IsCited, HasReason, IsRight, AreRight, IsVerdict}
+use Rattle.proof_text.specs.Spelling.{spaced, claim_word, cite_word, reason_words, lemma_text, verdict_text, greatest_number, longest_path, most_cites, IsNumber, CiteFits, ReasonFits, Fits, VerdictFits}
+use Rattle.proof_text.proofs.Append.{Shows_number}
+use Rattle.proof_text.specs.declared.Claim.{Claim}
+use Rattle.proof_text.specs.declared.Claim.TheVariants.{WhiteWins, WhiteFails, BlackWins, BlackFails}
+use Rattle.proof_text.specs.declared.Verdict.{Verdict}
+use Rattle.proof_text.specs.declared.Verdict.TheVariants.{Win, Loss, Draw, Unknown}
+
+-- ---- paths
+
+-- each move of a path fills a square, and goes into a column of the board
+path_fills : (path : List ℕ) (p q : Position) → played p path ≡ Some q → empty_count q + length path ≡ empty_count p
+path_fills [] p q h = let same : p ≡ q = cc in omega (arith, ap empty_count same)
+path_fills (column ∷ path) p q h = elim (chosen (is_legal p column) (played (after_move p column) path) None (Some q) h) [
+  | inr illegal ↦ absurd (cc illegal.1)
+  | inl legal ↦ omega (arith, path_fills path (after_move p column) q legal.1, empty_count_moved p column (legal_parts p column legal.0).1)
+]
+
+path_within : (path : List ℕ) (p q : Position) (cols : ℕ) → length p.columns ≡ cols → played p path ≡ Some q → AllByRecursion (λ column. column < cols) path
+path_within [] p q cols same h = tt
+path_within (column ∷ path) p q cols same h = elim (chosen (is_legal p column) (played (after_move p column) path) None (Some q) h) [
+  | inr illegal ↦ absurd (cc illegal.1)
+  | inl legal ↦ (subst (λ n. column < n) same (room_column p column (legal_parts p column legal.0).1), path_within path (after_move p column) q cols (cols_moved p column ∙ same) legal.1)
+]
+
+-- ---- cites
+
+-- at most as many columns are open as there are, each of them on the board
+open_within : (columns : List ℕ) (p : Position) → length (filter (has_room p) columns) ≤ length columns
+open_within [] p = omega arith
+open_within (column ∷ columns) p = elim (cases_Bool (has_room p column)) [
+  | inl room ↦ rw room (let rest : length (filter (has_room p) columns) ≤ length columns = open_within columns p in omega arith)
+  | inr full ↦ rw full (let rest : length (filter (has_room p) columns) ≤ length columns = open_within columns p in omega arith)
+]
+
+all_among : {X : Type 0} (P : X → Type 0) (xs : List X) → ((x : X) → Among x xs → P x) → AllByRecursion P xs
+all_among P [] each = tt
+all_among P (x ∷ xs) each = (each x (inl refl), all_among P xs (λ y among. each y (inr among)))
+
+open_columns_within : (p : Position) → AllByRecursion (λ column. column < length p.columns) (open_columns p)
+open_columns_within p = all_among (λ column. column < length p.columns) (open_columns p) (λ column among. Among-below_gives (length p.columns) column (Among-filter_gives (has_room p) (below (length p.columns)) column among).0)
+
+some_open : (p : Position) → end_of p ≡ None → 1 ≤ length (open_columns p)
+some_open p goes =
+    let found = any_gives (has_room p) (below (length p.columns)) (goes_on_room p goes) in
+    some found.0 (open_columns p) (Among-filter (has_room p) (below (length p.columns)) found.0 found.1 found.2)
+  where
+    some : (column : ℕ) (columns : List ℕ) → Among column columns → 1 ≤ length columns
+    some column [] among = absurd among
+    some column (first ∷ columns) among = omega arith
+
+cites_fit : (known : List Shown) (p : Position) (claim : Claim) (cols : ℕ) → length known ≤ greatest_number → (cites : List Cite)
+    → AllByRecursion (λ column. column < cols) (map (λ cite. cite.column) cites) → AllByRecursion (IsCited known p claim) cites → AllByRecursion (CiteFits cols) cites
+cites_fit known p claim cols few [] within cited = tt
+cites_fit known p claim cols few (cite ∷ cites) within cited =
+    let number = Shows_number known cite.lemma (after_move p cite.column) claim cited.0 in
+    ((within.0, (number.0, omega arith)), cites_fit known p claim cols few cites within.1 cited.1)
+
+-- ---- lemmas and verdicts
+
+reason_fits : (known : List Shown) (p : Position) (claim : Claim) (reason : Reason) → length p.columns ≤ most_cites → length known ≤ greatest_number → HasReason known p claim reason → ReasonFits (length p.columns) reason
+reason_fits known p claim ByEnd narrow few h = tt
+reason_fits known p claim (ByOne cite) narrow few h =
+    let number = Shows_number known cite.lemma (after_move p cite.column) claim h.cited in
+    (room_column p cite.column h.playable, (number.0, omega arith))
+reason_fits known p claim (ByAll cites) narrow few h =
+    let count : length cites ≡ length (open_columns p) = sym (length-map cites (λ (cite : Cite). cite.column)) ∙ ap length h.playable in
+    let some : 1 ≤ length (open_columns p) = some_open p h.goes_on in
+    let within : length (open_columns p) ≤ length (below (length p.columns)) = open_within (below (length p.columns)) p in
+    let cols : length (below (length p.columns)) ≡ length p.columns = length-range_with_len 0 (length p.columns) in (
+      omega arith,
+      omega arith,
+      cites_fit known p claim (length p.columns) few cites (subst (AllByRecursion (λ column. column < length p.columns)) (sym h.playable) (open_columns_within p)) h.cited,
+    )
+
+-- the boards have at most ten columns
+narrow_board : (board : Board) → is_board board ≡ true → board.cols ≤ most_cites
+narrow_board board h =
+    let both = and_parts (is_cols board.cols) (is_rows board.rows) h in
+    let wide = and_parts (nat_le 4 board.cols) (nat_le board.cols 10) both.0 in
+    leb-true board.cols 10 wide.1
+
+-- a right lemma has a spelling while its number has one
+pub right_fits : (root : Position) (known : List Shown) (l : Lemma) (p : Position) → is_board (board_of root) ≡ true → length known < greatest_number → IsRight root known l p → Fits (length root.columns) l
+right_fits root known l p board few right =
+    let fills : empty_count p + length l.path ≡ empty_count root = path_fills l.path root p right.along in
+    let empty : empty_count root ≤ 100 = empty_count_within root board in
+    let cols : length p.columns ≡ length root.columns = ap (λ (b : Board). b.cols) (board_along l.path root p right.along) in
+    let narrow : length root.columns ≤ most_cites = narrow_board (board_of root) board in
+    let next : l.number ≡ length known + 1 = right.next in
+    record {
+      number = (omega arith, omega arith);
+      short = omega arith;
+      columns = path_within l.path root p (length root.columns) refl right.along;
+      reason = subst (λ cols. ReasonFits cols l.reason) cols (reason_fits known p l.claim l.reason (omega arith) (omega arith) right.reason);
+    }
+
+pub right_all_fit : (root : Position) (known : List Shown) (ls : List Lemma) (after : List Shown) → is_board (board_of root) ≡ true → length known + length ls ≤ greatest_number → AreRight root known ls after → AllByRecursion (Fits (length root.columns)) ls
+right_all_fit root known [] after board few right = tt
+right_all_fit root known (l ∷ ls) after board few (p, one, rest) =
+    let longer : length (known ++ (p, l.claim) ∷ []) ≡ length known + 1 = length-append known ((p, l.claim) ∷ []) in
+    (right_fits root known l p board (omega arith) one, right_all_fit root (known ++ (p, l.claim) ∷ []) ls after board (omega arith) rest)
+
+pub right_verdict_fits : (root : Position) (known : List Shown) (v : Verdict) → length known ≤ greatest_number → IsVerdict root known v → VerdictFits v
+right_verdict_fits root known (Win n) few h = let number = Shows_number known n root _ h in (number.0, omega arith)
+right_verdict_fits root known (Loss n) few h = let number = Shows_number known n root _ h in (number.0, omega arith)
+right_verdict_fits root known (Draw n m) few h =
+    let first = Shows_number known n root _ h.0 in
+    let second = Shows_number known m root _ h.1 in
+    ((first.0, omega arith), (second.0, omega arith))
+right_verdict_fits root known Unknown few h = tt
+
+-- ---- how long a line is
+
+-- the bytes of further words, each with a space in front
+abbrev further : List (List ℕ) → ℕ
+further [] = 0
+further (word ∷ words) = 1 + (length word + further words)
+
+length_spaced : (word : List ℕ) (words : List (List ℕ)) → length (spaced (word ∷ words)) ≡ length word + further words
+length_spaced word [] = omega arith
+length_spaced word (next ∷ words) = omega (arith, length-append word (32 ∷ spaced (next ∷ words)), length_spaced next words)
+
+number_length : (n : ℕ) → IsNumber n → length (decimal n) ≤ 8
+number_length n h = length-decimal-le 8 n (lit< tt) (omega (arith, h.1)) (omega (arith, h.1))
+
+moves_length : (path : List ℕ) → length path ≤ longest_path → length (move_list path) ≤ longest_path
+moves_length [] h = omega arith
+moves_length (column ∷ columns) h = omega (arith, length-map columns letter_of)
+
+claim_length : (claim : Claim) → length (claim_word claim) ≡ 2
+claim_length WhiteWins = refl
+claim_length WhiteFails = refl
+claim_length BlackWins = refl
+claim_length BlackFails = refl
+
+cites_length : (cols : ℕ) (cites : List Cite) → AllByRecursion (CiteFits cols) cites → further (map cite_word cites) ≤ length cites * 11
+cites_length cols [] h = omega arith
+cites_length cols (cite ∷ cites) h =
+    let number : length (decimal cite.lemma) ≤ 8 = number_length cite.lemma h.0.1 in
+    let rest : further (map cite_word cites) ≤ length cites * 11 = cites_length cols cites h.1 in
+    omega arith
+
+reason_length : (cols : ℕ) (reason : Reason) → ReasonFits cols reason → further (reason_words reason) ≤ 114
+reason_length cols ByEnd h = omega arith
+reason_length cols (ByOne cite) h = let number : length (decimal cite.lemma) ≤ 8 = number_length cite.lemma h.1 in omega arith
+reason_length cols (ByAll cites) h = let rest : further (map cite_word cites) ≤ length cites * 11 = cites_length cols cites h.2 in omega (arith, h.1)
+
+-- a lemma's text has at most 226 bytes, and a verdict's at most 28
+pub lemma_length : (cols : ℕ) (l : Lemma) → Fits cols l → length (lemma_text l) ≤ 226
+lemma_length cols l h =
+    let all : length (lemma_text l) ≡ length (decimal l.number) + further (move_list l.path ∷ claim_word l.claim ∷ reason_words l.reason) = length_spaced (decimal l.number) (move_list l.path ∷ claim_word l.claim ∷ reason_words l.reason) in
+    let number : length (decimal l.number) ≤ 8 = number_length l.number h.number in
+    let path : length (move_list l.path) ≤ longest_path = moves_length l.path h.short in
+    let claim : length (claim_word l.claim) ≡ 2 = claim_length l.claim in
+    let reason : further (reason_words l.reason) ≤ 114 = reason_length cols l.reason h.reason in
+    omega arith
+
+pub verdict_length : (v : Verdict) → VerdictFits v → length (verdict_text v) ≤ 28
+verdict_length (Win n) h = let number : length (decimal n) ≤ 8 = number_length n h in omega arith
+verdict_length (Loss n) h = let number : length (decimal n) ≤ 8 = number_length n h in omega arith
+verdict_length (Draw n m) h =
+    let first : length (decimal n) ≤ 8 = number_length n h.0 in
+    let second : length (decimal m) ≤ 8 = number_length m h.1 in
+    omega (arith, length-append (decimal n) (32 ∷ decimal m))
+verdict_length Unknown h = omega arith

@@ -1,0 +1,245 @@
+-- A whole text is accepted exactly where it is right.
+use Rattle.std.proofs.Common.{◌≡◌, ℕ, suc, ◌+◌, ◌≤◌, Bool, true, false, ◌||◌, ◌==◌, nat_le, List, [], ◌∷◌, ◌++◌, map, length, take, Some, Result, Ok, Err, codes, refl, sym, ap, ◌∙◌, subst, append_assoc, append-nil, inl, inr, arith}
+use Rattle.std.specs.List.{AllByRecursion, list_all, join_with_byte, flat_map}
+use Rattle.std.specs.Str.{bytes_eq}
+use Rattle.std.specs.Fmt.{decimal}
+use Rattle.std.proofs.lemmas.List.{length-append, length-take, take_all, length-replicate}
+use Rattle.std.proofs.lemmas.List.Folds.{flat_map-map}
+use Rattle.std.proofs.lemmas.Slice.Eq.{bytes_eq-Decides}
+use Rattle.std.proofs.lemmas.Bool.{and_parts, leb-true, or_cases, eqb-true}
+use Rattle.game_rules.specs.Board.{Board, is_board, is_cols, is_rows}
+use Rattle.game_rules.specs.Position.{Position, empty_position, played}
+use Rattle.game_rules.specs.Text.{game_at}
+use Rattle.game_rules.specs.Grammar.{move_list, board_line, moves_line, last_feed, game_text}
+use Rattle.game_rules.proofs.Lists.{chosen}
+use Rattle.game_rules.proofs.Prefix.{game_short}
+use Rattle.game_rules.proofs.Grammar.{read_in_grammar, grammar_read, board_along}
+use Rattle.game_rules.specs.declared.InputFault.{InputFault}
+use Rattle.proof_text.specs.Lemma.{Lemma, ALemma, ARemark, AVerdict}
+use Rattle.proof_text.specs.Right.{Shown, AreRight}
+use Rattle.proof_text.specs.Spelling.{lemma_text, verdict_text, as_line, VerdictFits}
+use Rattle.proof_text.specs.Texts.{pieces, last_line, lines_in, game_front, first_number, game_of, behind_game, Refused, Accepted, answer_of, game_answer, first_line, pieces_answer, check_of, Entry, LemmaEntry, RemarkEntry, entry_text, entry_lines, lemmas_among, EntryFits, head_of, IsRightText, start, check_from}
+use Rattle.proof_text.proofs.Append.{all_append, all_each, length_shown}
+use Rattle.proof_text.proofs.Spelled.{plain_decimal, plain_moves, line_bytes}
+use Rattle.proof_text.proofs.Pieces.{IsFeedless, feedless_high, pieces_line, pieces_last, pieces_feedless, pieces_some, joined, cut_lines, lines_append, joined_lines}
+use Rattle.proof_text.proofs.Fitting.{verdict_length}
+use Rattle.proof_text.proofs.Fold.{answer_by_lines}
+use Rattle.proof_text.proofs.Accepted.{AreAccepted, accepted_lines, lines_accepted}
+use Rattle.proof_text.specs.declared.Verdict.{Verdict}
+use Rattle.proof_text.specs.declared.Verdict.TheVariants.{Win, Loss, Draw, Unknown}
+use Rattle.proof_text.specs.declared.Why.TheVariants.{BadLine}
+
+-- ---- the lines of a game
+
+-- no byte is below the space
+abbrev IsHigh : List ℕ → Type 0
+IsHigh bytes = AllByRecursion (λ byte. 32 ≤ byte) bytes
+
+high_text : (bytes : List ℕ) → list_all (nat_le 32) bytes ≡ true → IsHigh bytes
+high_text [] h = tt
+high_text (byte ∷ bytes) h = let both = and_parts (nat_le 32 byte) (list_all (nat_le 32) bytes) h in (leb-true 32 byte both.0, high_text bytes both.1)
+
+high_append : (xs ys : List ℕ) → IsHigh xs → IsHigh ys → IsHigh (xs ++ ys)
+high_append xs ys h g = all_append (λ byte. 32 ≤ byte) xs ys h g
+
+high_decimal : (n : ℕ) → 1 ≤ n → n ≤ 10 → IsHigh (decimal n)
+high_decimal n low high = all_each (λ byte. 43 ≤ byte) (λ byte. 32 ≤ byte) (decimal n) (λ byte low. omega arith) (plain_decimal n (low, omega arith))
+
+rows_small : (n : ℕ) → is_rows n ≡ true → (1 ≤ n) × (n ≤ 10)
+rows_small n h = elim (or_cases (n == 4 || n == 6 || n == 8) (n == 10) h) [
+  | inr ten ↦ let same : n ≡ 10 = eqb-true n 10 ten in (omega arith, omega arith)
+  | inl less ↦ elim (or_cases (n == 4 || n == 6) (n == 8) less) [
+    | inr eight ↦ let same : n ≡ 8 = eqb-true n 8 eight in (omega arith, omega arith)
+    | inl least ↦ elim (or_cases (n == 4) (n == 6) least) [
+      | inl four ↦ let same : n ≡ 4 = eqb-true n 4 four in (omega arith, omega arith)
+      | inr six ↦ let same : n ≡ 6 = eqb-true n 6 six in (omega arith, omega arith)
+    ]
+  ]
+]
+
+feedless_board : (board : Board) → is_board board ≡ true → IsFeedless (board_line board)
+feedless_board board h =
+    let both = and_parts (is_cols board.cols) (is_rows board.rows) h in
+    let wide = and_parts (nat_le 4 board.cols) (nat_le board.cols 10) both.0 in
+    let rows = rows_small board.rows both.1 in
+    let low : 4 ≤ board.cols = leb-true 4 board.cols wide.0 in
+    feedless_high (board_line board) (high_append (codes "board ") (decimal board.cols ++ (codes " " ++ decimal board.rows)) (high_text (codes "board ") refl)
+    (high_append (decimal board.cols) (codes " " ++ decimal board.rows) (high_decimal board.cols (omega arith) (leb-true board.cols 10 wide.1))
+    (high_append (codes " ") (decimal board.rows) (high_text (codes " ") refl) (high_decimal board.rows rows.0 rows.1))))
+
+feedless_moves : (columns : List ℕ) → IsFeedless (moves_line columns)
+feedless_moves columns =
+    feedless_high (moves_line columns) (high_append (codes "moves ") (move_list columns) (high_text (codes "moves ") refl)
+    (all_each (λ byte. 43 ≤ byte) (λ byte. 32 ≤ byte) (move_list columns) (λ byte low. omega arith) (plain_moves columns)))
+
+-- the two lines that a game was read from are its lines, whole
+lines_of_game : (first second : List ℕ) (root : Position) → IsFeedless first → IsFeedless second → game_at (take game_front first ++ 10 ∷ as_line (take game_front second)) ≡ Ok root
+    → (board : Board) × (columns : List ℕ) × (is_board board ≡ true) × (played (empty_position board) columns ≡ Some root) × (first ≡ board_line board) × (second ≡ moves_line columns)
+lines_of_game first second root one two h =
+    let text = take game_front first ++ 10 ∷ as_line (take game_front second) in
+    let short : length text ≤ 119 = game_short text root h in
+    let size : length text ≡ length (take game_front first) + length (10 ∷ as_line (take game_front second)) = length-append (take game_front first) (10 ∷ as_line (take game_front second)) in
+    let more : length (as_line (take game_front second)) ≡ length (take game_front second) + 1 = length-append (take game_front second) (10 ∷ []) in
+    let first_short : length first ≤ game_front = omega (arith, length-take game_front first) in
+    let second_short : length second ≤ game_front = omega (arith, length-take game_front second) in
+    let whole : text ≡ first ++ 10 ∷ as_line second = ap (λ bytes. bytes ++ 10 ∷ as_line (take game_front second)) (take_all game_front first first_short) ∙ ap (λ bytes. first ++ 10 ∷ as_line bytes) (take_all game_front second second_short) in
+    let game = read_in_grammar text root h in
+    let spelled : first ++ 10 ∷ as_line second ≡ game_text game.board game.columns game.ended = sym whole ∙ game.spelled in
+    let cut : pieces (first ++ 10 ∷ as_line second) ≡ first ∷ second ∷ [] ∷ [] = pieces_line first (as_line second) one ∙ ap (λ more. first ∷ more) (pieces_line second [] two) in
+    let also : pieces (game_text game.board game.columns game.ended) ≡ board_line game.board ∷ pieces (moves_line game.columns ++ last_feed game.ended) =
+    pieces_line (board_line game.board) (moves_line game.columns ++ last_feed game.ended) (feedless_board game.board game.has_board) in
+    let same : first ∷ second ∷ [] ∷ [] ≡ board_line game.board ∷ pieces (moves_line game.columns ++ last_feed game.ended) = sym cut ∙ ap pieces spelled ∙ also in
+    let rest : second ∷ [] ∷ [] ≡ pieces (moves_line game.columns ++ last_feed game.ended) = cc in
+    (game.board, game.columns, game.has_board, game.has_moves, cc, last game.columns game.ended rest)
+  where
+    last : (columns : List ℕ) (ended : Bool) → second ∷ [] ∷ [] ≡ pieces (moves_line columns ++ last_feed ended) → second ≡ moves_line columns
+    last columns true e = let cut : second ∷ [] ∷ [] ≡ moves_line columns ∷ pieces [] = e ∙ pieces_line (moves_line columns) [] (feedless_moves columns) in cc
+    last columns false e =
+        let cut : second ∷ [] ∷ [] ≡ moves_line columns ∷ [] = e ∙ ap pieces (append-nil (moves_line columns)) ∙ pieces_last (moves_line columns) (feedless_moves columns) in
+        cc
+
+-- and the other way round
+game_of_lines : (board : Board) (columns : List ℕ) (root : Position) (next : List ℕ) (more : List (List ℕ)) → is_board board ≡ true → played (empty_position board) columns ≡ Some root
+    → game_at (game_of (board_line board ∷ moves_line columns ∷ next ∷ more)) ≡ Ok root
+game_of_lines board columns root next more has_board has_moves =
+    let text = game_text board columns true in
+    let read : game_at text ≡ Ok root = grammar_read text root (record { board = board; columns = columns; ended = true; has_board = has_board; has_moves = has_moves; spelled = refl }) in
+    let short : length text ≤ 119 = game_short text root read in
+    let size : length text ≡ length (board_line board) + suc (length (moves_line columns ++ 10 ∷ [])) = length-append (board_line board) (10 ∷ (moves_line columns ++ 10 ∷ [])) in
+    let rest : length (moves_line columns ++ 10 ∷ []) ≡ length (moves_line columns) + 1 = length-append (moves_line columns) (10 ∷ []) in
+    let first : take game_front (board_line board) ≡ board_line board = take_all game_front (board_line board) (omega arith) in
+    let second : take game_front (moves_line columns) ≡ moves_line columns = take_all game_front (moves_line columns) (omega arith) in
+    ap game_at (ap (λ bytes. bytes ++ 10 ∷ as_line (take game_front (moves_line columns))) first ∙ ap (λ bytes. board_line board ++ 10 ∷ as_line bytes) second) ∙ read
+
+pub cols_of_root : (board : Board) (columns : List ℕ) (root : Position) → played (empty_position board) columns ≡ Some root → length root.columns ≡ board.cols
+cols_of_root board columns root h = ap (λ (b : Board). b.cols) (board_along columns (empty_position board) root h) ∙ length-replicate board.cols []
+
+-- each lemma shows one thing
+pub shown_count : (root : Position) (ls : List Lemma) (after : List Shown) → AreRight root [] ls after → length after ≡ length ls
+shown_count root ls after right = omega (arith, length_shown root [] ls after right)
+
+regrouped : (board moves text : List ℕ) → first_line ++ 10 ∷ (board ++ 10 ∷ (moves ++ 10 ∷ text)) ≡ (first_line ++ 10 ∷ (board ++ 10 ∷ (moves ++ 10 ∷ []))) ++ text
+regrouped board moves text = ap (λ more. first_line ++ 10 ∷ more) (sym (append_assoc board (10 ∷ (moves ++ 10 ∷ [])) text ∙ ap (λ more. board ++ 10 ∷ more) (append_assoc moves (10 ∷ []) text)))
+
+-- ---- what is accepted is right
+
+entry_lines_map : (entries : List Entry) → flat_map as_line (map entry_text entries) ≡ entry_lines entries
+entry_lines_map entries = flat_map-map as_line entry_text entries
+
+accepted_game : (r : Result Position InputFault) (lines : List (List ℕ)) (v : Verdict) (count : ℕ) → game_answer r lines ≡ Accepted v count → (root : Position) × (r ≡ Ok root) × (answer_of root lines ≡ Accepted v count)
+accepted_game (Err fault) lines v count h = cc
+accepted_game (Ok root) lines v count h = (root, refl, h)
+
+-- no lines are accepted only behind a verdict
+some_lines : (root : Position) (v : Verdict) (count : ℕ) → AreAccepted root [] first_number [] v count → ⊥
+some_lines root v count h = none h.entries h.spelled
+  where
+    none : (entries : List Entry) → [] ≡ map entry_text entries ++ verdict_text v ∷ [] → ⊥
+    none [] e = cc
+    none (entry ∷ entries) e = cc
+
+pub whole_accepted : (bytes : List ℕ) (v : Verdict) (count : ℕ) → check_of bytes ≡ Accepted v count → IsRightText bytes v count
+unfolding check_of
+whole_accepted bytes v count h =
+    let some = pieces_some bytes in
+    of_pieces some.0 some.1 some.2 (subst (AllByRecursion IsFeedless) some.2 (pieces_feedless bytes)) (sym (ap pieces_answer some.2) ∙ h)
+  where
+    of_game : (more : List (List ℕ)) (root : Position) → pieces bytes ≡ first_line ∷ more → AllByRecursion IsFeedless more → game_at (game_of more) ≡ Ok root → AreAccepted root [] first_number (behind_game more) v count → IsRightText bytes v count
+    of_game [] root cut feedless game lines = absurd (some_lines root v count lines)
+    of_game (first ∷ []) root cut feedless game lines = absurd (some_lines root v count lines)
+    of_game (first ∷ second ∷ []) root cut feedless game lines = absurd (some_lines root v count lines)
+    of_game (first ∷ second ∷ next ∷ more) root cut feedless game lines =
+        let read = lines_of_game first second root feedless.0 feedless.1.0 game in
+        let text = joined_lines (next ∷ more) (map entry_text lines.entries) (verdict_text v) lines.spelled in
+        record {
+          board = read.0;
+          columns = read.1;
+          root = root;
+          entries = lines.entries;
+          after = lines.after;
+          ended = text.0;
+          has_board = read.2;
+          has_moves = read.3;
+          fit = subst (λ cols. AllByRecursion (EntryFits cols) lines.entries) (cols_of_root read.0 read.1 root read.3) lines.fit;
+          right = lines.right;
+          verdict_fits = lines.verdict_fits;
+          verdict_right = lines.verdict_right;
+          counted = lines.counted ∙ shown_count root (lemmas_among lines.entries) lines.after lines.right;
+          short = lines.short;
+          few = lines.few;
+          spelled = sym (joined bytes) ∙ ap (join_with_byte 10) cut
+              ∙ whole (board_line read.0) (moves_line read.1) (join_with_byte 10 (next ∷ more)) (entry_lines lines.entries ++ (verdict_text v ++ last_feed text.0)) read.4 read.5
+              (text.1 ∙ ap (λ front. front ++ (verdict_text v ++ last_feed text.0)) (entry_lines_map lines.entries));
+        }
+      where
+        whole : (board moves rest text : List ℕ) → first ≡ board → second ≡ moves → rest ≡ text
+            → first_line ++ 10 ∷ (first ++ 10 ∷ (second ++ 10 ∷ rest)) ≡ (first_line ++ 10 ∷ (board ++ 10 ∷ (moves ++ 10 ∷ []))) ++ text
+        whole board moves rest text e f g = rw (e, f, g) (regrouped board moves text)
+
+    of_pieces : (first : List ℕ) (more : List (List ℕ)) → pieces bytes ≡ first ∷ more → AllByRecursion IsFeedless (first ∷ more) → pieces_answer (first ∷ more) ≡ Accepted v count → IsRightText bytes v count
+    of_pieces first more cut feedless h = elim (chosen (bytes_eq first first_line) (game_answer (game_at (game_of more)) (behind_game more)) (Refused 1 BadLine) (Accepted v count) h) [
+      | inr other ↦ absurd (cc other.1)
+      | inl named ↦
+          let game = accepted_game (game_at (game_of more)) (behind_game more) v count named.1 in
+          of_game more game.0 (cut ∙ ap (λ first. first ∷ more) ((bytes_eq-Decides first first_line).0 named.0)) feedless.1 game.1
+          (accepted_lines game.0 [] first_number (behind_game more) v count (sym (answer_by_lines game.0 (behind_game more)) ∙ game.2))
+    ]
+
+-- ---- what is right is accepted
+
+-- the lines of entries that fit have no line feed
+feedless_entries : (cols : ℕ) (entries : List Entry) → AllByRecursion (EntryFits cols) entries → AllByRecursion IsFeedless (map entry_text entries)
+feedless_entries cols [] h = tt
+feedless_entries cols (LemmaEntry l ∷ entries) h = (feedless_high (lemma_text l) (line_bytes cols (lemma_text l) (ALemma l) (h.0, refl)), feedless_entries cols entries h.1)
+feedless_entries cols (RemarkEntry bytes ∷ entries) h = (feedless_high bytes (line_bytes cols bytes ARemark h.0), feedless_entries cols entries h.1)
+
+-- the lines behind the game are the entries' and the verdict's, the last line feed or not
+lines_behind : (cols : ℕ) (entries : List Entry) (v : Verdict) (ended : Bool) → AllByRecursion (EntryFits cols) entries → VerdictFits v
+    → lines_in (pieces (entry_lines entries ++ (verdict_text v ++ last_feed ended))) ≡ map entry_text entries ++ verdict_text v ∷ []
+lines_behind cols entries v ended fit verdict_fits =
+    ap (λ front. lines_in (pieces (front ++ (verdict_text v ++ last_feed ended)))) (sym (entry_lines_map entries))
+    ∙ ap lines_in (cut_lines (map entry_text entries) (verdict_text v ++ last_feed ended) (feedless_entries cols entries fit)) ∙ of_feed ended
+  where
+    feedless : IsFeedless (verdict_text v)
+    feedless = feedless_high (verdict_text v) (line_bytes cols (verdict_text v) (AVerdict v) (verdict_fits, refl))
+
+    some : (v : Verdict) → last_line (verdict_text v) ≡ verdict_text v ∷ []
+    some (Win n) = refl
+    some (Loss n) = refl
+    some (Draw n m) = refl
+    some Unknown = refl
+
+    of_feed : (ended : Bool) → lines_in (map entry_text entries ++ pieces (verdict_text v ++ last_feed ended)) ≡ map entry_text entries ++ verdict_text v ∷ []
+    of_feed true =
+        ap (λ ps. lines_in (map entry_text entries ++ ps)) (pieces_line (verdict_text v) [] feedless)
+        ∙ ap lines_in (sym (append_assoc (map entry_text entries) (verdict_text v ∷ []) ([] ∷ [])))
+        ∙ lines_append (map entry_text entries ++ verdict_text v ∷ []) [] ∙ append-nil (map entry_text entries ++ verdict_text v ∷ [])
+    of_feed false =
+        ap (λ ps. lines_in (map entry_text entries ++ ps)) (ap pieces (append-nil (verdict_text v)) ∙ pieces_last (verdict_text v) feedless)
+        ∙ lines_append (map entry_text entries) (verdict_text v) ∙ ap (λ last. map entry_text entries ++ last) (some v)
+
+-- a text with a game is answered by the lines behind it
+pub text_answer : (board : Board) (columns : List ℕ) (root : Position) (text : List ℕ) → is_board board ≡ true → played (empty_position board) columns ≡ Some root
+    → check_of (head_of board columns ++ text) ≡ check_from (start root) first_number (lines_in (pieces text))
+unfolding check_of
+text_answer board columns root text has_board has_moves =
+    ap (λ bytes. pieces_answer (pieces bytes)) (sym (regrouped (board_line board) (moves_line columns) text))
+    ∙ ap pieces_answer (pieces_line first_line (board_line board ++ 10 ∷ (moves_line columns ++ 10 ∷ text)) (feedless_high first_line (high_text first_line refl))
+    ∙ ap (λ more. first_line ∷ more) (pieces_line (board_line board) (moves_line columns ++ 10 ∷ text) (feedless_board board has_board)
+    ∙ ap (λ more. board_line board ∷ more) (pieces_line (moves_line columns) text (feedless_moves columns))))
+    ∙ of_pieces (pieces_some text)
+  where
+    of_pieces : (next : List ℕ) × (more : List (List ℕ)) × (pieces text ≡ next ∷ more)
+        → pieces_answer (first_line ∷ board_line board ∷ moves_line columns ∷ pieces text) ≡ check_from (start root) first_number (lines_in (pieces text))
+    of_pieces (next, more, e) =
+        rw e (ap (λ r. game_answer r (lines_in (next ∷ more))) (game_of_lines board columns root next more has_board has_moves) ∙ answer_by_lines root (lines_in (next ∷ more)))
+
+pub right_accepted : (bytes : List ℕ) (v : Verdict) (count : ℕ) → IsRightText bytes v count → check_of bytes ≡ Accepted v count
+right_accepted bytes v count text =
+    let cols : length text.root.columns ≡ text.board.cols = cols_of_root text.board text.columns text.root text.has_moves in
+    let fit : AllByRecursion (EntryFits (length text.root.columns)) text.entries = subst (λ cols. AllByRecursion (EntryFits cols) text.entries) (sym cols) text.fit in
+    ap check_of text.spelled
+    ∙ text_answer text.board text.columns text.root (entry_lines text.entries ++ (verdict_text v ++ last_feed text.ended)) text.has_board text.has_moves
+    ∙ ap (check_from (start text.root) first_number) (lines_behind text.board.cols text.entries v text.ended text.fit text.verdict_fits)
+    ∙ lines_accepted text.root [] first_number text.entries text.after v fit text.right text.verdict_fits text.verdict_right text.short (omega (arith, verdict_length v text.verdict_fits)) text.few
+    ∙ ap (Accepted v) (shown_count text.root (lemmas_among text.entries) text.after text.right ∙ sym text.counted)

@@ -1,0 +1,240 @@
+-- What may stand while a proof is written, and that a proof that stands whole is a right text.
+use Rattle.std.proofs.Common.{false, inl, inr, append-nil, ◌≡◌, ℕ, ◌+◌, ◌≤◌, true, List, [], ◌∷◌, ◌++◌, map, length, Option, Some, None, refl, sym, ap, ◌∙◌, subst, append_assoc, arith}
+use Rattle.std.specs.List.{AllByRecursion}
+use Rattle.std.proofs.lemmas.List.{length-append, length-map, length-replicate}
+use Rattle.std.proofs.lemmas.Grind.{flat_map-append}
+use Rattle.std.proofs.lemmas.List.Folds.{flat_map-map}
+use Rattle.std.proofs.lemmas.List.Concat.{flat_map-cons}
+use Rattle.game_rules.specs.Board.{Board, is_board}
+use Rattle.game_rules.specs.Position.{Position, board_of, empty_position, played}
+use Rattle.game_rules.proofs.Grammar.{board_along}
+use Rattle.proof_text.specs.Lemma.{Lemma}
+use Rattle.proof_text.specs.Right.{Shown, AreRight}
+use Rattle.proof_text.specs.Spelling.{lemma_text, verdict_line, as_line, lines_of, is_remark, greatest_number, Fits}
+use Rattle.proof_text.specs.Texts.{first_line, longest_line, Accepted, check_of, Entry, LemmaEntry, RemarkEntry, entry_text, entry_lines, lemmas_among, EntryFits, head_of, IsRightText}
+use Rattle.proof_text.specs.Written.{IsRemarkLine, remark_line, AreSided, HasWritten, MayStand, IsProof}
+use Rattle.game_rules.specs.Grammar.{board_line, moves_line, game_text, IsGameText}
+use Rattle.game_rules.specs.declared.Side.TheVariants.{White, Black}
+use Rattle.proof_text.proofs.Append.{AreRight_append, all_append, all_left, all_right, all_each}
+use Rattle.proof_text.proofs.Fitting.{right_all_fit, right_verdict_fits, lemma_length}
+use Rattle.proof_text.proofs.Whole.{cols_of_root, shown_count, right_accepted}
+use Rattle.proof_text.specs.declared.Verdict.{Verdict}
+
+-- ---- lines as entries
+
+abbrev remark_entries : Option (List ℕ) → List Entry
+remark_entries None = []
+remark_entries (Some bytes) = RemarkEntry bytes ∷ []
+
+-- the entries of remarks and lemmas
+abbrev entries_of : Option (List ℕ) → List Lemma → Option (List ℕ) → List Lemma → List Entry
+entries_of white_remark white black_remark black = remark_entries white_remark ++ (map LemmaEntry white ++ (remark_entries black_remark ++ map LemmaEntry black))
+
+lemmas_append : (entries more : List Entry) → lemmas_among (entries ++ more) ≡ lemmas_among entries ++ lemmas_among more
+lemmas_append [] more = refl
+lemmas_append (LemmaEntry l ∷ entries) more = ap (λ ls. l ∷ ls) (lemmas_append entries more)
+lemmas_append (RemarkEntry bytes ∷ entries) more = lemmas_append entries more
+
+lemmas_map : (ls : List Lemma) → lemmas_among (map LemmaEntry ls) ≡ ls
+lemmas_map [] = refl
+lemmas_map (l ∷ ls) = ap (λ ls. l ∷ ls) (lemmas_map ls)
+
+lemmas_remark : (remark : Option (List ℕ)) (more : List Entry) → lemmas_among (remark_entries remark ++ more) ≡ lemmas_among more
+lemmas_remark None more = refl
+lemmas_remark (Some bytes) more = refl
+
+lines_append : (entries more : List Entry) → entry_lines (entries ++ more) ≡ entry_lines entries ++ entry_lines more
+lines_append entries more = flat_map-append (λ entry. as_line (entry_text entry)) entries more
+
+lines_map : (ls : List Lemma) → entry_lines (map LemmaEntry ls) ≡ lines_of ls
+lines_map ls = flat_map-map (λ entry. as_line (entry_text entry)) LemmaEntry ls
+
+lines_remark : (remark : Option (List ℕ)) (more : List Entry) → entry_lines (remark_entries remark ++ more) ≡ remark_line remark ++ entry_lines more
+lines_remark None more = refl
+lines_remark (Some bytes) more = flat_map-cons (λ entry. as_line (entry_text entry)) (RemarkEntry bytes) more
+
+-- what holds of remarks and of lemmas
+all_remark : (P : Entry → Type 0) (remark : Option (List ℕ)) (more : List Entry) → ((bytes : List ℕ) → (is_remark bytes ≡ true) × (length bytes ≤ longest_line) → P (RemarkEntry bytes))
+    → IsRemarkLine remark → AllByRecursion P more → AllByRecursion P (remark_entries remark ++ more)
+all_remark P None more each one h = h
+all_remark P (Some bytes) more each one h = (each bytes one, h)
+
+all_lemmas : (P : Entry → Type 0) (ls : List Lemma) → AllByRecursion (λ l. P (LemmaEntry l)) ls → AllByRecursion P (map LemmaEntry ls)
+all_lemmas P [] h = tt
+all_lemmas P (l ∷ ls) h = (h.0, all_lemmas P ls h.1)
+
+few_remarks : (remark : Option (List ℕ)) → length (remark_entries remark) ≤ 1
+few_remarks None = omega arith
+few_remarks (Some bytes) = omega arith
+
+-- ---- the entries of what is written
+
+lemmas_of : (white_remark : Option (List ℕ)) (white : List Lemma) (black_remark : Option (List ℕ)) (black : List Lemma) → lemmas_among (entries_of white_remark white black_remark black) ≡ white ++ black
+lemmas_of white_remark white black_remark black =
+    lemmas_remark white_remark (map LemmaEntry white ++ (remark_entries black_remark ++ map LemmaEntry black))
+    ∙ lemmas_append (map LemmaEntry white) (remark_entries black_remark ++ map LemmaEntry black)
+    ∙ ap (λ ls. ls ++ lemmas_among (remark_entries black_remark ++ map LemmaEntry black)) (lemmas_map white)
+    ∙ ap (λ ls. white ++ ls) (lemmas_remark black_remark (map LemmaEntry black) ∙ lemmas_map black)
+
+-- their lines, and what follows them
+text_of : (white_remark : Option (List ℕ)) (white : List Lemma) (black_remark : Option (List ℕ)) (black : List Lemma) (last : List ℕ)
+    → entry_lines (entries_of white_remark white black_remark black) ++ last ≡ remark_line white_remark ++ (lines_of white ++ (remark_line black_remark ++ (lines_of black ++ last)))
+text_of white_remark white black_remark black last =
+    ap (λ text. text ++ last) (lines_remark white_remark (map LemmaEntry white ++ (remark_entries black_remark ++ map LemmaEntry black))
+    ∙ ap (λ text. remark_line white_remark ++ text) (lines_append (map LemmaEntry white) (remark_entries black_remark ++ map LemmaEntry black)
+    ∙ ap (λ text. text ++ entry_lines (remark_entries black_remark ++ map LemmaEntry black)) (lines_map white)
+    ∙ ap (λ text. lines_of white ++ text) (lines_remark black_remark (map LemmaEntry black) ∙ ap (λ text. remark_line black_remark ++ text) (lines_map black))))
+    ∙ append_assoc (remark_line white_remark) (lines_of white ++ (remark_line black_remark ++ lines_of black)) last
+    ∙ ap (λ text. remark_line white_remark ++ text) (append_assoc (lines_of white) (remark_line black_remark ++ lines_of black) last
+    ∙ ap (λ text. lines_of white ++ text) (append_assoc (remark_line black_remark) (lines_of black) last))
+
+size_of : (white_remark : Option (List ℕ)) (white : List Lemma) (black_remark : Option (List ℕ)) (black : List Lemma)
+    → length (entries_of white_remark white black_remark black) ≤ length white + length black + 2
+size_of white_remark white black_remark black =
+    omega (
+      arith,
+      length-append (remark_entries white_remark) (map LemmaEntry white ++ (remark_entries black_remark ++ map LemmaEntry black)),
+      length-append (map LemmaEntry white) (remark_entries black_remark ++ map LemmaEntry black),
+      length-append (remark_entries black_remark) (map LemmaEntry black),
+      length-map white LemmaEntry,
+      length-map black LemmaEntry,
+      few_remarks white_remark,
+      few_remarks black_remark,
+    )
+
+-- what holds of each remark and each lemma holds of each entry
+each_entry : (P : Entry → Type 0) (white_remark : Option (List ℕ)) (white : List Lemma) (black_remark : Option (List ℕ)) (black : List Lemma)
+    → ((bytes : List ℕ) → (is_remark bytes ≡ true) × (length bytes ≤ longest_line) → P (RemarkEntry bytes)) → IsRemarkLine white_remark → IsRemarkLine black_remark
+    → AllByRecursion (λ l. P (LemmaEntry l)) (white ++ black) → AllByRecursion P (entries_of white_remark white black_remark black)
+each_entry P white_remark white black_remark black each one two ls =
+    all_remark P white_remark (map LemmaEntry white ++ (remark_entries black_remark ++ map LemmaEntry black)) each one
+    (all_append P (map LemmaEntry white) (remark_entries black_remark ++ map LemmaEntry black)
+    (all_lemmas P white (all_left (λ l. P (LemmaEntry l)) white black ls))
+    (all_remark P black_remark (map LemmaEntry black) each two (all_lemmas P black (all_right (λ l. P (LemmaEntry l)) white black ls))))
+
+-- a verdict at the end of what is written, within the number of lemmas that have a spelling
+pub proof_right : (board : Board) (columns : List ℕ) (root : Position) (text : List ℕ) (v : Verdict) (proof : IsProof root (head_of board columns) text v)
+    → is_board board ≡ true → played (empty_position board) columns ≡ Some root → length proof.after ≤ greatest_number → IsRightText text v (length proof.after)
+proof_right board columns root text v proof has_board has_moves few =
+    let w = proof.written in
+    let cols : length root.columns ≡ board.cols = cols_of_root board columns root has_moves in
+    let same : board_of root ≡ board = board_along columns (empty_position board) root has_moves ∙ ap (λ n. record { cols = n; rows = board.rows }) (length-replicate board.cols []) in
+    let root_board : is_board (board_of root) ≡ true = ap is_board same ∙ has_board in
+    let count : length proof.after ≡ length (w.white ++ w.black) = shown_count root (w.white ++ w.black) proof.after w.right in
+    let both : length (w.white ++ w.black) ≡ length w.white + length w.black = length-append w.white w.black in
+    let ls = w.white ++ w.black in
+    let spellings : AllByRecursion (Fits (length root.columns)) ls = right_all_fit root [] ls proof.after root_board (omega arith) w.right in
+    let fits : AllByRecursion (Fits board.cols) ls = subst (λ n. AllByRecursion (Fits n) ls) cols spellings in
+    let among : lemmas_among (entries_of w.white_remark w.white w.black_remark w.black) ≡ ls = lemmas_of w.white_remark w.white w.black_remark w.black in
+    let sizes : length (entries_of w.white_remark w.white w.black_remark w.black) ≤ length w.white + length w.black + 2 = size_of w.white_remark w.white w.black_remark w.black in
+    record {
+      board = board;
+      columns = columns;
+      root = root;
+      entries = entries_of w.white_remark w.white w.black_remark w.black;
+      after = proof.after;
+      ended = true;
+      has_board = has_board;
+      has_moves = has_moves;
+      fit = each_entry (EntryFits board.cols) w.white_remark w.white w.black_remark w.black (λ bytes one. one.0) w.white_remarked w.black_remarked fits;
+      right = subst (λ ls. AreRight root [] ls proof.after) (sym among) w.right;
+      verdict_fits = right_verdict_fits root proof.after v few proof.verdict;
+      verdict_right = proof.verdict;
+      counted = count ∙ ap length (sym among);
+      short = each_entry (λ entry. length (entry_text entry) ≤ longest_line) w.white_remark w.white w.black_remark w.black (λ bytes one. one.1) w.white_remarked w.black_remarked
+          (all_each (Fits board.cols) (λ l. length (lemma_text l) ≤ longest_line) ls (λ l fit. omega (arith, lemma_length board.cols l fit)) fits);
+      few = omega arith;
+      spelled = w.spelled ∙ ap (λ rest. head_of board columns ++ rest) (sym (text_of w.white_remark w.white w.black_remark w.black (verdict_line v)));
+    }
+
+-- so it is accepted, with its verdict and all its lemmas
+pub proof_accepted : (board : Board) (columns : List ℕ) (root : Position) (text : List ℕ) (v : Verdict) (proof : IsProof root (head_of board columns) text v)
+    → is_board board ≡ true → played (empty_position board) columns ≡ Some root → length proof.after ≤ greatest_number → check_of text ≡ Accepted v (length proof.after)
+proof_accepted board columns root text v proof has_board has_moves few =
+    right_accepted text v (length proof.after) (proof_right board columns root text v proof has_board has_moves few)
+
+-- ---- texts that are being written
+
+-- the head alone
+pub head_stands : (root : Position) (head : List ℕ) → MayStand root head head
+head_stands root head =
+    record {
+      after = [];
+      last = [];
+      written = record {
+        white_remark = None;
+        white = [];
+        black_remark = None;
+        black = [];
+        right = refl;
+        white_sided = tt;
+        black_sided = tt;
+        white_remarked = tt;
+        black_remarked = tt;
+        spelled = sym (append-nil head);
+      };
+      ends = inl refl;
+    }
+
+-- the first question's remark and lemmas
+pub white_stands : (root : Position) (head : List ℕ) (remark : Option (List ℕ)) (white : List Lemma) (after : List Shown)
+    → AreRight root [] white after → AreSided White white → IsRemarkLine remark → MayStand root head (head ++ (remark_line remark ++ lines_of white))
+white_stands root head remark white after right sided remarked =
+    record {
+      after = after;
+      last = [];
+      written = record {
+        white_remark = remark;
+        white = white;
+        black_remark = None;
+        black = [];
+        right = subst (λ ls. AreRight root [] ls after) (sym (append-nil white)) right;
+        white_sided = sided;
+        black_sided = tt;
+        white_remarked = remarked;
+        black_remarked = tt;
+        spelled = ap (λ text. head ++ (remark_line remark ++ text)) (sym (append-nil (lines_of white)));
+      };
+      ends = inl refl;
+    }
+
+-- both questions', and the last line
+pub both_written : (root : Position) (head : List ℕ) (remark : Option (List ℕ)) (white : List Lemma) (mid : List Shown) (also : Option (List ℕ)) (black : List Lemma) (after : List Shown) (last : List ℕ)
+    → AreRight root [] white mid → AreRight root mid black after → AreSided White white → AreSided Black black → IsRemarkLine remark → IsRemarkLine also
+    → HasWritten root head (head ++ (remark_line remark ++ (lines_of white ++ (remark_line also ++ (lines_of black ++ last))))) after last
+both_written root head remark white mid also black after last first second white_sided black_sided remarked also_remarked =
+    record {
+      white_remark = remark;
+      white = white;
+      black_remark = also;
+      black = black;
+      right = AreRight_append root [] mid after white black first second;
+      white_sided = white_sided;
+      black_sided = black_sided;
+      white_remarked = remarked;
+      black_remarked = also_remarked;
+      spelled = refl;
+    }
+
+pub black_stands : (root : Position) (head : List ℕ) (remark : Option (List ℕ)) (white : List Lemma) (mid : List Shown) (also : Option (List ℕ)) (black : List Lemma) (after : List Shown)
+    → AreRight root [] white mid → AreRight root mid black after → AreSided White white → AreSided Black black → IsRemarkLine remark → IsRemarkLine also
+    → MayStand root head (head ++ (remark_line remark ++ (lines_of white ++ (remark_line also ++ lines_of black))))
+black_stands root head remark white mid also black after first second white_sided black_sided remarked also_remarked =
+    subst (MayStand root head) (ap (λ text. head ++ (remark_line remark ++ (lines_of white ++ (remark_line also ++ text)))) (append-nil (lines_of black)))
+    (record { after = after; last = []; written = both_written root head remark white mid also black after [] first second white_sided black_sided remarked also_remarked; ends = inl refl })
+
+-- a whole proof may stand
+pub proof_stands : (root : Position) (head text : List ℕ) (v : Verdict) → IsProof root head text v → MayStand root head text
+proof_stands root head text v proof = record { after = proof.after; last = verdict_line v; written = proof.written; ends = inr (v, proof.verdict, refl) }
+
+-- ---- the head
+
+-- the head of a proof for a game whose text is given, with its last line feed or without
+pub head_of_fed : (bytes : List ℕ) (root : Position) (text : IsGameText bytes root) → text.ended ≡ true → head_of text.board text.columns ≡ first_line ++ 10 ∷ bytes
+head_of_fed bytes root text fed = ap (λ game. first_line ++ 10 ∷ game) (sym (text.spelled ∙ ap (game_text text.board text.columns) fed))
+
+pub head_of_bare : (bytes : List ℕ) (root : Position) (text : IsGameText bytes root) → text.ended ≡ false → head_of text.board text.columns ≡ first_line ++ 10 ∷ as_line bytes
+head_of_bare bytes root text bare = ap (λ game. first_line ++ 10 ∷ game) (sym (ap as_line (text.spelled ∙ ap (game_text text.board text.columns) bare) ∙ feed (board_line text.board) (moves_line text.columns)))
+  where
+    feed : (board moves : List ℕ) → (board ++ (10 ∷ (moves ++ []))) ++ 10 ∷ [] ≡ board ++ (10 ∷ (moves ++ 10 ∷ []))
+    feed board moves = append_assoc board (10 ∷ (moves ++ [])) (10 ∷ []) ∙ ap (λ moves. board ++ 10 ∷ (moves ++ 10 ∷ [])) (append-nil moves)

@@ -1,0 +1,124 @@
+//! Laws of the definitions, each the contract of a function with an empty body: that right proofs say what is true,
+//! that refusals come exactly where something isn't right, and that reading and spelling are one.
+ghost use Rattle.std.specs.Prelude.{◌≡◌, ◌≢◌, ◌↔◌, ◌⊎◌, ℕ, ◌+◌, ◌≤◌, ◌<◌, true, List, [], ◌∷◌, ◌++◌, length, false, Some, None, Ok, Err, flat_map};
+ghost use Rattle.std.specs.List.{AllByRecursion};
+ghost use Rattle.game_rules.specs.Board.{Board, is_board};
+ghost use Rattle.game_rules.specs.Position.{Position, board_of, empty_position, played};
+ghost use Rattle.game_rules.specs.Value.{value};
+ghost use Rattle.game_rules.specs.Text.{game_at};
+ghost use Rattle.game_rules.specs.declared.InputFault.{InputFault};
+ghost use Rattle.game_rules.specs.declared.End.TheVariants as ends;
+ghost use Rattle.proof_text.specs.Lemma.{claim_holds, Lemma, Line};
+ghost use Rattle.proof_text.specs.Right.{Shown, IsRight, AreRight, IsVerdict, AreTrue, IsTrueVerdict};
+ghost use Rattle.proof_text.specs.Checked.{Standing, lemma_refusal, verdict_stands, checked, StandsFor};
+ghost use Rattle.proof_text.specs.Spelling.{lemma_text, verdict_text, as_line, greatest_number, Fits, VerdictFits, IsLine};
+ghost use Rattle.proof_text.specs.Reading.{read_line};
+ghost use Rattle.proof_text.specs.Texts.{is_feed, pieces, lines_in, first_number, game_of, whole_game_of, behind_game, standing, refusal_at, CheckAnswer, NoGame, Refused, Accepted, verdict_answer, check_from, start, answer_of, first_line, check_of, head_of, IsRightText};
+ghost use Rattle.proof_text.specs.Written.{IsProof};
+ghost use Rattle.proof_text.specs.declared.Verdict.{Verdict};
+ghost use Rattle.proof_text.specs.declared.Claim.TheVariants as claims;
+ghost use Rattle.proof_text.specs.declared.Why.{Why};
+ghost use Rattle.proof_text.specs.declared.Why.TheVariants as whys;
+
+/// A claim is true where the value is the end that it speaks of, or isn't.
+pub fn claims_speak_of_the_value()
+    ensures white_wins { (p : Position) → (claim_holds claims.WhiteWins p ≡ true) ↔ (value p ≡ ends.White) }
+    ensures white_fails { (p : Position) → (claim_holds claims.WhiteFails p ≡ true) ↔ (value p ≢ ends.White) }
+    ensures black_wins { (p : Position) → (claim_holds claims.BlackWins p ≡ true) ↔ (value p ≡ ends.Black) }
+    ensures black_fails { (p : Position) → (claim_holds claims.BlackFails p ≡ true) ↔ (value p ≢ ends.Black) }
+{}
+
+/// What right lemmas claim is true of the value, and a right verdict says the value of the root for the side to move.
+pub fn right_lemmas_claim_what_is_true()
+    ensures lemmas { (root : Position) (known : List Shown) (ls : List Lemma) (after : List Shown) → AreRight root known ls after → AreTrue known → AreTrue after }
+    ensures verdict { (root : Position) (known : List Shown) (v : Verdict) → AreTrue known → IsVerdict root known v → IsTrueVerdict root v }
+{}
+
+/// A lemma is refused exactly where it isn't right at any position, and a verdict where it isn't right.
+pub fn what_is_right_is_not_refused()
+    ensures lemma { (root : Position) (known : List Shown) (l : Lemma) → (lemma_refusal root known l ≡ None) ↔ ((p : Position) × IsRight root known l p) }
+    ensures verdict { (root : Position) (known : List Shown) (v : Verdict) → (verdict_stands root known v ≡ true) ↔ IsVerdict root known v }
+{}
+
+/// After lines that were all accepted stands what their right lemmas show, and their verdict.
+pub fn accepted_lines_are_stood_for()
+    ensures { (s t : Standing) (at : ℕ) (lines : List Line) → s.verdict ≡ None → checked s at lines ≡ Ok t → StandsFor s lines t }
+{}
+
+/// A line is read exactly where it is in the grammar, and as what the grammar says; bytes are a line in one way.
+pub fn a_line_that_is_read_is_in_the_grammar()
+    ensures reads { (cols : ℕ) (bytes : List ℕ) (line : Line) → (read_line cols bytes ≡ Some line) ↔ IsLine cols bytes line }
+    ensures once { (cols : ℕ) (bytes : List ℕ) (line other : Line) → IsLine cols bytes line → IsLine cols bytes other → line ≡ other }
+{}
+
+/// No spelling is that of two lemmas, of two verdicts, or of a lemma and a verdict.
+pub fn no_spelling_is_that_of_two()
+    ensures lemmas { (cols : ℕ) (l m : Lemma) → Fits cols l → Fits cols m → lemma_text l ≡ lemma_text m → l ≡ m }
+    ensures verdicts { (v w : Verdict) → VerdictFits v → VerdictFits w → verdict_text v ≡ verdict_text w → v ≡ w }
+    ensures apart { (cols : ℕ) (l : Lemma) (v : Verdict) → Fits cols l → VerdictFits v → lemma_text l ≢ verdict_text v }
+{}
+
+/// No line of the grammar has a line feed, and lemmas and verdicts are short.
+pub fn a_line_has_no_line_feed()
+    ensures feed { (cols : ℕ) (bytes : List ℕ) (line : Line) → IsLine cols bytes line → AllByRecursion (λ byte. is_feed byte ≡ false) bytes }
+    ensures lemma { (cols : ℕ) (l : Lemma) → Fits cols l → length (lemma_text l) ≤ 226 }
+    ensures verdict { (v : Verdict) → VerdictFits v → length (verdict_text v) ≤ 28 }
+{}
+
+/// Lines without line feeds that are joined to a text are the lines of that text, whatever follows.
+pub fn a_text_is_cut_into_the_lines_that_it_was_joined_from()
+    ensures pieces { (lines : List (List ℕ)) (rest : List ℕ) → AllByRecursion (λ line. AllByRecursion (λ byte. is_feed byte ≡ false) line) lines
+        → pieces (flat_map as_line lines ++ rest) ≡ lines ++ pieces rest }
+    ensures lines { (lines : List (List ℕ)) → AllByRecursion (λ line. AllByRecursion (λ byte. is_feed byte ≡ false) line) lines
+        → lines_in (pieces (flat_map as_line lines)) ≡ lines }
+{}
+
+/// Right lemmas from the root of a game have spellings, while their numbers are within those of the grammar; and so has
+/// a right verdict.
+pub fn what_is_right_has_a_spelling()
+    ensures lemmas { (root : Position) (known : List Shown) (ls : List Lemma) (after : List Shown) → is_board (board_of root) ≡ true
+        → length known + length ls ≤ greatest_number → AreRight root known ls after → AllByRecursion (Fits (length root.columns)) ls }
+    ensures verdict { (root : Position) (known : List Shown) (v : Verdict) → length known ≤ greatest_number → IsVerdict root known v → VerdictFits v }
+{}
+
+/// The lines behind a game are refused at the first that fails, by its name, where the lines before it stand; where none
+/// fails there has to be a verdict. Going through the lines one by one gives the same answer.
+pub fn the_first_line_that_fails_is_refused()
+    ensures first { (root : Position) (lines : List (List ℕ)) (k : ℕ) (why : Why) → k < length lines → refusal_at root lines k ≡ Some why
+        → ((i : ℕ) → i < k → refusal_at root lines i ≡ None) → answer_of root lines ≡ Refused (k + first_number) why }
+    ensures none { (root : Position) (lines : List (List ℕ)) → ((i : ℕ) → i < length lines → refusal_at root lines i ≡ None)
+        → answer_of root lines ≡ verdict_answer (length lines + first_number) (length (standing root lines).known) (standing root lines).verdict }
+    ensures only { (root : Position) (lines : List (List ℕ)) (at : ℕ) (why : Why) → answer_of root lines ≡ Refused at why
+        → ((k : ℕ) × (k < length lines) × (at ≡ k + first_number) × (refusal_at root lines k ≡ Some why) × ((i : ℕ) → i < k → refusal_at root lines i ≡ None))
+        ⊎ ((at ≡ length lines + first_number) × (why ≡ whys.EndedEarly) × ((standing root lines).verdict ≡ None) × ((i : ℕ) → i < length lines → refusal_at root lines i ≡ None)) }
+    ensures one_by_one { (root : Position) (lines : List (List ℕ)) → answer_of root lines ≡ check_from (start root) first_number lines }
+{}
+
+/// A text that doesn't begin with its first line is refused there. Behind it stands a game, or the fault of the game's
+/// text is the answer; and each of the two lines of the game may be cut to its front without a change.
+pub fn a_text_has_a_head_and_a_game()
+    ensures head { (bytes : List ℕ) (first : List ℕ) (more : List (List ℕ)) → pieces bytes ≡ first ∷ more → first ≢ first_line → check_of bytes ≡ Refused 1 whys.BadLine }
+    ensures fault { (bytes : List ℕ) (more : List (List ℕ)) (fault : InputFault) → pieces bytes ≡ first_line ∷ more → game_at (game_of more) ≡ Err fault → check_of bytes ≡ NoGame fault }
+    ensures only_fault { (bytes : List ℕ) (fault : InputFault) → check_of bytes ≡ NoGame fault → (more : List (List ℕ)) × (pieces bytes ≡ first_line ∷ more) × (game_at (game_of more) ≡ Err fault) }
+    ensures game { (bytes : List ℕ) (more : List (List ℕ)) (root : Position) → pieces bytes ≡ first_line ∷ more → game_at (game_of more) ≡ Ok root
+        → check_of bytes ≡ check_from (start root) first_number (behind_game more) }
+    ensures front { (more : List (List ℕ)) → game_at (game_of more) ≡ game_at (whole_game_of more) }
+{}
+
+/// A whole text is accepted exactly where it is right, with its verdict and the number of its lemmas.
+pub fn a_text_is_accepted_exactly_where_it_is_right()
+    ensures { (bytes : List ℕ) (v : Verdict) (count : ℕ) → (check_of bytes ≡ Accepted v count) ↔ IsRightText bytes v count }
+{}
+
+/// In a right text each lemma's claim is true, and a win, a loss or a draw is the value of the root.
+pub fn a_right_text_says_what_is_true()
+    ensures { (bytes : List ℕ) (v : Verdict) (count : ℕ) (text : IsRightText bytes v count) → AreTrue text.after × IsTrueVerdict text.root v }
+{}
+
+/// A proof that stands written whole behind the head of its game is a right text, and so it is accepted.
+pub fn what_is_written_whole_is_right()
+    ensures right { (board : Board) (columns : List ℕ) (root : Position) (text : List ℕ) (v : Verdict) (proof : IsProof root (head_of board columns) text v)
+        → is_board board ≡ true → played (empty_position board) columns ≡ Some root → length proof.after ≤ greatest_number → IsRightText text v (length proof.after) }
+    ensures accepted { (board : Board) (columns : List ℕ) (root : Position) (text : List ℕ) (v : Verdict) (proof : IsProof root (head_of board columns) text v)
+        → is_board board ≡ true → played (empty_position board) columns ≡ Some root → length proof.after ≤ greatest_number → check_of text ≡ Accepted v (length proof.after) }
+{}

@@ -1,0 +1,36 @@
+//! How a run ends, and the exit status of each ending.
+ghost use Rattle.std.specs.Prelude.{◌≡◌};
+ghost use Rattle.victor_run.specs.Outcome.{status_of};
+
+/// How a run ends.
+#[derive(Clone, Copy, Debug, PartialEq, Eq)]
+pub enum Ending {
+    /// The value was found and written: status 0.
+    Value,
+    /// The budget is below the cost, and that was written: status 5.
+    Unknown,
+    /// The words are no written form: status 2.
+    Usage,
+    /// The input isn't the text of a game: status 3.
+    Input,
+    /// The source failed: status 6.
+    Read,
+    /// The sink failed: status 7.
+    Write,
+}
+
+impl Ending {
+    /// The exit status.
+    pub fn status(self) -> u8
+        ensures { result ≡ status_of self }
+    {
+        match self {
+            Ending::Value => 0,
+            Ending::Usage => 2,
+            Ending::Input => 3,
+            Ending::Unknown => 5,
+            Ending::Read => 6,
+            Ending::Write => 7,
+        }
+    }
+}

@@ -1,0 +1,15 @@
+//! The top call: all that the program does, over any source and any two sinks. Its contract is what the product
+//! promises.
+#![tactic(auto)]
+
+mod command;
+mod ending;
+mod output;
+mod solve;
+mod words;
+
+pub use command::run;
+pub use ending::Ending;
+
+#[cfg(test)]
+mod tests;
