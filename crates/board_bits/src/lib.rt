@@ -1,9 +1,11 @@
-//! The board: sizes, columns and squares, positions and their moves, and the reading of a game text. A position is the
+//! The board: sizes, columns and squares, sets of squares, positions and their moves, and the reading of a game text. A position is the
 //! men of its columns, as in `game_rules`, whose definitions each contract here cites; how the men are kept is known
 //! to this crate alone.
 #![tactic(auto)]
 
 mod game_text;
+mod line;
+mod mask;
 mod order;
 mod position;
 mod size;
@@ -11,6 +13,7 @@ mod stack;
 
 pub use game_rules::{End, InputFault, InputKind, Question, Side, Way};
 pub use game_text::read_game;
+pub use mask::Mask;
 pub use order::centre_out;
 pub use position::{MoveFault, Position};
 pub use size::{Column, Size, SizeFault, Square};

@@ -3,19 +3,20 @@
 //! the last move has to be kept.
 ghost use Rattle.std.specs.Prelude.{◌≡◌, ◌+◌, ◌<◌, ◌≤◌, true, not, length};
 ghost use Rattle.std.specs.List.{list_any, list_all};
-ghost use Rattle.game_rules.specs.Board.{is_board, below, on_board, is_line, line_at, step_of};
-ghost use Rattle.game_rules.specs.Position.{board_of, empty_position, men_in, height, man_at, has_man, side_to_move, man_count, has_room, lowest_empty, empty_count, after_move, four_at, four_in_column, four_along, has_four, is_full, end_of, is_legal, IsStacked};
+ghost use Rattle.game_rules.specs.Board.{is_board, line_at};
+ghost use Rattle.game_rules.specs.Position.{board_of, empty_position, men_in, height, man_at, has_man, side_to_move, man_count, has_room, lowest_empty, empty_count, after_move, four_at, four_in_column, four_along, has_four, is_full, end_of, is_legal, IsStacked, same_position};
+ghost use Rattle.game_rules.specs.Squares.{IsSetOf, is_empty, is_playable};
+ghost use Rattle.game_rules.specs.declared.Side.TheVariants as sides;
+ghost use Rattle.board_bits.specs.Held.{is_held, holds_on_board};
 ghost use Rattle.board_bits.specs.Move.{moved_into};
 
+use crate::line::{is_line, step_of, LINE_LENGTH};
 use crate::stack::Stack;
-use crate::{Column, End, Side, Size, Square, Way};
+use crate::{Column, End, Mask, Side, Size, Square, Way};
 use std::marker::Model;
 
 /// No board has more columns.
 const MOST_COLS: usize = 10;
-
-/// How many squares in a line win.
-const LINE_LENGTH: u8 = 4;
 
 /// Why a man can't be dropped into a column.
 #[derive(Clone, Copy, Debug, PartialEq, Eq, Hash)]
@@ -113,6 +114,88 @@ impl Position {
         } else {
             None
         }
+    }
+
+    /// The squares with a man of White's.
+    pub fn white(&self) -> Mask
+        ensures { IsSetOf (has_man self.now sides.White) result }
+    {
+        self.squares_with(Some(Side::White))
+    }
+
+    /// The squares with a man of Black's.
+    pub fn black(&self) -> Mask
+        ensures { IsSetOf (has_man self.now sides.Black) result }
+    {
+        self.squares_with(Some(Side::Black))
+    }
+
+    /// The squares of the board without a man.
+    pub fn empties(&self) -> Mask
+        ensures { IsSetOf (is_empty self.now) result }
+    {
+        self.squares_with(None)
+    }
+
+    /// The squares of the board that hold a man of this side, or none.
+    fn squares_with(&self, held: Option<Side>) -> Mask
+        ensures squares { IsSetOf (holds_on_board self.now held) result }
+        ensures stacked { IsStacked self.now }
+    {
+        let squares = self.size().squares();
+        let mut mask = Mask::empty();
+        for square in squares.as_slice() {
+            if self.holds(held, *square) {
+                mask = mask.with(*square);
+            }
+        }
+        mask
+    }
+
+    /// Whether a square holds a man of this side, or none.
+    fn holds(&self, held: Option<Side>, s: Square) -> bool
+        ensures { result ≡ is_held held (man_at self.now s) }
+    {
+        match held {
+            Some(side) => self.has_man(side, s),
+            None => self.man_on(s).is_none(),
+        }
+    }
+
+    /// Whether the square is on the board and has no man.
+    pub fn is_empty(&self, s: Square) -> bool
+        ensures { result ≡ is_empty self.now s }
+    {
+        self.size().has(s) && self.man_on(s).is_none()
+    }
+
+    /// Whether a man could be dropped onto the square: it is on the board and empty, and every square below it is
+    /// filled. The end of the game doesn't matter.
+    pub fn is_playable(&self, s: Square) -> bool
+        ensures { result ≡ is_playable self.now s }
+    {
+        self.size().has(s) && s.row() == self.height(s.column()) + 1
+    }
+
+    /// Whether a man of the side stands on the square.
+    pub fn has_man(&self, side: Side, s: Square) -> bool
+        ensures { result ≡ has_man self.now side s }
+    {
+        self.man_on(s) == Some(side)
+    }
+
+    fn man_on(&self, s: Square) -> Option<Side>
+        ensures { result ≡ man_at self.now s }
+    {
+        self.man_at((s.column().index(), s.row()))
+    }
+
+    /// Whether the boards are of one size, and White's men and Black's stand on the same squares. `==` answers the
+    /// same.
+    pub fn same(&self, other: &Position) -> bool
+        ensures { result ≡ same_position self.now other.now }
+    {
+        self == other
     }
 
     /// The position after a man of the side to move was dropped into the column, which has room.
@@ -218,14 +301,14 @@ impl Position {
         ensures { result ≡ list_all (has_man self.now side) (line_at way anchor) }
     {
         for i in 0..LINE_LENGTH {
-            if !self.has_man(side, step_of(way, anchor, i)) {
+            if !self.has_man_at(side, step_of(way, anchor, i)) {
                 return false;
             }
         }
         true
     }
 
-    fn has_man(&self, side: Side, square: (u8, u8)) -> bool
+    fn has_man_at(&self, side: Side, square: (u8, u8)) -> bool
         ensures { result ≡ has_man self.now side square }
     {
         self.man_at(square) == Some(side)
@@ -240,34 +323,5 @@ impl Position {
         } else {
             None
         }
-    }
-}
-
-/// Whether the squares of a line from the anchor are all on the board.
-fn is_line(size: Size, way: Way, anchor: (u8, u8)) -> bool
-    requires column { anchor.0 < 10 }
-    requires row { anchor.1 ≤ 10 }
-    ensures { result ≡ is_line size way anchor }
-{
-    for i in 0..LINE_LENGTH {
-        if !size.has(step_of(way, anchor, i)) {
-            return false;
-        }
-    }
-    true
-}
-
-/// The square that lies so many steps from another.
-fn step_of(way: Way, square: (u8, u8), i: u8) -> (u8, u8)
-    requires column { square.0 < 10 }
-    requires row { square.1 ≤ 10 }
-    requires steps { i < 4 }
-    ensures { result ≡ step_of way square i }
-{
-    match way {
-        Way::H => (square.0 + i, square.1),
-        Way::V => (square.0, square.1 + i),
-        Way::U => (square.0 + i, square.1 + i),
-        Way::D => (square.0 + i, square.1.saturating_sub(i)),
     }
 }

@@ -1,10 +1,18 @@
 //! Sizes of boards, and their columns and squares. A value of each of these types is one that some board has, so no
 //! later code tests a number again.
-ghost use Rattle.std.specs.Prelude.{◌≡◌, ◌+◌, ◌<◌, ◌≤◌, true, Some, None, if◌then◌else◌, nat_lt, IsTrue};
-ghost use Rattle.game_rules.specs.Board.{is_board, is_cols, is_rows, on_board};
+ghost use Rattle.std.specs.Prelude.{◌≡◌, ◌+◌, ◌<◌, ◌≤◌, ◌++◌, true, Some, None, if◌then◌else◌, nat_lt, IsTrue};
+ghost use Rattle.game_rules.specs.Board.{is_board, is_cols, is_rows, on_board, is_line, line_at, step_of};
+ghost use Rattle.game_rules.specs.Squares.{squares_of_board, squares_in_column, widest};
 ghost use Rattle.board_bits.specs.Size.{sized};
+ghost use Rattle.arrayvec.specs.ArrayVec.{array_vec_len};
 
+use crate::line::{is_line, step_of};
+use crate::Way;
+use arrayvec::ArrayVec;
 use std::marker::Model;
+
+/// No board has more squares.
+const MOST_SQUARES: usize = 100;
 
 /// Why two numbers are no size of a board.
 #[derive(Clone, Copy, Debug, PartialEq, Eq, Hash)]
@@ -98,19 +106,54 @@ impl Size {
         Column { index }
     }
 
-    /// Whether the board has the square with this column and row.
-    pub(crate) fn has(&self, square: (u8, u8)) -> bool
+    /// Whether the board has the square.
+    pub fn has(&self, s: Square) -> bool
+        ensures { result ≡ on_board self.now s }
+    {
+        self.has_at((s.column().index(), s.row()))
+    }
+
+    /// Whether the board has a square with this column and row.
+    pub(crate) fn has_at(&self, square: (u8, u8)) -> bool
         ensures value { result ≡ on_board self.now square }
         ensures row { IsTrue result → (1 ≤ square.1) × (square.1 ≤ 10) }
     {
         square.0 < self.cols() && 1 <= square.1 && square.1 <= self.rows()
     }
 
+    /// Whether the squares of a line from the anchor are all on the board.
+    pub fn has_line(&self, anchor: Square, way: Way) -> bool
+        ensures { result ≡ is_line self.now way anchor }
+    {
+        is_line(*self, way, (anchor.column().index(), anchor.row()))
+    }
+
+    /// All squares of the board in square order: by column, then by row.
+    pub fn squares(&self) -> ArrayVec<Square, MOST_SQUARES>
+        ensures { result.items ≡ squares_of_board self.now }
+    {
+        let mut squares = ArrayVec::new();
+        for index in 0..self.cols() {
+            self.push_column(self.nth_column(index), &mut squares);
+        }
+        squares
+    }
+
+    /// Puts the squares of a column behind the others, from the bottom up.
+    fn push_column(&self, column: Column, squares: &mut ArrayVec<Square, MOST_SQUARES>)
+        requires { array_vec_len squares.old + self.now.rows ≤ 100 }
+        ensures { squares.new.items ≡ squares.old.items ++ squares_in_column self.now.rows column }
+    {
+        for i in 0..self.rows() {
+            squares.push(Square { column, row: i + 1 });
+        }
+    }
+
     /// The square of the column in this row, counted from 1 at the bottom; None exactly where it isn't on the board.
     pub fn square(&self, c: Column, row: u8) -> Option<Square>
         ensures { result ≡ (if on_board self.now (c, row) then Some (c, row) else None) }
     {
-        if self.has((c.index(), row)) {
+        if self.has_at((c.index(), row)) {
             Some(Square { column: c, row })
         } else {
             None
@@ -137,6 +180,10 @@ impl Model for Column {
 }
 
 impl Default for Column {
+    ghost use Rattle.std.specs.Prelude.{◌≡◌};
+
+    ghost is_default = { λ column. column ≡ 0 };
+
     fn default() -> Self {
         Column { index: 0 }
     }
@@ -171,6 +218,19 @@ impl Model for Square {
     ghost inverse = { λ s. record { column = s.0; row = s.1 } };
 }
 
+impl Default for Square {
+    ghost use Rattle.std.specs.Prelude.{◌≡◌};
+
+    ghost is_default = { λ s. s ≡ (0, 1) };
+
+    fn default() -> Self {
+        Square {
+            column: Column::default(),
+            row: 1,
+        }
+    }
+}
+
 impl Square {
     /// The column that the square stands in.
     pub fn column(&self) -> Column
@@ -186,5 +246,32 @@ impl Square {
         ensures most { result ≤ 10 }
     {
         self.row
+    }
+
+    /// The squares of a line from this anchor. They are all on the board with ten columns and ten rows, so also where
+    /// they are on any other board.
+    pub fn line(&self, way: Way) -> [Square; 4]
+        requires { is_line widest way self.now ≡ true }
+        ensures { result ≡ line_at way self.now }
+    {
+        [
+            self.step(way, 0),
+            self.step(way, 1),
+            self.step(way, 2),
+            self.step(way, 3),
+        ]
+    }
+
+    /// The square that lies so many steps from this one.
+    fn step(&self, way: Way, i: u8) -> Square
+        requires steps { i < 4 }
+        requires on_the_board { on_board widest (step_of way self.now i) ≡ true }
+        ensures { result ≡ step_of way self.now i }
+    {
+        let (index, row) = step_of(way, (self.column().index(), self.row()), i);
+        Square {
+            column: Column { index },
+            row,
+        }
     }
 }

@@ -9,3 +9,5 @@ pub mod Readers
 pub mod BoardLine
 pub mod Prefix
 pub mod Grammar
+pub mod Squares
+pub mod Groups

@@ -92,7 +92,7 @@ Among-range a (suc n) i low high = elim (cases_lt a i) [
   | inr first ↦ inl (omega arith)
 ]
 
-Among-range_gives : (a n i : ℕ) → Among i (range_with_len a n) → (a ≤ i) × (i < a + n)
+pub Among-range_gives : (a n i : ℕ) → Among i (range_with_len a n) → (a ≤ i) × (i < a + n)
 Among-range_gives a zero i among = absurd among
 Among-range_gives a (suc n) i (inl same) = (omega arith, omega arith)
 Among-range_gives a (suc n) i (inr later) = let rest = Among-range_gives (a + 1) n i later in (omega arith, omega arith)

@@ -1,6 +1,8 @@
 -- The definitions, computed at positions whose answers are known from outside.
-use Rattle.std.proofs.Common.{◌≡◌, ℕ, List, [], ◌∷◌, ◌++◌, Some, None, Ok, Err, Result, Option, codes, refl}
+use Rattle.std.proofs.Common.{◌≡◌, ℕ, List, [], ◌∷◌, ◌++◌, Some, None, Ok, Err, Result, Option, codes, length, refl}
 use Rattle.game_rules.specs.Position.{Position, end_of}
+use Rattle.game_rules.specs.Squares.{squares_of_board}
+use Rattle.game_rules.specs.Groups.{groups_of}
 use Rattle.game_rules.specs.Value.{value, value_within}
 use Rattle.game_rules.specs.Cost.{cost, count, count_within, none_closed, centre_out}
 use Rattle.game_rules.specs.Text.{game_at, read_game, board_at}
@@ -89,3 +91,17 @@ empty_list = refl
 no_list : faults (game_at (four [])) ≡ Some (BadColumn, 16)
 unfolding game_at read_game board_at
 no_list = refl
+
+-- ---- how many groups boards have
+
+smallest_board : length (groups_of (record { cols = 4; rows = 4 })) ≡ 10
+unfolding groups_of squares_of_board
+smallest_board = refl
+
+usual_board : length (groups_of (record { cols = 7; rows = 6 })) ≡ 69
+unfolding groups_of squares_of_board
+usual_board = refl
+
+widest_board : length (groups_of (record { cols = 10; rows = 10 })) ≡ 238
+unfolding groups_of squares_of_board
+widest_board = refl

@@ -5,4 +5,6 @@ pub mod Cost
 pub mod Text
 pub mod Grammar
 pub mod Laws
+pub mod Squares
+pub mod Groups
 pub mod Number

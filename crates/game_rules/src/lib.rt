@@ -2,10 +2,11 @@
 //! of a game, its value under perfect play, what the plain search costs, and the text of a game.
 //!
 //! The definitions stand in `specs/`, in the game's own terms. The enums here are those that code and definitions
-//! share, and each function of `laws` and `text_laws` is a law about the definitions: its contract is the theorem, and its
-//! body is empty. Nothing here knows how a position is kept in memory.
+//! share, and each function of `board_laws`, `laws` and `text_laws` is a law about the definitions: its contract is the
+//! theorem, and its body is empty. Nothing here knows how a position is kept in memory.
 #![tactic(auto)]
 
+pub mod board_laws;
 pub mod laws;
 pub mod text_laws;
 

@@ -47,7 +47,7 @@ ended_lines s at (line ∷ lines) w v count ended h =
     let none = (line_of_none s found.0 found.2).0 in
     cc (none, ended)
 
-shown_along : (root : Position) (l : Lemma) (p : Position) → played root l.path ≡ Some p → shown_of root l ≡ (p, l.claim) ∷ []
+pub shown_along : (root : Position) (l : Lemma) (p : Position) → played root l.path ≡ Some p → shown_of root l ≡ (p, l.claim) ∷ []
 shown_along root l p h = rw h refl
 
 -- the bounds of a line

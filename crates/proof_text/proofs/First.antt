@@ -1,10 +1,11 @@
 -- The first line that fails, line by line, and texts without a head or a game.
-use Rattle.std.proofs.Common.{◌≡◌, ◌⊎◌, ℕ, zero, suc, ◌+◌, ◌<◌, ◌≤◌, Bool, true, false, ◌&&◌, nat_le, cond, List, [], ◌∷◌, ◌++◌, length, take, drop, Option, Some, None, Ok, Err, refl, sym, ap, ◌∙◌, append_assoc, append-nil, inl, inr, arith}
+use Rattle.std.proofs.Common.{Result, ◌≡◌, ◌⊎◌, ℕ, zero, suc, ◌+◌, ◌<◌, ◌≤◌, Bool, true, false, ◌&&◌, nat_le, cond, List, [], ◌∷◌, ◌++◌, length, take, drop, Option, Some, None, Ok, Err, refl, sym, ap, ◌∙◌, append_assoc, append-nil, inl, inr, arith}
 use Rattle.std.specs.List.{range_with_len}
 use Rattle.std.specs.Str.{bytes_eq}
 use Rattle.std.proofs.lemmas.List.{length-append, length-take-le, take-append-drop, take_all}
 use Rattle.std.proofs.lemmas.Slice.Eq.{bytes_eq-Decides}
 use Rattle.std.proofs.lemmas.Bool.{cases_lt, cases_eq, lt-leb, and_left, and_right, false_from_ne_true}
+use Rattle.game_rules.specs.Board.{below}
 use Rattle.game_rules.specs.Position.{Position}
 use Rattle.game_rules.specs.Text.{game_at}
 use Rattle.game_rules.proofs.Prefix.{same_prefix}
@@ -13,10 +14,13 @@ use Rattle.proof_text.specs.Checked.{unless, or_then, Standing}
 use Rattle.proof_text.specs.Spelling.{as_line}
 use Rattle.proof_text.specs.Reading.{read_line}
 use Rattle.proof_text.specs.Texts.{pieces, lines_in, longest_line, most_lines, game_front, first_number, game_of, whole_game_of, behind_game, said_refusal, bytes_refusal, refusal_at, first_or, first_some, standing, NoGame, Refused, verdict_answer, lines_answer, line_answer, with_bytes, check_from, start, answer_of, game_answer, first_line, pieces_answer, check_of}
-use Rattle.proof_text.proofs.Pieces.{IsFeedless, lines_line, lines_last}
+use Rattle.proof_text.proofs.Pieces.{IsFeedless, pieces_some, lines_line, lines_last}
 use Rattle.proof_text.proofs.Fold.{answer_by_lines}
+use Rattle.std.proofs.lemmas.Option.{some_pair_parts}
+use Rattle.game_rules.proofs.Lists.{chosen}
+use Rattle.proof_text.specs.declared.Verdict.{Verdict}
 use Rattle.proof_text.specs.declared.Why.{Why}
-use Rattle.proof_text.specs.declared.Why.TheVariants.{BadLine}
+use Rattle.proof_text.specs.declared.Why.TheVariants.{BadLine, EndedEarly}
 
 -- ---- the first place
 
@@ -35,6 +39,39 @@ module _ {X : Type 0} (f : ℕ → Option X) where
       ap (λ found. first_or found a (first_some f (range_with_len (a + 1) n))) (each a (omega arith) (omega arith))
       ∙ first_none n (a + 1) (λ i low high. each i (omega arith) (omega arith))
 
+  first_given : (n a k : ℕ) (x : X) → first_some f (range_with_len a n) ≡ Some (k, x) → (a ≤ k) × (k < a + n) × (f k ≡ Some x) × ((i : ℕ) → a ≤ i → i < k → f i ≡ None)
+  first_given zero a k x h = cc
+  first_given (suc n) a k x h = of_first (f a) refl h (λ later. first_given n (a + 1) k x later)
+    where
+      of_first : (found : Option X) → f a ≡ found → first_or found a (first_some f (range_with_len (a + 1) n)) ≡ Some (k, x)
+          → (first_some f (range_with_len (a + 1) n) ≡ Some (k, x) → (a + 1 ≤ k) × (k < a + 1 + n) × (f k ≡ Some x) × ((i : ℕ) → a + 1 ≤ i → i < k → f i ≡ None))
+          → (a ≤ k) × (k < a + suc n) × (f k ≡ Some x) × ((i : ℕ) → a ≤ i → i < k → f i ≡ None)
+      of_first (Some y) e h later =
+          let parts = some_pair_parts a k y x h in
+          (omega (arith, parts.0), omega (arith, parts.0), sym (ap f parts.0) ∙ e ∙ ap Some parts.1, λ i low high. absurd (omega (arith, parts.0)))
+      of_first None e h later =
+          let rest = later h in (
+            omega (arith, rest.0),
+            omega (arith, rest.1),
+            rest.2,
+            λ i low high. elim (cases_eq i a) [
+              | inl same ↦ ap f same ∙ e
+              | inr past ↦ rest.3 i (omega arith) high
+            ],
+          )
+
+  none_given : (n a : ℕ) → first_some f (range_with_len a n) ≡ None → (i : ℕ) → a ≤ i → i < a + n → f i ≡ None
+  none_given zero a h i low high = absurd (omega arith)
+  none_given (suc n) a h i low high = of_first (f a) refl h (λ later i low high. none_given n (a + 1) later i low high)
+    where
+      of_first : (found : Option X) → f a ≡ found → first_or found a (first_some f (range_with_len (a + 1) n)) ≡ None
+          → (first_some f (range_with_len (a + 1) n) ≡ None → (i : ℕ) → a + 1 ≤ i → i < a + 1 + n → f i ≡ None) → f i ≡ None
+      of_first (Some y) e h later = cc
+      of_first None e h later = elim (cases_eq i a) [
+        | inl same ↦ ap f same ∙ e
+        | inr past ↦ later h i (omega arith) (omega arith)
+      ]
+
 -- the answer is the first line that fails
 pub first_refused : (root : Position) (lines : List (List ℕ)) (k : ℕ) (why : Why) → k < length lines → refusal_at root lines k ≡ Some why → ((i : ℕ) → i < k → refusal_at root lines i ≡ None)
     → answer_of root lines ≡ Refused (k + first_number) why
@@ -44,6 +81,28 @@ first_refused root lines k why within here before = ap (lines_answer root lines)
 pub none_refused : (root : Position) (lines : List (List ℕ)) → ((i : ℕ) → i < length lines → refusal_at root lines i ≡ None)
     → answer_of root lines ≡ verdict_answer (length lines + first_number) (length (standing root lines).known) (standing root lines).verdict
 none_refused root lines each = ap (lines_answer root lines) (first_none (refusal_at root lines) (length lines) 0 (λ i low high. each i (omega arith)))
+
+-- What is refused is the first line that fails, or the end where no line does and there is no verdict.
+pub refused_first : (root : Position) (lines : List (List ℕ)) (at : ℕ) (why : Why) → answer_of root lines ≡ Refused at why
+    → ((k : ℕ) × (k < length lines) × (at ≡ k + first_number) × (refusal_at root lines k ≡ Some why) × ((i : ℕ) → i < k → refusal_at root lines i ≡ None))
+    ⊎ ((at ≡ length lines + first_number) × (why ≡ EndedEarly) × ((standing root lines).verdict ≡ None) × ((i : ℕ) → i < length lines → refusal_at root lines i ≡ None))
+refused_first root lines at why h = of_first (first_some (refusal_at root lines) (below (length lines))) refl h
+  where
+    ended : (verdict : Option Verdict) (next lemmas : ℕ) → verdict_answer next lemmas verdict ≡ Refused at why → (verdict ≡ None) × (at ≡ next) × (why ≡ EndedEarly)
+    ended None next lemmas h = (refl, cc, cc)
+    ended (Some v) next lemmas h = cc
+
+    of_first : (found : Option (ℕ × Why)) → first_some (refusal_at root lines) (below (length lines)) ≡ found → lines_answer root lines found ≡ Refused at why
+        → ((k : ℕ) × (k < length lines) × (at ≡ k + first_number) × (refusal_at root lines k ≡ Some why) × ((i : ℕ) → i < k → refusal_at root lines i ≡ None))
+        ⊎ ((at ≡ length lines + first_number) × (why ≡ EndedEarly) × ((standing root lines).verdict ≡ None) × ((i : ℕ) → i < length lines → refusal_at root lines i ≡ None))
+    of_first (Some (k, found)) e h =
+        let given = first_given (refusal_at root lines) (length lines) 0 k found e in
+        let place : k + first_number ≡ at = cc in
+        let name : found ≡ why = cc in
+        inl (k, omega (arith, given.1), sym place, given.2 ∙ ap Some name, λ i high. given.3 i (omega arith) high)
+    of_first None e h =
+        let end = ended (standing root lines).verdict (length lines + first_number) (length (standing root lines).known) h in
+        inr (end.1, end.2, end.0, λ i high. none_given (refusal_at root lines) (length lines) 0 e i (omega arith) (omega arith))
 
 -- ---- line by line
 
@@ -148,3 +207,26 @@ no_game bytes more fault cut h = with_head bytes more cut ∙ ap (λ r. game_ans
 
 pub with_game : (bytes : List ℕ) (more : List (List ℕ)) (root : Position) → pieces bytes ≡ first_line ∷ more → game_at (game_of more) ≡ Ok root → check_of bytes ≡ check_from (start root) first_number (behind_game more)
 with_game bytes more root cut h = with_head bytes more cut ∙ ap (λ r. game_answer r (behind_game more)) h ∙ answer_by_lines root (behind_game more)
+
+-- the fault of a game is the answer only where there is a head and no game
+pub only_no_game : (bytes : List ℕ) (fault : InputFault) → check_of bytes ≡ NoGame fault → (more : List (List ℕ)) × (pieces bytes ≡ first_line ∷ more) × (game_at (game_of more) ≡ Err fault)
+unfolding check_of
+only_no_game bytes fault h = let some = pieces_some bytes in of_pieces some.0 some.1 some.2 (sym (ap pieces_answer some.2) ∙ h)
+  where
+    not_ended : (verdict : Option Verdict) (next lemmas : ℕ) → verdict_answer next lemmas verdict ≡ NoGame fault → ⊥
+    not_ended None next lemmas h = cc
+    not_ended (Some v) next lemmas h = cc
+
+    not_lines : (root : Position) (lines : List (List ℕ)) (found : Option (ℕ × Why)) → lines_answer root lines found ≡ NoGame fault → ⊥
+    not_lines root lines (Some (k, why)) h = cc
+    not_lines root lines None h = not_ended (standing root lines).verdict (length lines + first_number) (length (standing root lines).known) h
+
+    of_game : (r : Result Position InputFault) (lines : List (List ℕ)) → game_answer r lines ≡ NoGame fault → r ≡ Err fault
+    of_game (Err other) lines h = let same : other ≡ fault = cc in ap Err same
+    of_game (Ok root) lines h = absurd (not_lines root lines (first_some (refusal_at root lines) (below (length lines))) h)
+
+    of_pieces : (first : List ℕ) (more : List (List ℕ)) → pieces bytes ≡ first ∷ more → pieces_answer (first ∷ more) ≡ NoGame fault → (more : List (List ℕ)) × (pieces bytes ≡ first_line ∷ more) × (game_at (game_of more) ≡ Err fault)
+    of_pieces first more cut h = elim (chosen (bytes_eq first first_line) (game_answer (game_at (game_of more)) (behind_game more)) (Refused 1 BadLine) (NoGame fault) h) [
+      | inr other ↦ absurd (cc other.1)
+      | inl named ↦ (more, cut ∙ ap (λ first. first ∷ more) ((bytes_eq-Decides first first_line).0 named.0), of_game (game_at (game_of more)) (behind_game more) named.1)
+    ]

@@ -7,9 +7,9 @@ use Rattle.std.proofs.Math.Seq.{take-append_seam}
 use Rattle.game_rules.specs.Position.{Position}
 use Rattle.proof_text.specs.Lemma.{Line, ALemma, ARemark, AVerdict}
 use Rattle.proof_text.specs.Right.{Shown}
-use Rattle.proof_text.specs.Checked.{unless, Standing, line_refusal, shown_of, with_line}
+use Rattle.proof_text.specs.Checked.{first_verdict, unless, Standing, line_refusal, shown_of, with_line}
 use Rattle.proof_text.specs.Reading.{read_line}
-use Rattle.proof_text.specs.Texts.{most_lines, longest_line, first_number, first_verdict, shown_by, standing, said_refusal, bytes_refusal, refusal_at, first_or, first_some, verdict_answer, lines_answer, with_said, with_bytes, line_answer, check_from, start, answer_of}
+use Rattle.proof_text.specs.Texts.{most_lines, longest_line, first_number, shown_by, standing, said_refusal, bytes_refusal, refusal_at, first_or, first_some, verdict_answer, lines_answer, with_said, with_bytes, line_answer, check_from, start, answer_of}
 use Rattle.proof_text.proofs.Refusals.{or_none, line_of_none}
 use Rattle.proof_text.specs.declared.Verdict.{Verdict}
 use Rattle.proof_text.specs.declared.Why.{Why}

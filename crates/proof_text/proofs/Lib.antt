@@ -11,3 +11,4 @@ pub mod Whole
 pub mod Fitting
 pub mod Written
 pub mod First
+pub mod Checking

@@ -1,9 +1,10 @@
 -- The answer to whole texts, computed where it is known from outside.
-use Rattle.std.proofs.Common.{◌≡◌, ℕ, List, [], ◌∷◌, ◌++◌, take, drop, ◌+◌, codes, refl}
+use Rattle.std.proofs.Common.{Bool, true, false, replicate, is_some, ◌≡◌, ℕ, List, [], ◌∷◌, ◌++◌, take, drop, ◌+◌, codes, refl}
 use Rattle.game_rules.specs.declared.InputKind.TheVariants.{BadHeader}
 use Rattle.std.specs.List.{flat_map}
 use Rattle.std.specs.Fmt.{digits}
 use Rattle.game_rules.specs.Text.{game_at, read_game, board_at}
+use Rattle.proof_text.specs.Reading.{read_line}
 use Rattle.proof_text.specs.Spelling.{as_line}
 use Rattle.proof_text.specs.Texts.{NoGame, Accepted, Refused, check_of}
 use Rattle.proof_text.specs.declared.Verdict.TheVariants.{Draw, Loss}
@@ -105,3 +106,38 @@ empty_line = refl
 leading_zero : check_of (four (codes "abababa") (codes "01 - W+ end" ∷ codes "value loss 1" ∷ [])) ≡ Refused 4 BadLine
 unfolding check_of game_at read_game board_at digits
 leading_zero = refl
+
+-- ---- which lines are read, on a board of four columns
+
+abbrev is_read : List ℕ → Bool
+is_read bytes = is_some (read_line 4 bytes)
+
+greatest : (is_read (codes "10000000 - W+ end") ≡ true) × (is_read (codes "10000001 - W+ end") ≡ false) × (is_read (codes "0 - W+ end") ≡ false)
+unfolding digits
+greatest = (refl, refl, refl)
+
+spaces : (is_read (codes "1  - W+ end") ≡ false) × (is_read (codes "1 - W+ end ") ≡ false) × (is_read (codes " 1 - W+ end") ≡ false)
+unfolding digits
+spaces = (refl, refl, refl)
+
+letters : (is_read (codes "1 abcd W+ end") ≡ true) × (is_read (codes "1 e W+ end") ≡ false) × (is_read (codes "1 a W+ one e 1") ≡ false)
+unfolding digits
+letters = (refl, refl, refl)
+
+-- a column twice, or out of order, is a line
+cites : (is_read (codes "1 - W- all b:1 a:2 b:3") ≡ true) × (is_read (codes "1 - W- all") ≡ false) × (is_read (codes "1 - W- all a:1 a:1 a:1 a:1 a:1 a:1 a:1 a:1 a:1 a:1 a:1") ≡ false)
+unfolding digits
+cites = (refl, refl, refl)
+
+verdicts : (is_read (codes "value win 1") ≡ true) × (is_read (codes "value win 1 2") ≡ false) × (is_read (codes "value unknown 1") ≡ false) × (is_read (codes "value draw 1") ≡ false)
+unfolding digits
+verdicts = (refl, refl, refl, refl)
+
+-- a carriage return is part of no line, and a long path is none
+other_bytes : (is_read (codes "1 - W+ end" ++ 13 ∷ []) ≡ false) × (is_read (codes "# a" ++ 13 ∷ []) ≡ false) × (is_read [] ≡ false)
+unfolding digits
+other_bytes = (refl, refl, refl)
+
+long_paths : (is_read (codes "1 " ++ (replicate 100 97 ++ codes " W+ end")) ≡ true) × (is_read (codes "1 " ++ (replicate 101 97 ++ codes " W+ end")) ≡ false)
+unfolding digits
+long_paths = (refl, refl)

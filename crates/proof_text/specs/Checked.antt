@@ -1,10 +1,10 @@
 -- Which line of a proof is refused, and by which name: the tests of each kind of line in their order, the first that
 -- fails giving the name.
-use Rattle.std.specs.Prelude.{◌+◌, Bool, true, false, not, ◌==◌, List, [], ◌∷◌, ◌++◌, map, length, Option, Some, None, is_none, bytes_eq, ◌&&◌}
+use Rattle.std.specs.Prelude.{◌≡◌, ℕ, ◌+◌, Bool, true, false, not, ◌==◌, List, [], ◌∷◌, ◌++◌, map, length, Option, Some, None, is_none, bytes_eq, ◌&&◌, Result, Ok, Err}
 use Rattle.game_rules.specs.Position.{Position, other, side_to_move, has_room, after_move, end_of, played, open_columns, same_position}
 use Rattle.game_rules.specs.declared.End.{End}
 use Rattle.proof_text.specs.Lemma.{claim_for, same_claim, claim_of_end, Cite, Reason, ByEnd, ByOne, ByAll, Lemma, Line, ALemma, ARemark, AVerdict}
-use Rattle.proof_text.specs.Right.{Shown, lemma_at, goes_by_one}
+use Rattle.proof_text.specs.Right.{Shown, lemma_at, goes_by_one, AreRight, IsVerdict}
 use Rattle.proof_text.specs.declared.Claim.{Claim}
 use Rattle.proof_text.specs.declared.Claim.TheVariants.{WhiteFails, BlackFails}
 use Rattle.proof_text.specs.declared.Verdict.{Verdict}
@@ -96,3 +96,34 @@ abbrev pub with_line : Standing → Line → Standing
 with_line s (ALemma l) = record s { known = s.known ++ shown_of s.root l }
 with_line s ARemark = s
 with_line s (AVerdict v) = record s { verdict = Some v }
+
+-- ---- lists of lines
+
+abbrev pub checked_on : Option Why → ℕ → Result Standing (ℕ × Why) → Result Standing (ℕ × Why)
+checked_on None at later = later
+checked_on (Some why) at later = Err (at, why)
+
+-- what stands after further lines, the first of which has this number; or the first that is refused
+abbrev pub checked : Standing → ℕ → List Line → Result Standing (ℕ × Why)
+checked s at [] = Ok s
+checked s at (line ∷ lines) = checked_on (line_refusal s line) at (checked (with_line s line) (at + 1) lines)
+
+-- the lemmas of some lines, and their verdict, the first if there are more
+abbrev pub lemmas_in : List Line → List Lemma
+lemmas_in [] = []
+lemmas_in (ALemma l ∷ lines) = l ∷ lemmas_in lines
+lemmas_in (ARemark ∷ lines) = lemmas_in lines
+lemmas_in (AVerdict v ∷ lines) = lemmas_in lines
+
+abbrev pub first_verdict : List Line → Option Verdict
+first_verdict [] = None
+first_verdict (ALemma l ∷ lines) = first_verdict lines
+first_verdict (ARemark ∷ lines) = first_verdict lines
+first_verdict (AVerdict v ∷ lines) = Some v
+
+-- After the lines stands what their lemmas show, which are right, and their verdict, which is right too.
+pub record StandsFor (s : Standing) (lines : List Line) (t : Standing) : Type 0 where
+  pub root : t.root ≡ s.root
+  pub right : AreRight s.root s.known (lemmas_in lines) t.known
+  pub verdict : t.verdict ≡ first_verdict lines
+  pub verdict_right : (v : Verdict) → t.verdict ≡ Some v → IsVerdict t.root t.known v

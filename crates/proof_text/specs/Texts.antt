@@ -8,7 +8,7 @@ use Rattle.game_rules.specs.Grammar.{game_text, last_feed}
 use Rattle.game_rules.specs.declared.InputFault.{InputFault}
 use Rattle.proof_text.specs.Lemma.{Lemma, Line, ALemma, ARemark, AVerdict}
 use Rattle.proof_text.specs.Right.{Shown, AreRight, IsVerdict}
-use Rattle.proof_text.specs.Checked.{unless, or_then, Standing, line_refusal, shown_of, with_line}
+use Rattle.proof_text.specs.Checked.{unless, or_then, Standing, line_refusal, shown_of, with_line, first_verdict}
 use Rattle.proof_text.specs.Spelling.{lemma_text, verdict_text, as_line, is_remark, Fits, VerdictFits}
 use Rattle.proof_text.specs.Reading.{read_line}
 use Rattle.proof_text.specs.declared.Verdict.{Verdict}
@@ -71,13 +71,6 @@ behind_game (board ∷ []) = []
 behind_game (board ∷ moves ∷ more) = lines_in more
 
 -- ---- the first line that fails
-
--- the verdict of some lines, the first if there are more
-abbrev pub first_verdict : List Line → Option Verdict
-first_verdict [] = None
-first_verdict (ALemma l ∷ lines) = first_verdict lines
-first_verdict (ARemark ∷ lines) = first_verdict lines
-first_verdict (AVerdict v ∷ lines) = Some v
 
 -- what the lemmas of some lines show
 abbrev pub shown_by : Position → List Line → List Shown

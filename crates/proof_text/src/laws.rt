@@ -10,7 +10,7 @@ ghost use Rattle.game_rules.specs.declared.InputFault.{InputFault};
 ghost use Rattle.game_rules.specs.declared.End.TheVariants as ends;
 ghost use Rattle.proof_text.specs.Lemma.{claim_holds, Lemma, Line};
 ghost use Rattle.proof_text.specs.Right.{Shown, IsRight, AreRight, IsVerdict, AreTrue, IsTrueVerdict};
-ghost use Rattle.proof_text.specs.Checked.{Standing, lemma_refusal, verdict_stands, line_refusal};
+ghost use Rattle.proof_text.specs.Checked.{Standing, lemma_refusal, verdict_stands, checked, StandsFor};
 ghost use Rattle.proof_text.specs.Spelling.{lemma_text, verdict_text, as_line, greatest_number, Fits, VerdictFits, IsLine};
 ghost use Rattle.proof_text.specs.Reading.{read_line};
 ghost use Rattle.proof_text.specs.Texts.{is_feed, pieces, lines_in, first_number, game_of, whole_game_of, behind_game, standing, refusal_at, CheckAnswer, NoGame, Refused, Accepted, verdict_answer, check_from, start, answer_of, first_line, check_of, head_of, IsRightText};
@@ -38,6 +38,11 @@ pub fn right_lemmas_claim_what_is_true()
 pub fn what_is_right_is_not_refused()
     ensures lemma { (root : Position) (known : List Shown) (l : Lemma) → (lemma_refusal root known l ≡ None) ↔ ((p : Position) × IsRight root known l p) }
     ensures verdict { (root : Position) (known : List Shown) (v : Verdict) → (verdict_stands root known v ≡ true) ↔ IsVerdict root known v }
+{}
+
+/// After lines that were all accepted stands what their right lemmas show, and their verdict.
+pub fn accepted_lines_are_stood_for()
+    ensures { (s t : Standing) (at : ℕ) (lines : List Line) → s.verdict ≡ None → checked s at lines ≡ Ok t → StandsFor s lines t }
 {}
 
 /// A line is read exactly where it is in the grammar, and as what the grammar says; bytes are a line in one way.
@@ -83,6 +88,9 @@ pub fn the_first_line_that_fails_is_refused()
         → ((i : ℕ) → i < k → refusal_at root lines i ≡ None) → answer_of root lines ≡ Refused (k + first_number) why }
     ensures none { (root : Position) (lines : List (List ℕ)) → ((i : ℕ) → i < length lines → refusal_at root lines i ≡ None)
         → answer_of root lines ≡ verdict_answer (length lines + first_number) (length (standing root lines).known) (standing root lines).verdict }
+    ensures only { (root : Position) (lines : List (List ℕ)) (at : ℕ) (why : Why) → answer_of root lines ≡ Refused at why
+        → ((k : ℕ) × (k < length lines) × (at ≡ k + first_number) × (refusal_at root lines k ≡ Some why) × ((i : ℕ) → i < k → refusal_at root lines i ≡ None))
+        ⊎ ((at ≡ length lines + first_number) × (why ≡ whys.EndedEarly) × ((standing root lines).verdict ≡ None) × ((i : ℕ) → i < length lines → refusal_at root lines i ≡ None)) }
     ensures one_by_one { (root : Position) (lines : List (List ℕ)) → answer_of root lines ≡ check_from (start root) first_number lines }
 {}
 
@@ -91,6 +99,7 @@ pub fn the_first_line_that_fails_is_refused()
 pub fn a_text_has_a_head_and_a_game()
     ensures head { (bytes : List ℕ) (first : List ℕ) (more : List (List ℕ)) → pieces bytes ≡ first ∷ more → first ≢ first_line → check_of bytes ≡ Refused 1 whys.BadLine }
     ensures fault { (bytes : List ℕ) (more : List (List ℕ)) (fault : InputFault) → pieces bytes ≡ first_line ∷ more → game_at (game_of more) ≡ Err fault → check_of bytes ≡ NoGame fault }
+    ensures only_fault { (bytes : List ℕ) (fault : InputFault) → check_of bytes ≡ NoGame fault → (more : List (List ℕ)) × (pieces bytes ≡ first_line ∷ more) × (game_at (game_of more) ≡ Err fault) }
     ensures game { (bytes : List ℕ) (more : List (List ℕ)) (root : Position) → pieces bytes ≡ first_line ∷ more → game_at (game_of more) ≡ Ok root
         → check_of bytes ≡ check_from (start root) first_number (behind_game more) }
     ensures front { (more : List (List ℕ)) → game_at (game_of more) ≡ game_at (whole_game_of more) }

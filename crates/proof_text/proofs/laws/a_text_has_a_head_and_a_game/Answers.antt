@@ -1,4 +1,4 @@
-use Rattle.proof_text.proofs.First.{no_head, no_game, with_game, fronts_decide}
+use Rattle.proof_text.proofs.First.{no_head, no_game, only_no_game, with_game, fronts_decide}
 use Rattle.proof_text.proofs.laws.a_text_has_a_head_and_a_game.Goals as goal
 
 pub returns-clause-head : goal.returns-clause-head
@@ -12,3 +12,6 @@ returns-clause-game c = with_game
 
 pub returns-clause-front : goal.returns-clause-front
 returns-clause-front c = fronts_decide
+
+pub returns-clause-only_fault : goal.returns-clause-only_fault
+returns-clause-only_fault c = only_no_game

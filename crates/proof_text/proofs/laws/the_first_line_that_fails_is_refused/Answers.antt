@@ -1,4 +1,4 @@
-use Rattle.proof_text.proofs.First.{first_refused, none_refused}
+use Rattle.proof_text.proofs.First.{first_refused, none_refused, refused_first}
 use Rattle.proof_text.proofs.Fold.{answer_by_lines}
 use Rattle.proof_text.proofs.laws.the_first_line_that_fails_is_refused.Goals as goal
 
@@ -10,3 +10,6 @@ returns-clause-none c = none_refused
 
 pub returns-clause-one_by_one : goal.returns-clause-one_by_one
 returns-clause-one_by_one c = answer_by_lines
+
+pub returns-clause-only : goal.returns-clause-only
+returns-clause-only c = refused_first

@@ -1,0 +1,340 @@
+-- Groups are the lines of a board, each once and in order: membership, order, how many there are, and four in a line.
+use Rattle.std.proofs.Common.{◌≡◌, ◌≢◌, ◌⊎◌, ℕ, zero, suc, ◌+◌, ◌<◌, ◌≤◌, Bool, true, ◌&&◌, ◌||◌, ◌==◌, nat_le, List, [], ◌∷◌, ◌++◌, length, map, filter, refl, sym, ap, ◌∙◌, subst, inl, inr, arith, lit<}
+use Rattle.std.specs.Prelude.{⊤}
+use Rattle.std.specs.List.{list_any, list_all, flat_map, range_with_len, AllPairs, slice_index_or}
+use Rattle.std.proofs.lemmas.Bool.{cases_Bool, cases_eq, both_ways, and_parts, and_from, or_cases, eq-eqb, eqb-true, leb-true}
+use Rattle.std.proofs.lemmas.List.{map-append}
+use Rattle.std.proofs.lemmas.List.Concat.{flat_map-cons}
+use Rattle.std.proofs.lemmas.List.Folds.{list_any-append}
+use Rattle.std.proofs.lemmas.List.Elements.{filter-append}
+use Rattle.std.proofs.lemmas.List.Kept.{AllPairs-cons}
+use Rattle.game_rules.specs.Board.{Board, Square, below, is_cols, is_rows, is_board, on_board, step_of, is_line, ways}
+use Rattle.game_rules.specs.Position.{Position, board_of, has_man, four_at, four_in_column, four_along, has_four}
+use Rattle.game_rules.specs.Squares.{same_square, squares_in_column, squares_of_board, widest, StandsBefore}
+use Rattle.game_rules.specs.Groups.{Group, squares_of, lies_on, rank, same_group, has_group, groups_along, groups_of, Precedes, groups_where, IsGroupSetOf}
+use Rattle.game_rules.proofs.Lists.{Among, any_gives, any_from, any_same, any_map, Among-append_cases, Among-filter, Among-filter_gives, Among-map, Among-flat_map, Among-flat_map_gives, Among-range_gives}
+use Rattle.game_rules.proofs.Ends.{on_board_parts, on_board_from, each_step, from_steps, step_none, Among-ways}
+use Rattle.game_rules.proofs.Squares.{agree, same_square_refl, same_square_is, Among-map_gives, Among-board, filter_same}
+use Rattle.game_rules.specs.declared.Side.{Side}
+use Rattle.game_rules.specs.declared.Way.{Way}
+use Rattle.game_rules.specs.declared.Way.TheVariants.{H, V, U, D}
+
+-- ---- membership
+
+pub anchor_on : (b : Board) (way : Way) (anchor : Square) → is_line b way anchor ≡ true → on_board b anchor ≡ true
+anchor_on b way anchor h = subst (λ u. on_board b u ≡ true) (step_none way anchor) (each_step (on_board b) way anchor h 0 (omega arith))
+
+pub Among-groups : (b : Board) (g : Group) → lies_on b g ≡ true → Among g (groups_of b)
+unfolding groups_of
+Among-groups b (anchor, way) h =
+    Among-flat_map (groups_along b) ways way (anchor, way) (Among-ways way)
+    (Among-map (λ s. (s, way)) (filter (is_line b way) (squares_of_board b)) anchor (Among-filter (is_line b way) (squares_of_board b) anchor (Among-board b anchor (anchor_on b way anchor h)) h))
+
+pub Among-groups_gives : (b : Board) (g : Group) → Among g (groups_of b) → lies_on b g ≡ true
+unfolding groups_of
+Among-groups_gives b g among =
+    let along = Among-flat_map_gives (groups_along b) ways g among in
+    let anchored = Among-map_gives (λ s. (s, along.0)) (filter (is_line b along.0) (squares_of_board b)) g along.2 in
+    subst (λ g. lies_on b g ≡ true) anchored.2 (Among-filter_gives (is_line b along.0) (squares_of_board b) anchored.0 anchored.1).1
+
+-- a line of a board is one of each larger board
+pub line_wider : (b c : Board) → b.cols ≤ c.cols → b.rows ≤ c.rows → (way : Way) (anchor : Square) → is_line b way anchor ≡ true → is_line c way anchor ≡ true
+line_wider b c wide high way anchor h = from_steps (on_board c) way anchor (λ i low. wider (step_of way anchor i) (each_step (on_board b) way anchor h i low))
+  where
+    wider : (u : Square) → on_board b u ≡ true → on_board c u ≡ true
+    wider (x, y) on = let parts = on_board_parts b x y on in on_board_from c x y (omega arith) parts.1 (omega arith)
+
+-- ---- sizes one by one
+
+-- what holds at each number of columns that a board has
+pub of_cols : (P : ℕ → Type 0) → P 4 → P 5 → P 6 → P 7 → P 8 → P 9 → P 10 → (n : ℕ) → is_cols n ≡ true → P n
+of_cols P p4 p5 p6 p7 p8 p9 p10 n h = at (cases_eq n 4) (cases_eq n 5) (cases_eq n 6) (cases_eq n 7) (cases_eq n 8) (cases_eq n 9)
+  where
+    both : (nat_le 4 n ≡ true) × (nat_le n 10 ≡ true)
+    both = and_parts (nat_le 4 n) (nat_le n 10) h
+
+    at : (n ≡ 4) ⊎ (n ≢ 4) → (n ≡ 5) ⊎ (n ≢ 5) → (n ≡ 6) ⊎ (n ≢ 6) → (n ≡ 7) ⊎ (n ≢ 7) → (n ≡ 8) ⊎ (n ≢ 8) → (n ≡ 9) ⊎ (n ≢ 9) → P n
+    at (inl e) d5 d6 d7 d8 d9 = subst P (sym e) p4
+    at (inr d4) (inl e) d6 d7 d8 d9 = subst P (sym e) p5
+    at (inr d4) (inr d5) (inl e) d7 d8 d9 = subst P (sym e) p6
+    at (inr d4) (inr d5) (inr d6) (inl e) d8 d9 = subst P (sym e) p7
+    at (inr d4) (inr d5) (inr d6) (inr d7) (inl e) d9 = subst P (sym e) p8
+    at (inr d4) (inr d5) (inr d6) (inr d7) (inr d8) (inl e) = subst P (sym e) p9
+    at (inr d4) (inr d5) (inr d6) (inr d7) (inr d8) (inr d9) =
+        let least : 4 ≤ n = leb-true 4 n both.0 in
+        let most : n ≤ 10 = leb-true n 10 both.1 in
+        let last : 10 ≡ n = omega arith in subst P last p10
+
+-- what holds at each number of rows that a board has
+pub of_rows : (P : ℕ → Type 0) → P 4 → P 6 → P 8 → P 10 → (n : ℕ) → is_rows n ≡ true → P n
+of_rows P p4 p6 p8 p10 n h = elim (or_cases (n == 4 || n == 6 || n == 8) (n == 10) h) [
+  | inr e ↦ subst P (sym (eqb-true n 10 e)) p10
+  | inl less ↦ elim (or_cases (n == 4 || n == 6) (n == 8) less) [
+    | inr e ↦ subst P (sym (eqb-true n 8 e)) p8
+    | inl least ↦ elim (or_cases (n == 4) (n == 6) least) [
+      | inl e ↦ subst P (sym (eqb-true n 4 e)) p4
+      | inr e ↦ subst P (sym (eqb-true n 6 e)) p6
+    ]
+  ]
+]
+
+pub board_most : (b : Board) → is_board b ≡ true → (b.cols ≤ 10) × (b.rows ≤ 10)
+board_most b h =
+    let both = and_parts (is_cols b.cols) (is_rows b.rows) h in (
+      of_cols (λ n. n ≤ 10) (omega arith) (omega arith) (omega arith) (omega arith) (omega arith) (omega arith) (omega arith) b.cols both.0,
+      of_rows (λ n. n ≤ 10) (omega arith) (omega arith) (omega arith) (omega arith) b.rows both.1,
+    )
+
+-- the lines of a board are lines of the widest one
+pub line_widest : (b : Board) → is_board b ≡ true → (way : Way) (anchor : Square) → is_line b way anchor ≡ true → is_line widest way anchor ≡ true
+line_widest b h way anchor line = let most = board_most b h in line_wider b widest most.0 most.1 way anchor line
+
+-- ---- how many groups there are, size by size
+
+abbrev Fits : ℕ → Type 0
+Fits cols = (rows : ℕ) → is_rows rows ≡ true → nat_le (length (groups_of (record { cols = cols; rows = rows }))) 238 ≡ true
+
+at_4 : Fits 4
+unfolding groups_of squares_of_board
+at_4 = of_rows (λ rows. nat_le (length (groups_of (record { cols = 4; rows = rows }))) 238 ≡ true) refl refl refl refl
+
+at_5 : Fits 5
+unfolding groups_of squares_of_board
+at_5 = of_rows (λ rows. nat_le (length (groups_of (record { cols = 5; rows = rows }))) 238 ≡ true) refl refl refl refl
+
+at_6 : Fits 6
+unfolding groups_of squares_of_board
+at_6 = of_rows (λ rows. nat_le (length (groups_of (record { cols = 6; rows = rows }))) 238 ≡ true) refl refl refl refl
+
+at_7 : Fits 7
+unfolding groups_of squares_of_board
+at_7 = of_rows (λ rows. nat_le (length (groups_of (record { cols = 7; rows = rows }))) 238 ≡ true) refl refl refl refl
+
+at_8 : Fits 8
+unfolding groups_of squares_of_board
+at_8 = of_rows (λ rows. nat_le (length (groups_of (record { cols = 8; rows = rows }))) 238 ≡ true) refl refl refl refl
+
+at_9 : Fits 9
+unfolding groups_of squares_of_board
+at_9 = of_rows (λ rows. nat_le (length (groups_of (record { cols = 9; rows = rows }))) 238 ≡ true) refl refl refl refl
+
+at_10 : Fits 10
+unfolding groups_of squares_of_board
+at_10 = of_rows (λ rows. nat_le (length (groups_of (record { cols = 10; rows = rows }))) 238 ≡ true) refl refl refl refl
+
+-- no board has more than 238 groups
+pub groups_fit : (b : Board) → is_board b ≡ true → length (groups_of b) ≤ 238
+groups_fit b h =
+    let both = and_parts (is_cols b.cols) (is_rows b.rows) h in
+    leb-true (length (groups_of b)) 238 (of_cols Fits at_4 at_5 at_6 at_7 at_8 at_9 at_10 b.cols both.0 b.rows both.1)
+
+-- ---- order
+
+-- each element stands before each later one
+abbrev Ordered : {X : Type 0} → (X → X → Type 0) → List X → Type 0
+Ordered R [] = ⊤
+Ordered R (x ∷ xs) = ((y : _) → Among y xs → R x y) × Ordered R xs
+
+Ordered-append : {X : Type 0} (R : X → X → Type 0) (xs ys : List X) → Ordered R xs → Ordered R ys → ((x y : X) → Among x xs → Among y ys → R x y) → Ordered R (xs ++ ys)
+Ordered-append R [] ys left right between = right
+Ordered-append R (x ∷ xs) ys left right between = (
+  (λ y among. elim (Among-append_cases y xs ys among) [ inl here ↦ left.0 y here | inr later ↦ between x y (inl refl) later ]),
+  Ordered-append R xs ys left.1 right (λ a b here later. between a b (inr here) later),
+)
+
+Ordered-filter : {X : Type 0} (R : X → X → Type 0) (p : X → Bool) (xs : List X) → Ordered R xs → Ordered R (filter p xs)
+Ordered-filter R p [] h = h
+Ordered-filter R p (x ∷ xs) h = elim (cases_Bool (p x)) [
+  | inl passes ↦ rw passes ((λ y among. h.0 y (Among-filter_gives p xs y among).0), Ordered-filter R p xs h.1)
+  | inr fails ↦ rw fails (Ordered-filter R p xs h.1)
+]
+
+Ordered-map : {X Y : Type 0} (R : X → X → Type 0) (S : Y → Y → Type 0) (f : X → Y) (xs : List X) → ((a b : X) → R a b → S (f a) (f b)) → Ordered R xs → Ordered S (map f xs)
+Ordered-map R S f [] keeps h = tt
+Ordered-map R S f (x ∷ xs) keeps h = (
+  (λ y among. let from = Among-map_gives f xs y among in subst (S (f x)) from.2 (keeps x from.0 (h.0 from.0 from.1))),
+  Ordered-map R S f xs keeps h.1,
+)
+
+Ordered-flat_map : {X Y : Type 0} (R : X → X → Type 0) (S : Y → Y → Type 0) (f : X → List Y) (xs : List X) → ((x : X) → Ordered S (f x))
+    → ((a b : X) (y z : Y) → R a b → Among y (f a) → Among z (f b) → S y z) → Ordered R xs → Ordered S (flat_map f xs)
+Ordered-flat_map R S f [] each between h = tt
+Ordered-flat_map R S f (x ∷ xs) each between h = rw flat_map-cons (Ordered-append S (f x) (flat_map f xs) (each x) (Ordered-flat_map R S f xs each between h.1)
+    (λ y z here later. let from = Among-flat_map_gives f xs z later in between x from.0 y z (h.0 from.0 from.1) here from.2))
+
+Ordered-range : (a n : ℕ) → Ordered (λ i j. i < j) (range_with_len a n)
+Ordered-range a zero = tt
+Ordered-range a (suc n) = ((λ j among. let within = Among-range_gives (a + 1) n j among in omega arith), Ordered-range (a + 1) n)
+
+pairs_from_ordered : {X : Type 0} (R : X → X → Type 0) (xs : List X) → Ordered R xs → AllPairs R xs
+pairs_from_ordered R [] h = λ i j d before within. absurd (omega arith)
+pairs_from_ordered R (x ∷ xs) h = AllPairs-cons R x xs (λ k d within. h.0 (slice_index_or xs k d) (among_at xs k d within)) (pairs_from_ordered R xs h.1)
+  where
+    among_at : {X : Type 0} (xs : List X) (k : ℕ) (d : X) → k < length xs → Among (slice_index_or xs k d) xs
+    among_at [] k d within = absurd (omega arith)
+    among_at (x ∷ xs) zero d within = inl refl
+    among_at (x ∷ xs) (suc k) d within = inr (among_at xs k d (omega arith))
+
+squares_in_order : (b : Board) → Ordered StandsBefore (squares_of_board b)
+unfolding squares_of_board
+squares_in_order b = Ordered-flat_map (λ i j. i < j) StandsBefore (squares_in_column b.rows) (below b.cols)
+    (λ c. Ordered-map (λ i j. i < j) StandsBefore (λ i. (c, i + 1)) (below b.rows) (λ i j less. inr (refl, omega arith)) (Ordered-range 0 b.rows))
+    (λ c d u v less in_c in_d. inl (subst (λ n. n < v.0) (column_is c u in_c) (subst (λ n. c < n) (column_is d v in_d) less)))
+    (Ordered-range 0 b.cols)
+  where
+    column_is : (c : ℕ) (u : Square) → Among u (squares_in_column b.rows c) → c ≡ u.0
+    column_is c u among = let from = Among-map_gives (λ i. (c, i + 1)) (below b.rows) u among in ap (λ (s : Square). s.0) from.2
+
+ranks : Ordered (λ v w. rank v < rank w) ways
+ranks = (after_h, (after_v, (after_u, ((λ w among. absurd among), tt))))
+  where
+    after_u : (w : Way) → Among w (D ∷ []) → 2 < rank w
+    after_u w (inl d) = subst (λ w. 2 < rank w) d (lit< tt)
+    after_u w (inr none) = absurd none
+
+    after_v : (w : Way) → Among w (U ∷ D ∷ []) → 1 < rank w
+    after_v w (inl u) = subst (λ w. 1 < rank w) u (lit< tt)
+    after_v w (inr later) = let more : 2 < rank w = after_u w later in omega arith
+
+    after_h : (w : Way) → Among w (V ∷ U ∷ D ∷ []) → 0 < rank w
+    after_h w (inl v) = subst (λ w. 0 < rank w) v (lit< tt)
+    after_h w (inr later) = let more : 1 < rank w = after_v w later in omega arith
+
+pub squares_ordered : (b : Board) → AllPairs StandsBefore (squares_of_board b)
+squares_ordered b = pairs_from_ordered StandsBefore (squares_of_board b) (squares_in_order b)
+
+-- each group once, in group order
+pub groups_ordered : (b : Board) → AllPairs Precedes (groups_of b)
+unfolding groups_of
+groups_ordered b = pairs_from_ordered Precedes (groups_of b) ordered
+  where
+    way_is : (way : Way) (g : Group) → Among g (groups_along b way) → way ≡ g.1
+    way_is way g among = let from = Among-map_gives (λ s. (s, way)) (filter (is_line b way) (squares_of_board b)) g among in ap (λ (g : Group). g.1) from.2
+
+    along : (way : Way) → Ordered Precedes (groups_along b way)
+    along way = Ordered-map StandsBefore Precedes (λ s. (s, way)) (filter (is_line b way) (squares_of_board b)) (λ u v less. inr (refl, less)) (Ordered-filter StandsBefore (is_line b way) (squares_of_board b) (squares_in_order b))
+
+    ordered : Ordered Precedes (groups_of b)
+    ordered = Ordered-flat_map (λ v w. rank v < rank w) Precedes (groups_along b) ways along
+        (λ v w g h less in_v in_w. inl (subst (λ way. rank way < rank h.1) (way_is v g in_v) (subst (λ way. rank v < rank way) (way_is w h in_w) less))) ranks
+
+-- ---- four in a line
+
+any_flat_map : {X Y : Type 0} (p : Y → Bool) (f : X → List Y) (xs : List X) → list_any p (flat_map f xs) ≡ list_any (λ x. list_any p (f x)) xs
+any_flat_map p f [] = refl
+any_flat_map p f (x ∷ xs) = rw flat_map-cons (list_any-append p (f x) (flat_map f xs) ∙ ap (λ b. list_any p (f x) || b) (any_flat_map p f xs))
+
+any_filter : {X : Type 0} (p q : X → Bool) (xs : List X) → list_any p (filter q xs) ≡ list_any (λ x. q x && p x) xs
+any_filter p q [] = refl
+any_filter p q (x ∷ xs) = elim (cases_Bool (q x)) [
+  | inl passes ↦ rw passes (ap (λ b. p x || b) (any_filter p q xs))
+  | inr fails ↦ rw fails (any_filter p q xs)
+]
+
+-- a side has four in a line exactly where it owns all squares of some group
+pub four_by_groups : (p : Position) (side : Side) → has_four p side ≡ list_any (λ g. list_all (has_man p side) (squares_of g)) (groups_of (board_of p))
+unfolding groups_of squares_of_board
+four_by_groups p side =
+    any_same (four_along p side) (λ way. list_any owned (groups_along (board_of p) way)) ways (λ way _. along way)
+    ∙ sym (any_flat_map owned (groups_along (board_of p)) ways)
+  where
+    owned : Group → Bool
+    owned g = list_all (has_man p side) (squares_of g)
+
+    in_column : (way : Way) (c : ℕ) → four_in_column p side way c ≡ list_any (four_at p side way) (squares_in_column p.rows c)
+    in_column way c = sym (any_map (four_at p side way) (λ i. (c, i + 1)) (below p.rows))
+
+    along : (way : Way) → four_along p side way ≡ list_any owned (groups_along (board_of p) way)
+    along way =
+        any_same (four_in_column p side way) (λ c. list_any (four_at p side way) (squares_in_column p.rows c)) (below (length p.columns)) (λ c _. in_column way c)
+        ∙ sym (any_flat_map (four_at p side way) (squares_in_column p.rows) (below (length p.columns)))
+        ∙ sym (any_filter (λ s. owned (s, way)) (is_line (board_of p) way) (squares_of_board (board_of p)))
+        ∙ sym (any_map owned (λ s. (s, way)) (filter (is_line (board_of p) way) (squares_of_board (board_of p))))
+
+-- ---- sets of groups
+
+rank_is : (v w : Way) → rank v ≡ rank w → v ≡ w
+rank_is H H e = refl
+rank_is H V e = absurd (omega arith)
+rank_is H U e = absurd (omega arith)
+rank_is H D e = absurd (omega arith)
+rank_is V H e = absurd (omega arith)
+rank_is V V e = refl
+rank_is V U e = absurd (omega arith)
+rank_is V D e = absurd (omega arith)
+rank_is U H e = absurd (omega arith)
+rank_is U V e = absurd (omega arith)
+rank_is U U e = refl
+rank_is U D e = absurd (omega arith)
+rank_is D H e = absurd (omega arith)
+rank_is D V e = absurd (omega arith)
+rank_is D U e = absurd (omega arith)
+rank_is D D e = refl
+
+pub same_group_refl : (g : Group) → same_group g g ≡ true
+same_group_refl (s, way) = and_from _ _ (same_square_refl s) (eq-eqb (rank way) (rank way) refl)
+
+pub same_group_is : (g h : Group) → same_group g h ≡ true → g ≡ h
+same_group_is (s, v) (t, w) h =
+    let both = and_parts (same_square s t) (rank v == rank w) h in
+    rw (same_square_is s t both.0, rank_is v w (eqb-true (rank v) (rank w) both.1)) refl
+
+pub group_gives : (gs : List Group) (g : Group) → has_group gs g ≡ true → Among g gs
+group_gives gs g h = let found = any_gives (same_group g) gs h in subst (λ h. Among h gs) (sym (same_group_is g found.0 found.2)) found.1
+
+pub group_from : (gs : List Group) (g : Group) → Among g gs → has_group gs g ≡ true
+group_from gs g among = any_from (same_group g) gs g among (same_group_refl g)
+
+pub has_group_of : (b : Board) (g : Group) → has_group (groups_of b) g ≡ lies_on b g
+has_group_of b g = agree _ _ (λ h. Among-groups_gives b g (group_gives (groups_of b) g h)) (λ h. group_from (groups_of b) g (Among-groups b g h))
+
+-- a set by a test has a group of the widest board exactly where the test passes, and no other group
+pub has_group_where : (test : Group → Bool) (g : Group) → lies_on widest g ≡ true → has_group (groups_where test) g ≡ test g
+unfolding groups_where
+has_group_where test g on = agree _ _
+    (λ h. (Among-filter_gives test (groups_of widest) g (group_gives (groups_where test) g h)).1)
+    (λ h. group_from (groups_where test) g (Among-filter test (groups_of widest) g (Among-groups widest g on) h))
+
+pub group_where_on : (test : Group → Bool) (g : Group) → has_group (groups_where test) g ≡ true → lies_on widest g ≡ true
+unfolding groups_where
+group_where_on test g h = Among-groups_gives widest g (Among-filter_gives test (groups_of widest) g (group_gives (groups_where test) g h)).0
+
+-- tests that agree on the groups of the widest board give one set
+pub groups_where_same : (f g : Group → Bool) → ((h : Group) → lies_on widest h ≡ true → f h ≡ g h) → groups_where f ≡ groups_where g
+unfolding groups_where
+groups_where_same f g same = filter_same f g (groups_of widest) (λ h among. same h (Among-groups_gives widest h among))
+
+-- a set by a test that only groups of the widest board pass
+pub group_set_where : (test : Group → Bool) → ((g : Group) → test g ≡ true → lies_on widest g ≡ true) → IsGroupSetOf test (groups_where test)
+group_set_where test within = record {
+  in_order = refl;
+  has = λ g. elim (cases_Bool (lies_on widest g)) [
+    | inl on ↦ has_group_where test g on
+    | inr off ↦ agree _ _ (λ h. absurd (both_ways (lies_on widest g) off (group_where_on test g h))) (λ h. absurd (both_ways (lies_on widest g) off (within g h)))
+  ];
+}
+
+pub group_set_same : (f g : Group → Bool) (gs : List Group) → IsGroupSetOf f gs → ((h : Group) → f h ≡ g h) → IsGroupSetOf g gs
+group_set_same f g gs set same = record {
+  in_order = set.in_order ∙ groups_where_same f g (λ h on. same h);
+  has = λ h. set.has h ∙ same h;
+}
+
+-- ---- groups column by column
+
+-- the groups of one direction with their anchors in one column
+abbrev pub groups_in_column : Board → Way → ℕ → List Group
+groups_in_column b way c = map (λ anchor. (anchor, way)) (filter (is_line b way) (squares_in_column b.rows c))
+
+pub along_by_columns : (b : Board) (way : Way) → groups_along b way ≡ flat_map (groups_in_column b way) (below b.cols)
+unfolding squares_of_board
+along_by_columns b way = each (below b.cols)
+  where
+    each : (cs : List ℕ) → map (λ anchor. (anchor, way)) (filter (is_line b way) (flat_map (squares_in_column b.rows) cs)) ≡ flat_map (groups_in_column b way) cs
+    each [] = refl
+    each (c ∷ cs) =
+        ap (λ us. map (λ anchor. (anchor, way)) (filter (is_line b way) us)) (flat_map-cons (squares_in_column b.rows) c cs)
+        ∙ ap (map (λ anchor. (anchor, way))) (filter-append (is_line b way) (squares_in_column b.rows c) (flat_map (squares_in_column b.rows) cs))
+        ∙ map-append (λ anchor. (anchor, way)) (filter (is_line b way) (squares_in_column b.rows c)) (filter (is_line b way) (flat_map (squares_in_column b.rows) cs))
+        ∙ ap (λ gs. groups_in_column b way c ++ gs) (each cs)
+        ∙ sym (flat_map-cons (groups_in_column b way) c cs)
