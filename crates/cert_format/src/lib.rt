@@ -10,6 +10,7 @@ mod reading;
 #[cfg(test)]
 mod tests;
 
+pub use line_text::{LineText, push_number, push_text};
 pub use lines::{Cite, Lemma, Line, LineFault, Reason};
 pub use number::number_between;
 pub use output::{LemmaOut, print_line};

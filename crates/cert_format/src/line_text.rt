@@ -15,7 +15,7 @@ use proof_text::{Claim, Verdict};
 const LONGEST_LINE: usize = 256;
 
 /// The bytes of a line, or of a front of it.
-pub(crate) type LineText = ArrayVec<u8, LONGEST_LINE>;
+pub type LineText = ArrayVec<u8, LONGEST_LINE>;
 
 /// The line of a lemma, with its line feed.
 pub(crate) fn lemma_line(number: u32, path: &[Column], claim: Claim, reason: &Reason) -> LineText
@@ -140,7 +140,8 @@ fn claim_word(claim: Claim) -> &'static [u8]
     }
 }
 
-fn push_number(line: &mut LineText, number: u32)
+/// Puts a number in decimal behind what is there.
+pub fn push_number(line: &mut LineText, number: u32)
     requires { array_vec_len line.old + 10 ≤ 256 }
     ensures items { line.new.items ≡ line.old.items ++ decimal number }
     ensures bound { array_vec_len line.new ≤ array_vec_len line.old + 10 }
@@ -149,7 +150,8 @@ fn push_number(line: &mut LineText, number: u32)
     push_text(line, digits.format(number).as_bytes());
 }
 
-fn push_text(line: &mut LineText, text: &[u8])
+/// Puts a text behind what is there.
+pub fn push_text(line: &mut LineText, text: &[u8])
     requires { array_vec_len line.old + length text.now ≤ 256 }
     ensures { line.new.items ≡ line.old.items ++ text.now }
 {

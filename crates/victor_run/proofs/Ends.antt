@@ -1,23 +1,17 @@
--- What the last line and a short input tell.
-use Rattle.std.proofs.Common.{◌≡◌, ℕ, ◌<◌, ◌≤◌, List, Option, Some, None, Ok, IfSome, length, refl, sym, ap, ◌∙◌, subst, inl, inr, arith}
+-- What an input that was read to its end, or to 256 bytes, tells of the whole, and how `prove` ends on it.
+use Rattle.std.proofs.Common.{◌≡◌, ◌≢◌, ℕ, ◌<◌, ◌≤◌, List, Option, Some, None, Result, Ok, Err, IfSome, length, refl, ap, ◌∙◌, inl, inr, arith}
 use Rattle.std.specs.Io.KnownBytes.{Consumes, IsAtEnd}
 use Rattle.std.proofs.KnownBytes.{Consumes-whole}
 use Rattle.std.proofs.lemmas.Bool.{cases_lt}
 use Rattle.game_rules.specs.Position.{Position}
+use Rattle.game_rules.specs.Cost.{cost, none_closed}
 use Rattle.game_rules.specs.Text.{game_at}
 use Rattle.game_rules.proofs.Prefix.{same_prefix, game_short}
-use Rattle.victor_run.specs.Outcome.{IsLine, known, unknown, Settles, Writes, Proves, Streams}
-use Rattle.victor_run.specs.declared.ending.Ending.{Ending}
-use Rattle.victor_run.specs.declared.ending.Ending.TheVariants.{Value, Unknown, Usage, Input, Read, Write}
-
--- the line that goes with an ending is one that may stand
-pub line_settled : (nodes : ℕ) (p : Position) (line : List ℕ) (ending : Ending) → Settles nodes p line ending → IsLine nodes p line
-line_settled nodes p line Value h = subst (IsLine nodes p) (sym h) known
-line_settled nodes p line Unknown h = subst (IsLine nodes p) (sym h.0) (unknown h.1)
-line_settled nodes p line Usage h = absurd h
-line_settled nodes p line Input h = absurd h
-line_settled nodes p line Read h = absurd h
-line_settled nodes p line Write h = absurd h
+use Rattle.proof_text.specs.declared.Verdict.{Verdict}
+use Rattle.proof_text.specs.declared.Verdict.TheVariants as verdicts
+use Rattle.io_ports.specs.declared.ports.Failed.{Failed}
+use Rattle.victor_run.specs.Proof.{Writes}
+use Rattle.victor_run.specs.Outcome.{HasProved, Proves, Streams, ending_of}
 
 -- the bytes that were read tell the game of the whole input
 module _ (old new : Option (List ℕ)) (heard : List ℕ) (taken : Consumes old new heard) where
@@ -40,12 +34,17 @@ pub IfSome_more : (input : Option (List ℕ)) (P Q : List ℕ → Type 0) → If
 IfSome_more None P Q h more = tt
 IfSome_more (Some bytes) P Q h more = more bytes h
 
--- what was written for the position is what `prove` promises
-pub proves_game : (nodes : ℕ) (s : Streams) (p : Position) (heard : List ℕ) (ending : Ending) → IfSome s.input (λ bytes. game_at bytes ≡ game_at heard)
-    → IsAtEnd s.left → game_at heard ≡ Ok p → Writes nodes p s.old s.new ending → Proves nodes s ending
-proves_game nodes s p heard Value same ended read h = (IfSome_more s.input _ _ same (λ bytes e. (p, e ∙ read, h)), ended)
-proves_game nodes s p heard Unknown same ended read h = (IfSome_more s.input _ _ same (λ bytes e. (p, e ∙ read, h)), ended)
-proves_game nodes s p heard Write same ended read h = (IfSome_more s.input _ _ same (λ bytes e. (p, e ∙ read, h)), ended)
-proves_game nodes s p heard Usage same ended read h = absurd h
-proves_game nodes s p heard Input same ended read h = absurd h
-proves_game nodes s p heard Read same ended read h = absurd h
+-- what was written for the game is what `prove` promises
+module _ (nodes : ℕ) (s : Streams) (p : Position) (heard : List ℕ) (taken : Consumes s.input s.left heard) (ended : IsAtEnd s.left) (game : game_at heard ≡ Ok p) where
+  proved : (v : Verdict) → v ≢ verdicts.Unknown → Writes nodes heard p s.old s.new (Ok v) → IfSome s.input (λ bytes. HasProved nodes bytes s.old s.new)
+  proved v known h = Consumes-whole s.input s.left heard (λ bytes. HasProved nodes bytes s.old s.new) taken ended
+      (record { position = p; game = game; verdict = v; known = known; text = h.0; proof = h.1; written = h.2 })
+
+  pub proves_game : (r : Result Verdict Failed) → Writes nodes heard p s.old s.new r → (r ≡ Ok verdicts.Unknown → nodes < cost none_closed p) → Proves nodes s (ending_of r)
+  proves_game (Ok (verdicts.Win lemma)) h short = (proved (verdicts.Win lemma) (λ e. cc) h, ended)
+  proves_game (Ok (verdicts.Loss lemma)) h short = (proved (verdicts.Loss lemma) (λ e. cc) h, ended)
+  proves_game (Ok (verdicts.Draw white black)) h short = (proved (verdicts.Draw white black) (λ e. cc) h, ended)
+  proves_game (Ok verdicts.Unknown) h short =
+      (Consumes-whole s.input s.left heard _ taken ended (record { position = p; game = game; short = short refl; text = h.0; proof = h.1; written = h.2 }), ended)
+  proves_game (Err failed) h short =
+      (Consumes-whole s.input s.left heard _ taken ended (record { position = p; game = game; text = h.0; stands = h.1; written = h.2 }), ended)

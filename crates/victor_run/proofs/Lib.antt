@@ -1,2 +1,5 @@
-pub mod Search
+pub mod Moves
 pub mod Ends
+pub mod Proving
+pub mod Asking
+pub mod Writing

@@ -1,3 +1,5 @@
 pub mod Words
 pub mod Output
 pub mod Outcome
+pub mod Search
+pub mod Proof

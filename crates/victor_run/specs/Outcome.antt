@@ -1,49 +1,63 @@
 -- What a run promises of its source and its sinks, by the way it ended. What is said of bytes is said of a source and a
 -- sink that tell theirs.
-use Rattle.std.specs.Prelude.{◌≡◌, ℕ, ◌<◌, ◌≤◌, Bool, true, false, List, Option, Some, None, Ok, is_err, IfSome, length}
+use Rattle.std.specs.Prelude.{◌≡◌, ◌≢◌, ℕ, ◌<◌, ◌≤◌, Bool, false, List, Option, Some, None, Result, Ok, Err, IfSome, length}
 use Rattle.std.specs.Io.KnownBytes.{Keeps, Appends, Consumes, IsAtEnd}
 use Rattle.device_rules.specs.Devices.{Rose, Stands}
-use Rattle.game_rules.specs.Position.{Position, side_to_move}
-use Rattle.game_rules.specs.Value.{value}
+use Rattle.game_rules.specs.Position.{Position}
 use Rattle.game_rules.specs.Cost.{cost, none_closed}
 use Rattle.game_rules.specs.Text.{game_at}
-use Rattle.victor_run.specs.Output.{value_line, unknown_line}
+use Rattle.proof_text.specs.declared.Verdict.{Verdict}
+use Rattle.proof_text.specs.declared.Verdict.TheVariants as verdicts
+use Rattle.io_ports.specs.declared.ports.Failed.{Failed}
+use Rattle.victor_run.specs.Proof.{IsProofOf, MayStandFor}
 use Rattle.victor_run.specs.declared.words.Form.{Form}
 use Rattle.victor_run.specs.declared.words.Form.TheVariants.{Prove}
 use Rattle.victor_run.specs.declared.ending.Ending.{Ending}
-use Rattle.victor_run.specs.declared.ending.Ending.TheVariants.{Value, Unknown, Usage, Input, Read, Write}
+use Rattle.victor_run.specs.declared.ending.Ending.TheVariants.{Done, Unknown, Usage, Input, Read, Write}
 
 -- the exit status of an ending
 abbrev pub status_of : Ending → ℕ
-status_of Value = 0
+status_of Done = 0
 status_of Usage = 2
-status_of Input = 3
+status_of (Input fault) = 3
 status_of Unknown = 5
 status_of Read = 6
 status_of Write = 7
 
--- the input is the text of a game with this property
-abbrev pub IsGameWith : Option (List ℕ) → (Position → Type 0) → Type 0
-IsGameWith input P = IfSome input (λ bytes. (p : Position) × (game_at bytes ≡ Ok p) × P p)
+-- the ending of a run that wrote a proof with the verdict, or failed to
+abbrev pub ending_of : Result Verdict Failed → Ending
+ending_of (Ok (verdicts.Win lemma)) = Done
+ending_of (Ok (verdicts.Loss lemma)) = Done
+ending_of (Ok (verdicts.Draw white black)) = Done
+ending_of (Ok verdicts.Unknown) = Unknown
+ending_of (Err failed) = Write
 
--- the input is no text of a game
-abbrev pub IsNoGame : Option (List ℕ) → Type 0
-IsNoGame input = IfSome input (λ bytes. is_err (game_at bytes) ≡ true)
+-- The bytes are a game, and a proof of its position was written whose verdict is a win, a loss or a draw.
+pub record HasProved (nodes : ℕ) (bytes : List ℕ) (old new : Option (List ℕ)) : Type 0 where
+  pub position : Position
+  pub game : game_at bytes ≡ Ok position
+  pub verdict : Verdict
+  pub known : verdict ≢ verdicts.Unknown
+  pub text : List ℕ
+  pub proof : IsProofOf nodes bytes position text verdict
+  pub written : Appends old new text
 
--- The line that ends the search at a position, where it may enter so many positions: its value, or unknown where that
--- number is below its cost.
-pub data IsLine (nodes : ℕ) (p : Position) : List ℕ → Type 0 where
-  known : IsLine nodes p (value_line (side_to_move p) (value p))
-  unknown : nodes < cost none_closed p → IsLine nodes p unknown_line
+-- The same with the verdict unknown, which comes only where the number of nodes is below the position's cost.
+pub record LeavesUnknown (nodes : ℕ) (bytes : List ℕ) (old new : Option (List ℕ)) : Type 0 where
+  pub position : Position
+  pub game : game_at bytes ≡ Ok position
+  pub short : nodes < cost none_closed position
+  pub text : List ℕ
+  pub proof : IsProofOf nodes bytes position text verdicts.Unknown
+  pub written : Appends old new text
 
--- a line and the ending that goes with it, once it is written
-abbrev pub Settles : ℕ → Position → List ℕ → Ending → Type 0
-Settles nodes p line Value = line ≡ value_line (side_to_move p) (value p)
-Settles nodes p line Unknown = (line ≡ unknown_line) × (nodes < cost none_closed p)
-Settles nodes p line Write = ⊥
-Settles nodes p line Usage = ⊥
-Settles nodes p line Input = ⊥
-Settles nodes p line Read = ⊥
+-- The bytes are a game, and of a text that may stand while a proof is written a front was.
+pub record WasCut (bytes : List ℕ) (old new : Option (List ℕ)) : Type 0 where
+  pub position : Position
+  pub game : game_at bytes ≡ Ok position
+  pub text : List ℕ
+  pub stands : MayStandFor bytes position text
+  pub written : Stands false old new text
 
 -- what the source has left, and what the sink held, before and after a run
 pub record Streams : Type 0 where
@@ -52,22 +66,12 @@ pub record Streams : Type 0 where
   pub old : Option (List ℕ)
   pub new : Option (List ℕ)
 
--- What is written for a game's position, by the ending: its value, or `unknown` only where the number of nodes is below
--- its cost. Where the sink failed, a front of such a line.
-abbrev pub Writes : ℕ → Position → Option (List ℕ) → Option (List ℕ) → Ending → Type 0
-Writes nodes p old new Value = Appends old new (value_line (side_to_move p) (value p))
-Writes nodes p old new Unknown = (nodes < cost none_closed p) × Appends old new unknown_line
-Writes nodes p old new Write = (line : List ℕ) × IsLine nodes p line × Stands false old new line
-Writes nodes p old new Usage = ⊥
-Writes nodes p old new Input = ⊥
-Writes nodes p old new Read = ⊥
-
 -- `prove` with so many nodes, by its ending
 abbrev pub Proves : ℕ → Streams → Ending → Type 0
-Proves nodes s Value = IsGameWith s.input (λ p. Writes nodes p s.old s.new Value) × IsAtEnd s.left
-Proves nodes s Unknown = IsGameWith s.input (λ p. Writes nodes p s.old s.new Unknown) × IsAtEnd s.left
-Proves nodes s Write = IsGameWith s.input (λ p. Writes nodes p s.old s.new Write) × IsAtEnd s.left
-Proves nodes s Input = IsNoGame s.input × Keeps s.old s.new
+Proves nodes s Done = IfSome s.input (λ bytes. HasProved nodes bytes s.old s.new) × IsAtEnd s.left
+Proves nodes s Unknown = IfSome s.input (λ bytes. LeavesUnknown nodes bytes s.old s.new) × IsAtEnd s.left
+Proves nodes s Write = IfSome s.input (λ bytes. WasCut bytes s.old s.new) × IsAtEnd s.left
+Proves nodes s (Input fault) = IfSome s.input (λ bytes. game_at bytes ≡ Err fault) × Keeps s.old s.new
 Proves nodes s Read = Keeps s.old s.new
 Proves nodes s Usage = ⊥
 

@@ -2,17 +2,19 @@
 ghost use Rattle.std.specs.Prelude.{◌≡◌};
 ghost use Rattle.victor_run.specs.Outcome.{status_of};
 
+use board_bits::InputFault;
+
 /// How a run ends.
 #[derive(Clone, Copy, Debug, PartialEq, Eq)]
 pub enum Ending {
-    /// The value was found and written: status 0.
-    Value,
+    /// All was done: status 0.
+    Done,
     /// The budget is below the cost, and that was written: status 5.
     Unknown,
     /// The words are no written form: status 2.
     Usage,
     /// The input isn't the text of a game: status 3.
-    Input,
+    Input(InputFault),
     /// The source failed: status 6.
     Read,
     /// The sink failed: status 7.
@@ -25,9 +27,9 @@ impl Ending {
         ensures { result ≡ status_of self }
     {
         match self {
-            Ending::Value => 0,
+            Ending::Done => 0,
             Ending::Usage => 2,
-            Ending::Input => 3,
+            Ending::Input(_) => 3,
             Ending::Unknown => 5,
             Ending::Read => 6,
             Ending::Write => 7,

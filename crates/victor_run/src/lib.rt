@@ -5,7 +5,8 @@
 mod command;
 mod ending;
 mod output;
-mod solve;
+mod prove;
+mod search;
 mod words;
 
 pub use command::run;

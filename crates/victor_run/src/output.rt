@@ -1,37 +1,75 @@
-//! The lines that the commands write, and the texts for the error stream.
-ghost use Rattle.std.specs.Prelude.{◌≡◌};
-ghost use Rattle.game_rules.specs.Value.{value};
-ghost use Rattle.victor_run.specs.Output.{value_line, unknown_line, fault_text};
+//! The texts for the error stream.
+ghost use Rattle.std.specs.Prelude.{◌≡◌, ◌≤◌, ◌++◌, codes, decimal, length, is_ok};
+ghost use Rattle.arrayvec.specs.ArrayVec.{array_vec_len};
+ghost use Rattle.device_rules.specs.Devices.{HasCause, Stands};
+ghost use Rattle.proof_text.specs.Spelling.{as_line};
+ghost use Rattle.victor_run.specs.Output.{fault_text, fault_line, kind_word};
+ghost use Rattle.victor_run.specs.Outcome.{Tells};
 
-use board_bits::{End, Side};
+use crate::ending::Ending;
+use board_bits::{InputFault, InputKind};
+use cert_format::{LineText, push_number, push_text};
+use io_ports::{Failed, Sink, put_all};
 
-/// The line of a value, as the side to move sees it.
-pub(crate) fn value_line(side: Side, end: End) -> &'static [u8]
-    ensures { result.now ≡ value_line side end }
+const USAGE: &[u8] =
+    b"usage: victor prove [--nodes N] [--reach K] [--front F] [--table T] | check | play | explain [--reach K] | drill COLS ROWS MOVES SEED GAMES [--nodes N] [--reach K]\n";
+
+/// Writes the text of an ending to the error stream, where there is one. Its failure changes nothing.
+pub(crate) fn tell<E: Sink>(err: &mut E, ending: Ending)
+    ensures { Tells (E.faults err.old) (E.faults err.new) (E.written err.old) (E.written err.new) (fault_text ending) }
 {
-    match (side, end) {
-        (_, End::Draw) => b"value draw\n",
-        (Side::White, End::White) | (Side::Black, End::Black) => b"value win\n",
-        (Side::White, End::Black) | (Side::Black, End::White) => b"value loss\n",
+    let text = fault_text(ending);
+    if !text.is_empty() {
+        let _ = put_line(err, text.as_slice());
     }
 }
 
-pub(crate) fn unknown_line() -> &'static [u8]
-    ensures { result.now ≡ unknown_line }
+/// The text of an ending, with its line feed.
+fn fault_text(ending: Ending) -> LineText
+    ensures { result.items ≡ fault_text ending }
 {
-    b"value unknown\n"
+    let mut text = LineText::new();
+    match ending {
+        Ending::Done | Ending::Unknown => {}
+        Ending::Usage => push_text(&mut text, USAGE),
+        Ending::Input(fault) => push_input_fault(&mut text, fault),
+        Ending::Read => push_text(&mut text, b"read fault\n"),
+        Ending::Write => push_text(&mut text, b"write fault\n"),
+    }
+    text
 }
 
-/// The text for a status; 0 and 5 have none.
-pub(crate) fn fault_text(status: u8) -> &'static [u8]
-    ensures { result.now ≡ fault_text status }
+/// The kind of the fault and its byte place.
+fn push_input_fault(text: &mut LineText, fault: InputFault)
+    requires { array_vec_len text.old ≡ 0 }
+    ensures { text.new.items ≡ text.old.items ++ fault_line fault }
 {
-    match status {
-        2 =>
-            b"usage: victor prove [--nodes N] [--reach K] [--front F] [--table T] | check | play | explain [--reach K] | drill COLS ROWS MOVES SEED GAMES [--nodes N] [--reach K]\n",
-        3 => b"input fault\n",
-        6 => b"read fault\n",
-        7 => b"write fault\n",
-        _ => b"",
+    push_text(text, b"input fault: ");
+    push_text(text, kind_word(fault.kind));
+    push_text(text, b" at ");
+    push_number(text, fault.at);
+    text.push(b'\n');
+}
+
+fn kind_word(kind: InputKind) -> &'static [u8]
+    ensures word { result.now ≡ kind_word kind }
+    ensures short { length result.now ≤ 10 }
+{
+    match kind {
+        InputKind::BadHeader => b"BadHeader",
+        InputKind::BadSize => b"BadSize",
+        InputKind::BadColumn => b"BadColumn",
+        InputKind::ColumnFull => b"ColumnFull",
+        InputKind::GameOver => b"GameOver",
+        InputKind::Trailing => b"Trailing",
     }
+}
+
+/// Writes a line, and hands on what was written.
+fn put_line<O: Sink>(out: &mut O, line: &[u8]) -> Result<(), Failed>
+    ensures written { Stands (is_ok result) (O.written out.old) (O.written out.new) line.now }
+    ensures cause { HasCause (O.faults out.old) (O.faults out.new) result }
+{
+    put_all(out, line)?;
+    out.flush()
 }

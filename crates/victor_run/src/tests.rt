@@ -60,93 +60,131 @@ fn run_over(
 
 const FULL_BOARD: &str = "board 4 4\nmoves cdccddcdaaaabbbb";
 
-const FOUR_AT_ROOT: &str = "board 4 4\nmoves abababa";
-
 const TWO_SQUARES_LEFT: &str = "board 4 4\nmoves cdccddcdaaaabb";
 
 const FORCED_WIN: &str = "board 4 4\nmoves dccbbdbbddcc";
 
 const USUAL_BOARD: &str = "board 7 6\nmoves dcdcdc\n";
 
+const TWO_SQUARES_PROOF: &str = "victor 1\n\
+    board 4 4\n\
+    moves cdccddcdaaaabb\n\
+    1 bb W- end\n\
+    2 b W- one b 1\n\
+    3 - W- all b:2\n\
+    4 bb B- end\n\
+    5 b B- all b:4\n\
+    6 - B- one b 5\n\
+    value draw 3 6\n";
+
+const TWO_SQUARES_UNKNOWN: &str = "victor 1\n\
+    board 4 4\n\
+    moves cdccddcdaaaabb\n\
+    1 bb W- end\n\
+    2 b W- one b 1\n\
+    3 - W- all b:2\n\
+    value unknown\n";
+
+const FORCED_WIN_PROOF: &str = "victor 1\n\
+    board 4 4\n\
+    moves dccbbdbbddcc\n\
+    1 aaa W+ end\n\
+    2 aa W+ one a 1\n\
+    3 a W+ all a:2\n\
+    4 - W+ one a 3\n\
+    value win 4\n";
+
 const PROVE: &[&str] = &["prove"];
 
+/// The words of a run, its input, its status and its output.
+type Written = (&'static [&'static str], &'static str, u8, &'static str);
+
+const PROOFS: [Written; 9] = [
+    (
+        PROVE,
+        FULL_BOARD,
+        0,
+        "victor 1\nboard 4 4\nmoves cdccddcdaaaabbbb\n1 - W- end\n2 - B- end\nvalue draw 1 2\n",
+    ),
+    (
+        PROVE,
+        "board 4 4\nmoves abababa",
+        0,
+        "victor 1\nboard 4 4\nmoves abababa\n1 - W+ end\nvalue loss 1\n",
+    ),
+    (PROVE, TWO_SQUARES_LEFT, 0, TWO_SQUARES_PROOF),
+    (
+        &["prove", "--nodes", "6"],
+        TWO_SQUARES_LEFT,
+        0,
+        TWO_SQUARES_PROOF,
+    ),
+    (
+        &["prove", "--nodes", "5"],
+        TWO_SQUARES_LEFT,
+        5,
+        TWO_SQUARES_UNKNOWN,
+    ),
+    (PROVE, FORCED_WIN, 0, FORCED_WIN_PROOF),
+    (
+        &["prove", "--nodes", "2"],
+        USUAL_BOARD,
+        0,
+        "victor 1\nboard 7 6\nmoves dcdcdc\n1 d W+ end\n2 - W+ one d 1\nvalue win 2\n",
+    ),
+    (
+        &["prove", "--nodes", "1"],
+        "board 4 4\nmoves -",
+        5,
+        "victor 1\nboard 4 4\nmoves -\nvalue unknown\n",
+    ),
+    (
+        &["prove", "--nodes", "1"],
+        "board 4 4\nmoves -\n",
+        5,
+        "victor 1\nboard 4 4\nmoves -\nvalue unknown\n",
+    ),
+];
+
 #[test]
-fn games_get_their_values_and_other_texts_are_refused(rt: HostRuntime) -> Result<(), Fail> {
-    let rows: [(&[&str], &str, u8, &str, &str); 20] = [
-        (PROVE, FULL_BOARD, 0, "value draw\n", ""),
-        (PROVE, FOUR_AT_ROOT, 0, "value loss\n", ""),
-        (PROVE, TWO_SQUARES_LEFT, 0, "value draw\n", ""),
-        (
-            &["prove", "--nodes", "6"],
-            TWO_SQUARES_LEFT,
-            0,
-            "value draw\n",
-            "",
-        ),
-        (
-            &["prove", "--nodes", "5"],
-            TWO_SQUARES_LEFT,
-            5,
-            "value unknown\n",
-            "",
-        ),
-        (PROVE, FORCED_WIN, 0, "value win\n", ""),
-        (PROVE, USUAL_BOARD, 0, "value win\n", ""),
-        (
-            &["prove", "--nodes", "2"],
-            USUAL_BOARD,
-            0,
-            "value win\n",
-            "",
-        ),
-        (
-            &["prove", "--nodes", "1"],
-            USUAL_BOARD,
-            5,
-            "value unknown\n",
-            "",
-        ),
-        (PROVE, "board 4 4\nmoves abababab", 3, "", "input fault\n"),
-        (PROVE, "board 4 4\nmoves aaaaa", 3, "", "input fault\n"),
-        (
-            PROVE,
-            "board 10 10\nmoves aaaaaaaaaaa",
-            3,
-            "",
-            "input fault\n",
-        ),
-        (PROVE, "board 5 5", 3, "", "input fault\n"),
-        (PROVE, "board 11 6", 3, "", "input fault\n"),
-        (PROVE, "", 3, "", "input fault\n"),
-        (PROVE, "board 4 4\nmoves A", 3, "", "input fault\n"),
-        (PROVE, "board 4 4\nmoves a\n\n", 3, "", "input fault\n"),
-        (PROVE, "board 4 4\nmoves ", 3, "", "input fault\n"),
-        (
-            &["prove", "--nodes", "1"],
-            "board 4 4\nmoves -",
-            5,
-            "value unknown\n",
-            "",
-        ),
-        (
-            &["prove", "--nodes", "1"],
-            "board 4 4\nmoves -\n",
-            5,
-            "value unknown\n",
-            "",
-        ),
-    ];
-    for (words, input, status, out, err) in rows {
+fn a_game_gets_a_proof_of_its_value(rt: HostRuntime) -> Result<(), Fail> {
+    for (words, input, status, out) in PROOFS {
         for piece in [1, 4, 256] {
-            let got = run_over(
-                rt.alloc(),
-                words,
-                input.as_bytes(),
-                Devices { piece, ..SOUND },
-            )?;
+            let devices = Devices { piece, ..SOUND };
+            let got = run_over(rt.alloc(), words, input.as_bytes(), devices)?;
             assert_eq!(rt; got.status, status, "{words:?} {input}");
             assert_eq!(rt; got.out.as_slice(), out.as_bytes(), "{words:?} {input}");
-            assert_eq!(rt; got.err.as_slice(), err.as_bytes(), "{words:?} {input}");
+            assert_eq!(rt; got.err.len(), 0, "{words:?} {input}");
+        }
+    }
+    Ok(())
+}
+
+/// A text that is no game, and its fault.
+const FAULTS: [(&str, &str); 9] = [
+    ("board 4 4\nmoves abababab", "input fault: GameOver at 23\n"),
+    ("board 4 4\nmoves aaaaa", "input fault: ColumnFull at 20\n"),
+    (
+        "board 10 10\nmoves aaaaaaaaaaa",
+        "input fault: ColumnFull at 28\n",
+    ),
+    ("board 5 5", "input fault: BadSize at 8\n"),
+    ("board 11 6", "input fault: BadSize at 6\n"),
+    ("", "input fault: BadHeader at 0\n"),
+    ("board 4 4\nmoves A", "input fault: BadColumn at 16\n"),
+    ("board 4 4\nmoves a\n\n", "input fault: Trailing at 18\n"),
+    ("board 4 4\nmoves ", "input fault: BadColumn at 16\n"),
+];
+
+#[test]
+fn a_text_that_is_no_game_is_refused_with_its_fault(rt: HostRuntime) -> Result<(), Fail> {
+    for (input, fault) in FAULTS {
+        for piece in [1, 4, 256] {
+            let devices = Devices { piece, ..SOUND };
+            let got = run_over(rt.alloc(), PROVE, input.as_bytes(), devices)?;
+            assert_eq!(rt; got.status, 3, "{input}");
+            assert_eq!(rt; got.out.len(), 0, "{input}");
+            assert_eq!(rt; got.err.as_slice(), fault.as_bytes(), "{input}");
         }
     }
     Ok(())
@@ -183,55 +221,69 @@ fn other_words_are_no_command(rt: HostRuntime) -> Result<(), Fail> {
     Ok(())
 }
 
+/// The devices of a run of the two squares that are left, its status, how much of the proof it writes, and what it tells.
+type Streamed = (Devices<'static>, u8, usize, &'static str);
+
+const STREAMS: [Streamed; 7] = [
+    (Devices { piece: 4, ..SOUND }, 0, 139, ""),
+    (
+        Devices {
+            piece: 4,
+            source_fails: &[2],
+            ..SOUND
+        },
+        6,
+        0,
+        "read fault\n",
+    ),
+    (
+        Devices {
+            source_fails: &[1],
+            err_fails: &[1],
+            ..SOUND
+        },
+        6,
+        0,
+        "",
+    ),
+    (
+        Devices {
+            out_fails: &[1],
+            ..SOUND
+        },
+        7,
+        0,
+        "write fault\n",
+    ),
+    (
+        Devices {
+            out_fails: &[3],
+            ..SOUND
+        },
+        7,
+        52,
+        "write fault\n",
+    ),
+    (
+        Devices {
+            out_fails: &[9],
+            ..SOUND
+        },
+        7,
+        139,
+        "write fault\n",
+    ),
+    (Devices { room: 46, ..SOUND }, 7, 46, "write fault\n"),
+];
+
 #[test]
-fn a_failing_stream_has_its_status(rt: HostRuntime) -> Result<(), Fail> {
-    let rows: [(Devices<'_>, u8, &str, &str); 6] = [
-        (Devices { piece: 4, ..SOUND }, 0, "value draw\n", ""),
-        (
-            Devices {
-                piece: 4,
-                source_fails: &[2],
-                ..SOUND
-            },
-            6,
-            "",
-            "read fault\n",
-        ),
-        (
-            Devices {
-                out_fails: &[1],
-                ..SOUND
-            },
-            7,
-            "",
-            "write fault\n",
-        ),
-        (
-            Devices {
-                out_fails: &[2],
-                ..SOUND
-            },
-            7,
-            "value draw\n",
-            "write fault\n",
-        ),
-        (Devices { room: 6, ..SOUND }, 7, "value ", "write fault\n"),
-        (
-            Devices {
-                source_fails: &[1],
-                err_fails: &[1],
-                ..SOUND
-            },
-            6,
-            "",
-            "",
-        ),
-    ];
-    for (devices, status, out, err) in rows {
+fn a_failing_stream_has_its_status_and_leaves_a_front(rt: HostRuntime) -> Result<(), Fail> {
+    for (devices, status, length, told) in STREAMS {
         let got = run_over(rt.alloc(), PROVE, TWO_SQUARES_LEFT.as_bytes(), devices)?;
+        let front = TWO_SQUARES_PROOF.as_bytes().get(..length);
         assert_eq!(rt; got.status, status);
-        assert_eq!(rt; got.out.as_slice(), out.as_bytes());
-        assert_eq!(rt; got.err.as_slice(), err.as_bytes());
+        assert_eq!(rt; Some(got.out.as_slice()), front);
+        assert_eq!(rt; got.err.as_slice(), told.as_bytes());
     }
     Ok(())
 }
@@ -256,7 +308,7 @@ fn readers_and_writers_of_std_carry_a_run(rt: HostRuntime) -> Result<(), Fail> {
     let mut err = StdSink::new(&mut told);
     let status = run(rt.alloc(), &words, &mut source, &mut out, &mut err);
     assert_eq!(rt; status, 0);
-    assert_eq!(rt; written.as_slice(), b"value draw\n".as_slice());
+    assert_eq!(rt; written.as_slice(), TWO_SQUARES_PROOF.as_bytes());
     assert_eq!(rt; told.len(), 0);
     Ok(())
 }

@@ -1,10 +1,9 @@
 //! The words of the command line. They are read by exact rules, with no memory taken.
-ghost use Rattle.std.specs.Prelude.{◌≡◌, map, string_bytes, decimal};
+ghost use Rattle.std.specs.Prelude.{◌≡◌, map, string_bytes};
 ghost use Rattle.std.specs.Str.{bytes_eq};
-ghost use Rattle.game_rules.specs.Number.{number_between};
-ghost use Rattle.victor_run.specs.Words.{form_of, nodes_of};
+ghost use Rattle.victor_run.specs.Words.{form_of};
 
-use itoa::Buffer;
+use cert_format::number_between;
 
 /// A command with its options.
 #[derive(Clone, Copy, Debug, PartialEq, Eq)]
@@ -26,7 +25,7 @@ pub(crate) fn read_words(words: &[String]) -> Option<Form>
     match words {
         [command] if is_word(command, "prove") => Some(Form::Prove(DEFAULT_NODES)),
         [command, name, nodes] if is_word(command, "prove") && is_word(name, "--nodes") => {
-            Some(Form::Prove(number_between(1, MOST_NODES, nodes)?))
+            Some(Form::Prove(number_between(1, MOST_NODES, nodes.as_bytes())?))
         }
         _ => None,
     }
@@ -36,25 +35,4 @@ fn is_word(word: &String, text: &str) -> bool
     ensures { result ≡ bytes_eq (string_bytes word.now) text.now }
 {
     word.as_str() == text
-}
-
-/// The number in a range that the word spells, in decimal with no sign and no leading zero.
-fn number_between(low: u32, high: u32, word: &String) -> Option<u32>
-    ensures { result ≡ number_between low high (string_bytes word.now) }
-{
-    let Ok(number) = word.as_str().parse::<u32>() else {
-        return None;
-    };
-    if low <= number && number <= high && is_spelling(number, word) {
-        Some(number)
-    } else {
-        None
-    }
-}
-
-fn is_spelling(number: u32, word: &String) -> bool
-    ensures { result ≡ bytes_eq (string_bytes word.now) (decimal number) }
-{
-    let mut buffer = Buffer::new();
-    word.as_str() == buffer.format(number)
 }

@@ -1,19 +1,19 @@
-use Rattle.std.proofs.Common.{◌≡◌, ◌<◌, Ok, is_err, length, take, sym, ap, ◌∙◌, arith}
+use Rattle.std.proofs.Common.{◌≡◌, ◌<◌, Ok, length, take, sym, ◌∙◌, arith}
 use Rattle.std.specs.Io.KnownBytes.{IsAtEnd}
 use Rattle.std.proofs.KnownBytes.{Keeps-refl}
 use Rattle.std.proofs.lemmas.List.{length-take-le}
 use Rattle.game_rules.specs.Text.{game_at}
 use Rattle.victor_run.proofs.Ends.{same_game, game_ended, proves_game, IfSome_more}
-use Rattle.victor_run.proofs.command.prove.Goals as goal
+use Rattle.victor_run.proofs.prove.prove.Goals as goal
 
-pub returns-in-Err-read_game-clause-outcome : goal.returns-in-Err-read_game-clause-outcome
-returns-in-Err-read_game-clause-outcome g c =
+pub returns-in-Err-clause-outcome : goal.returns-in-Err-clause-outcome
+returns-in-Err-clause-outcome g c =
     let old = g.S.Source.left c.args.source.now in
     let new = g.S.Source.left c.read_all.new.source in
     let heard = take c.in-Ok.length c.read_all.new.buf in
     let bytes = c.in-Ok.ensures.bytes in
     let ended : length heard < 256 → IsAtEnd new = λ short. bytes.1 (omega (arith, length-take-le c.in-Ok.length c.read_all.new.buf c.in-Ok.ensures.within, c.read_all.auto.buf)) in
-    (IfSome_more old _ _ (same_game old new heard bytes.0 ended) (λ xs same. ap is_err (same ∙ sym c.in-Err-read_game.ensures)), Keeps-refl (g.O.Sink.written c.args.out.now))
+    (IfSome_more old _ _ (same_game old new heard bytes.0 ended) (λ xs same. same ∙ sym c.in-Err.ensures), Keeps-refl (g.O.Sink.written c.args.out.now))
 
 pub returns-in-Ok-read_game-clause-outcome : goal.returns-in-Ok-read_game-clause-outcome
 returns-in-Ok-read_game-clause-outcome g c =
@@ -23,5 +23,5 @@ returns-in-Ok-read_game-clause-outcome g c =
     let bytes = c.in-Ok.ensures.bytes in
     let ended : length heard < 256 → IsAtEnd new = λ short. bytes.1 (omega (arith, length-take-le c.in-Ok.length c.read_all.new.buf c.in-Ok.ensures.within, c.read_all.auto.buf)) in
     let is_game : game_at heard ≡ Ok c.in-Ok-read_game.position = sym c.in-Ok-read_game.ensures in
-    proves_game c.args.nodes _ c.in-Ok-read_game.position heard c.write_value.result (same_game old new heard bytes.0 ended)
-    (game_ended old new heard bytes.0 ended c.in-Ok-read_game.position is_game) is_game c.write_value.ensures.written
+    rw (c.ending_of.ensures) (proves_game c.args.nodes _ c.in-Ok-read_game.position heard bytes.0 (game_ended old new heard bytes.0 ended c.in-Ok-read_game.position is_game) is_game
+    c.write_proof.result c.write_proof.ensures.written c.write_proof.ensures.unknown)

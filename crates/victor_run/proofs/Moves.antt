@@ -116,3 +116,16 @@ apart_from_beq true true h e = cc
 apart_from_beq true false h e = cc
 apart_from_beq false true h e = cc
 apart_from_beq false false h e = cc
+
+-- a test of the moves that are left, behind one that fails it or has no room
+pub any_after : (test : Position → Bool) (q : Position) (rest more : List Position) (b : Bool) → rest ≡ q ∷ more → test q ≡ false → list_any test rest ≡ b → list_any test more ≡ b
+any_after test q rest more b step fails h = sym (ap (list_any test) step ∙ rw fails refl) ∙ h
+
+pub moves_left_full : (p : Position) (order : List ℕ) (i d : ℕ) → i < length order → has_room p (get_or order i d) ≡ false → moves_left p order (i + 1) ≡ moves_left p order i
+moves_left_full p order i d low full = sym (rw (drop_more order i d low, full) refl)
+
+pub other_from_apart : (a b : Bool) → (a ≡ b → ⊥) → a ≡ not b
+other_from_apart true true h = absurd (h refl)
+other_from_apart true false h = refl
+other_from_apart false true h = refl
+other_from_apart false false h = absurd (h refl)

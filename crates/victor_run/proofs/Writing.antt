@@ -1,0 +1,124 @@
+-- The text of a proof as it is put together: its head, the lemmas of both questions, and its last line.
+use Rattle.std.proofs.Common.{◌≡◌, ◌≢◌, ℕ, ◌+◌, ◌-◌, ◌≤◌, Bool, true, false, List, [], ◌∷◌, ◌++◌, map, Option, None, Result, Ok, Err, IfOk, is_ok, length, get_or, refl, sym, ap, ◌∙◌, subst, arith, append-nil, append_assoc, length-append, codes}
+use Rattle.std.specs.Io.KnownBytes.{Appends}
+use Rattle.std.proofs.lemmas.Bool.{eq-eqb, ne_eqb}
+use Rattle.std.proofs.lemmas.List.{get_or-append_right, get_or-map, length-map}
+use Rattle.device_rules.specs.Devices.{Stands}
+use Rattle.device_rules.proofs.DeviceLaws.{Stands_more}
+use Rattle.game_rules.specs.Position.{Position}
+use Rattle.game_rules.specs.Grammar.{IsGameText, game_text, board_line, moves_line, move_list, letter_of}
+use Rattle.proof_text.specs.Right.{IsVerdict}
+use Rattle.proof_text.specs.Spelling.{as_line, lines_of, verdict_line}
+use Rattle.proof_text.specs.Texts.{first_line, head_of}
+use Rattle.proof_text.specs.Written.{IsProof}
+use Rattle.proof_text.proofs.Append.{AreRight_append}
+use Rattle.proof_text.proofs.Sound.{AreTrue_none, true_lemmas, true_verdict}
+use Rattle.proof_text.proofs.Written.{both_written, black_stands, head_stands, proof_stands, proof_accepted, head_of_fed, head_of_bare}
+use Rattle.proof_text.specs.declared.Verdict.{Verdict}
+use Rattle.victor_run.specs.Proof.{head_for, IsProofOf, Writes}
+use Rattle.victor_run.specs.Search.{Asks, is_whole_verdict}
+use Rattle.victor_run.specs.declared.search.SearchStop.{SearchStop}
+use Rattle.victor_run.specs.declared.search.SearchStop.TheVariants.{WriteFault}
+use Rattle.io_ports.specs.declared.ports.Failed.{Failed}
+
+-- ---- the head
+
+abbrev last_byte : List ℕ → ℕ
+last_byte xs = get_or xs (length xs - 1) 0
+
+last_append : (xs : List ℕ) (y : ℕ) (ys : List ℕ) → last_byte (xs ++ y ∷ ys) ≡ last_byte (y ∷ ys)
+last_append xs y ys =
+    let long : length (xs ++ y ∷ ys) ≡ length xs + length (y ∷ ys) = length-append xs (y ∷ ys) in
+    get_or-append_right xs (y ∷ ys) (length xs) (length (xs ++ y ∷ ys) - 1) 0 refl (omega arith)
+    ∙ ap (λ i. get_or (y ∷ ys) i 0) (let same : length (xs ++ y ∷ ys) - 1 - length xs ≡ length (y ∷ ys) - 1 = omega arith in same)
+
+-- a list of moves ends in no line feed
+moves_last : (columns : List ℕ) → last_byte (move_list columns) ≢ 10
+moves_last [] h = absurd (omega (arith, h))
+moves_last (column ∷ columns) h =
+    let letters : last_byte (map letter_of (column ∷ columns)) ≡ 97 + get_or (column ∷ columns) (length (map letter_of (column ∷ columns)) - 1) 0 =
+    get_or-map letter_of (column ∷ columns) (length (map letter_of (column ∷ columns)) - 1) 0 0 (omega (arith, length-map {A = ℕ} {B = ℕ} (column ∷ columns) letter_of)) in
+    omega (arith, letters, h)
+
+move_list_some : (columns : List ℕ) → (y : ℕ) × (ys : List ℕ) × (move_list columns ≡ y ∷ ys)
+move_list_some [] = (45, [], refl)
+move_list_some (column ∷ columns) = (letter_of column, map letter_of columns, refl)
+
+pub head_is : (bytes : List ℕ) (p : Position) (game : IsGameText bytes p) → head_for bytes ≡ head_of game.board game.columns
+head_is bytes p game = at game.ended refl
+  where
+    at : (b : Bool) → game.ended ≡ b → head_for bytes ≡ head_of game.board game.columns
+    at true ended =
+        let spelled : bytes ≡ (board_line game.board ++ (10 ∷ moves_line game.columns)) ++ 10 ∷ [] =
+        game.spelled ∙ ap (game_text game.board game.columns) ended ∙ sym (append_assoc (board_line game.board) (10 ∷ moves_line game.columns) (10 ∷ [])) in
+        let fed : last_byte bytes ≡ 10 = ap last_byte spelled ∙ last_append (board_line game.board ++ (10 ∷ moves_line game.columns)) 10 [] in
+        ap (λ xs. as_line first_line ++ xs) (rw (eq-eqb (last_byte bytes) 10 fed) refl)
+        ∙ append_assoc first_line (10 ∷ []) bytes ∙ sym (head_of_fed bytes p game ended)
+    at false bare =
+        let some = move_list_some game.columns in
+        let front = board_line game.board ++ (10 ∷ codes "moves ") in
+        let spelled : bytes ≡ front ++ (some.0 ∷ some.1) =
+        game.spelled ∙ ap (game_text game.board game.columns) bare ∙ ap (λ xs. board_line game.board ++ (10 ∷ xs)) (append-nil (moves_line game.columns))
+        ∙ sym (append_assoc (board_line game.board) (10 ∷ codes "moves ") (move_list game.columns)) ∙ ap (λ xs. front ++ xs) some.2 in
+        let unfed : last_byte bytes ≢ 10 = λ h. moves_last game.columns (ap last_byte some.2 ∙ sym (ap last_byte spelled ∙ last_append front some.0 some.1) ∙ h) in
+        ap (λ xs. as_line first_line ++ xs) (rw (ne_eqb (last_byte bytes) 10 unfed) refl)
+        ∙ append_assoc first_line (10 ∷ []) (as_line bytes) ∙ sym (head_of_bare bytes p game bare)
+
+-- ---- the whole
+
+-- the head, the lemmas of both questions, and the last line, of which a front may be missing
+stands_all : (b : Bool) (old mid held new : Option (List ℕ)) (head white black last : List ℕ) → Appends old mid head → Appends mid held (white ++ black) → Stands b held new last
+    → Stands b old new (head ++ (white ++ (black ++ last)))
+stands_all b old mid held new head white black last first both rest =
+    Stands_more b old mid new head (white ++ (black ++ last)) first
+    (subst (Stands b mid new) (append_assoc white black last) (Stands_more b mid held new (white ++ black) last both rest))
+
+module _ (nodes : ℕ) (bytes : List ℕ) (p : Position) (game : IsGameText bytes p) (small : nodes ≤ 10000000) where
+  abbrev the_head : List ℕ
+  the_head = head_of game.board game.columns
+
+  -- a proof, with the verdict behind the lemmas
+  module _ (mid held : Option (List ℕ)) (r : Result Verdict SearchStop) (asks : Asks p nodes mid held r) (whole : is_whole_verdict r ≡ true) (v : Verdict) (right : IsVerdict p asks.after v) where
+    abbrev proof_text : List ℕ
+    proof_text = the_head ++ (lines_of asks.white ++ (lines_of asks.black ++ verdict_line v))
+
+    abbrev is_proof : IsProof p the_head proof_text v
+    is_proof = record {
+      after = asks.after;
+      written = both_written p the_head None asks.white asks.mid None asks.black asks.after (verdict_line v) asks.white_right asks.black_right asks.white_sided asks.black_sided tt tt;
+      verdict = right;
+    }
+
+    pub proof_of : IsProofOf nodes bytes p proof_text v
+    proof_of = record {
+      game = game;
+      proof = is_proof;
+      few = asks.few whole;
+      accepted = proof_accepted game.board game.columns p proof_text v is_proof game.has_board game.has_moves (let few : length asks.after ≤ nodes = asks.few whole in omega arith);
+      says = true_verdict p asks.after v (true_lemmas p [] (asks.white ++ asks.black) asks.after (AreRight_append p [] asks.mid asks.after asks.white asks.black asks.white_right asks.black_right) AreTrue_none) right;
+    }
+
+    pub writes_verdict : (old new : Option (List ℕ)) (result : Result Verdict Failed) → Appends old mid (head_for bytes) → Appends mid held (lines_of asks.white ++ lines_of asks.black)
+        → IfOk result (λ told. told ≡ v) → Stands (is_ok result) held new (verdict_line v) → Writes nodes bytes p old new result
+    writes_verdict old new (Ok told) head lemmas same stands = (
+      proof_text,
+      subst (IsProofOf nodes bytes p proof_text) (sym same) proof_of,
+      stands_all true old mid held new the_head (lines_of asks.white) (lines_of asks.black) (verdict_line v) (subst (Appends old mid) (head_is bytes p game) head) lemmas stands,
+    )
+    writes_verdict old new (Err failed) head lemmas same stands = (
+      proof_text,
+      record { game = game; stands = proof_stands p the_head proof_text v is_proof },
+      stands_all false old mid held new the_head (lines_of asks.white) (lines_of asks.black) (verdict_line v) (subst (Appends old mid) (head_is bytes p game) head) lemmas stands,
+    )
+
+  -- the head was cut
+  pub writes_head : (old new : Option (List ℕ)) (failed : Failed) → Stands false old new (head_for bytes) → Writes nodes bytes p old new (Err failed)
+  writes_head old new failed stands = (the_head, record { game = game; stands = head_stands p the_head }, subst (Stands false old new) (head_is bytes p game) stands)
+
+  -- a lemma was cut
+  pub writes_lemmas : (old mid new : Option (List ℕ)) (failed : Failed) (asks : Asks p nodes mid new (Err WriteFault)) → Appends old mid (head_for bytes) → Writes nodes bytes p old new (Err failed)
+  writes_lemmas old mid new failed asks head = (
+    the_head ++ (lines_of asks.white ++ lines_of asks.black),
+    record { game = game; stands = black_stands p the_head None asks.white asks.mid None asks.black asks.after asks.white_right asks.black_right asks.white_sided asks.black_sided tt tt },
+    Stands_more false old mid new the_head (lines_of asks.white ++ lines_of asks.black) (subst (Appends old mid) (head_is bytes p game) head) asks.text,
+  )

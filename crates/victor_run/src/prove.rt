@@ -1,0 +1,97 @@
+//! `prove`: a game is read, and a proof of its value is written, each line as soon as it is known. It takes no memory.
+ghost use Rattle.std.specs.Prelude.{◌≡◌, ◌≤◌, ◌<◌, Ok, length, is_ok, IfOk};
+ghost use Rattle.device_rules.specs.Devices.{HasCause, Rose, Stands};
+ghost use Rattle.game_rules.specs.Cost.{cost, none_closed};
+ghost use Rattle.game_rules.specs.Text.{game_at};
+ghost use Rattle.proof_text.specs.Spelling.{verdict_line};
+ghost use Rattle.proof_text.specs.declared.Verdict.TheVariants as verdicts;
+ghost use Rattle.victor_run.specs.Outcome.{Proves, TakesAtMost, ending_of};
+ghost use Rattle.victor_run.specs.Proof.{head_for, Writes};
+ghost use Rattle.victor_run.specs.declared.ending.Ending.TheVariants as endings;
+
+use crate::ending::Ending;
+use crate::search::{SearchStop, ask};
+use board_bits::{Position, read_game};
+use cert_format::{Line, LineText, Verdict, print_line, push_text};
+use io_ports::{Failed, Sink, Source, put_all, read_all};
+
+/// No more bytes of the input are read. The text of a game is shorter.
+const MOST_INPUT: usize = 256;
+
+/// Reads a game and writes a proof of its position's value, from a search that may enter `nodes` positions.
+pub(crate) fn prove<S: Source, O: Sink>(nodes: u32, source: &mut S, out: &mut O) -> Ending
+    requires nodes { nodes ≤ 10000000 }
+    ensures outcome { Proves nodes
+        (record { input = S.left source.old; left = S.left source.new; old = O.written out.old; new = O.written out.new }) result }
+    ensures read_fault { result ≡ endings.Read → Rose (S.faults source.old) (S.faults source.new) }
+    ensures write_fault { result ≡ endings.Write → Rose (O.faults out.old) (O.faults out.new) }
+    ensures taken { TakesAtMost 256 (S.left source.old) (S.left source.new) }
+{
+    let mut buffer = [0; MOST_INPUT];
+    let Ok(length) = read_all(source, &mut buffer) else {
+        return Ending::Read;
+    };
+    let text = &buffer[..length];
+    match read_game(text) {
+        Ok(position) => ending_of(write_proof(&position, text, nodes, out)),
+        Err(fault) => Ending::Input(fault),
+    }
+}
+
+/// The ending of a run that wrote a proof with the verdict, or failed to.
+fn ending_of(written: Result<Verdict, Failed>) -> Ending
+    ensures { result ≡ ending_of written }
+{
+    match written {
+        Ok(Verdict::Unknown) => Ending::Unknown,
+        Ok(_) => Ending::Done,
+        Err(Failed) => Ending::Write,
+    }
+}
+
+/// Writes a proof of the position, which is that of the text, from a search that may enter `nodes` positions. The verdict
+/// is `Unknown` only where that is below the position's cost.
+pub(crate) fn write_proof<O: Sink>(
+    position: &Position,
+    text: &[u8],
+    nodes: u32,
+    out: &mut O,
+) -> Result<Verdict, Failed>
+    requires game { game_at text.now ≡ Ok position.now }
+    requires nodes { nodes ≤ 10000000 }
+    ensures written { Writes nodes text.now position.now (O.written out.old) (O.written out.new) result }
+    ensures unknown { result ≡ Ok verdicts.Unknown → nodes < cost none_closed position.now }
+    ensures cause { HasCause (O.faults out.old) (O.faults out.new) result }
+{
+    put_all(out, head_for(text).as_slice())?;
+    match ask(position, nodes, out) {
+        Ok(verdict) => write_verdict(verdict, out),
+        Err(SearchStop::Spent) => write_verdict(Verdict::Unknown, out),
+        Err(SearchStop::WriteFault) => Err(Failed),
+    }
+}
+
+/// The head of a proof: the line that names its format, and the two lines of the game.
+fn head_for(text: &[u8]) -> LineText
+    requires { length text.now ≤ 119 }
+    ensures { result.items ≡ head_for text.now }
+{
+    let mut head = LineText::new();
+    push_text(&mut head, b"victor 1\n");
+    push_text(&mut head, text);
+    if text.last() != Some(&b'\n') {
+        push_text(&mut head, b"\n");
+    }
+    head
+}
+
+/// Writes the line of the verdict, and hands on what was written.
+fn write_verdict<O: Sink>(verdict: Verdict, out: &mut O) -> Result<Verdict, Failed>
+    ensures verdict { IfOk result (λ v. v ≡ verdict) }
+    ensures written { Stands (is_ok result) (O.written out.old) (O.written out.new) (verdict_line verdict) }
+    ensures cause { HasCause (O.faults out.old) (O.faults out.new) result }
+{
+    print_line(&Line::Verdict(verdict), out)?;
+    out.flush()?;
+    Ok(verdict)
+}
