@@ -10,7 +10,7 @@ ghost use Rattle.game_rules.specs.declared.Side.TheVariants as sides;
 ghost use Rattle.board_bits.specs.Held.{is_held, holds_on_board};
 ghost use Rattle.board_bits.specs.Move.{moved_into};
 
-use crate::line::{is_line, step_of, LINE_LENGTH};
+use crate::line::{LINE_LENGTH, is_line, step_of};
 use crate::stack::Stack;
 use crate::{Column, End, Mask, Side, Size, Square, Way};
 use std::marker::Model;

@@ -1,7 +1,5 @@
-use Rattle.std.proofs.Common.{◌≡◌, ◌<◌, true, false, get_or, below_more, sym, arith}
+use Rattle.std.proofs.Common.{below_more, sym, arith}
 use Rattle.std.proofs.lemmas.Bool.{both_ways}
-use Rattle.std.specs.List.{list_any}
-use Rattle.game_rules.specs.Squares.{has_square}
 use Rattle.board_bits.proofs.Masks.{none_common, one_common}
 use Rattle.board_bits.proofs.mask.Mask.meets.Goals as goal
 use Rattle.board_bits.proofs.mask.Mask.meets.Goals.{else-self-place-via-then-self-place+else-other-place, else-self-place-via-else-self-place}
