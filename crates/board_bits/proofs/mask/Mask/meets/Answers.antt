@@ -1,5 +1,5 @@
-use Rattle.std.proofs.Common.{◌≡◌, ◌<◌, true, false, not, get_or, below_more, sym, ◌∙◌, arith}
-use Rattle.std.proofs.lemmas.Bool.{both_ways, not-true, not-false}
+use Rattle.std.proofs.Common.{below_more, sym, ◌∙◌, arith}
+use Rattle.std.proofs.lemmas.Bool.{both_ways}
 use Rattle.board_bits.proofs.Masks.{none_common, one_common}
 use Rattle.board_bits.proofs.mask.Mask.meets.Goals as goal
 use Rattle.board_bits.proofs.mask.Mask.meets.Goals.{then-self-place, else-self-place}

@@ -1,4 +1,4 @@
-use Rattle.std.proofs.Common.{◌≡◌, ◌<◌, true, false, not, get_or, below_more, sym, ◌∙◌, arith}
+use Rattle.std.proofs.Common.{below_more, sym, ◌∙◌, arith}
 use Rattle.std.proofs.lemmas.Bool.{both_ways, not-true, not-false}
 use Rattle.board_bits.proofs.Masks.{all_within, one_beyond}
 use Rattle.board_bits.proofs.mask.Mask.within.Goals as goal
