@@ -9,6 +9,8 @@ mod known;
 mod moves;
 mod reasons;
 mod stops;
+#[cfg(test)]
+mod tests;
 
 pub use cert_format::{Line, Verdict};
 pub use checker::Checker;
