@@ -1,5 +1,5 @@
 -- `==` of two positions answers whether they are the same.
-use Rattle.std.proofs.Common.{◌≡◌, ℕ, ◌-◌, Bool, true, ◌&&◌, ◌==◌, List, [], ◌∷◌, ◌++◌, length, take, replicate, refl, sym, ap, ◌∙◌, subst}
+use Rattle.std.proofs.Common.{◌≡◌, ◌-◌, Bool, true, ◌&&◌, ◌==◌, List, [], length, take, replicate, refl, sym, ap, ◌∙◌}
 use Rattle.std.specs.Prelude.{Decides}
 use Rattle.std.specs.Cmp.Lexicographic.{pointwise}
 use Rattle.std.proofs.lemmas.Bool.{and_parts, and_from, eq-eqb, eqb-true}
@@ -27,9 +27,9 @@ module _ {S : Side → Side → Bool} (sides : (a b : Side) → Decides (S a b) 
   stacks_decide : (a b : List Side) → Decides (stacks_equal a b) (a ≡ b)
   stacks_decide a b = (
     (λ h. let both = and_parts (pointwise S (padded 10 White a) (padded 10 White b)) (length a == length b) h in
-      front_is White a b (eqb-true (length a) (length b) both.1) ((slice_eq-Decides sides (padded 10 White a) (padded 10 White b) (pointwise S (padded 10 White a) (padded 10 White b)) refl).0 both.0)),
+        front_is White a b (eqb-true (length a) (length b) both.1) ((slice_eq-Decides sides (padded 10 White a) (padded 10 White b) (pointwise S (padded 10 White a) (padded 10 White b)) refl).0 both.0)),
     (λ e. and_from _ _ ((slice_eq-Decides sides (padded 10 White a) (padded 10 White b) (pointwise S (padded 10 White a) (padded 10 White b)) refl).1 (ap (padded 10 White) e))
-      (eq-eqb (length a) (length b) (ap length e))),
+        (eq-eqb (length a) (length b) (ap length e))),
   )
 
   abbrev positions_equal : Position → Position → Bool

@@ -1,16 +1,15 @@
 -- What a mask's marks say of its squares.
-use Rattle.std.proofs.Common.{◌≡◌, ◌≢◌, ◌⊎◌, ℕ, zero, suc, ◌+◌, ◌-◌, ◌*◌, ◌<◌, ◌≤◌, Bool, true, false, not, ◌&&◌, ◌||◌, List, [], ◌∷◌, ◌++◌, length, take, replicate, set, get_or, Some, refl, sym, ap, ◌∙◌, subst, inl, inr, arith}
+use Rattle.std.proofs.Common.{◌≡◌, ℕ, ◌+◌, ◌<◌, Bool, true, false, ◌&&◌, ◌||◌, List, length, take, replicate, set, get_or, Some, refl, sym, ap, ◌∙◌, subst, inl, inr, arith}
 use Rattle.std.specs.List.{list_any, list_all}
-use Rattle.std.proofs.lemmas.Bool.{cases_Bool, cases_eq, both_ways, false_from_ne_true, or_cases, and_parts, and_from}
-use Rattle.std.proofs.lemmas.List.{get_or-replicate, get_or-set_same, get_or-set_other, take_more}
-use Rattle.std.proofs.lemmas.List.Folds.{list_any-append}
-use Rattle.std.proofs.Math.Bool.{or_comm}
+use Rattle.std.proofs.lemmas.Bool.{cases_eq, both_ways, false_from_ne_true, or_cases, and_parts, and_from}
+use Rattle.std.proofs.lemmas.List.{get_or-replicate, get_or-set_same, get_or-set_other}
 use Rattle.game_rules.specs.Board.{Square, on_board}
-use Rattle.game_rules.specs.Squares.{same_square, has_square, widest, squares_where, IsSetOf}
+use Rattle.game_rules.specs.Squares.{same_square, has_square, widest, IsSetOf}
 use Rattle.game_rules.specs.Position.{Position, board_of, has_man, IsStacked}
 use Rattle.game_rules.specs.declared.Side.{Side}
 use Rattle.game_rules.proofs.Lists.{Among, any_gives, any_from, all_gives, all_from}
 use Rattle.game_rules.proofs.Ends.{on_board_parts}
+use Rattle.game_rules.proofs.Passing.{one_passes, one_fails}
 use Rattle.game_rules.proofs.Squares.{agree, same_square_refl, same_square_is, has_gives, has_from, has_where, where_on, where_same, set_where, set_same, man_on_board}
 use Rattle.board_bits.specs.Held.{holds_on_board}
 use Rattle.board_bits.specs.SquarePlaces.{place_of, square_at}
@@ -57,8 +56,8 @@ pub union_set : (a b both : List Bool) → ((k : ℕ) → k < 100 → get_or bot
 union_set a b both each = marked_set (λ u. has_square (squares_marked a) u || has_square (squares_marked b) u) both
     (λ u h. elim (or_cases _ _ h) [ inl left ↦ where_on (is_marked a) u left | inr right ↦ where_on (is_marked b) u right ])
     (λ u on. each (place_of u) (place_low u on)
-      ∙ ap (λ x. x || is_marked b u) (sym (has_where (is_marked a) u on))
-      ∙ ap (λ y. has_square (squares_marked a) u || y) (sym (has_where (is_marked b) u on)))
+    ∙ ap (λ x. x || is_marked b u) (sym (has_where (is_marked a) u on))
+    ∙ ap (λ y. has_square (squares_marked a) u || y) (sym (has_where (is_marked b) u on)))
 
 -- the square of a marked place
 has_place : (places : List Bool) (k : ℕ) → k < 100 → has_square (squares_marked places) (square_at k) ≡ get_or places k false
@@ -88,19 +87,6 @@ pub one_common : (a b : List Bool) (k : ℕ) → k < 100 → get_or a k false �
 one_common a b k low left right =
     any_from (has_square (squares_marked b)) (squares_marked a) (square_at k) (has_gives (squares_marked a) (square_at k) (has_place a k low ∙ left)) (has_place b k low ∙ right)
 
-or_none : (b : Bool) → (b || false) ≡ b
-or_none true = refl
-or_none false = refl
-
--- one more square of a list
-pub more_squares : (us : List Square) (i : ℕ) (s : Square) → i < length us → s ≡ get_or us i s → (u : Square)
-    → (same_square u s || has_square (take i us) u) ≡ has_square (take (i + 1) us) u
-more_squares us i s within here u =
-    or_comm (same_square u s) (has_square (take i us) u)
-    ∙ ap (λ b. has_square (take i us) u || b) (sym (or_none (same_square u s)))
-    ∙ sym (list_any-append (same_square u) (take i us) (s ∷ []))
-    ∙ ap (λ vs. has_square vs u) (ap (λ t. take i us ++ t ∷ []) here ∙ sym (take_more us i s within))
-
 -- one more place of a union
 pub joined_more : (first places more : List Bool) (place : ℕ) (mark : Bool) → place < length places
     → ((k : ℕ) → k < place → get_or places k false ≡ (get_or first k false || get_or more k false))
@@ -117,26 +103,11 @@ module _ (us : List Square) (i : ℕ) (s : Square) (test : Square → Bool) (wit
   pub more_passes : (mask next : List Square) → test s ≡ true → IsSetOf (λ u. has_square (take i us) u && test u) mask
       → IsSetOf (λ u. same_square u s || has_square mask u) next → IsSetOf (λ u. has_square (take (i + 1) us) u && test u) next
   more_passes mask next passes set one = set_same _ (λ u. has_square (take (i + 1) us) u && test u) next one (λ u.
-      ap (λ b. same_square u s || b) (set.has u) ∙ at u (cases_Bool (same_square u s)) ∙ ap (λ b. b && test u) (more_squares us i s within here u))
-    where
-      at : (u : Square) → (same_square u s ≡ true) ⊎ (same_square u s ≡ false)
-          → (same_square u s || (has_square (take i us) u && test u)) ≡ ((same_square u s || has_square (take i us) u) && test u)
-      at u (inl same) = rw same (sym (ap test (same_square_is u s same) ∙ passes))
-      at u (inr apart) = rw apart refl
+      ap (λ b. same_square u s || b) (set.has u) ∙ one_passes same_square same_square_is us i s within here test passes u)
 
   pub more_fails : (mask : List Square) → test s ≡ false → IsSetOf (λ u. has_square (take i us) u && test u) mask
       → IsSetOf (λ u. has_square (take (i + 1) us) u && test u) mask
-  more_fails mask fails set = set_same _ (λ u. has_square (take (i + 1) us) u && test u) mask set (λ u.
-      at u (cases_Bool (same_square u s)) ∙ ap (λ b. b && test u) (more_squares us i s within here u))
-    where
-      none : (b : Bool) → (b && false) ≡ false
-      none true = refl
-      none false = refl
-
-      at : (u : Square) → (same_square u s ≡ true) ⊎ (same_square u s ≡ false)
-          → (has_square (take i us) u && test u) ≡ ((same_square u s || has_square (take i us) u) && test u)
-      at u (inl same) = rw (ap test (same_square_is u s same) ∙ fails) (none (has_square (take i us) u) ∙ sym (none (same_square u s || has_square (take i us) u)))
-      at u (inr apart) = rw apart refl
+  more_fails mask fails set = set_same _ (λ u. has_square (take (i + 1) us) u && test u) mask set (one_fails same_square same_square_is us i s within here test fails)
 
 -- ---- the squares that hold a side's man
 

@@ -1,5 +1,5 @@
 -- The fields of a mask, and that its squares tell them.
-use Rattle.std.specs.Prelude.{◌≡◌, ℕ, ◌+◌, ◌-◌, ◌*◌, ◌/◌, ◌%◌, ◌<◌, Bool, true, false, List, map, length, slice_index_or}
+use Rattle.std.specs.Prelude.{◌≡◌, ℕ, ◌+◌, ◌/◌, ◌%◌, ◌<◌, Bool, true, false, List, map, length, slice_index_or}
 use Rattle.std.proofs.Common.{sym, ap, ◌∙◌, arith}
 use Rattle.std.proofs.lemmas.List.{ext_get_or}
 use Rattle.std.proofs.lemmas.List.FromFn.{get_or-map-range_with_len, length-map-range_with_len}
@@ -31,10 +31,10 @@ pub squares_tell_the_places : (places : List Bool) → length places ≡ 100 →
 unfolding places_of
 squares_tell_the_places places size =
     ext_get_or false (map at (below 100)) places (length-map-range_with_len at 0 100 ∙ sym size) (λ i within.
-      let low : i < 100 = omega (arith, length-map-range_with_len at 0 100) in
-      get_or-map-range_with_len at 0 100 i i false low (omega arith)
-      ∙ has_where (is_marked places) (square_at i) (square_on i low)
-      ∙ ap (λ n. slice_index_or places n false) (place_at i))
+    let low : i < 100 = omega (arith, length-map-range_with_len at 0 100) in
+    get_or-map-range_with_len at 0 100 i i false low (omega arith)
+    ∙ has_where (is_marked places) (square_at i) (square_on i low)
+    ∙ ap (λ n. slice_index_or places n false) (place_at i))
   where
     at : ℕ → Bool
     at place = has_square (squares_marked places) (square_at place)

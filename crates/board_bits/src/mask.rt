@@ -87,7 +87,8 @@ impl Mask {
         ensures { result ≡ list_all (has_square other) self.now }
     {
         for place in 0..PLACES {
-            if self.places[place] && !other.places[place] {
+            let is_outside = self.places[place] && !other.places[place];
+            if is_outside {
                 return false;
             }
         }
@@ -99,7 +100,8 @@ impl Mask {
         ensures { result ≡ list_any (has_square other) self.now }
     {
         for place in 0..PLACES {
-            if self.places[place] && other.places[place] {
+            let is_common = self.places[place] && other.places[place];
+            if is_common {
                 return true;
             }
         }

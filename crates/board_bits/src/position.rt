@@ -1,7 +1,7 @@
 //! Positions and moves. A position is kept as its board's size and ten stacks of men, of which those beyond the board
 //! are empty; a contract sees the men of each column. All lines are looked at for the end of a game, so nothing about
 //! the last move has to be kept.
-ghost use Rattle.std.specs.Prelude.{◌≡◌, ◌+◌, ◌<◌, ◌≤◌, true, not, length};
+ghost use Rattle.std.specs.Prelude.{◌≡◌, ◌+◌, ◌<◌, ◌≤◌, true, not, length, IsTrue};
 ghost use Rattle.std.specs.List.{list_any, list_all};
 ghost use Rattle.game_rules.specs.Board.{is_board, line_at};
 ghost use Rattle.game_rules.specs.Position.{board_of, empty_position, men_in, height, man_at, has_man, side_to_move, man_count, has_room, lowest_empty, empty_count, after_move, four_at, four_in_column, four_along, has_four, is_full, end_of, is_legal, IsStacked, same_position};
@@ -10,9 +10,10 @@ ghost use Rattle.game_rules.specs.declared.Side.TheVariants as sides;
 ghost use Rattle.board_bits.specs.Held.{is_held, holds_on_board};
 ghost use Rattle.board_bits.specs.Move.{moved_into};
 
-use crate::line::{is_line, step_of, LINE_LENGTH};
+use crate::line::{LINE_LENGTH, is_line, step_of};
 use crate::stack::Stack;
 use crate::{Column, End, Mask, Side, Size, Square, Way};
+use std::hash::Hash;
 use std::marker::Model;
 
 /// No board has more columns.
@@ -191,9 +192,11 @@ impl Position {
     }
 
     /// Whether the boards are of one size, and White's men and Black's stand on the same squares. `==` answers the
-    /// same.
+    /// same, and positions that are the same have one hash.
     pub fn same(&self, other: &Position) -> bool
-        ensures { result ≡ same_position self.now other.now }
+        ensures value { result ≡ same_position self.now other.now }
+        ensures equal { result ≡ ⟦<Position as PartialEq>⟧.eq self.now other.now }
+        ensures hash { IsTrue result → ⟦<Position as Hash>⟧.hash_input self.now ≡ ⟦<Position as Hash>⟧.hash_input other.now }
     {
         self == other
     }

@@ -6,8 +6,8 @@ ghost use Rattle.game_rules.specs.Squares.{squares_of_board, squares_in_column, 
 ghost use Rattle.board_bits.specs.Size.{sized};
 ghost use Rattle.arrayvec.specs.ArrayVec.{array_vec_len};
 
-use crate::line::{is_line, step_of};
 use crate::Way;
+use crate::line::{is_line, step_of};
 use arrayvec::ArrayVec;
 use std::marker::Model;
 
@@ -123,14 +123,17 @@ impl Size {
 
     /// Whether the squares of a line from the anchor are all on the board.
     pub fn has_line(&self, anchor: Square, way: Way) -> bool
-        ensures { result ≡ is_line self.now way anchor }
+        ensures value { result ≡ is_line self.now way anchor }
+        ensures board { is_board self.now ≡ true }
     {
+        let _board = self.cols();
         is_line(*self, way, (anchor.column().index(), anchor.row()))
     }
 
     /// All squares of the board in square order: by column, then by row.
     pub fn squares(&self) -> ArrayVec<Square, MOST_SQUARES>
-        ensures { result.items ≡ squares_of_board self.now }
+        ensures items { result.items ≡ squares_of_board self.now }
+        ensures board { is_board self.now ≡ true }
     {
         let mut squares = ArrayVec::new();
         for index in 0..self.cols() {

@@ -3,10 +3,8 @@ use Rattle.std.proofs.Common.{◌≡◌, ◌≢◌, ◌⊎◌, ℕ, zero, suc, �
 use Rattle.std.specs.Prelude.{⊤}
 use Rattle.std.specs.List.{list_any, list_all, flat_map, range_with_len, AllPairs, slice_index_or}
 use Rattle.std.proofs.lemmas.Bool.{cases_Bool, cases_eq, both_ways, and_parts, and_from, or_cases, eq-eqb, eqb-true, leb-true}
-use Rattle.std.proofs.lemmas.List.{map-append}
 use Rattle.std.proofs.lemmas.List.Concat.{flat_map-cons}
 use Rattle.std.proofs.lemmas.List.Folds.{list_any-append}
-use Rattle.std.proofs.lemmas.List.Elements.{filter-append}
 use Rattle.std.proofs.lemmas.List.Kept.{AllPairs-cons}
 use Rattle.game_rules.specs.Board.{Board, Square, below, is_cols, is_rows, is_board, on_board, step_of, is_line, ways}
 use Rattle.game_rules.specs.Position.{Position, board_of, has_man, four_at, four_in_column, four_along, has_four}
@@ -253,7 +251,7 @@ four_by_groups p side =
 
 -- ---- sets of groups
 
-rank_is : (v w : Way) → rank v ≡ rank w → v ≡ w
+pub rank_is : (v w : Way) → rank v ≡ rank w → v ≡ w
 rank_is H H e = refl
 rank_is H V e = absurd (omega arith)
 rank_is H U e = absurd (omega arith)
@@ -319,22 +317,3 @@ group_set_same f g gs set same = record {
   in_order = set.in_order ∙ groups_where_same f g (λ h on. same h);
   has = λ h. set.has h ∙ same h;
 }
-
--- ---- groups column by column
-
--- the groups of one direction with their anchors in one column
-abbrev pub groups_in_column : Board → Way → ℕ → List Group
-groups_in_column b way c = map (λ anchor. (anchor, way)) (filter (is_line b way) (squares_in_column b.rows c))
-
-pub along_by_columns : (b : Board) (way : Way) → groups_along b way ≡ flat_map (groups_in_column b way) (below b.cols)
-unfolding squares_of_board
-along_by_columns b way = each (below b.cols)
-  where
-    each : (cs : List ℕ) → map (λ anchor. (anchor, way)) (filter (is_line b way) (flat_map (squares_in_column b.rows) cs)) ≡ flat_map (groups_in_column b way) cs
-    each [] = refl
-    each (c ∷ cs) =
-        ap (λ us. map (λ anchor. (anchor, way)) (filter (is_line b way) us)) (flat_map-cons (squares_in_column b.rows) c cs)
-        ∙ ap (map (λ anchor. (anchor, way))) (filter-append (is_line b way) (squares_in_column b.rows c) (flat_map (squares_in_column b.rows) cs))
-        ∙ map-append (λ anchor. (anchor, way)) (filter (is_line b way) (squares_in_column b.rows c)) (filter (is_line b way) (flat_map (squares_in_column b.rows) cs))
-        ∙ ap (λ gs. groups_in_column b way c ++ gs) (each cs)
-        ∙ sym (flat_map-cons (groups_in_column b way) c cs)

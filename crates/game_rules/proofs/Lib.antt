@@ -9,5 +9,6 @@ pub mod Readers
 pub mod BoardLine
 pub mod Prefix
 pub mod Grammar
+pub mod Passing
 pub mod Squares
 pub mod Groups

@@ -1,7 +1,6 @@
-use Rattle.std.proofs.Common.{◌≡◌, ◌||◌, false, get_or, length-set, refl, sym, ap, ◌∙◌, arith, subst}
+use Rattle.std.proofs.Common.{◌≡◌, ◌||◌, false, get_or, length-set, sym, ap, ◌∙◌, arith}
 use Rattle.std.proofs.lemmas.List.{get_or-set_other}
-use Rattle.game_rules.specs.Squares.{has_square, IsSetOf}
-use Rattle.board_bits.specs.MaskFields.{squares_marked, told_from}
+use Rattle.board_bits.specs.MaskFields.{told_from}
 use Rattle.board_bits.proofs.Masks.{union_set, joined_more}
 use Rattle.board_bits.proofs.mask.Mask.union.Goals as goal
 use Rattle.board_bits.proofs.mask.Mask.union.Goals.{then-places-place, else-places-place}

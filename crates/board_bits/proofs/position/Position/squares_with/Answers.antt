@@ -1,4 +1,4 @@
-use Rattle.std.proofs.Common.{◌≡◌, Bool, false, [], ◌&&◌, ◌≤◌, length, take, refl, sym, ap, ◌∙◌, subst}
+use Rattle.std.proofs.Common.{◌≡◌, false, [], ◌&&◌, take, refl, sym, ap, ◌∙◌, subst}
 use Rattle.std.proofs.lemmas.List.{take_all}
 use Rattle.game_rules.specs.Board.{Square}
 use Rattle.game_rules.specs.Position.{man_at, board_of}
@@ -27,6 +27,6 @@ pub returns-clause-squares : goal.returns-clause-squares
 returns-clause-squares c =
     let us = c.as_slice-square-items.result.now in
     let all : take c.loop-square.square-index us ≡ squares_of_board (board_of c.args.self.now)
-        = take_all c.loop-square.square-index us c.loop-square-test.false ∙ c.as_slice-square-items.ensures.value ∙ c.squares-squares.ensures ∙ ap squares_of_board c.size.ensures.value in
+    = take_all c.loop-square.square-index us c.loop-square-test.false ∙ c.as_slice-square-items.ensures.value ∙ c.squares-squares.ensures.items ∙ ap squares_of_board c.size.ensures.value in
     set_same (λ u. has_square (take c.loop-square.square-index us) u && is_held c.args.held (man_at c.args.self.now u)) (holds_on_board c.args.self.now c.args.held) c.loop-square.mask c.loop-square.invariant (λ u.
-      ap (λ b. b && is_held c.args.held (man_at c.args.self.now u)) (ap (λ vs. has_square vs u) all ∙ has_on_board (board_of c.args.self.now) u))
+    ap (λ b. b && is_held c.args.held (man_at c.args.self.now u)) (ap (λ vs. has_square vs u) all ∙ has_on_board (board_of c.args.self.now) u))

@@ -1,6 +1,5 @@
-use Rattle.std.proofs.Common.{◌∷◌, [], ◌++◌, ◌+◌, append_assoc, sym, ap, ◌∙◌, refl, arith}
+use Rattle.std.proofs.Common.{◌∷◌, [], ◌++◌, ◌+◌, append_assoc, sym, ap, ◌∙◌, arith}
 use Rattle.std.proofs.lemmas.List.FromFn.{map-range_with_len_more}
-use Rattle.game_rules.specs.Board.{Square}
 use Rattle.game_rules.specs.Squares.{squares_in_column}
 use Rattle.board_bits.proofs.size.Size.push_column.Goals as goal
 

@@ -1,13 +1,13 @@
-use Rattle.std.proofs.Common.{◌≡◌, ◌+◌, ◌*◌, ◌<◌, ◌≤◌, List, length, ◌++◌, sym, ap, ◌∙◌, arith}
+use Rattle.std.proofs.Common.{◌≡◌, ◌<◌, ◌≤◌, length, ◌++◌, sym, ap, ◌∙◌, arith}
 use Rattle.std.specs.List.{flat_map}
-use Rattle.game_rules.specs.Board.{Square, below}
-use Rattle.game_rules.specs.Squares.{squares_in_column, squares_of_board}
+use Rattle.game_rules.specs.Board.{below}
+use Rattle.game_rules.specs.Squares.{squares_in_column}
 use Rattle.game_rules.proofs.Groups.{board_most}
 use Rattle.board_bits.proofs.Columns.{columns_more, columns_all, rows_more, rows_room}
 use Rattle.board_bits.proofs.size.Size.squares.Goals as goal
 
 pub push_column-requires : goal.push_column-requires
-push_column-requires c = 
+push_column-requires c =
     let high : c.args.self.now.rows ≤ 10 = (board_most c.args.self.now c.cols-index-end.ensures.board).1 in
     let within : c.loop-index.index < c.args.self.now.cols = omega arith in
     let wide : c.args.self.now.cols ≤ 10 = omega arith in
@@ -23,5 +23,5 @@ loop-index-preserved c =
       count = ap length c.push_column.ensures ∙ rows_more rows i c.nth_column.result c.loop-index.squares.items c.loop-index.invariant.count;
     }
 
-pub returns : goal.returns
-returns c = c.loop-index.invariant.so_far ∙ columns_all c.args.self.now c.loop-index.index (omega arith)
+pub returns-clause-items : goal.returns-clause-items
+returns-clause-items c = c.loop-index.invariant.so_far ∙ columns_all c.args.self.now c.loop-index.index (omega arith)

@@ -1,0 +1,73 @@
+//! How many groups a board has, and which of them a man takes from the other side, as counted by hand.
+use crate::{GroupId, GroupSet, free_for, group_anchor, group_at, group_mask, group_way, groups};
+use board_bits::{Mask, Side, Size, Square, read_game};
+use game_rules::Way;
+use std::test::Fail;
+
+fn square_of(size: Size, index: u8, row: u8) -> Option<Square> {
+    size.square(size.column(index)?, row)
+}
+
+fn count_in(set: &GroupSet, list: &[GroupId]) -> usize {
+    list.iter().filter(|group| set.has(**group)).count()
+}
+
+#[test]
+fn boards_have_their_groups(rt: HostRuntime) -> Result<(), Fail> {
+    for (cols, rows, want) in [(4, 4, 10), (7, 6, 69), (10, 10, 238)] {
+        let size = Size::new(cols, rows)?;
+        assert_eq!(rt; groups(size).len(), want, "at {cols} by {rows}");
+    }
+    Ok(())
+}
+
+#[test]
+fn a_man_takes_three_groups(rt: HostRuntime) -> Result<(), Fail> {
+    let position = read_game(b"board 4 4\nmoves a\n")?;
+    let all = groups(position.size());
+    let corner = square_of(position.size(), 0, 1).ok_or("no a1")?;
+    let white = free_for(&position, Side::White);
+    let black = free_for(&position, Side::Black);
+    assert_eq!(rt; count_in(&white, all.as_slice()), 10);
+    assert_eq!(rt; count_in(&black, all.as_slice()), 7);
+    for way in [Way::H, Way::V, Way::U] {
+        let taken = group_at(position.size(), corner, way).ok_or("no group")?;
+        assert!(rt; !black.has(taken), "{way:?} is taken");
+    }
+    Ok(())
+}
+
+#[test]
+fn a_group_is_its_four_squares(rt: HostRuntime) -> Result<(), Fail> {
+    let position = read_game(b"board 4 4\nmoves abc\n")?;
+    let size = position.size();
+    let top = square_of(size, 0, 4).ok_or("no a4")?;
+    let group = group_at(size, top, Way::D).ok_or("no a4d")?;
+    assert_eq!(rt; group_anchor(group), top);
+    assert_eq!(rt; group_way(group), Way::D);
+    let mut squares = Mask::empty();
+    for (index, row) in [(3, 1), (2, 2), (1, 3), (0, 4)] {
+        squares = squares.with(square_of(size, index, row).ok_or("off the board")?);
+    }
+    assert_eq!(rt; group_mask(group), squares);
+    assert!(rt; squares.within(position.empties()));
+    assert!(rt; !squares.meets(position.white().union(position.black())));
+    assert!(rt; group_at(size, top, Way::U).is_none());
+    Ok(())
+}
+
+#[test]
+fn squares_are_empty_playable_or_held(rt: HostRuntime) -> Result<(), Fail> {
+    let position = read_game(b"board 4 4\nmoves ab\n")?;
+    let size = position.size();
+    let held = square_of(size, 1, 1).ok_or("no b1")?;
+    let next = square_of(size, 1, 2).ok_or("no b2")?;
+    let high = square_of(size, 1, 3).ok_or("no b3")?;
+    assert!(rt; size.has(high));
+    assert!(rt; position.has_man(Side::Black, held) && !position.is_empty(held));
+    assert!(rt; position.is_empty(next) && position.is_playable(next));
+    assert!(rt; position.is_empty(high) && !position.is_playable(high));
+    assert!(rt; position.same(&read_game(b"board 4 4\nmoves ab")?));
+    assert!(rt; !position.same(&read_game(b"board 4 4\nmoves ba\n")?));
+    Ok(())
+}
