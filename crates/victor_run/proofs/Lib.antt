@@ -1,3 +1,4 @@
 pub mod Search
 pub mod Ends
 pub mod CheckLines
+pub mod CheckTold
