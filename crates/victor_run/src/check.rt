@@ -64,7 +64,8 @@ enum Stop {
     Memory,
 }
 
-/// Reads a proof, and writes one line where it is right.
+/// Reads a proof, and writes one line where it is right. It ends as the definitions answer the text, unless a stream
+/// failed, which comes only where its count of faults rose, or memory was wanted.
 pub(crate) fn check<S: Source, O: Sink>(alloc: Global, source: &mut S, out: &mut O) -> CheckEnd
     ensures outcome { Checks (S.left source.old) (S.left source.new) (O.written out.old) (O.written out.new) result }
     ensures complete { Serves (S.left source.old) result }
@@ -228,6 +229,7 @@ fn add_line(checker: &mut Checker, size: Size, at: u64, bytes: &[u8]) -> Result<
     }
 }
 
+/// The line at this number is none of a proof.
 fn bad_line(at: u64) -> Stop
     ensures { result ≡ stops.Refused (record { at = at; why = whys.BadLine }) }
 {
@@ -247,6 +249,7 @@ fn put_accepted<O: Sink>(out: &mut O, accepted: Accepted) -> Result<(), Failed>
     out.flush()
 }
 
+/// The line for a proof that is accepted, with its line feed.
 fn accepted_line(accepted: Accepted) -> ArrayVec<u8, LONGEST_ANSWER>
     ensures { result.items ≡ accepted_line accepted.verdict accepted.lemmas }
 {
@@ -259,6 +262,7 @@ fn accepted_line(accepted: Accepted) -> ArrayVec<u8, LONGEST_ANSWER>
     line
 }
 
+/// The word of a verdict.
 fn word_of(verdict: Verdict) -> &'static [u8]
     ensures word { result.now ≡ word_of verdict }
     ensures short { length result.now ≤ 7 }
@@ -271,6 +275,7 @@ fn word_of(verdict: Verdict) -> &'static [u8]
     }
 }
 
+/// Puts a text behind the bytes.
 fn push_text<const N: usize>(line: &mut ArrayVec<u8, N>, text: &[u8])
     requires { array_vec_len line.old + length text.now ≤ N }
     ensures items { line.new.items ≡ line.old.items ++ text.now }
