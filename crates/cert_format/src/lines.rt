@@ -18,7 +18,7 @@ pub struct Cite {
 }
 
 /// Why a lemma's claim holds.
-#[derive(Drop)]
+#[derive(Debug, PartialEq, Eq, Drop)]
 pub enum Reason {
     /// The game has ended, and the claim is true of its end.
     Ended,
@@ -29,7 +29,7 @@ pub enum Reason {
 }
 
 /// A lemma of a proof: its number, its position as the moves from the root, and what it claims there and why.
-#[derive(Drop)]
+#[derive(Debug, PartialEq, Eq, Drop)]
 pub struct Lemma {
     pub number: u32,
     pub path: ArrayVec<Column, LONGEST_PATH>,
@@ -38,7 +38,7 @@ pub struct Lemma {
 }
 
 /// A line of a proof behind its game.
-#[derive(Drop)]
+#[derive(Debug, PartialEq, Eq, Drop)]
 pub enum Line {
     Lemma(Lemma),
     /// A line for the reader, which says nothing.

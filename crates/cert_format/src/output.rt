@@ -12,10 +12,10 @@ use io_ports::{Failed, Sink, put_all};
 use proof_text::Claim;
 use std::marker::Model;
 
-/// Writes the spelling of a lemma or a verdict and a line feed; a remark has none that this value tells. What is read from
-/// the bytes before the line feed is the same line, where its numbers are from 1 to 10,000,000, `All` has at least one
-/// cite, and its columns are those of one board. On `Failed`, which comes only where the sink's count of faults rose, a
-/// front was written.
+/// Writes the spelling of a lemma or a verdict, and a line feed. A remark can't be written, since what it says isn't
+/// kept. The line is one of a proof, and read again as it was, where its numbers are from 1 to 10,000,000, `All` has at
+/// least one cite, and its columns are those of one board. On `Failed`, which comes only where the sink's count of
+/// faults rose, a front was written.
 pub fn print_line<O: Sink>(line: &Line, out: &mut O) -> Result<(), Failed>
     requires { line_of line.now ≢ ARemark }
     ensures written { Stands (is_ok result) (O.written out.old) (O.written out.new) (printed (line_of line.now)) }

@@ -3,3 +3,5 @@ pub mod Ends
 pub mod Proving
 pub mod Asking
 pub mod Writing
+pub mod CheckLines
+pub mod CheckTold

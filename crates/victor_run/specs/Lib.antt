@@ -3,3 +3,5 @@ pub mod Output
 pub mod Outcome
 pub mod Search
 pub mod Proof
+pub mod Check
+pub mod CheckSteps

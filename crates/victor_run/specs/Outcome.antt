@@ -9,20 +9,23 @@ use Rattle.game_rules.specs.Text.{game_at}
 use Rattle.proof_text.specs.declared.Verdict.{Verdict}
 use Rattle.proof_text.specs.declared.Verdict.TheVariants as verdicts
 use Rattle.io_ports.specs.declared.ports.Failed.{Failed}
+use Rattle.victor_run.specs.Check.{Checks}
 use Rattle.victor_run.specs.Proof.{IsProofOf, MayStandFor}
 use Rattle.victor_run.specs.declared.words.Form.{Form}
-use Rattle.victor_run.specs.declared.words.Form.TheVariants.{Prove}
+use Rattle.victor_run.specs.declared.words.Form.TheVariants.{Prove, Check}
 use Rattle.victor_run.specs.declared.ending.Ending.{Ending}
-use Rattle.victor_run.specs.declared.ending.Ending.TheVariants.{Done, Unknown, Usage, Input, Read, Write}
+use Rattle.victor_run.specs.declared.ending.Ending.TheVariants.{Done, Unknown, Usage, Input, Refused, Read, Write, Memory}
 
 -- the exit status of an ending
 abbrev pub status_of : Ending → ℕ
 status_of Done = 0
 status_of Usage = 2
 status_of (Input fault) = 3
+status_of (Refused refusal) = 4
 status_of Unknown = 5
 status_of Read = 6
 status_of Write = 7
+status_of Memory = 8
 
 -- the ending of a run that wrote a proof with the verdict, or failed to
 abbrev pub ending_of : Result Verdict Failed → Ending
@@ -74,11 +77,14 @@ Proves nodes s Write = IfSome s.input (λ bytes. WasCut bytes s.old s.new) × Is
 Proves nodes s (Input fault) = IfSome s.input (λ bytes. game_at bytes ≡ Err fault) × Keeps s.old s.new
 Proves nodes s Read = Keeps s.old s.new
 Proves nodes s Usage = ⊥
+Proves nodes s (Refused refusal) = ⊥
+Proves nodes s Memory = ⊥
 
 -- a run of the words that have this form
 abbrev pub Outcome : Option Form → Streams → Ending → Type 0
 Outcome None s ending = (ending ≡ Usage) × Keeps s.old s.new × Keeps s.input s.left
 Outcome (Some (Prove nodes)) s ending = Proves nodes s ending
+Outcome (Some Check) s ending = Checks s.input s.left s.old s.new ending
 
 -- a text was written to the error stream, all of it unless that stream's count rose
 pub record Tells (before after : ℕ) (old new : Option (List ℕ)) (text : List ℕ) : Type 0 where

@@ -4,6 +4,9 @@ use Rattle.game_rules.specs.declared.InputFault.{InputFault}
 use Rattle.game_rules.specs.declared.InputKind.{InputKind}
 use Rattle.game_rules.specs.declared.InputKind.TheVariants.{BadHeader, BadSize, BadColumn, ColumnFull, GameOver, Trailing}
 use Rattle.proof_text.specs.Spelling.{as_line}
+use Rattle.proof_text.specs.declared.Why.{Why}
+use Rattle.proof_text.specs.declared.Why.TheVariants.{BadLine, BadPath, NoSuchLemma, WrongPosition, WrongClaim, MissingMove, BadVerdict, EndedEarly}
+use Rattle.cert_checker.specs.declared.stops.Refusal.{Refusal}
 use Rattle.victor_run.specs.declared.ending.Ending.{Ending}
 use Rattle.victor_run.specs.declared.ending.Ending.TheVariants as endings
 
@@ -22,11 +25,27 @@ kind_word Trailing = codes "Trailing"
 abbrev pub fault_line : InputFault → List ℕ
 fault_line fault = as_line (codes "input fault: " ++ kind_word fault.kind ++ codes " at " ++ decimal fault.at)
 
+abbrev pub why_word : Why → List ℕ
+why_word BadLine = codes "BadLine"
+why_word BadPath = codes "BadPath"
+why_word NoSuchLemma = codes "NoSuchLemma"
+why_word WrongPosition = codes "WrongPosition"
+why_word WrongClaim = codes "WrongClaim"
+why_word MissingMove = codes "MissingMove"
+why_word BadVerdict = codes "BadVerdict"
+why_word EndedEarly = codes "EndedEarly"
+
+-- the number of the line that is refused, and why
+abbrev pub refusal_line : Refusal → List ℕ
+refusal_line refusal = as_line (codes "refused line " ++ decimal refusal.at ++ codes ": " ++ why_word refusal.why)
+
 -- the text for an ending; where all went well there is none
 abbrev pub fault_text : Ending → List ℕ
 fault_text endings.Done = []
 fault_text endings.Unknown = []
 fault_text endings.Usage = as_line usage
 fault_text (endings.Input fault) = fault_line fault
+fault_text (endings.Refused refusal) = refusal_line refusal
 fault_text endings.Read = as_line (codes "read fault")
 fault_text endings.Write = as_line (codes "write fault")
+fault_text endings.Memory = as_line (codes "out of memory")

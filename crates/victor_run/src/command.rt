@@ -1,9 +1,12 @@
 //! The commands, over any source and any sinks.
-ghost use Rattle.std.specs.Prelude.{◌≡◌, ℕ, ◌≤◌, Ok, Some, IfSome, map, string_bytes};
+ghost use Rattle.std.specs.Prelude.{◌≡◌, ◌⊎◌, ℕ, ◌≤◌, Ok, Some, IfSome, map, string_bytes};
 ghost use Rattle.device_rules.specs.Devices.{Rose};
 ghost use Rattle.game_rules.specs.Position.{Position};
 ghost use Rattle.game_rules.specs.Cost.{cost, none_closed};
 ghost use Rattle.game_rules.specs.Text.{game_at};
+ghost use Rattle.proof_text.specs.Texts.{check_of, Accepted};
+ghost use Rattle.proof_text.specs.declared.Verdict.{Verdict};
+ghost use Rattle.victor_run.specs.Check.{Serves};
 ghost use Rattle.victor_run.specs.Words.{form_of};
 ghost use Rattle.victor_run.specs.Output.{fault_text};
 ghost use Rattle.victor_run.specs.Outcome.{status_of, Outcome, Tells, TakesAtMost};
@@ -11,6 +14,7 @@ ghost use Rattle.victor_run.specs.declared.words.Form.TheVariants as forms;
 ghost use Rattle.victor_run.specs.declared.ending.Ending.{Ending};
 ghost use Rattle.victor_run.specs.declared.ending.Ending.TheVariants as endings;
 
+use crate::check::check;
 use crate::ending::Ending;
 use crate::output::tell;
 use crate::prove::prove;
@@ -22,6 +26,7 @@ use std::alloc::Global;
 /// fault goes to `err`, and no failure of `err` changes anything.
 ///
 /// `prove` and `prove --nodes N` read a game and write a proof of its value under perfect play, for the side to move.
+/// `check` reads a proof and writes a line where it is right. Only `check` takes memory, and only for lemmas.
 pub fn run<S: Source, O: Sink, E: Sink>(
     alloc: Global,
     words: &[String],
@@ -36,27 +41,37 @@ pub fn run<S: Source, O: Sink, E: Sink>(
     ensures read_fault { result ≡ 6 → Rose (S.faults source.old) (S.faults source.new) }
     ensures write_fault { result ≡ 7 → Rose (O.faults out.old) (O.faults out.new) }
 
-    // Where no stream failed and the budget suffices, the value is written with its proof.
+    // Where no stream failed and the budget suffices, the value is written with its proof; and a proof that is right is
+    // accepted, unless memory is wanting.
     ensures complete { (nodes : ℕ) → form_of (map string_bytes words.now) ≡ Some (forms.Prove nodes)
         → (Rose (S.faults source.old) (S.faults source.new) → ⊥) → (Rose (O.faults out.old) (O.faults out.new) → ⊥)
         → IfSome (S.left source.old) (λ bytes. (p : Position) → game_at bytes ≡ Ok p → cost none_closed p ≤ nodes → result ≡ 0) }
-    ensures taken { TakesAtMost 256 (S.left source.old) (S.left source.new) }
+    ensures check_complete { form_of (map string_bytes words.now) ≡ Some forms.Check
+        → (Rose (S.faults source.old) (S.faults source.new) → ⊥) → (Rose (O.faults out.old) (O.faults out.new) → ⊥)
+        → IfSome (S.left source.old) (λ bytes. (v : Verdict) (count : ℕ) → check_of bytes ≡ Accepted v count → (result ≡ 0) ⊎ (result ≡ 8)) }
+    ensures taken { (form_of (map string_bytes words.now) ≡ Some forms.Check → ⊥) → TakesAtMost 256 (S.left source.old) (S.left source.new) }
 {
-    let _ = alloc;
-    let ending = run_words(words, source, out);
+    let ending = run_words(alloc, words, source, out);
     tell(err, ending);
     ending.status()
 }
 
-fn run_words<S: Source, O: Sink>(words: &[String], source: &mut S, out: &mut O) -> Ending
+fn run_words<S: Source, O: Sink>(
+    alloc: Global,
+    words: &[String],
+    source: &mut S,
+    out: &mut O,
+) -> Ending
     ensures outcome { Outcome (form_of (map string_bytes words.now))
         (record { input = S.left source.old; left = S.left source.new; old = O.written out.old; new = O.written out.new }) result }
     ensures read_fault { result ≡ endings.Read → Rose (S.faults source.old) (S.faults source.new) }
     ensures write_fault { result ≡ endings.Write → Rose (O.faults out.old) (O.faults out.new) }
-    ensures taken { TakesAtMost 256 (S.left source.old) (S.left source.new) }
+    ensures serves { form_of (map string_bytes words.now) ≡ Some forms.Check → Serves (S.left source.old) result }
+    ensures taken { (form_of (map string_bytes words.now) ≡ Some forms.Check → ⊥) → TakesAtMost 256 (S.left source.old) (S.left source.new) }
 {
     match read_words(words) {
         Some(Form::Prove(nodes)) => prove(nodes, source, out),
+        Some(Form::Check) => check(alloc, source, out),
         None => Ending::Usage,
     }
 }

@@ -3,6 +3,7 @@ ghost use Rattle.std.specs.Prelude.{◌≡◌};
 ghost use Rattle.victor_run.specs.Outcome.{status_of};
 
 use board_bits::InputFault;
+use cert_checker::Refusal;
 
 /// How a run ends.
 #[derive(Clone, Copy, Debug, PartialEq, Eq)]
@@ -13,12 +14,16 @@ pub enum Ending {
     Unknown,
     /// The words are no written form: status 2.
     Usage,
-    /// The input isn't the text of a game: status 3.
+    /// The input, or the game of a proof, isn't the text of a game: status 3.
     Input(InputFault),
+    /// A line of a proof is refused: status 4.
+    Refused(Refusal),
     /// The source failed: status 6.
     Read,
     /// The sink failed: status 7.
     Write,
+    /// Memory was wanting, and nothing was written: status 8.
+    Memory,
 }
 
 impl Ending {
@@ -30,9 +35,11 @@ impl Ending {
             Ending::Done => 0,
             Ending::Usage => 2,
             Ending::Input(_) => 3,
+            Ending::Refused(_) => 4,
             Ending::Unknown => 5,
             Ending::Read => 6,
             Ending::Write => 7,
+            Ending::Memory => 8,
         }
     }
 }

@@ -2,6 +2,7 @@
 //! promises.
 #![tactic(auto)]
 
+mod check;
 mod command;
 mod ending;
 mod output;

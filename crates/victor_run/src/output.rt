@@ -3,13 +3,16 @@ ghost use Rattle.std.specs.Prelude.{◌≡◌, ◌≤◌, ◌++◌, codes, decim
 ghost use Rattle.arrayvec.specs.ArrayVec.{array_vec_len};
 ghost use Rattle.device_rules.specs.Devices.{HasCause, Stands};
 ghost use Rattle.proof_text.specs.Spelling.{as_line};
-ghost use Rattle.victor_run.specs.Output.{fault_text, fault_line, kind_word};
+ghost use Rattle.victor_run.specs.Output.{fault_text, fault_line, kind_word, refusal_line, why_word};
 ghost use Rattle.victor_run.specs.Outcome.{Tells};
 
 use crate::ending::Ending;
 use board_bits::{InputFault, InputKind};
+use cert_checker::Refusal;
 use cert_format::{LineText, push_number, push_text};
 use io_ports::{Failed, Sink, put_all};
+use itoa::Buffer;
+use proof_text::Why;
 
 const USAGE: &[u8] =
     b"usage: victor prove [--nodes N] [--reach K] [--front F] [--table T] | check | play | explain [--reach K] | drill COLS ROWS MOVES SEED GAMES [--nodes N] [--reach K]\n";
@@ -33,8 +36,10 @@ fn fault_text(ending: Ending) -> LineText
         Ending::Done | Ending::Unknown => {}
         Ending::Usage => push_text(&mut text, USAGE),
         Ending::Input(fault) => push_input_fault(&mut text, fault),
+        Ending::Refused(refusal) => push_refusal(&mut text, refusal),
         Ending::Read => push_text(&mut text, b"read fault\n"),
         Ending::Write => push_text(&mut text, b"write fault\n"),
+        Ending::Memory => push_text(&mut text, b"out of memory\n"),
     }
     text
 }
@@ -65,8 +70,37 @@ fn kind_word(kind: InputKind) -> &'static [u8]
     }
 }
 
+/// The number of the line that is refused, and why.
+fn push_refusal(text: &mut LineText, refusal: Refusal)
+    requires { array_vec_len text.old ≡ 0 }
+    ensures { text.new.items ≡ text.old.items ++ refusal_line refusal }
+{
+    let mut digits = Buffer::new();
+    push_text(text, b"refused line ");
+    push_text(text, digits.format(refusal.at).as_bytes());
+    push_text(text, b": ");
+    push_text(text, why_word(refusal.why));
+    text.push(b'\n');
+}
+
+fn why_word(why: Why) -> &'static [u8]
+    ensures word { result.now ≡ why_word why }
+    ensures short { length result.now ≤ 13 }
+{
+    match why {
+        Why::BadLine => b"BadLine",
+        Why::BadPath => b"BadPath",
+        Why::NoSuchLemma => b"NoSuchLemma",
+        Why::WrongPosition => b"WrongPosition",
+        Why::WrongClaim => b"WrongClaim",
+        Why::MissingMove => b"MissingMove",
+        Why::BadVerdict => b"BadVerdict",
+        Why::EndedEarly => b"EndedEarly",
+    }
+}
+
 /// Writes a line, and hands on what was written.
-fn put_line<O: Sink>(out: &mut O, line: &[u8]) -> Result<(), Failed>
+pub(crate) fn put_line<O: Sink>(out: &mut O, line: &[u8]) -> Result<(), Failed>
     ensures written { Stands (is_ok result) (O.written out.old) (O.written out.new) line.now }
     ensures cause { HasCause (O.faults out.old) (O.faults out.new) result }
 {

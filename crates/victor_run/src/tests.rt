@@ -66,7 +66,8 @@ const FORCED_WIN: &str = "board 4 4\nmoves dccbbdbbddcc";
 
 const USUAL_BOARD: &str = "board 7 6\nmoves dcdcdc\n";
 
-const TWO_SQUARES_PROOF: &str = "victor 1\n\
+/// Two squares are left, and nobody wins.
+pub(crate) const TWO_SQUARES_PROOF: &str = "victor 1\n\
     board 4 4\n\
     moves cdccddcdaaaabb\n\
     1 bb W- end\n\
@@ -84,6 +85,28 @@ const TWO_SQUARES_UNKNOWN: &str = "victor 1\n\
     2 b W- one b 1\n\
     3 - W- all b:2\n\
     value unknown\n";
+
+/// Two paths lead to one position, and one lemma serves both.
+pub(crate) const SHARED_POSITION: &str = "victor 1\n\
+    board 4 4\n\
+    moves cdccddcdaabb\n\
+    1 aabb W- end\n\
+    2 aab W- one b 1\n\
+    3 aa W- all b:2\n\
+    4 a W- one a 3\n\
+    5 bba W- one a 1\n\
+    6 bb W- all a:5\n\
+    7 b W- one b 6\n\
+    8 - W- all a:4 b:7\n\
+    9 aabb B- end\n\
+    10 aab B- all b:9\n\
+    11 aa B- one b 10\n\
+    12 abab B- end\n\
+    13 aba B- all b:12\n\
+    14 ab B- one a 13\n\
+    15 a B- all a:11 b:14\n\
+    16 - B- one a 15\n\
+    value draw 8 16\n";
 
 const FORCED_WIN_PROOF: &str = "victor 1\n\
     board 4 4\n\
@@ -190,13 +213,99 @@ fn a_text_that_is_no_game_is_refused_with_its_fault(rt: HostRuntime) -> Result<(
     Ok(())
 }
 
+/// Proofs, and what `check` writes for each.
+const ACCEPTED: [(&str, &str); 4] = [
+    (TWO_SQUARES_PROOF, "accepted draw 6\n"),
+    (TWO_SQUARES_UNKNOWN, "accepted unknown 3\n"),
+    (FORCED_WIN_PROOF, "accepted win 4\n"),
+    (SHARED_POSITION, "accepted draw 16\n"),
+];
+
+#[test]
+fn a_right_proof_is_accepted(rt: HostRuntime) -> Result<(), Fail> {
+    for (proof, out) in ACCEPTED {
+        let got = run_over(rt.alloc(), &["check"], proof.as_bytes(), SOUND)?;
+        assert_eq!(rt; got.status, 0, "{proof}");
+        assert_eq!(rt; got.out.as_slice(), out.as_bytes(), "{proof}");
+        assert_eq!(rt; got.err.len(), 0, "{proof}");
+    }
+    Ok(())
+}
+
+/// A proof, a part of it and what stands in its place, and the text of the refusal.
+type Changed = (&'static str, &'static str, &'static str, &'static str);
+
+const REFUSALS: [Changed; 8] = [
+    (
+        TWO_SQUARES_PROOF,
+        "5 b B- all b:4\n6 - B- one b 5\nvalue draw 3 6\n",
+        "5 b B- al",
+        "refused line 8: BadLine\n",
+    ),
+    (
+        TWO_SQUARES_PROOF,
+        "one b 1\n",
+        "one b 2\n",
+        "refused line 5: NoSuchLemma\n",
+    ),
+    (
+        TWO_SQUARES_PROOF,
+        "1 bb W- end",
+        "1 bb W+ end",
+        "refused line 4: WrongClaim\n",
+    ),
+    (
+        TWO_SQUARES_PROOF,
+        "draw 3 6",
+        "draw 3 4",
+        "refused line 10: BadVerdict\n",
+    ),
+    (
+        TWO_SQUARES_PROOF,
+        "value draw 3 6\n",
+        "",
+        "refused line 10: EndedEarly\n",
+    ),
+    (
+        SHARED_POSITION,
+        "all a:4 b:7",
+        "all a:4",
+        "refused line 11: MissingMove\n",
+    ),
+    (
+        SHARED_POSITION,
+        "5 bba W- one a 1",
+        "5 bba W- one a 2",
+        "refused line 8: WrongPosition\n",
+    ),
+    (
+        SHARED_POSITION,
+        "1 aabb W- end",
+        "1 aaaa W- end",
+        "refused line 4: BadPath\n",
+    ),
+];
+
+#[test]
+fn another_proof_is_refused_at_its_line(rt: HostRuntime) -> Result<(), Fail> {
+    for (proof, from, to, told) in REFUSALS {
+        let changed = proof.replace(rt.alloc(), from, to)?;
+        let got = run_over(rt.alloc(), &["check"], changed.as_bytes(), SOUND)?;
+        assert_eq!(rt; got.status, 4, "{changed}");
+        assert_eq!(rt; got.out.len(), 0, "{changed}");
+        assert_eq!(rt; got.err.as_slice(), told.as_bytes(), "{changed}");
+    }
+    Ok(())
+}
+
 #[test]
 fn other_words_are_no_command(rt: HostRuntime) -> Result<(), Fail> {
-    let rows: [&[&str]; 13] = [
+    let rows: [&[&str]; 14] = [
         &[],
         &["--help"],
         &["value"],
         &["prove", "x"],
+        &["check", "--reach", "3"],
         &["prove", "--nodes"],
         &["prove", "--nodes", "0"],
         &["prove", "--nodes", "10000001"],

@@ -10,6 +10,8 @@ use cert_format::number_between;
 pub(crate) enum Form {
     /// Prove the value of a game's position, entering at most so many positions.
     Prove(u32),
+    /// Check a proof.
+    Check,
 }
 
 /// How many positions `prove` may enter, where the words don't say.
@@ -24,6 +26,7 @@ pub(crate) fn read_words(words: &[String]) -> Option<Form>
 {
     match words {
         [command] if is_word(command, "prove") => Some(Form::Prove(DEFAULT_NODES)),
+        [command] if is_word(command, "check") => Some(Form::Check),
         [command, name, nodes] if is_word(command, "prove") && is_word(name, "--nodes") => {
             Some(Form::Prove(number_between(1, MOST_NODES, nodes.as_bytes())?))
         }

@@ -1,0 +1,105 @@
+//! The tests of a lemma's reason and of a verdict, in the order in which their names are given.
+ghost use Rattle.std.specs.Prelude.{◌≡◌, map};
+ghost use Rattle.game_rules.specs.Position.{open_columns};
+ghost use Rattle.proof_text.specs.Lemma.{ByOne, ByAll};
+ghost use Rattle.proof_text.specs.Checked.{end_refusal, cites_refusal, move_refusal, reason_refusal, verdict_stands};
+ghost use Rattle.cert_format.specs.Shape.{cite_of, reason_of};
+ghost use Rattle.cert_checker.specs.Checking.{shown_of, columns_of, Finds};
+
+use crate::claims::{claim_of_end, goes_by_one, loss_of, win_of};
+use crate::known::{Shows, check_cited, is_shown};
+use crate::moves::cites_all;
+use board_bits::{End, Position};
+use cert_format::{Cite, Reason};
+use proof_text::{Claim, Verdict, Why};
+
+/// Tests that the reason shows the claim at the position, by the lemmas known.
+pub(crate) fn check_reason(
+    known: &[Shows],
+    position: &Position,
+    claim: Claim,
+    reason: &Reason,
+) -> Result<(), Why>
+    ensures { Finds result (reason_refusal (map shown_of known.now) position.now claim (reason_of reason.now)) }
+{
+    match reason {
+        Reason::Ended => check_end(claim, position.ended()),
+        Reason::One(cite) => check_one(known, position, claim, *cite),
+        Reason::All(cites) => check_all(known, position, claim, cites.as_slice()),
+    }
+}
+
+fn check_end(claim: Claim, ended: Option<End>) -> Result<(), Why>
+    ensures { Finds result (end_refusal claim ended) }
+{
+    let end = ended.ok_or(Why::WrongPosition)?;
+    if claim_of_end(claim, end) {
+        Ok(())
+    } else {
+        Err(Why::WrongClaim)
+    }
+}
+
+fn check_one(known: &[Shows], position: &Position, claim: Claim, cite: Cite) -> Result<(), Why>
+    ensures { Finds result (reason_refusal (map shown_of known.now) position.now claim (ByOne (cite_of cite))) }
+{
+    let serves = goes_by_one(claim, position.to_move());
+    check_moves(position, serves, position.has_room(cite.column))?;
+    check_cited(known, &position.after(cite.column), claim, cite.lemma)
+}
+
+fn check_all(known: &[Shows], position: &Position, claim: Claim, cites: &[Cite]) -> Result<(), Why>
+    ensures { Finds result (reason_refusal (map shown_of known.now) position.now claim (ByAll (map cite_of cites.now))) }
+{
+    let serves = !goes_by_one(claim, position.to_move());
+    check_moves(position, serves, cites_all(position, cites))?;
+    check_cites(known, position, claim, cites)
+}
+
+/// Tests each cite from the left, the columns cited being those that have room.
+fn check_cites(
+    known: &[Shows],
+    position: &Position,
+    claim: Claim,
+    cites: &[Cite],
+) -> Result<(), Why>
+    requires { columns_of cites.now ≡ open_columns position.now }
+    ensures { Finds result (cites_refusal (map shown_of known.now) position.now claim (map cite_of cites.now)) }
+{
+    for cite in cites {
+        check_cited(known, &position.after(cite.column), claim, cite.lemma)?;
+    }
+    Ok(())
+}
+
+/// Tests that the claim and the side to move go with the reason, that the game goes on, and that the moves are those
+/// that the reason wants.
+fn check_moves(position: &Position, serves: bool, playable: bool) -> Result<(), Why>
+    ensures { Finds result (move_refusal position.now serves playable) }
+{
+    if !serves {
+        return Err(Why::WrongClaim);
+    }
+    if position.ended().is_some() {
+        return Err(Why::WrongPosition);
+    }
+    if !playable {
+        return Err(Why::MissingMove);
+    }
+    Ok(())
+}
+
+/// Whether the lemmas that the verdict names show it at the root.
+pub(crate) fn verdict_stands(known: &[Shows], root: &Position, verdict: Verdict) -> bool
+    ensures { result ≡ verdict_stands root.now (map shown_of known.now) verdict }
+{
+    match verdict {
+        Verdict::Win(lemma) => is_shown(known, root, win_of(root.to_move()), lemma),
+        Verdict::Loss(lemma) => is_shown(known, root, loss_of(root.to_move()), lemma),
+        Verdict::Draw(white, black) => {
+            is_shown(known, root, Claim::WhiteFails, white)
+                && is_shown(known, root, Claim::BlackFails, black)
+        }
+        Verdict::Unknown => true,
+    }
+}

@@ -1,0 +1,26 @@
+//! The answers of a checker.
+use proof_text::{Verdict, Why};
+use std::alloc::AllocError;
+
+/// Which line of a text is refused, counted from 1, and why.
+#[derive(Clone, Copy, Debug, PartialEq, Eq)]
+pub struct Refusal {
+    pub at: u64,
+    pub why: Why,
+}
+
+/// Why a line wasn't added.
+#[derive(Clone, Copy, Debug, PartialEq, Eq)]
+pub enum AddStop {
+    /// The line isn't right where it stands.
+    Refused(Refusal),
+    /// The line is a lemma that is right, and there is no memory to keep what it shows.
+    Memory(AllocError),
+}
+
+/// What an accepted text says of its root, and how many lemmas it has.
+#[derive(Clone, Copy, Debug, PartialEq, Eq)]
+pub struct Accepted {
+    pub verdict: Verdict,
+    pub lemmas: u32,
+}

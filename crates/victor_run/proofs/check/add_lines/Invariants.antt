@@ -1,0 +1,16 @@
+use Rattle.std.proofs.Common.{◌≡◌, ◌-◌, ◌≤◌, length}
+use Rattle.proof_text.specs.Texts.{first_number}
+use Rattle.victor_run.specs.CheckSteps.{lines_from, pending, GoesOn}
+use Rattle.victor_run.proofs.check.add_lines.Given as goal
+
+-- the answer to all lines is that to those that are left
+abbrev pub invariant-loop-at : goal.invariant-loop-at
+invariant-loop-at g l = record {
+  goes : GoesOn (pending l.fn.lines (g.S.Source.left l.fn.source)) (pending l.lines (g.S.Source.left l.source)) (lines_from l.fn.checker first_number) (lines_from l.checker l.at);
+  cols : length l.checker.root.columns ≡ l.size.cols;
+  later : g.S.Source.faults l.fn.source ≤ g.S.Source.faults l.source;
+  few : l.at ≤ 20000001;
+}
+
+abbrev pub decreases-loop-at : goal.decreases-loop-at
+decreases-loop-at g l = 20000002 - l.at

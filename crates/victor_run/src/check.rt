@@ -1,0 +1,268 @@
+//! The command `check`: a proof is read line by line, and each line is judged as it comes, so that only what its lemmas
+//! show is kept. Reading stops at the first line that is refused. Nothing is written before the end of the input was
+//! reached: then one line says that the proof is accepted, with its verdict and the number of its lemmas.
+ghost use Rattle.std.specs.Prelude.{◌≡◌, ◌+◌, ◌≤◌, ◌++◌, true, [], length, is_ok, MatchResult, IfOk, OnOk};
+ghost use Rattle.device_rules.specs.Devices.{Rose, HasCause, Stands};
+ghost use Rattle.arrayvec.specs.ArrayVec.{array_vec_len};
+ghost use Rattle.proof_text.specs.Texts.{first_number, bytes_refusal, with_bytes, start, verdict_answer, check_of};
+ghost use Rattle.victor_run.specs.Check.{word_of, accepted_line, IsAccepted, Checks, Serves};
+ghost use Rattle.victor_run.specs.CheckSteps.{game_from, lines_from, pending, Both, GoesOn, KeepsLine, Adds, StopsBy, IsRefused};
+ghost use Rattle.victor_run.specs.declared.ending.Ending.TheVariants as endings;
+ghost use Rattle.victor_run.specs.declared.check.Stop.TheVariants as stops;
+ghost use Rattle.proof_text.specs.declared.Why.TheVariants as whys;
+
+use crate::ending::Ending;
+use crate::output::put_line;
+use arrayvec::ArrayVec;
+use board_bits::{InputFault, Position, Size, read_game};
+use cert_checker::{Accepted, AddStop, Checker, Refusal};
+use cert_format::{LineText, push_number, push_text, read_line};
+use io_ports::{Failed, LineGot, Lines, Sink, Source};
+use proof_text::{Verdict, Why};
+use std::alloc::Global;
+
+/// The first line of a proof.
+const FIRST_LINE: &[u8] = b"victor 1";
+
+/// How much of a line of the game is kept. The lines of a game are shorter.
+const GAME_FRONT: usize = 256;
+
+/// The most that is kept of the two lines of the game, with their line feeds.
+const MOST_KEPT: usize = 2 * (GAME_FRONT + 1);
+
+/// The number of the first line behind the game.
+const FIRST_NUMBER: u64 = 4;
+
+/// A proof has no more lines.
+const MOST_LINES: u64 = 20_000_000;
+
+/// What stops the reading of a proof.
+#[derive(Clone, Copy, Debug, PartialEq, Eq)]
+enum Stop {
+    Input(InputFault),
+    Refused(Refusal),
+    Read,
+    Memory,
+}
+
+/// Reads a proof, and writes one line where it is right. It ends as the definitions answer the text, unless a stream
+/// failed, which comes only where its count of faults rose, or memory was wanted.
+pub(crate) fn check<S: Source, O: Sink>(alloc: Global, source: &mut S, out: &mut O) -> Ending
+    ensures outcome { Checks (S.left source.old) (S.left source.new) (O.written out.old) (O.written out.new) result }
+    ensures complete { Serves (S.left source.old) result }
+    ensures read_fault { result ≡ endings.Read → Rose (S.faults source.old) (S.faults source.new) }
+    ensures write_fault { result ≡ endings.Write → Rose (O.faults out.old) (O.faults out.new) }
+{
+    match judge(alloc, source) {
+        Ok(accepted) => match put_accepted(out, accepted) {
+            Ok(()) => Ending::Done,
+            Err(Failed) => Ending::Write,
+        },
+        Err(Stop::Input(fault)) => Ending::Input(fault),
+        Err(Stop::Refused(refusal)) => Ending::Refused(refusal),
+        Err(Stop::Read) => Ending::Read,
+        Err(Stop::Memory) => Ending::Memory,
+    }
+}
+
+/// Reads a proof to its end, or to what stops the reading.
+fn judge<S: Source>(alloc: Global, source: &mut S) -> Result<Accepted, Stop>
+    ensures { MatchResult result (λ accepted. IsAccepted (S.left source.old) (S.left source.new) accepted.verdict accepted.lemmas)
+        (StopsBy (S.left source.old) check_of (S.faults source.old) (S.faults source.new)) }
+{
+    let mut lines = Lines::new();
+    read_head(&mut lines, source)?;
+    let root = read_root(&mut lines, source)?;
+    let size = root.size();
+    let mut checker = Checker::new(alloc, root);
+    let end = add_lines(&mut checker, size, &mut lines, source)?;
+    match checker.finish(end) {
+        Ok(accepted) => Ok(accepted),
+        Err(refusal) => Err(Stop::Refused(refusal)),
+    }
+}
+
+/// Reads the line that names the format.
+fn read_head<S: Source>(lines: &mut Lines, source: &mut S) -> Result<(), Stop>
+    ensures answer { MatchResult result
+        (λ _. GoesOn (pending lines.old (S.left source.old)) (pending lines.new (S.left source.new)) check_of game_from)
+        (StopsBy (pending lines.old (S.left source.old)) check_of (S.faults source.old) (S.faults source.new)) }
+    ensures later { S.faults source.old ≤ S.faults source.new }
+{
+    if let LineGot::Failed = lines.next(source) {
+        return Err(Stop::Read);
+    }
+    if lines.text() == FIRST_LINE {
+        Ok(())
+    } else {
+        Err(bad_line(1))
+    }
+}
+
+/// Reads the two lines of the game, and answers its position.
+fn read_root<S: Source>(lines: &mut Lines, source: &mut S) -> Result<Position, Stop>
+    ensures answer { MatchResult result
+        (λ root. GoesOn (pending lines.old (S.left source.old)) (pending lines.new (S.left source.new)) game_from (lines_from (start root) first_number))
+        (StopsBy (pending lines.old (S.left source.old)) game_from (S.faults source.old) (S.faults source.new)) }
+    ensures later { S.faults source.old ≤ S.faults source.new }
+{
+    let mut text = ArrayVec::new();
+    keep_line(&mut text, lines, source)?;
+    keep_line(&mut text, lines, source)?;
+    match read_game(text.as_slice()) {
+        Ok(root) => Ok(root),
+        Err(fault) => Err(Stop::Input(fault)),
+    }
+}
+
+/// Puts the front of the next line behind the text, and the line feed that ended it.
+fn keep_line<S: Source>(
+    text: &mut ArrayVec<u8, MOST_KEPT>,
+    lines: &mut Lines,
+    source: &mut S,
+) -> Result<(), Stop>
+    requires { array_vec_len text.old + GAME_FRONT + 1 ≤ MOST_KEPT }
+    ensures kept { MatchResult result
+        (λ _. KeepsLine (pending lines.old (S.left source.old)) (pending lines.new (S.left source.new)) text.old.items text.new.items)
+        (λ stop. (stop ≡ stops.Read) × Rose (S.faults source.old) (S.faults source.new)) }
+    ensures bound { array_vec_len text.new ≤ array_vec_len text.old + GAME_FRONT + 1 }
+    ensures later { S.faults source.old ≤ S.faults source.new }
+{
+    if let LineGot::Failed = lines.next(source) {
+        return Err(Stop::Read);
+    }
+    let line = lines.text();
+    push_front(text, &line[..line.len().min(GAME_FRONT)]);
+    if lines.fed() {
+        text.push(b'\n');
+    }
+    Ok(())
+}
+
+/// Puts the front of a line behind the text.
+fn push_front(text: &mut ArrayVec<u8, MOST_KEPT>, line: &[u8])
+    requires { array_vec_len text.old + length line.now ≤ MOST_KEPT }
+    ensures items { text.new.items ≡ text.old.items ++ line.now }
+    ensures len { array_vec_len text.new ≡ array_vec_len text.old + length line.now }
+{
+    // the requirement says that it fits
+    let _ = text.try_extend_from_slice(line);
+}
+
+/// Adds the lines behind the game, and answers the number after that of the last.
+fn add_lines<S: Source>(
+    checker: &mut Checker,
+    size: Size,
+    lines: &mut Lines,
+    source: &mut S,
+) -> Result<u64, Stop>
+    requires { length checker.old.root.columns ≡ size.cols }
+    ensures answer { MatchResult result
+        (λ end. Both (pending lines.old (S.left source.old)) (pending lines.new (S.left source.new))
+        (λ bytes rest. (lines_from checker.old first_number bytes ≡ verdict_answer end (length checker.new.known) checker.new.verdict) × (rest ≡ [])))
+        (StopsBy (pending lines.old (S.left source.old)) (lines_from checker.old first_number) (S.faults source.old) (S.faults source.new)) }
+    ensures few { IfOk result (λ end. end ≤ MOST_LINES + 1) }
+    ensures later { S.faults source.old ≤ S.faults source.new }
+{
+    let mut at = FIRST_NUMBER;
+    while add_next(checker, size, at, lines, source)? {
+        at += 1;
+    }
+    Ok(at)
+}
+
+/// Adds the next line, which has this number, and answers whether there was one.
+fn add_next<S: Source>(
+    checker: &mut Checker,
+    size: Size,
+    at: u64,
+    lines: &mut Lines,
+    source: &mut S,
+) -> Result<bool, Stop>
+    requires { length checker.old.root.columns ≡ size.cols }
+    ensures answer { MatchResult result
+        (Adds (pending lines.old (S.left source.old)) (pending lines.new (S.left source.new)) checker.old checker.new at)
+        (StopsBy (pending lines.old (S.left source.old)) (lines_from checker.old at) (S.faults source.old) (S.faults source.new)) }
+    ensures few { result ≡ Ok true → at ≤ MOST_LINES }
+    ensures root { OnOk result (checker.new.root ≡ checker.old.root) }
+    ensures later { S.faults source.old ≤ S.faults source.new }
+{
+    match lines.next(source) {
+        LineGot::Line => {
+            add_line(checker, size, at, lines.text())?;
+            Ok(true)
+        }
+        LineGot::Long => Err(bad_line(at)),
+        LineGot::Done => Ok(false),
+        LineGot::Failed => Err(Stop::Read),
+    }
+}
+
+/// Adds the line at this number, given by its bytes.
+fn add_line(checker: &mut Checker, size: Size, at: u64, bytes: &[u8]) -> Result<(), Stop>
+    requires cols { length checker.old.root.columns ≡ size.cols }
+    requires short { length bytes.now ≤ 8192 }
+    ensures answer { MatchResult result
+        (λ _. (bytes_refusal checker.old at bytes.now ≡ None) × (checker.new ≡ with_bytes checker.old bytes.now))
+        (IsRefused at (bytes_refusal checker.old at bytes.now)) }
+    ensures few { OnOk result (at ≤ MOST_LINES) }
+{
+    if at > MOST_LINES {
+        return Err(bad_line(at));
+    }
+    let Ok(line) = read_line(bytes, size) else {
+        return Err(bad_line(at));
+    };
+    match checker.add(at, &line) {
+        Ok(()) => Ok(()),
+        Err(AddStop::Refused(refusal)) => Err(Stop::Refused(refusal)),
+        Err(AddStop::Memory(_)) => Err(Stop::Memory),
+    }
+}
+
+/// The line at this number is none of a proof.
+fn bad_line(at: u64) -> Stop
+    ensures { result ≡ stops.Refused (record { at = at; why = whys.BadLine }) }
+{
+    Stop::Refused(Refusal {
+        at,
+        why: Why::BadLine,
+    })
+}
+
+/// Writes that a proof is accepted.
+fn put_accepted<O: Sink>(out: &mut O, accepted: Accepted) -> Result<(), Failed>
+    ensures written { Stands (is_ok result) (O.written out.old) (O.written out.new) (accepted_line accepted.verdict accepted.lemmas) }
+    ensures cause { HasCause (O.faults out.old) (O.faults out.new) result }
+{
+    put_line(out, accepted_line(accepted).as_slice())
+}
+
+/// The line for a proof that is accepted, with its line feed.
+fn accepted_line(accepted: Accepted) -> LineText
+    ensures { result.items ≡ accepted_line accepted.verdict accepted.lemmas }
+{
+    let mut line = LineText::new();
+    push_text(&mut line, b"accepted ");
+    push_text(&mut line, word_of(accepted.verdict));
+    line.push(b' ');
+    push_number(&mut line, accepted.lemmas);
+    line.push(b'\n');
+    line
+}
+
+/// The word of a verdict.
+fn word_of(verdict: Verdict) -> &'static [u8]
+    ensures word { result.now ≡ word_of verdict }
+    ensures short { length result.now ≤ 7 }
+{
+    match verdict {
+        Verdict::Win(_) => b"win",
+        Verdict::Loss(_) => b"loss",
+        Verdict::Draw(..) => b"draw",
+        Verdict::Unknown => b"unknown",
+    }
+}
+
+#[cfg(test)]
+mod tests;
