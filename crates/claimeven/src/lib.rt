@@ -1,0 +1,12 @@
+//! The rule Claimeven: a square on an odd row and the square above it. Black answers the lower one by the upper one, so
+//! the upper one is never White's.
+#![tactic(auto)]
+
+mod claimeven;
+mod list;
+
+pub use crate::claimeven::Claimeven;
+pub use list::list_claimeven;
+
+#[cfg(test)]
+mod tests;
