@@ -53,6 +53,7 @@ impl Claimeven {
         if !size.has(lower) || lower.row() % 2 == 0 {
             return None;
         }
+        // its contract tells that the size is a board's, which has an even number of rows
         let _board = size.cols();
         let upper = size.square(lower.column(), lower.row() + 1)?;
         Some(Claimeven { lower, upper })
@@ -111,6 +112,7 @@ impl Rule for Claimeven {
     }
 
     fn fits(&self, p: &Position) -> bool {
+        // its contract tells that the row is odd
         let _odd = self.lower();
         p.is_empty(self.lower()) && p.is_empty(self.upper_square())
     }

@@ -42,7 +42,7 @@ step_of V (column, row) i = (column, row + i)
 step_of U (column, row) i = (column + i, row + i)
 step_of D (column, row) i = (column + i, row - i)
 
--- an anchor and the next squares in one direction; below row 1 there is no board, so a falling line never passes it
+-- an anchor and the next squares in one direction; below the lowest row there is no board, so a falling line never passes it
 abbrev pub line_at : Way → Square → List Square
 line_at way anchor = map (step_of way anchor) (below line_length)
 

@@ -10,11 +10,14 @@ use Rattle.game_rules.specs.Text.{game_at}
 use Rattle.game_rules.specs.declared.InputFault.{InputFault}
 use Rattle.proof_text.specs.Checked.{Standing}
 use Rattle.proof_text.specs.Texts.{game_front, first_number, start, first_line, check_of, NoGame, Refused, Accepted, bytes_refusal, with_bytes, with_said, verdict_answer}
+use Rattle.proof_text.proofs.Sound.{true_text}
+use Rattle.proof_text.proofs.Whole.{whole_accepted}
 use Rattle.proof_text.specs.declared.Verdict.{Verdict}
 use Rattle.proof_text.specs.declared.Why.{Why}
 use Rattle.proof_text.specs.declared.Why.TheVariants.{BadLine}
 use Rattle.proof_text.specs.Reading.{read_line}
 use Rattle.proof_text.specs.Lemma.{Line as Said, ALemma, ARemark, AVerdict}
+use Rattle.victor_run.specs.Check.{IsAccepted, IsRightInput}
 use Rattle.victor_run.specs.CheckSteps.{game_from, lines_from, kept_of, Both, GoesOn, KeepsLine, StopsBy, IsRefused}
 use Rattle.victor_run.proofs.CheckLines.{head_named, head_other, game_fault, game_read, line_refused, line_stands, long_got, none_got}
 use Rattle.victor_run.specs.declared.check.Stop.{Stop}
@@ -146,3 +149,11 @@ all_told a b c held left root s t end v count head game began lines verdict coun
     at_end None left h = tt
     at_end (Some bytes) None h = absurd h
     at_end (Some bytes) (Some rest) h = (h.0, source_ended held (Some rest) h.1)
+
+-- what is accepted is right, and says what is true
+pub right_input : (input left : Option (List ℕ)) (v : Verdict) (count : ℕ) → IsAccepted input left v count → IsRightInput input left v count
+right_input None left v count h = (h, tt)
+right_input (Some bytes) left v count h =
+    let text = whole_accepted bytes v count h.0 in
+    let says = true_text bytes v count text in
+    (h, record { text = text; lemmas = says.0; verdict = says.1 })

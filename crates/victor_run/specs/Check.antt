@@ -3,7 +3,8 @@
 use Rattle.std.specs.Prelude.{◌≡◌, ℕ, false, List, [], ◌∷◌, ◌++◌, Option, IfSome, ⊤, codes, decimal}
 use Rattle.std.specs.Io.KnownBytes.{Keeps, Appends, IsAtEnd}
 use Rattle.device_rules.specs.Devices.{Stands}
-use Rattle.proof_text.specs.Texts.{check_of, CheckAnswer, NoGame, Refused, Accepted}
+use Rattle.proof_text.specs.Right.{AreTrue, IsTrueVerdict}
+use Rattle.proof_text.specs.Texts.{check_of, CheckAnswer, NoGame, Refused, Accepted, IsRightText}
 use Rattle.proof_text.specs.declared.Verdict.{Verdict}
 use Rattle.proof_text.specs.declared.Verdict.TheVariants as verdicts
 use Rattle.victor_run.specs.declared.ending.Ending.{Ending}
@@ -28,10 +29,21 @@ IsAnswer input answer = IfSome input (λ bytes. check_of bytes ≡ answer)
 abbrev pub IsAccepted : Option (List ℕ) → Option (List ℕ) → Verdict → ℕ → Type 0
 IsAccepted input left v count = IfSome input (λ bytes. (check_of bytes ≡ Accepted v count) × IsAtEnd left)
 
+-- The text is right by the definitions, each of its lemmas claims what is true by the value, and a win, a loss or a draw is
+-- the value of its game's position.
+pub record SaysTruth (bytes : List ℕ) (v : Verdict) (count : ℕ) : Type 0 where
+  pub text : IsRightText bytes v count
+  pub lemmas : AreTrue text.after
+  pub verdict : IsTrueVerdict text.root v
+
+-- the input is accepted, and says what is true
+abbrev pub IsRightInput : Option (List ℕ) → Option (List ℕ) → Verdict → ℕ → Type 0
+IsRightInput input left v count = IsAccepted input left v count × IfSome input (λ bytes. SaysTruth bytes v count)
+
 -- `check`, from what the source has left and what the sink holds before and after it
 abbrev pub Checks : Option (List ℕ) → Option (List ℕ) → Option (List ℕ) → Option (List ℕ) → Ending → Type 0
-Checks input left old new endings.Done = (v : Verdict) × (count : ℕ) × IsAccepted input left v count × Appends old new (accepted_line v count)
-Checks input left old new endings.Write = (v : Verdict) × (count : ℕ) × IsAccepted input left v count × Stands false old new (accepted_line v count)
+Checks input left old new endings.Done = (v : Verdict) × (count : ℕ) × IsRightInput input left v count × Appends old new (accepted_line v count)
+Checks input left old new endings.Write = (v : Verdict) × (count : ℕ) × IsRightInput input left v count × Stands false old new (accepted_line v count)
 Checks input left old new (endings.Input fault) = IsAnswer input (NoGame fault) × Keeps old new
 Checks input left old new (endings.Refused r) = IsAnswer input (Refused r.at r.why) × Keeps old new
 Checks input left old new endings.Read = Keeps old new

@@ -5,7 +5,7 @@ ghost use Rattle.std.specs.Prelude.{◌≡◌, ◌+◌, ◌≤◌, ◌++◌, tru
 ghost use Rattle.device_rules.specs.Devices.{Rose, HasCause, Stands};
 ghost use Rattle.arrayvec.specs.ArrayVec.{array_vec_len};
 ghost use Rattle.proof_text.specs.Texts.{first_number, bytes_refusal, with_bytes, start, verdict_answer, check_of};
-ghost use Rattle.victor_run.specs.Check.{word_of, accepted_line, IsAccepted, Checks, Serves};
+ghost use Rattle.victor_run.specs.Check.{word_of, accepted_line, IsRightInput, Checks, Serves};
 ghost use Rattle.victor_run.specs.CheckSteps.{game_from, lines_from, pending, Both, GoesOn, KeepsLine, Adds, StopsBy, IsRefused};
 ghost use Rattle.victor_run.specs.declared.ending.Ending.TheVariants as endings;
 ghost use Rattle.victor_run.specs.declared.check.Stop.TheVariants as stops;
@@ -67,7 +67,7 @@ pub(crate) fn check<S: Source, O: Sink>(alloc: Global, source: &mut S, out: &mut
 
 /// Reads a proof to its end, or to what stops the reading.
 fn judge<S: Source>(alloc: Global, source: &mut S) -> Result<Accepted, Stop>
-    ensures { MatchResult result (λ accepted. IsAccepted (S.left source.old) (S.left source.new) accepted.verdict accepted.lemmas)
+    ensures { MatchResult result (λ accepted. IsRightInput (S.left source.old) (S.left source.new) accepted.verdict accepted.lemmas)
         (StopsBy (S.left source.old) check_of (S.faults source.old) (S.faults source.new)) }
 {
     let mut lines = Lines::new();
@@ -263,6 +263,3 @@ fn word_of(verdict: Verdict) -> &'static [u8]
         Verdict::Unknown => b"unknown",
     }
 }
-
-#[cfg(test)]
-mod tests;

@@ -67,7 +67,7 @@ const FORCED_WIN: &str = "board 4 4\nmoves dccbbdbbddcc";
 const USUAL_BOARD: &str = "board 7 6\nmoves dcdcdc\n";
 
 /// Two squares are left, and nobody wins.
-pub(crate) const TWO_SQUARES_PROOF: &str = "victor 1\n\
+const TWO_SQUARES_PROOF: &str = "victor 1\n\
     board 4 4\n\
     moves cdccddcdaaaabb\n\
     1 bb W- end\n\
@@ -87,7 +87,7 @@ const TWO_SQUARES_UNKNOWN: &str = "victor 1\n\
     value unknown\n";
 
 /// Two paths lead to one position, and one lemma serves both.
-pub(crate) const SHARED_POSITION: &str = "victor 1\n\
+const SHARED_POSITION: &str = "victor 1\n\
     board 4 4\n\
     moves cdccddcdaabb\n\
     1 aabb W- end\n\
@@ -108,6 +108,9 @@ pub(crate) const SHARED_POSITION: &str = "victor 1\n\
     16 - B- one a 15\n\
     value draw 8 16\n";
 
+/// Its last line has no line feed.
+const NO_LAST_FEED: &str = "victor 1\nboard 4 4\nmoves abababa\n1 - W+ end\nvalue loss 1";
+
 const FORCED_WIN_PROOF: &str = "victor 1\n\
     board 4 4\n\
     moves dccbbdbbddcc\n\
@@ -118,6 +121,8 @@ const FORCED_WIN_PROOF: &str = "victor 1\n\
     value win 4\n";
 
 const PROVE: &[&str] = &["prove"];
+
+const CHECK: &[&str] = &["check"];
 
 /// The words of a run, its input, its status and its output.
 type Written = (&'static [&'static str], &'static str, u8, &'static str);
@@ -214,86 +219,222 @@ fn a_text_that_is_no_game_is_refused_with_its_fault(rt: HostRuntime) -> Result<(
 }
 
 /// Proofs, and what `check` writes for each.
-const ACCEPTED: [(&str, &str); 4] = [
+const ACCEPTED: [(&str, &str); 5] = [
     (TWO_SQUARES_PROOF, "accepted draw 6\n"),
     (TWO_SQUARES_UNKNOWN, "accepted unknown 3\n"),
     (FORCED_WIN_PROOF, "accepted win 4\n"),
     (SHARED_POSITION, "accepted draw 16\n"),
+    (NO_LAST_FEED, "accepted loss 1\n"),
 ];
 
 #[test]
 fn a_right_proof_is_accepted(rt: HostRuntime) -> Result<(), Fail> {
     for (proof, out) in ACCEPTED {
-        let got = run_over(rt.alloc(), &["check"], proof.as_bytes(), SOUND)?;
-        assert_eq!(rt; got.status, 0, "{proof}");
-        assert_eq!(rt; got.out.as_slice(), out.as_bytes(), "{proof}");
-        assert_eq!(rt; got.err.len(), 0, "{proof}");
+        for piece in [1, 4, 256] {
+            let devices = Devices { piece, ..SOUND };
+            let got = run_over(rt.alloc(), CHECK, proof.as_bytes(), devices)?;
+            assert_eq!(rt; got.status, 0, "{proof}");
+            assert_eq!(rt; got.out.as_slice(), out.as_bytes(), "{proof}");
+            assert_eq!(rt; got.err.len(), 0, "{proof}");
+        }
     }
     Ok(())
 }
 
-/// A proof, a part of it and what stands in its place, and the text of the refusal.
-type Changed = (&'static str, &'static str, &'static str, &'static str);
+/// A proof, a part of it and what stands in its place, the status and what is told.
+type Changed = (&'static str, &'static str, &'static str, u8, &'static str);
 
-const REFUSALS: [Changed; 8] = [
+const CHANGES: [Changed; 21] = [
+    (
+        TWO_SQUARES_PROOF,
+        "victor 1",
+        "victor 2",
+        4,
+        "refused line 1: BadLine\n",
+    ),
+    (
+        TWO_SQUARES_PROOF,
+        TWO_SQUARES_PROOF,
+        "",
+        4,
+        "refused line 1: BadLine\n",
+    ),
+    (
+        TWO_SQUARES_PROOF,
+        TWO_SQUARES_PROOF,
+        "victor 1",
+        3,
+        "input fault: BadHeader at 0\n",
+    ),
+    (
+        TWO_SQUARES_PROOF,
+        TWO_SQUARES_PROOF,
+        "victor 1\nboard 4 4",
+        3,
+        "input fault: BadHeader at 9\n",
+    ),
+    (
+        TWO_SQUARES_PROOF,
+        TWO_SQUARES_PROOF,
+        "victor 1\nboard 4 4\n",
+        3,
+        "input fault: BadHeader at 10\n",
+    ),
+    (
+        TWO_SQUARES_PROOF,
+        TWO_SQUARES_PROOF,
+        "victor 1\nboard 4 4\nmoves -",
+        4,
+        "refused line 4: EndedEarly\n",
+    ),
+    (
+        TWO_SQUARES_PROOF,
+        TWO_SQUARES_PROOF,
+        "victor 1\nboard 4 4\nmoves -\n",
+        4,
+        "refused line 4: EndedEarly\n",
+    ),
+    (
+        TWO_SQUARES_PROOF,
+        "board 4 4",
+        "board 5 5",
+        3,
+        "input fault: BadSize at 8\n",
+    ),
+    (
+        TWO_SQUARES_PROOF,
+        "aabb\n",
+        "aabbx\n",
+        3,
+        "input fault: BadColumn at 30\n",
+    ),
+    (
+        TWO_SQUARES_PROOF,
+        "aabb\n",
+        "aaab\n",
+        3,
+        "input fault: ColumnFull at 28\n",
+    ),
     (
         TWO_SQUARES_PROOF,
         "5 b B- all b:4\n6 - B- one b 5\nvalue draw 3 6\n",
         "5 b B- al",
+        4,
         "refused line 8: BadLine\n",
     ),
     (
         TWO_SQUARES_PROOF,
-        "one b 1\n",
-        "one b 2\n",
+        "2 b W- one b 1",
+        "2 b W- one b 2",
+        4,
         "refused line 5: NoSuchLemma\n",
     ),
     (
         TWO_SQUARES_PROOF,
         "1 bb W- end",
         "1 bb W+ end",
+        4,
         "refused line 4: WrongClaim\n",
+    ),
+    (
+        TWO_SQUARES_PROOF,
+        "1 bb W- end\n",
+        "\n1 bb W- end\n",
+        4,
+        "refused line 4: BadLine\n",
     ),
     (
         TWO_SQUARES_PROOF,
         "draw 3 6",
         "draw 3 4",
+        4,
         "refused line 10: BadVerdict\n",
     ),
     (
         TWO_SQUARES_PROOF,
         "value draw 3 6\n",
         "",
+        4,
         "refused line 10: EndedEarly\n",
+    ),
+    (
+        TWO_SQUARES_PROOF,
+        "\nvalue draw 3 6\n",
+        "",
+        4,
+        "refused line 10: EndedEarly\n",
+    ),
+    (
+        TWO_SQUARES_PROOF,
+        "draw 3 6\n",
+        "draw 3 6\n\n",
+        4,
+        "refused line 11: BadLine\n",
     ),
     (
         SHARED_POSITION,
         "all a:4 b:7",
         "all a:4",
+        4,
         "refused line 11: MissingMove\n",
     ),
     (
         SHARED_POSITION,
         "5 bba W- one a 1",
         "5 bba W- one a 2",
+        4,
         "refused line 8: WrongPosition\n",
     ),
     (
         SHARED_POSITION,
         "1 aabb W- end",
         "1 aaaa W- end",
+        4,
         "refused line 4: BadPath\n",
     ),
 ];
 
 #[test]
-fn another_proof_is_refused_at_its_line(rt: HostRuntime) -> Result<(), Fail> {
-    for (proof, from, to, told) in REFUSALS {
+fn a_changed_proof_is_refused_at_its_line(rt: HostRuntime) -> Result<(), Fail> {
+    for (proof, from, to, status, told) in CHANGES {
         let changed = proof.replace(rt.alloc(), from, to)?;
-        let got = run_over(rt.alloc(), &["check"], changed.as_bytes(), SOUND)?;
-        assert_eq!(rt; got.status, 4, "{changed}");
-        assert_eq!(rt; got.out.len(), 0, "{changed}");
-        assert_eq!(rt; got.err.as_slice(), told.as_bytes(), "{changed}");
+        for piece in [1, 4, 256] {
+            let devices = Devices { piece, ..SOUND };
+            let got = run_over(rt.alloc(), CHECK, changed.as_bytes(), devices)?;
+            assert_eq!(rt; got.status, status, "{changed}");
+            assert_eq!(rt; got.out.len(), 0, "{changed}");
+            assert_eq!(rt; got.err.as_slice(), told.as_bytes(), "{changed}");
+        }
+    }
+    Ok(())
+}
+
+/// The front of a proof whose last line is too long, the status and what is told.
+const LONG_LINES: [(&str, u8, &str); 3] = [
+    ("", 4, "refused line 1: BadLine\n"),
+    (
+        "victor 1\nboard 4 4\nmoves ",
+        3,
+        "input fault: GameOver at 23\n",
+    ),
+    (
+        "victor 1\nboard 4 4\nmoves -\n#",
+        4,
+        "refused line 4: BadLine\n",
+    ),
+];
+
+#[test]
+fn a_line_that_is_too_long_is_refused(rt: HostRuntime) -> Result<(), Fail> {
+    for (front, status, told) in LONG_LINES {
+        let mut proof = Vec::from_slice(rt.alloc(), front.as_bytes())?;
+        for _ in 0..5000 {
+            proof.extend_from_slice(b"ab")?;
+        }
+        let got = run_over(rt.alloc(), CHECK, proof.as_slice(), SOUND)?;
+        assert_eq!(rt; got.status, status, "{front}");
+        assert_eq!(rt; got.out.len(), 0, "{front}");
+        assert_eq!(rt; got.err.as_slice(), told.as_bytes(), "{front}");
     }
     Ok(())
 }
@@ -330,7 +471,7 @@ fn other_words_are_no_command(rt: HostRuntime) -> Result<(), Fail> {
     Ok(())
 }
 
-/// The devices of a run of the two squares that are left, its status, how much of the proof it writes, and what it tells.
+/// The devices of a run on the two squares that are left, its status, how much of the proof it writes, and what it tells.
 type Streamed = (Devices<'static>, u8, usize, &'static str);
 
 const STREAMS: [Streamed; 7] = [
@@ -392,6 +533,46 @@ fn a_failing_stream_has_its_status_and_leaves_a_front(rt: HostRuntime) -> Result
         let front = TWO_SQUARES_PROOF.as_bytes().get(..length);
         assert_eq!(rt; got.status, status);
         assert_eq!(rt; Some(got.out.as_slice()), front);
+        assert_eq!(rt; got.err.as_slice(), told.as_bytes());
+    }
+    Ok(())
+}
+
+/// The devices of a check of the same proof, its status, and what it writes and tells.
+const CHECK_STREAMS: [(Devices<'static>, u8, &str, &str); 3] = [
+    (
+        Devices {
+            piece: 4,
+            source_fails: &[2],
+            ..SOUND
+        },
+        6,
+        "",
+        "read fault\n",
+    ),
+    (
+        Devices {
+            out_fails: &[1],
+            ..SOUND
+        },
+        7,
+        "",
+        "write fault\n",
+    ),
+    (
+        Devices { room: 9, ..SOUND },
+        7,
+        "accepted ",
+        "write fault\n",
+    ),
+];
+
+#[test]
+fn a_failing_stream_ends_a_check(rt: HostRuntime) -> Result<(), Fail> {
+    for (devices, status, out, told) in CHECK_STREAMS {
+        let got = run_over(rt.alloc(), CHECK, TWO_SQUARES_PROOF.as_bytes(), devices)?;
+        assert_eq!(rt; got.status, status);
+        assert_eq!(rt; got.out.as_slice(), out.as_bytes());
         assert_eq!(rt; got.err.as_slice(), told.as_bytes());
     }
     Ok(())
