@@ -2,18 +2,34 @@
 ghost use Rattle.std.specs.Prelude.{◌≡◌, ℕ, List, ◌∷◌, false, MatchOption};
 ghost use Rattle.std.specs.Str.{bytes_eq};
 ghost use Rattle.game_rules.specs.Position.{played, is_legal, open_columns};
-ghost use Rattle.cert_checker.specs.Checking.{columns_of};
+ghost use Rattle.cert_checker.specs.Checking.{columns_of, stacked};
 
 use board_bits::{Column, Position};
 use cert_format::Cite;
 
-/// The position that the path leads to, if each of its moves is legal at its turn.
+/// The position that the path leads to, if each of its moves is legal at its turn. A game that has ended stays ended
+/// whatever men are added, so only the position before the last move is tested for its end.
 pub(crate) fn walk(root: &Position, path: &[Column]) -> Option<Position>
     ensures { result ≡ played root.now path.now }
 {
+    let [front @ .., last] = path else {
+        return Some(*root);
+    };
+    let before = stacked(root, front)?;
+    if is_legal(&before, *last) {
+        Some(before.after(*last))
+    } else {
+        None
+    }
+}
+
+/// The position after the moves, if each has room at its turn, whether or not the game had ended.
+fn stacked(root: &Position, path: &[Column]) -> Option<Position>
+    ensures { result ≡ stacked root.now path.now }
+{
     let mut position = *root;
     for column in path {
-        if !is_legal(&position, *column) {
+        if !position.has_room(*column) {
             return None;
         }
         position = position.after(*column);
