@@ -1,3 +1,4 @@
 pub mod Fronts
 pub mod LineLemmas
 pub mod Windows
+pub mod FirstByte

@@ -2,11 +2,13 @@
 use Rattle.std.proofs.Common.{◌≡◌, ◌≢◌, ℕ, ◌+◌, ◌-◌, ◌<◌, ◌≤◌, min, Bool, true, false, cond, not, eqb, ltb, List, [], ◌∷◌, ◌++◌, length, take, drop, get_or, All, Option, Some, None, refl, sym, ap, ◌∙◌, subst, inl, inr, arith, append_assoc}
 use Rattle.std.proofs.lemmas.List.{append-nil, take_all, take-append-le, drop-append-le, take-append-drop, drop_more, drop_all, length-take-le, length-append, length-drop, get_or-take, take_rest}
 use Rattle.std.proofs.lemmas.List.Folds.{prefix_len-append}
-use Rattle.std.proofs.lemmas.List.Sums.{prefix_len-le-length, position_or_len_is, fails_before_first, passes_at_first}
+use Rattle.std.proofs.lemmas.List.Sums.{prefix_len-le-length, fails_before_first, passes_at_first}
 use Rattle.std.proofs.lemmas.Bool.{eqb-true, eq-eqb, lt-ltb, le-ltb, cases_lt}
 use Rattle.std.specs.Io.KnownBytes.{Keeps, IsAtEnd, prepend_known}
 use Rattle.bstr.specs.Find.{IsFirstByte, is_byte}
-use Rattle.io_ports.specs.Lines.{Cut, line_len, next_line, IsCut, EachTextIsCut, Gives}
+use Rattle.io_ports.proofs.FirstByte.{first_none, first_found}
+use Rattle.io_ports.specs.Lines.{Cut, line_len, next_line, IsCut, EachTextIsCut, Gives, PassesLines}
+use Rattle.io_ports.specs.declared.line_reader.LineGot.{LineGot}
 use Rattle.io_ports.specs.declared.line_reader.LineGot.TheVariants.{Line, Long, Done, Failed}
 
 fails : (b : Bool) → (b ≡ true → ⊥) → b ≡ false
@@ -15,20 +17,6 @@ fails false never = refl
 
 pub line_len-le : (xs : List ℕ) → line_len xs ≤ length xs
 line_len-le xs = prefix_len-le-length (λ b. not (eqb b 10)) xs
-
--- a search that found none
-pub line_len-none : (xs : List ℕ) → IsFirstByte (is_byte 10) xs None → line_len xs ≡ length xs
-line_len-none xs nowhere =
-    position_or_len_is (λ b. eqb b 10) xs (length xs) 0 (omega arith)
-    (λ k below. fails (eqb (get_or xs k 0) 10) (nowhere k (omega arith) below))
-    (λ past. absurd (omega arith))
-
--- a search that found one
-pub line_len-found : (xs : List ℕ) (at : ℕ) → IsFirstByte (is_byte 10) xs (Some at) → line_len xs ≡ at
-line_len-found xs at found =
-    position_or_len_is (λ b. eqb b 10) xs at 0 (omega (arith, found.0.high))
-    (λ k below. fails (eqb (get_or xs k 0) 10) (found.0.before k (omega arith) below))
-    (λ _. found.1)
 
 -- the front has none, so the line ends in what follows
 pub line_len-append_none : (xs ys : List ℕ) → line_len xs ≡ length xs → line_len (xs ++ ys) ≡ length xs + line_len ys
@@ -213,6 +201,15 @@ Gives-failed None b held kept = tt
 Gives-failed (Some x) None held kept = absurd kept
 Gives-failed (Some x) (Some y) held kept = kept
 
+-- whatever was got, at most one line was passed
+pub Gives-passes : (a b : Option (List ℕ)) (got : LineGot) (text : List ℕ) (fed : Bool) → Gives a b got text fed → PassesLines 1 a b
+Gives-passes None b got text fed gives = tt
+Gives-passes (Some x) None got text fed gives = absurd gives
+Gives-passes (Some x) (Some y) Failed text fed gives = (0, omega arith, gives)
+Gives-passes (Some x) (Some y) Line text fed gives = (1, omega arith, ap (λ cut. cut.rest) gives)
+Gives-passes (Some x) (Some y) Long text fed gives = (1, omega arith, ap (λ cut. cut.rest) gives)
+Gives-passes (Some x) (Some y) Done text fed gives = (1, omega arith, ap (λ cut. cut.rest) gives)
+
 -- ---- a search that goes on behind what was searched
 
 joined : (held : List ℕ) (s : ℕ) → s ≤ length held → line_len (take s held) ≡ s → line_len held ≡ s + line_len (take (length held - s) (drop s held))
@@ -228,7 +225,7 @@ pub search-found : (held bytes : List ℕ) (s at : ℕ) → held ≡ bytes → s
 search-found held bytes s at same within none found =
     let rest = take (length held - s) (drop s held) in
     let there : rest ≡ take (length bytes - s) (drop s bytes) = ap (λ l. take (length l - s) (drop s l)) same in
-    sym (joined bytes s within none ∙ ap (λ l. s + line_len l) (sym there) ∙ ap (λ m. s + m) (line_len-found rest at found))
+    sym (joined bytes s within none ∙ ap (λ l. s + line_len l) (sym there) ∙ ap (λ m. s + m) (first_found 10 rest at found))
 
 pub search-none : (held bytes : List ℕ) (s : ℕ) → held ≡ bytes → s ≤ length bytes → line_len (take s bytes) ≡ s
     → IsFirstByte (is_byte 10) (take (length held - s) (drop s held)) None → line_len bytes ≡ length bytes
@@ -236,4 +233,4 @@ search-none held bytes s same within none nowhere =
     let rest = take (length held - s) (drop s held) in
     let there : rest ≡ take (length bytes - s) (drop s bytes) = ap (λ l. take (length l - s) (drop s l)) same in
     let whole : line_len bytes ≡ s + line_len rest = joined bytes s within none ∙ ap (λ l. s + line_len l) (sym there) in
-    omega (arith, whole, line_len-none rest nowhere, ap length (take_rest held s), length-drop s held, ap length same)
+    omega (arith, whole, first_none 10 rest nowhere, ap length (take_rest held s), length-drop s held, ap length same)

@@ -1,5 +1,5 @@
 -- The lines of an input: what the next one is, as a function of the bytes that were not given yet.
-use Rattle.std.specs.Prelude.{◌≡◌, ◌≢◌, ℕ, ◌+◌, ◌<◌, ◌≤◌, ◌==◌, ◌++◌, Bool, true, false, if◌then◌else◌, nat_lt, List, [], ◌∷◌, length, take, drop, Option, None, Some, ⊤, All}
+use Rattle.std.specs.Prelude.{◌≡◌, ◌≢◌, ℕ, zero, suc, ◌+◌, ◌<◌, ◌≤◌, ◌==◌, ◌++◌, Bool, true, false, if◌then◌else◌, nat_lt, List, [], ◌∷◌, length, take, drop, Option, None, Some, ⊤, All}
 use Rattle.std.specs.List.{position_or_len}
 use Rattle.io_ports.specs.declared.line_reader.LineGot.{LineGot}
 use Rattle.io_ports.specs.declared.line_reader.LineGot.TheVariants.{Line, Long, Done, Failed}
@@ -61,6 +61,17 @@ Gives None new got text fed = ⊤
 Gives (Some bytes) None got text fed = ⊥
 Gives (Some bytes) (Some rest) Failed text fed = rest ≡ bytes
 Gives (Some bytes) (Some rest) got text fed = record { got = got; text = text; fed = fed; rest = rest } ≡ next_line bytes
+
+-- the bytes behind so many lines
+abbrev pub behind_lines : ℕ → List ℕ → List ℕ
+behind_lines zero bytes = bytes
+behind_lines (suc n) bytes = behind_lines n (next_line bytes).rest
+
+-- from the first bytes to the second, which stand behind at most so many lines of them, where they are known
+abbrev pub PassesLines : ℕ → Option (List ℕ) → Option (List ℕ) → Type 0
+PassesLines most None new = ⊤
+PassesLines most (Some bytes) None = ⊥
+PassesLines most (Some bytes) (Some rest) = (n : ℕ) × (n ≤ most) × (rest ≡ behind_lines n bytes)
 
 -- What a reader of lines holds: the bytes that it took from the source and hasn't given, and the line that it lends.
 pub record Cutting : Type 0 where

@@ -41,7 +41,8 @@ impl Ahead {
     }
 
     pub(crate) fn bytes(&self) -> &[u8]
-        ensures { result.now ≡ self.now }
+        ensures bytes { result.now ≡ self.now }
+        ensures held { length self.now ≤ CAPACITY }
     {
         &self.buffer[self.start..self.end]
     }
@@ -70,6 +71,7 @@ impl Ahead {
             (prepend_known self.new (S.left source.new)) }
         ensures end { IfOk result (λ n. n ≡ 0 → IsAtEnd (S.left source.new)) }
         ensures refused { OnErr result (self.new ≡ self.old) }
+        ensures held { length self.new ≤ CAPACITY }
         ensures cause { HasCause (S.faults source.old) (S.faults source.new) result }
     {
         let end = self.end;

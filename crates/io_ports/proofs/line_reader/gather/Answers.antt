@@ -8,30 +8,30 @@ use Rattle.io_ports.proofs.line_reader.gather.Goals as goal
 pub returns-in-Some-clause-len : goal.returns-in-Some-clause-len
 returns-in-Some-clause-len g c =
     let before = c.loop-at.invariant in
-    search-found c.bytes-held.result.now c.loop-at.ahead c.loop-at.searched c.in-Some.at c.bytes-held.ensures before.0 before.1 c.in-Some.ensures
+    search-found c.bytes-held.result.now c.loop-at.ahead c.loop-at.searched c.in-Some.at c.bytes-held.ensures.bytes before.0 before.1 c.in-Some.ensures
 
 -- all that was held was searched
 pub returns-then-searched-gt-LONGEST-clause-len : goal.returns-then-searched-gt-LONGEST-clause-len
 returns-then-searched-gt-LONGEST-clause-len g c =
     let before = c.loop-at.invariant in
-    let none = search-none c.bytes-held.result.now c.loop-at.ahead c.loop-at.searched c.bytes-held.ensures before.0 before.1 c.in_default.ensures in
-    ap length c.bytes-held.ensures ∙ sym none
+    let none = search-none c.bytes-held.result.now c.loop-at.ahead c.loop-at.searched c.bytes-held.ensures.bytes before.0 before.1 c.in_default.ensures in
+    ap length c.bytes-held.ensures.bytes ∙ sym none
 
 pub returns-then-branch-eq0-clause-len : goal.returns-then-branch-eq0-clause-len
 returns-then-branch-eq0-clause-len g c =
     let before = c.loop-at.invariant in
     let old = c.loop-at.ahead in
-    let none = search-none c.bytes-held.result.now old c.loop-at.searched c.bytes-held.ensures before.0 before.1 c.in_default.ensures in
+    let none = search-none c.bytes-held.result.now old c.loop-at.searched c.bytes-held.ensures.bytes before.0 before.1 c.in_default.ensures in
     let same : old ≡ c.fill.new.self =
     sym c.fill.ensures.front ∙ take_all (length old) c.fill.new.self (omega (arith, c.in_ok-fill.ensures.count)) in
-    ap length c.bytes-held.ensures ∙ sym none ∙ ap line_len same
+    ap length c.bytes-held.ensures.bytes ∙ sym none ∙ ap line_len same
 
 pub loop-at-preserved : goal.loop-at-preserved
 loop-at-preserved g c =
     let before = c.loop-at.invariant in
     let new = c.fill.new.self in
-    let none = search-none c.bytes-held.result.now c.loop-at.ahead c.loop-at.searched c.bytes-held.ensures before.0 before.1 c.in_default.ensures in
-    let long = ap length c.bytes-held.ensures in (
+    let none = search-none c.bytes-held.result.now c.loop-at.ahead c.loop-at.searched c.bytes-held.ensures.bytes before.0 before.1 c.in_default.ensures in
+    let long = ap length c.bytes-held.ensures.bytes in (
       omega (arith, long, c.in_ok-fill.ensures.count),
       ap (λ m. line_len (take m new)) long ∙ ap line_len c.fill.ensures.front ∙ none ∙ sym long,
       Keeps-trans _ _ _ before.2 c.fill.ensures.bytes,

@@ -1,7 +1,7 @@
 use Rattle.std.proofs.Common.{◌+◌, ℕ, List, min, ltb, ap, ◌∙◌, subst, length, arith}
 use Rattle.std.specs.Io.KnownBytes.{Keeps, prepend_known}
 use Rattle.std.proofs.lemmas.List.{length-take}
-use Rattle.io_ports.proofs.LineLemmas.{Gives-long, Gives-line, no_feed, line_len-le}
+use Rattle.io_ports.proofs.LineLemmas.{Gives-long, Gives-line, Gives-passes, no_feed, line_len-le}
 use Rattle.io_ports.proofs.line_reader.Lines.next.Goals as goal
 
 pub invariant_of-self-then-len-gt-LONGEST : goal.invariant_of-self-then-len-gt-LONGEST
@@ -24,7 +24,7 @@ returns-then-len-gt-LONGEST-clause-no_feed g c = no_feed c.gather.new.ahead 8192
 
 pub invariant_of-self-2 : goal.invariant_of-self-2
 invariant_of-self-2 g c =
-    (omega (arith, c.min-self-inside.ensures, ap length c.bytes-held.ensures), omega (arith, c.in-Ok.ensures.len, line_len-le c.gather.new.ahead))
+    (omega (arith, c.min-self-inside.ensures, ap length c.bytes-held.ensures.bytes), omega (arith, c.in-Ok.ensures.len, line_len-le c.gather.new.ahead))
 
 pub returns-clause-gives : goal.returns-clause-gives
 returns-clause-gives g c =
@@ -33,9 +33,15 @@ returns-clause-gives g c =
     let after = prepend_known held (left c.gather.new.source) in
     let kept : Keeps (prepend_known c.args.self.now.ahead (left c.args.source.now)) after =
     subst (λ (l : List ℕ). Keeps (prepend_known l (left c.args.source.now)) after) (c.skip.ensures ∙ ap (λ s. s.ahead) c.self.view_is) c.gather.ensures.bytes in
-    let long = ap length c.bytes-held.ensures in
+    let long = ap length c.bytes-held.ensures.bytes in
     let n = c.in-Ok.len in
     Gives-line _ _ held n c.min-self-inside.result _ kept c.in-Ok.ensures.len (omega arith) (omega (arith, long)) c.in-Ok.ensures.whole (ap (ltb n) long) (c.min-self-inside.ensures ∙ ap (λ m. min m (n + 1)) long)
 
 pub returns-clause-no_feed : goal.returns-clause-no_feed
 returns-clause-no_feed g c = no_feed c.gather.new.ahead c.in-Ok.len (omega (arith, c.in-Ok.ensures.len))
+
+pub returns-then-len-gt-LONGEST-clause-passes : goal.returns-then-len-gt-LONGEST-clause-passes
+returns-then-len-gt-LONGEST-clause-passes g c = Gives-passes _ _ _ _ _ (returns-then-len-gt-LONGEST-clause-gives g c)
+
+pub returns-clause-passes : goal.returns-clause-passes
+returns-clause-passes g c = Gives-passes _ _ _ _ _ (returns-clause-gives g c)
