@@ -8,8 +8,8 @@ ghost use Rattle.cert_format.specs.Shape.{lemma_of, line_of};
 ghost use Rattle.cert_checker.specs.Checking.{shown_of, Finds, StopsAt};
 ghost use Rattle.cert_checker.specs.declared.stops.AddStop.TheVariants.{Refused};
 
-use crate::known::Shows;
-use crate::moves::walk;
+use crate::known::Shown;
+use crate::moves::position_after;
 use crate::reasons::{check_reason, verdict_stands};
 use crate::stops::{Accepted, AddStop, Refusal};
 use board_bits::Position;
@@ -23,7 +23,7 @@ use std::marker::Model;
 #[derive(Drop)]
 pub struct Checker {
     root: Position,
-    known: Vec<Shows>,
+    known: Vec<Shown>,
     verdict: Option<Verdict>,
 }
 
@@ -75,19 +75,19 @@ impl Checker {
         ensures kept { OnErr result (self.new ≡ self.old) }
         ensures cause { IfErr result (λ stop. StopsAt at stop (line_refusal self.old (ALemma (lemma_of lemma.now))) (ALemma (lemma_of lemma.now))) }
     {
-        let shows = match check_lemma(&self.root, self.known.as_slice(), lemma) {
-            Ok(shows) => shows,
+        let shown = match check_lemma(&self.root, self.known.as_slice(), lemma) {
+            Ok(shown) => shown,
             Err(why) => return Err(refused(at, why)),
         };
-        self.keep(shows).map_err(AddStop::Memory)
+        self.keep(shown).map_err(AddStop::Memory)
     }
 
-    fn keep(&mut self, shows: Shows) -> Result<(), AllocError>
+    fn keep(&mut self, shown: Shown) -> Result<(), AllocError>
         requires { length self.old.known + 1 < 2 ^ 32 }
-        ensures kept { OnOk result (self.new ≡ record self.old { known = self.old.known ++ shown_of shows ∷ [] }) }
+        ensures kept { OnOk result (self.new ≡ record self.old { known = self.old.known ++ shown_of shown ∷ [] }) }
         ensures none { OnErr result (self.new ≡ self.old) }
     {
-        self.known.push(shows)?;
+        self.known.push(shown)?;
         Ok(())
     }
 
@@ -125,17 +125,17 @@ impl Checker {
 }
 
 /// What the lemma shows, where it is right behind the lemmas known, and else the first name of what is wrong with it.
-fn check_lemma(root: &Position, known: &[Shows], lemma: &Lemma) -> Result<Shows, Why>
+fn check_lemma(root: &Position, known: &[Shown], lemma: &Lemma) -> Result<Shown, Why>
     ensures refusal { Finds result (lemma_refusal root.now (map shown_of known.now) (lemma_of lemma.now)) }
-    ensures shown { IfOk result (λ shows. shown_of_lemma root.now (lemma_of lemma.now) ≡ shown_of shows ∷ []) }
+    ensures shown { IfOk result (λ shown. shown_of_lemma root.now (lemma_of lemma.now) ≡ shown_of shown ∷ []) }
     ensures few { OnOk result (length known.now + 1 < 2 ^ 32) }
 {
     if u64::from(lemma.number) != known.len() as u64 + 1 {
         return Err(Why::BadLine);
     }
-    let position = walk(root, lemma.path.as_slice()).ok_or(Why::BadPath)?;
+    let position = position_after(root, lemma.path.as_slice()).ok_or(Why::BadPath)?;
     check_reason(known, &position, lemma.claim, &lemma.reason)?;
-    Ok(Shows {
+    Ok(Shown {
         position,
         claim: lemma.claim,
     })

@@ -1,7 +1,7 @@
 //! What a claim says, and by which reason it can be shown.
 ghost use Rattle.std.specs.Prelude.{◌≡◌, true};
 ghost use Rattle.game_rules.specs.Position.{other, same_side};
-ghost use Rattle.proof_text.specs.Lemma.{claim_side, claims_win, claim_for, same_claim, agrees, claim_of_end};
+ghost use Rattle.proof_text.specs.Lemma.{claim_side, claims_win, claim_for, agrees, claim_of_end};
 
 use board_bits::{End, Side};
 use proof_text::Claim;
@@ -26,17 +26,6 @@ pub(crate) fn goes_by_one(claim: Claim, to_move: Side) -> bool
     match to_move {
         Side::White => matches!(claim, Claim::WhiteWins | Claim::BlackFails),
         Side::Black => matches!(claim, Claim::BlackWins | Claim::WhiteFails),
-    }
-}
-
-pub(crate) fn same_claim(a: Claim, b: Claim) -> bool
-    ensures { result ≡ same_claim a b }
-{
-    match a {
-        Claim::WhiteWins => matches!(b, Claim::WhiteWins),
-        Claim::WhiteFails => matches!(b, Claim::WhiteFails),
-        Claim::BlackWins => matches!(b, Claim::BlackWins),
-        Claim::BlackFails => matches!(b, Claim::BlackFails),
     }
 }
 

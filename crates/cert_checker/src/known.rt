@@ -4,51 +4,50 @@ ghost use Rattle.proof_text.specs.Right.{lemma_at};
 ghost use Rattle.proof_text.specs.Checked.{shown_refusal, is_shown};
 ghost use Rattle.cert_checker.specs.Checking.{shown_of, Finds};
 
-use crate::claims::same_claim;
 use board_bits::Position;
 use proof_text::{Claim, Why};
 
 /// What a lemma shows: a claim at a position. The path to it is forgotten.
 #[derive(Clone, Copy)]
-pub(crate) struct Shows {
+pub(crate) struct Shown {
     pub(crate) position: Position,
     pub(crate) claim: Claim,
 }
 
 /// What the lemma with this number, counted from 1, shows.
-fn lemma_at(known: &[Shows], lemma: u32) -> Option<&Shows>
-    ensures { option_map (λ shows. shown_of shows.now) result ≡ lemma_at (map shown_of known.now) lemma }
+fn lemma_at(known: &[Shown], lemma: u32) -> Option<&Shown>
+    ensures { option_map (λ shown. shown_of shown.now) result ≡ lemma_at (map shown_of known.now) lemma }
 {
     known.get(lemma.checked_sub(1)? as usize)
 }
 
 /// Tests that a cited lemma stands before, at this position, and makes this claim.
 pub(crate) fn check_cited(
-    known: &[Shows],
+    known: &[Shown],
     position: &Position,
     claim: Claim,
     lemma: u32,
 ) -> Result<(), Why>
     ensures { Finds result (shown_refusal position.now claim (lemma_at (map shown_of known.now) lemma)) }
 {
-    let Some(shows) = lemma_at(known, lemma) else {
+    let Some(shown) = lemma_at(known, lemma) else {
         return Err(Why::NoSuchLemma);
     };
-    if !shows.position.same(position) {
+    if !shown.position.same(position) {
         return Err(Why::WrongPosition);
     }
-    if !same_claim(shows.claim, claim) {
+    if shown.claim != claim {
         return Err(Why::WrongClaim);
     }
     Ok(())
 }
 
 /// Whether the lemma with this number shows the claim at the position.
-pub(crate) fn is_shown(known: &[Shows], position: &Position, claim: Claim, lemma: u32) -> bool
+pub(crate) fn is_shown(known: &[Shown], position: &Position, claim: Claim, lemma: u32) -> bool
     ensures { result ≡ is_shown position.now claim (lemma_at (map shown_of known.now) lemma) }
 {
     match lemma_at(known, lemma) {
-        Some(shows) => shows.position.same(position) && same_claim(shows.claim, claim),
+        Some(shown) => shown.position.same(position) && shown.claim == claim,
         None => false,
     }
 }

@@ -9,7 +9,7 @@ use cert_format::Cite;
 
 /// The position that the path leads to, if each of its moves is legal at its turn. A game that has ended stays ended
 /// whatever men are added, so only the position before the last move is tested for its end.
-pub(crate) fn walk(root: &Position, path: &[Column]) -> Option<Position>
+pub(crate) fn position_after(root: &Position, path: &[Column]) -> Option<Position>
     ensures { result ≡ played root.now path.now }
 {
     let [front @ .., last] = path else {

@@ -7,9 +7,11 @@ use Rattle.std.specs.Fmt.{decimal}
 use Rattle.std.proofs.lemmas.List.{take_rest}
 use Rattle.std.proofs.lemmas.List.Splits.{slice_split-cons_no, slice_split_first, length-slice_split, join_with_byte-slice_split}
 use Rattle.std.proofs.lemmas.Option.{cond_some}
-use Rattle.std.proofs.lemmas.Bool.{ltb-true, le-leb, lt-leb, and_from}
+use Rattle.std.proofs.lemmas.Bool.{ltb-true, le-leb, lt-leb, lt-ltb, le-ltb, and_from}
 use Rattle.std.proofs.Math.Bool.{and-false}
 use Rattle.std.proofs.lemmas.Bool.Decides.{nat_tests}
+use Rattle.bstr.specs.Find.{IsFirstByte, is_byte}
+use Rattle.io_ports.proofs.FirstByte.{first_none, first_found}
 use Rattle.proof_text.specs.Lemma.{Cite, ByEnd, ByOne, ByAll}
 use Rattle.proof_text.specs.Spelling.{spaced, most_cites}
 use Rattle.proof_text.specs.Reading.{◌>>=◌, words_of, only, number_of, letter_word, cites_of, one_of, all_of, reason_of, with_one, with_two, verdict_of}
@@ -22,6 +24,16 @@ abbrev is_space : ℕ → Bool
 is_space byte = byte == 32
 
 -- ---- cutting
+
+-- a search for a space
+pub space_found : (bytes : List ℕ) (r : Option ℕ) → IsFirstByte (is_byte 32) bytes r → r ≡ position is_space bytes
+space_found bytes None nowhere =
+    let past = first_none 32 bytes nowhere in
+    sym (ap (λ b. cond b (Some (position_or_len is_space bytes)) None) (le-ltb (position_or_len is_space bytes) (length bytes) (omega (arith, past))))
+space_found bytes (Some at) found =
+    let there = first_found 32 bytes at found in
+    let within : position_or_len is_space bytes < length bytes = omega (arith, there, found.0.high) in
+    sym (ap (λ b. cond b (Some (position_or_len is_space bytes)) None) (lt-ltb (position_or_len is_space bytes) (length bytes) within) ∙ ap Some there)
 
 pub cut_at : (bytes : List ℕ) (end : ℕ) → position is_space bytes ≡ Some end → words_of bytes ≡ take end bytes ∷ words_of (take (length bytes - (end + 1)) (drop (end + 1) bytes))
 cut_at bytes end h =

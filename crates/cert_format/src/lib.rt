@@ -11,7 +11,7 @@ mod reading;
 mod tests;
 
 pub use line_text::{LineText, push_number, push_text};
-pub use lines::{Cite, Lemma, Line, LineFault, Reason};
+pub use lines::{Cite, FIRST_LINE, Lemma, Line, LineFault, Reason};
 pub use number::number_between;
 pub use output::{LemmaOut, print_line};
 pub use proof_text::{Claim, Verdict};

@@ -4,6 +4,9 @@ use arrayvec::ArrayVec;
 use board_bits::Column;
 use proof_text::{Claim, Verdict};
 
+/// The first line of each proof, which names the format.
+pub const FIRST_LINE: &[u8] = b"victor 1";
+
 /// No path is longer: a board has at most a hundred squares.
 pub(crate) const LONGEST_PATH: usize = 100;
 
@@ -40,9 +43,11 @@ pub struct Lemma {
 /// A line of a proof behind its game.
 #[derive(Debug, PartialEq, Eq, Drop)]
 pub enum Line {
+    /// A lemma.
     Lemma(Lemma),
     /// A line for the reader, which says nothing.
     Remark,
+    /// The verdict, with which a proof ends.
     Verdict(Verdict),
 }
 

@@ -13,6 +13,7 @@ use crate::lines::{Cite, LONGEST_PATH, Lemma, Line, LineFault, MOST_CITES, Reaso
 use crate::number::number_between;
 use arrayvec::ArrayVec;
 use board_bits::{Column, Size};
+use bstr::ByteSlice;
 use proof_text::{Claim, Verdict};
 
 /// No number of a proof is greater.
@@ -206,7 +207,7 @@ fn first_space(bytes: &[u8]) -> Option<usize>
     ensures place { result ≡ position (λ byte. byte == 32) bytes.now }
     ensures within { IfSome result (λ end. end < length bytes.now) }
 {
-    bytes.iter().position(|byte| *byte == b' ')
+    bytes.find_byte(b' ')
 }
 
 fn is_word(word: &[u8], text: &[u8]) -> bool

@@ -12,7 +12,7 @@ use Rattle.proof_text.specs.Lemma.{Lemma}
 use Rattle.proof_text.specs.Right.{Shown, AreRight}
 use Rattle.proof_text.specs.Spelling.{lemma_text, verdict_line, as_line, lines_of, is_remark, greatest_number, Fits}
 use Rattle.proof_text.specs.Texts.{first_line, longest_line, Accepted, check_of, Entry, LemmaEntry, RemarkEntry, entry_text, entry_lines, lemmas_among, EntryFits, head_of, IsRightText}
-use Rattle.proof_text.specs.Written.{IsRemarkLine, remark_line, AreSided, HasWritten, MayStand, IsProof}
+use Rattle.proof_text.specs.Written.{IsAskedInTurn, IsRemarkLine, remark_line, AreSided, HasWritten, MayStand, IsProof}
 use Rattle.game_rules.specs.Grammar.{board_line, moves_line, game_text, IsGameText}
 use Rattle.game_rules.specs.declared.Side.TheVariants.{White, Black}
 use Rattle.proof_text.proofs.Append.{AreRight_append, all_append, all_left, all_right, all_each}
@@ -117,13 +117,14 @@ pub proof_right : (board : Board) (columns : List ℕ) (root : Position) (text :
     → is_board board ≡ true → played (empty_position board) columns ≡ Some root → length proof.after ≤ greatest_number → IsRightText text v (length proof.after)
 proof_right board columns root text v proof has_board has_moves few =
     let w = proof.written in
+    let right = AreRight_append root [] w.mid proof.after w.white w.black w.white_right w.black_right in
     let cols : length root.columns ≡ board.cols = cols_of_root board columns root has_moves in
     let same : board_of root ≡ board = board_along columns (empty_position board) root has_moves ∙ ap (λ n. record { cols = n; rows = board.rows }) (length-replicate board.cols []) in
     let root_board : is_board (board_of root) ≡ true = ap is_board same ∙ has_board in
-    let count : length proof.after ≡ length (w.white ++ w.black) = shown_count root (w.white ++ w.black) proof.after w.right in
+    let count : length proof.after ≡ length (w.white ++ w.black) = shown_count root (w.white ++ w.black) proof.after right in
     let both : length (w.white ++ w.black) ≡ length w.white + length w.black = length-append w.white w.black in
     let ls = w.white ++ w.black in
-    let spellings : AllByRecursion (Fits (length root.columns)) ls = right_all_fit root [] ls proof.after root_board (omega arith) w.right in
+    let spellings : AllByRecursion (Fits (length root.columns)) ls = right_all_fit root [] ls proof.after root_board (omega arith) right in
     let fits : AllByRecursion (Fits board.cols) ls = subst (λ n. AllByRecursion (Fits n) ls) cols spellings in
     let among : lemmas_among (entries_of w.white_remark w.white w.black_remark w.black) ≡ ls = lemmas_of w.white_remark w.white w.black_remark w.black in
     let sizes : length (entries_of w.white_remark w.white w.black_remark w.black) ≤ length w.white + length w.black + 2 = size_of w.white_remark w.white w.black_remark w.black in
@@ -137,7 +138,7 @@ proof_right board columns root text v proof has_board has_moves few =
       has_board = has_board;
       has_moves = has_moves;
       fit = each_entry (EntryFits board.cols) w.white_remark w.white w.black_remark w.black (λ bytes one. one.0) w.white_remarked w.black_remarked fits;
-      right = subst (λ ls. AreRight root [] ls proof.after) (sym among) w.right;
+      right = subst (λ ls. AreRight root [] ls proof.after) (sym among) right;
       verdict_fits = right_verdict_fits root proof.after v few proof.verdict;
       verdict_right = proof.verdict;
       counted = count ∙ ap length (sym among);
@@ -156,7 +157,7 @@ proof_accepted board columns root text v proof has_board has_moves few =
 -- ---- texts that are being written
 
 -- the head alone
-pub head_stands : (root : Position) (head : List ℕ) → MayStand root head head
+abbrev pub head_stands : (root : Position) (head : List ℕ) → MayStand root head head
 head_stands root head =
     record {
       after = [];
@@ -166,7 +167,10 @@ head_stands root head =
         white = [];
         black_remark = None;
         black = [];
-        right = refl;
+        mid = [];
+        white_right = refl;
+        black_right = refl;
+        asked = λ some. absurd (some refl);
         white_sided = tt;
         black_sided = tt;
         white_remarked = tt;
@@ -188,7 +192,10 @@ white_stands root head remark white after right sided remarked =
         white = white;
         black_remark = None;
         black = [];
-        right = subst (λ ls. AreRight root [] ls after) (sym (append-nil white)) right;
+        mid = after;
+        white_right = right;
+        black_right = refl;
+        asked = λ some. absurd (some refl);
         white_sided = sided;
         black_sided = tt;
         white_remarked = remarked;
@@ -199,16 +206,19 @@ white_stands root head remark white after right sided remarked =
     }
 
 -- both questions', and the last line
-pub both_written : (root : Position) (head : List ℕ) (remark : Option (List ℕ)) (white : List Lemma) (mid : List Shown) (also : Option (List ℕ)) (black : List Lemma) (after : List Shown) (last : List ℕ)
-    → AreRight root [] white mid → AreRight root mid black after → AreSided White white → AreSided Black black → IsRemarkLine remark → IsRemarkLine also
+abbrev pub both_written : (root : Position) (head : List ℕ) (remark : Option (List ℕ)) (white : List Lemma) (mid : List Shown) (also : Option (List ℕ)) (black : List Lemma) (after : List Shown) (last : List ℕ)
+    → AreRight root [] white mid → AreRight root mid black after → AreSided White white → AreSided Black black → IsAskedInTurn root mid black → IsRemarkLine remark → IsRemarkLine also
     → HasWritten root head (head ++ (remark_line remark ++ (lines_of white ++ (remark_line also ++ (lines_of black ++ last))))) after last
-both_written root head remark white mid also black after last first second white_sided black_sided remarked also_remarked =
+both_written root head remark white mid also black after last first second white_sided black_sided asked remarked also_remarked =
     record {
       white_remark = remark;
       white = white;
       black_remark = also;
       black = black;
-      right = AreRight_append root [] mid after white black first second;
+      mid = mid;
+      white_right = first;
+      black_right = second;
+      asked = asked;
       white_sided = white_sided;
       black_sided = black_sided;
       white_remarked = remarked;
@@ -216,15 +226,33 @@ both_written root head remark white mid also black after last first second white
       spelled = refl;
     }
 
-pub black_stands : (root : Position) (head : List ℕ) (remark : Option (List ℕ)) (white : List Lemma) (mid : List Shown) (also : Option (List ℕ)) (black : List Lemma) (after : List Shown)
-    → AreRight root [] white mid → AreRight root mid black after → AreSided White white → AreSided Black black → IsRemarkLine remark → IsRemarkLine also
+abbrev pub black_stands : (root : Position) (head : List ℕ) (remark : Option (List ℕ)) (white : List Lemma) (mid : List Shown) (also : Option (List ℕ)) (black : List Lemma) (after : List Shown)
+    → AreRight root [] white mid → AreRight root mid black after → AreSided White white → AreSided Black black → IsAskedInTurn root mid black → IsRemarkLine remark → IsRemarkLine also
     → MayStand root head (head ++ (remark_line remark ++ (lines_of white ++ (remark_line also ++ lines_of black))))
-black_stands root head remark white mid also black after first second white_sided black_sided remarked also_remarked =
-    subst (MayStand root head) (ap (λ text. head ++ (remark_line remark ++ (lines_of white ++ (remark_line also ++ text)))) (append-nil (lines_of black)))
-    (record { after = after; last = []; written = both_written root head remark white mid also black after [] first second white_sided black_sided remarked also_remarked; ends = inl refl })
+black_stands root head remark white mid also black after first second white_sided black_sided asked remarked also_remarked =
+    record {
+      after = after;
+      last = [];
+      written = record {
+        white_remark = remark;
+        white = white;
+        black_remark = also;
+        black = black;
+        mid = mid;
+        white_right = first;
+        black_right = second;
+        asked = asked;
+        white_sided = white_sided;
+        black_sided = black_sided;
+        white_remarked = remarked;
+        black_remarked = also_remarked;
+        spelled = ap (λ text. head ++ (remark_line remark ++ (lines_of white ++ (remark_line also ++ text)))) (sym (append-nil (lines_of black)));
+      };
+      ends = inl refl;
+    }
 
 -- a whole proof may stand
-pub proof_stands : (root : Position) (head text : List ℕ) (v : Verdict) → IsProof root head text v → MayStand root head text
+abbrev pub proof_stands : (root : Position) (head text : List ℕ) (v : Verdict) → IsProof root head text v → MayStand root head text
 proof_stands root head text v proof = record { after = proof.after; last = verdict_line v; written = proof.written; ends = inr (v, proof.verdict, refl) }
 
 -- ---- the head

@@ -1,14 +1,15 @@
 -- What stands written of a proof: its head, then for each of two questions the remarks and the right lemmas, and last
 -- the verdict.
-use Rattle.std.specs.Prelude.{◌≡◌, ◌≤◌, ◌⊎◌, ℕ, true, List, [], ◌++◌, length, Option, Some, None, ⊤}
+use Rattle.std.specs.Prelude.{◌≡◌, ◌≢◌, ◌≤◌, ◌⊎◌, ℕ, true, List, [], ◌++◌, length, Option, Some, None, ⊤}
 use Rattle.std.specs.List.{AllByRecursion}
 use Rattle.game_rules.specs.Position.{Position}
 use Rattle.game_rules.specs.declared.Side.{Side}
 use Rattle.game_rules.specs.declared.Side.TheVariants.{White, Black}
 use Rattle.proof_text.specs.Lemma.{claim_side, Lemma}
-use Rattle.proof_text.specs.Right.{Shown, AreRight, IsVerdict}
+use Rattle.proof_text.specs.Right.{Shown, Shows, AreRight, IsVerdict}
 use Rattle.proof_text.specs.Spelling.{as_line, lines_of, verdict_line, is_remark}
 use Rattle.proof_text.specs.Texts.{longest_line}
+use Rattle.proof_text.specs.declared.Claim.TheVariants.{WhiteFails}
 use Rattle.proof_text.specs.declared.Verdict.{Verdict}
 
 -- a remark that may stand as a line, and its line; where there is none, nothing
@@ -24,6 +25,10 @@ remark_line (Some bytes) = as_line bytes
 abbrev pub AreSided : Side → List Lemma → Type 0
 AreSided side ls = AllByRecursion (λ l. claim_side l.claim ≡ side) ls
 
+-- The question whether Black wins is asked only where it is shown at the root that White doesn't.
+abbrev pub IsAskedInTurn : Position → List Shown → List Lemma → Type 0
+IsAskedInTurn root known black = black ≢ [] → (n : ℕ) × Shows known n root WhiteFails
+
 -- Behind its head the text has, for the question whether White wins and then for the one whether Black does, a remark or
 -- none and lemmas of that side; all lemmas are right and show what stands after. Behind them comes the last line.
 pub record HasWritten (root : Position) (head : List ℕ) (text : List ℕ) (after : List Shown) (last : List ℕ) : Type 0 where
@@ -31,7 +36,10 @@ pub record HasWritten (root : Position) (head : List ℕ) (text : List ℕ) (aft
   pub white : List Lemma
   pub black_remark : Option (List ℕ)
   pub black : List Lemma
-  pub right : AreRight root [] (white ++ black) after
+  pub mid : List Shown
+  pub white_right : AreRight root [] white mid
+  pub black_right : AreRight root mid black after
+  pub asked : IsAskedInTurn root mid black
   pub white_sided : AreSided White white
   pub black_sided : AreSided Black black
   pub white_remarked : IsRemarkLine white_remark

@@ -20,20 +20,25 @@ pub enum Claim {
     BlackFails,
 }
 
-/// What a proof says of its root, for the side to move there, with the numbers of the lemmas that show it.
+/// What a proof says of its root, for the side to move there, with the numbers of the lemmas that show it. Lemmas are
+/// numbered from 1.
 #[derive(Clone, Copy, Debug, PartialEq, Eq, Hash)]
 pub enum Verdict {
+    /// The side to move wins, by this lemma.
     Win(u32),
+    /// The side to move loses: the other side wins, by this lemma.
     Loss(u32),
-    /// First the lemma by which White doesn't win, then the one by which Black doesn't.
+    /// Neither wins: first the lemma by which White doesn't, then the one by which Black doesn't.
     Draw(u32, u32),
+    /// Nothing is said of the value.
     Unknown,
 }
 
 /// Why a line of a proof is refused.
 #[derive(Clone, Copy, Debug, PartialEq, Eq, Hash)]
 pub enum Why {
-    /// The line is none of a proof, stands behind the verdict, or has another number than the next lemma's.
+    /// The line is in no form of a proof's lines or longer than 8,192 bytes, stands behind the verdict or behind line
+    /// 20,000,000, or is a lemma with another number than the next; or the first line doesn't name the format.
     BadLine,
     /// The path isn't a list of legal moves from the root.
     BadPath,

@@ -14,7 +14,7 @@ use Rattle.proof_text.specs.Spelling.{lines_of}
 use Rattle.proof_text.proofs.Append.{Shows_more, shown_more}
 use Rattle.proof_text.specs.declared.Verdict.{Verdict}
 use Rattle.proof_text.specs.declared.Verdict.TheVariants.{Draw, Unknown}
-use Rattle.victor_run.specs.Search.{is_whole, is_whole_verdict, uncounted, won_by, Proves, Asks}
+use Rattle.victor_run.specs.Search.{is_whole, is_whole_verdict, uncounted, won_by, Solves, Asks}
 use Rattle.victor_run.specs.declared.search.Answer.{Answer}
 use Rattle.victor_run.specs.declared.search.SearchStop.{SearchStop}
 use Rattle.victor_run.specs.declared.search.SearchStop.TheVariants.{Spent, WriteFault}
@@ -46,7 +46,7 @@ stopped_few WriteFault nodes count after counted few whole = cc
 
 module _ (root : Position) (nodes : ℕ) (old new : Option (List ℕ)) (count : ℕ) where
   -- the first question stopped
-  pub asks_none : (stop : SearchStop) → Proves root root White [] old new count (Err stop) → count ≤ nodes → Asks root nodes old new (Err stop)
+  pub asks_none : (stop : SearchStop) → Solves root root White [] old new count (Err stop) → count ≤ nodes → Asks root nodes old new (Err stop)
   asks_none stop white few = record {
     white = white.more;
     mid = white.after;
@@ -57,12 +57,13 @@ module _ (root : Position) (nodes : ℕ) (old new : Option (List ℕ)) (count : 
     black_right = refl;
     white_sided = white.sided;
     black_sided = tt;
+    asked = λ some. absurd (some refl);
     verdict = tt;
     few = stopped_few stop nodes count white.after white.counted few;
   }
 
   -- White wins
-  pub asks_white : (answer : Answer) (to_move : Side) (v : Verdict) → Proves root root White [] old new count (Ok answer) → answer.yes ≡ true → to_move ≡ side_to_move root
+  pub asks_white : (answer : Answer) (to_move : Side) (v : Verdict) → Solves root root White [] old new count (Ok answer) → answer.yes ≡ true → to_move ≡ side_to_move root
       → v ≡ won_by White to_move answer.lemma → count ≤ nodes → Asks root nodes old new (Ok v)
   asks_white answer to_move v white won turn told few = record {
     white = white.more;
@@ -74,6 +75,7 @@ module _ (root : Position) (nodes : ℕ) (old new : Option (List ℕ)) (count : 
     black_right = refl;
     white_sided = white.sided;
     black_sided = tt;
+    asked = λ some. absurd (some refl);
     verdict = (
       rw told (won_verdict root white.after White to_move answer.lemma turn (subst (λ b. Shows white.after answer.lemma root (claim_for White b)) won white.shown)),
       (λ h. won_known White to_move answer.lemma (sym told ∙ h)),
@@ -81,9 +83,12 @@ module _ (root : Position) (nodes : ℕ) (old new : Option (List ℕ)) (count : 
     few = λ _. omega (arith, white.counted);
   }
 
-module _ (root : Position) (nodes : ℕ) (old held new : Option (List ℕ)) (count : ℕ) (first : Answer) (white : Proves root root White [] old held count (Ok first)) (counted : ℕ) where
+module _ (root : Position) (nodes : ℕ) (old held new : Option (List ℕ)) (count : ℕ) (first : Answer) (white : Solves root root White [] old held count (Ok first)) (none : first.yes ≡ false) (counted : ℕ) where
+  white_fails : Shows white.after first.lemma root (claim_for White false)
+  white_fails = subst (λ b. Shows white.after first.lemma root (claim_for White b)) none white.shown
+
   -- the second question stopped
-  pub asks_one : (stop : SearchStop) → Proves root root Black white.after held new counted (Err stop) → counted ≤ nodes → Asks root nodes old new (Err stop)
+  pub asks_one : (stop : SearchStop) → Solves root root Black white.after held new counted (Err stop) → counted ≤ nodes → Asks root nodes old new (Err stop)
   asks_one stop black few = record {
     white = white.more;
     mid = white.after;
@@ -94,11 +99,12 @@ module _ (root : Position) (nodes : ℕ) (old held new : Option (List ℕ)) (cou
     black_right = black.right;
     white_sided = white.sided;
     black_sided = black.sided;
+    asked = λ _. (first.lemma, white_fails);
     verdict = tt;
     few = stopped_few stop nodes counted black.after black.counted few;
   }
 
-  module _ (second : Answer) (black : Proves root root Black white.after held new counted (Ok second)) (few : counted ≤ nodes) where
+  module _ (second : Answer) (black : Solves root root Black white.after held new counted (Ok second)) (few : counted ≤ nodes) where
     -- Black wins
     pub asks_black : (to_move : Side) (v : Verdict) → second.yes ≡ true → to_move ≡ side_to_move root → v ≡ won_by Black to_move second.lemma → Asks root nodes old new (Ok v)
     asks_black to_move v won turn told = record {
@@ -111,6 +117,7 @@ module _ (root : Position) (nodes : ℕ) (old held new : Option (List ℕ)) (cou
       black_right = black.right;
       white_sided = white.sided;
       black_sided = black.sided;
+      asked = λ _. (first.lemma, white_fails);
       verdict = (
         rw told (won_verdict root black.after Black to_move second.lemma turn (subst (λ b. Shows black.after second.lemma root (claim_for Black b)) won black.shown)),
         (λ h. won_known Black to_move second.lemma (sym told ∙ h)),
@@ -119,10 +126,9 @@ module _ (root : Position) (nodes : ℕ) (old held new : Option (List ℕ)) (cou
     }
 
     -- neither wins
-    pub asks_draw : first.yes ≡ false → second.yes ≡ false → Asks root nodes old new (Ok (Draw first.lemma second.lemma))
-    asks_draw none never =
+    pub asks_draw : second.yes ≡ false → Asks root nodes old new (Ok (Draw first.lemma second.lemma))
+    asks_draw never =
         let fresh = shown_more root white.after black.more black.after black.right in
-        let white_fails : Shows white.after first.lemma root (claim_for White false) = subst (λ b. Shows white.after first.lemma root (claim_for White b)) none white.shown in
         record {
           white = white.more;
           mid = white.after;
@@ -133,6 +139,7 @@ module _ (root : Position) (nodes : ℕ) (old held new : Option (List ℕ)) (cou
           black_right = black.right;
           white_sided = white.sided;
           black_sided = black.sided;
+          asked = λ _. (first.lemma, white_fails);
           verdict = (
             (
               subst (λ after. Shows after first.lemma root (claim_for White false)) (sym fresh.1) (Shows_more white.after fresh.0 first.lemma root (claim_for White false) white_fails),

@@ -5,3 +5,4 @@ pub mod Asking
 pub mod Writing
 pub mod CheckLines
 pub mod CheckTold
+pub mod Passing

@@ -7,6 +7,8 @@ use Rattle.game_rules.specs.Position.{Position, has_room, after_move, same_side,
 use Rattle.game_rules.specs.Value.{wins}
 use Rattle.game_rules.specs.Cost.{decides, moved_out, count_until, count, none_closed}
 use Rattle.game_rules.specs.declared.Side.{Side}
+use Rattle.game_rules.specs.declared.Side.TheVariants.{White, Black}
+use Rattle.game_rules.specs.contracts.SidePartialEq.TheImpl.{eq-value}
 use Rattle.game_rules.proofs.Costs.{wins_step, count_step}
 
 -- the positions after the moves into the columns from place i on
@@ -21,6 +23,13 @@ pub moves_left_none : (p : Position) (order : List ℕ) (i : ℕ) → length ord
 moves_left_none p order i all = ap (λ xs. map (after_move p) (filter (has_room p) xs)) (drop_all i order all)
 
 -- ---- what one move tells
+
+-- sides are equal as the definitions say
+pub side_same : (a b : Side) → eq-value.it a b ≡ same_side a b
+side_same White White = refl
+side_same White Black = refl
+side_same Black White = refl
+side_same Black Black = refl
 
 module _ (side : Side) (p : Position) (own : Bool) (is_own : own ≡ same_side side (side_to_move p)) where
   pub decides_yes : (q : Position) (won : Bool) → won ≡ wins side q → won ≡ own → decides side p q ≡ true

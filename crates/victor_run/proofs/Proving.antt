@@ -25,7 +25,7 @@ use Rattle.proof_text.specs.Right.{Shown, Shows, IsCited, goes_by_one, HasReason
 use Rattle.proof_text.specs.Spelling.{lemma_line, lines_of}
 use Rattle.proof_text.specs.Written.{AreSided}
 use Rattle.proof_text.proofs.Append.{all_append, Shows_more, Shows_last, AreRight_append, shown_more}
-use Rattle.victor_run.specs.Search.{is_whole, uncounted, cites_from, Proves}
+use Rattle.victor_run.specs.Search.{is_whole, uncounted, cites_from, Solves}
 use Rattle.victor_run.specs.declared.search.Answer.{Answer}
 use Rattle.victor_run.specs.declared.search.SearchStop.{SearchStop}
 
@@ -52,7 +52,7 @@ IsTold won count result = IfOk result (λ answer. (answer.lemma ≡ count + 1) �
 pub told : (root p : Position) (side : Side) (won : Bool) (said : Claim) (known : List Shown) (path : List ℕ) (reason : Reason) (old new : Option (List ℕ)) (count counted : ℕ) (result : Result Answer SearchStop)
     → said ≡ claim_for side won → played root path ≡ Some p → length known ≡ count → HasReason known p (claim_for side won) reason
     → Stands (is_whole result) old new (lemma_line (record { number = count + 1; path = path; claim = said; reason = reason })) → counted + uncounted result ≡ count + 1 → IsTold won count result
-    → Proves root p side known old new counted result
+    → Solves root p side known old new counted result
 told root p side won said known path reason old new count counted result is_said along many right stands number answer = record {
   more = lemma_next count path side won reason ∷ [];
   after = known ++ (p, claim_for side won) ∷ [];
@@ -71,8 +71,8 @@ told root p side won said known path reason old new count counted result is_said
 -- what stands after some lemmas, and a search behind them
 module _ (root : Position) (side : Side) (known mid : List Shown) (old held new : Option (List ℕ)) (ls : List Lemma)
     (right : AreRight root known ls mid) (sided : AreSided side ls) (text : Appends old held (lines_of ls)) where
-  abbrev pub then_proves : (p : Position) (count : ℕ) (result : Result Answer SearchStop) → Proves root p side mid held new count result → Proves root p side known old new count result
-  then_proves p count result rest = record {
+  abbrev pub then_solves : (p : Position) (count : ℕ) (result : Result Answer SearchStop) → Solves root p side mid held new count result → Solves root p side known old new count result
+  then_solves p count result rest = record {
     more = ls ++ rest.more;
     after = rest.after;
     text = subst (Stands (is_whole result) old new) (sym (lines_append ls rest.more)) (Stands_more (is_whole result) old held new (lines_of ls) (lines_of rest.more) text rest.text);
@@ -83,8 +83,8 @@ module _ (root : Position) (side : Side) (known mid : List Shown) (old held new 
   }
 
   -- a search that stopped tells nothing of its position
-  pub then_stopped : (p q : Position) (count : ℕ) (stop : SearchStop) → Proves root q side mid held new count (Err stop) → Proves root p side known old new count (Err stop)
-  then_stopped p q count stop rest = let all = then_proves q count (Err stop) rest in
+  pub then_stopped : (p q : Position) (count : ℕ) (stop : SearchStop) → Solves root q side mid held new count (Err stop) → Solves root p side known old new count (Err stop)
+  then_stopped p q count stop rest = let all = then_solves q count (Err stop) rest in
       record { more = all.more; after = all.after; text = all.text; right = all.right; counted = all.counted; sided = all.sided; shown = tt }
 
 -- ---- after some of the moves
@@ -130,9 +130,9 @@ module _ (root p : Position) (side : Side) (own : Bool) (known : List Shown) (ol
 
   -- a move that doesn't decide
   pub so_far_more : (new : Option (List ℕ)) (counted : ℕ) (answer : Answer) → c < length numbers → answer.yes ≡ not own
-      → Proves root (after_move p c) side so_far.after held new counted (Ok answer) → SoFar root p side own known old new counted (set numbers c answer.lemma) order (i + 1)
+      → Solves root (after_move p c) side so_far.after held new counted (Ok answer) → SoFar root p side own known old new counted (set numbers c answer.lemma) order (i + 1)
   so_far_more new counted answer within other rest =
-      let all = then_proves root side known so_far.after old held new so_far.more so_far.right so_far.sided so_far.text (after_move p c) counted (Ok answer) rest in
+      let all = then_solves root side known so_far.after old held new so_far.more so_far.right so_far.sided so_far.text (after_move p c) counted (Ok answer) rest in
       record {
         more = all.more;
         after = all.after;
@@ -271,21 +271,21 @@ played_more root (d ∷ path) p c along going room = elim (chosen (is_legal root
 
 pub closed_by_one : (root p : Position) (side : Side) (own : Bool) (known : List Shown) (old held mid new : Option (List ℕ)) (count counted last : ℕ) (numbers order : List ℕ) (i c : ℕ) (found : Answer) (result : Result Answer SearchStop)
     (so_far : SoFar root p side own known old held count numbers order i) → end_of p ≡ None → own ≡ same_side side (side_to_move p) → has_room p c ≡ true → found.yes ≡ own
-    → Proves root (after_move p c) side so_far.after held mid counted (Ok found)
-    → ((also : List Shown) → length also ≡ counted → HasReason also p (claim_for side own) (ByOne (record { column = c; lemma = found.lemma })) → Proves root p side also mid new last result)
-    → Proves root p side known old new last result
+    → Solves root (after_move p c) side so_far.after held mid counted (Ok found)
+    → ((also : List Shown) → length also ≡ counted → HasReason also p (claim_for side own) (ByOne (record { column = c; lemma = found.lemma })) → Solves root p side also mid new last result)
+    → Solves root p side known old new last result
 closed_by_one root p side own known old held mid new count counted last numbers order i c found result so_far going is_own room same child tell =
-    let all = then_proves root side known so_far.after old held mid so_far.more so_far.right so_far.sided so_far.text (after_move p c) counted (Ok found) child in
+    let all = then_solves root side known so_far.after old held mid so_far.more so_far.right so_far.sided so_far.text (after_move p c) counted (Ok found) child in
     let shown : Shows all.after found.lemma (after_move p c) (claim_for side own) = subst (λ won. Shows all.after found.lemma (after_move p c) (claim_for side won)) same all.shown in
     let many : length all.after ≡ counted = omega (arith, all.counted) in
-    then_proves root side known all.after old mid new all.more all.right all.sided all.text p last result (tell all.after many (one_reason p side own going is_own all.after c found.lemma room shown))
+    then_solves root side known all.after old mid new all.more all.right all.sided all.text p last result (tell all.after many (one_reason p side own going is_own all.after c found.lemma room shown))
 
 pub closed_by_all : (root p : Position) (side : Side) (own : Bool) (known : List Shown) (old held new : Option (List ℕ)) (count last : ℕ) (numbers order : List ℕ) (i : ℕ) (result : Result Answer SearchStop)
     (so_far : SoFar root p side own known old held count numbers order i) → end_of p ≡ None → own ≡ same_side side (side_to_move p) → length order ≤ i → order ≡ centre_out (length p.columns)
-    → ((also : List Shown) → length also ≡ count → HasReason also p (claim_for side (not own)) (ByAll (cites_from numbers (open_columns p))) → Proves root p side also held new last result)
-    → Proves root p side known old new last result
+    → ((also : List Shown) → length also ≡ count → HasReason also p (claim_for side (not own)) (ByAll (cites_from numbers (open_columns p))) → Solves root p side also held new last result)
+    → Solves root p side known old new last result
 closed_by_all root p side own known old held new count last numbers order i result so_far going is_own all is_order tell =
-    then_proves root side known so_far.after old held new so_far.more so_far.right so_far.sided so_far.text p last result
+    then_solves root side known so_far.after old held new so_far.more so_far.right so_far.sided so_far.text p last result
     (tell so_far.after so_far.counted (all_reason p side own going is_own so_far.after numbers (all_moves root p side own known old held count numbers order i so_far all is_order)))
 
 -- a column that was taken from the end of a path

@@ -85,7 +85,7 @@ module _ (nodes : ℕ) (bytes : List ℕ) (p : Position) (game : IsGameText byte
     abbrev is_proof : IsProof p the_head proof_text v
     is_proof = record {
       after = asks.after;
-      written = both_written p the_head None asks.white asks.mid None asks.black asks.after (verdict_line v) asks.white_right asks.black_right asks.white_sided asks.black_sided tt tt;
+      written = both_written p the_head None asks.white asks.mid None asks.black asks.after (verdict_line v) asks.white_right asks.black_right asks.white_sided asks.black_sided asks.asked tt tt;
       verdict = right;
     }
 
@@ -93,6 +93,7 @@ module _ (nodes : ℕ) (bytes : List ℕ) (p : Position) (game : IsGameText byte
     proof_of = record {
       game = game;
       proof = is_proof;
+      plain = (refl, refl);
       few = asks.few whole;
       accepted = proof_accepted game.board game.columns p proof_text v is_proof game.has_board game.has_moves (let few : length asks.after ≤ nodes = asks.few whole in omega arith);
       says = true_verdict p asks.after v (true_lemmas p [] (asks.white ++ asks.black) asks.after (AreRight_append p [] asks.mid asks.after asks.white asks.black asks.white_right asks.black_right) AreTrue_none) right;
@@ -107,18 +108,18 @@ module _ (nodes : ℕ) (bytes : List ℕ) (p : Position) (game : IsGameText byte
     )
     writes_verdict old new (Err failed) head lemmas same stands = (
       proof_text,
-      record { game = game; stands = proof_stands p the_head proof_text v is_proof },
+      record { game = game; stands = proof_stands p the_head proof_text v is_proof; plain = (refl, refl) },
       stands_all false old mid held new the_head (lines_of asks.white) (lines_of asks.black) (verdict_line v) (subst (Appends old mid) (head_is bytes p game) head) lemmas stands,
     )
 
   -- the head was cut
   pub writes_head : (old new : Option (List ℕ)) (failed : Failed) → Stands false old new (head_for bytes) → Writes nodes bytes p old new (Err failed)
-  writes_head old new failed stands = (the_head, record { game = game; stands = head_stands p the_head }, subst (Stands false old new) (head_is bytes p game) stands)
+  writes_head old new failed stands = (the_head, record { game = game; stands = head_stands p the_head; plain = (refl, refl) }, subst (Stands false old new) (head_is bytes p game) stands)
 
   -- a lemma was cut
   pub writes_lemmas : (old mid new : Option (List ℕ)) (failed : Failed) (asks : Asks p nodes mid new (Err WriteFault)) → Appends old mid (head_for bytes) → Writes nodes bytes p old new (Err failed)
   writes_lemmas old mid new failed asks head = (
     the_head ++ (lines_of asks.white ++ lines_of asks.black),
-    record { game = game; stands = black_stands p the_head None asks.white asks.mid None asks.black asks.after asks.white_right asks.black_right asks.white_sided asks.black_sided tt tt },
+    record { game = game; stands = black_stands p the_head None asks.white asks.mid None asks.black asks.after asks.white_right asks.black_right asks.white_sided asks.black_sided asks.asked tt tt; plain = (refl, refl) },
     Stands_more false old mid new the_head (lines_of asks.white ++ lines_of asks.black) (subst (Appends old mid) (head_is bytes p game) head) asks.text,
   )

@@ -1,8 +1,9 @@
 -- What `check` writes, and what it promises of its source and its sink, by its end. What is said of bytes is said of a
 -- source and a sink that tell theirs.
-use Rattle.std.specs.Prelude.{◌≡◌, ℕ, false, List, [], ◌∷◌, ◌++◌, Option, IfSome, ⊤, codes, decimal}
-use Rattle.std.specs.Io.KnownBytes.{Keeps, Appends, IsAtEnd}
+use Rattle.std.specs.Prelude.{◌≡◌, ◌≤◌, ℕ, false, List, [], ◌∷◌, ◌++◌, Option, IfSome, ⊤, codes, decimal, length}
+use Rattle.std.specs.Io.KnownBytes.{Keeps, Appends, IsAtEnd, prepend_known}
 use Rattle.device_rules.specs.Devices.{Stands}
+use Rattle.io_ports.specs.Lines.{PassesLines}
 use Rattle.proof_text.specs.Right.{AreTrue, IsTrueVerdict}
 use Rattle.proof_text.specs.Texts.{check_of, CheckAnswer, NoGame, Refused, Accepted, IsRightText}
 use Rattle.proof_text.specs.declared.Verdict.{Verdict}
@@ -65,3 +66,7 @@ IsNoRefusal endings.Unknown = ⊥
 -- a proof that the definitions accept is refused by no end
 abbrev pub Serves : Option (List ℕ) → Ending → Type 0
 Serves input end = IfSome input (λ bytes. (v : Verdict) (count : ℕ) → check_of bytes ≡ Accepted v count → IsNoRefusal end)
+
+-- At most so many lines were taken from the source, and at most 16,384 bytes that were read ahead of them.
+abbrev pub TakesLines : ℕ → Option (List ℕ) → Option (List ℕ) → Type 0
+TakesLines most old new = (ahead : List ℕ) × (length ahead ≤ 16384) × PassesLines most old (prepend_known ahead new)

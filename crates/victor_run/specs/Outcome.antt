@@ -1,6 +1,6 @@
 -- What a run promises of its source and its sinks, by the way it ended. What is said of bytes is said of a source and a
 -- sink that tell theirs.
-use Rattle.std.specs.Prelude.{◌≡◌, ◌≢◌, ℕ, ◌<◌, ◌≤◌, Bool, false, List, Option, Some, None, Result, Ok, Err, IfSome, length}
+use Rattle.std.specs.Prelude.{◌≡◌, ◌≢◌, ℕ, ◌+◌, ◌*◌, ◌<◌, ◌≤◌, Bool, false, List, Option, Some, None, Result, Ok, Err, IfSome, length}
 use Rattle.std.specs.Io.KnownBytes.{Keeps, Appends, Consumes, IsAtEnd}
 use Rattle.device_rules.specs.Devices.{Rose, Stands}
 use Rattle.game_rules.specs.Position.{Position}
@@ -95,3 +95,10 @@ pub record Tells (before after : ℕ) (old new : Option (List ℕ)) (text : List
 -- at most so many bytes were taken from the source
 abbrev pub TakesAtMost : ℕ → Option (List ℕ) → Option (List ℕ) → Type 0
 TakesAtMost most old new = (bytes : List ℕ) × (length bytes ≤ most) × Consumes old new bytes
+
+-- How many bytes a run of the words that have this form takes at most: `check` takes 20,000,001 lines of at most 8,192
+-- bytes with their line feeds, and what its reader holds.
+abbrev pub most_taken : Option Form → ℕ
+most_taken None = 0
+most_taken (Some (Prove nodes)) = 256
+most_taken (Some Check) = 20000001 * 8193 + 16384

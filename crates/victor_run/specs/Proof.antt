@@ -1,13 +1,13 @@
 -- What `prove` writes: the text of a proof, whole, or a front of one.
-use Rattle.std.specs.Prelude.{◌≡◌, ◌≤◌, ◌-◌, ℕ, false, ◌==◌, if◌then◌else◌, List, ◌++◌, Option, Result, Ok, Err, length, slice_index}
+use Rattle.std.specs.Prelude.{◌≡◌, ◌≤◌, ◌-◌, ℕ, false, ◌==◌, if◌then◌else◌, List, ◌++◌, Option, None, Result, Ok, Err, length, slice_index}
 use Rattle.std.specs.Io.KnownBytes.{Appends}
 use Rattle.device_rules.specs.Devices.{Stands}
 use Rattle.game_rules.specs.Position.{Position}
 use Rattle.game_rules.specs.Grammar.{IsGameText}
-use Rattle.proof_text.specs.Right.{IsTrueVerdict}
+use Rattle.proof_text.specs.Right.{Shown, IsTrueVerdict}
 use Rattle.proof_text.specs.Texts.{first_line, head_of, check_of, Accepted}
 use Rattle.proof_text.specs.Spelling.{as_line}
-use Rattle.proof_text.specs.Written.{MayStand, IsProof}
+use Rattle.proof_text.specs.Written.{HasWritten, MayStand, IsProof}
 use Rattle.proof_text.specs.declared.Verdict.{Verdict}
 use Rattle.io_ports.specs.declared.ports.Failed.{Failed}
 
@@ -19,11 +19,16 @@ with_feed bytes = if slice_index bytes (length bytes - 1) == 10 then bytes else 
 abbrev pub head_for : List ℕ → List ℕ
 head_for bytes = as_line first_line ++ with_feed bytes
 
+-- no remark was written
+abbrev pub IsPlain : {root : Position} {head text last : List ℕ} {after : List Shown} → HasWritten root head text after last → Type 0
+IsPlain written = (written.white_remark ≡ None) × (written.black_remark ≡ None)
+
 -- A proof of a game's position with this verdict: right lemmas, at most as many as the budget has nodes, those of the
 -- question for White first. `check` accepts it, and a win, a loss or a draw is the value of the position.
 pub record IsProofOf (nodes : ℕ) (bytes : List ℕ) (p : Position) (text : List ℕ) (v : Verdict) : Type 0 where
   pub game : IsGameText bytes p
   pub proof : IsProof p (head_of game.board game.columns) text v
+  pub plain : IsPlain proof.written
   pub few : length proof.after ≤ nodes
   pub accepted : check_of text ≡ Accepted v (length proof.after)
   pub says : IsTrueVerdict p v
@@ -32,6 +37,7 @@ pub record IsProofOf (nodes : ℕ) (bytes : List ℕ) (p : Position) (text : Lis
 pub record MayStandFor (bytes : List ℕ) (p : Position) (text : List ℕ) : Type 0 where
   pub game : IsGameText bytes p
   pub stands : MayStand p (head_of game.board game.columns) text
+  pub plain : IsPlain stands.written
 
 -- Behind the bytes that were there stands a proof with the verdict; after a failure, a front of what may stand.
 abbrev pub Writes : ℕ → List ℕ → Position → Option (List ℕ) → Option (List ℕ) → Result Verdict Failed → Type 0

@@ -7,7 +7,7 @@ use Rattle.game_rules.specs.declared.Side.TheVariants.{White, Black}
 use Rattle.proof_text.specs.Lemma.{claim_for, Cite, Lemma}
 use Rattle.proof_text.specs.Right.{Shown, Shows, AreRight, IsVerdict}
 use Rattle.proof_text.specs.Spelling.{lines_of}
-use Rattle.proof_text.specs.Written.{AreSided}
+use Rattle.proof_text.specs.Written.{AreSided, IsAskedInTurn}
 use Rattle.proof_text.specs.declared.Verdict.{Verdict}
 use Rattle.proof_text.specs.declared.Verdict.TheVariants.{Win, Loss, Unknown}
 use Rattle.victor_run.specs.declared.search.Answer.{Answer}
@@ -32,7 +32,7 @@ cites_from numbers columns = map (λ c. record { column = c; lemma = slice_index
 
 -- Behind what is known, the search wrote right lemmas of its side, of which the last may be cut after a write that
 -- failed; and its answer names one that shows at p whether the side wins.
-pub record Proves (root p : Position) (side : Side) (known : List Shown) (old new : Option (List ℕ)) (count : ℕ) (result : Result Answer SearchStop) : Type 0 where
+pub record Solves (root p : Position) (side : Side) (known : List Shown) (old new : Option (List ℕ)) (count : ℕ) (result : Result Answer SearchStop) : Type 0 where
   pub more : List Lemma
   pub after : List Shown
   pub text : Stands (is_whole result) old new (lines_of more)
@@ -63,5 +63,6 @@ pub record Asks (root : Position) (nodes : ℕ) (old new : Option (List ℕ)) (r
   pub black_right : AreRight root mid black after
   pub white_sided : AreSided White white
   pub black_sided : AreSided Black black
+  pub asked : IsAskedInTurn root mid black
   pub verdict : IfOk result (λ v. IsVerdict root after v × (v ≢ Unknown))
   pub few : is_whole_verdict result ≡ true → length after ≤ nodes

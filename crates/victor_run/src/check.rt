@@ -1,11 +1,12 @@
 //! The command `check`: a proof is read line by line, and each line is judged as it comes, so that only what its lemmas
 //! show is kept. Reading stops at the first line that is refused. Nothing is written before the end of the input was
 //! reached: then one line says that the proof is accepted, with its verdict and the number of its lemmas.
-ghost use Rattle.std.specs.Prelude.{◌≡◌, ◌+◌, ◌≤◌, ◌++◌, true, [], length, is_ok, MatchResult, IfOk, OnOk};
+ghost use Rattle.std.specs.Prelude.{◌≡◌, ◌+◌, ◌≤◌, true, [], length, is_ok, MatchResult, IfOk, OnOk};
 ghost use Rattle.device_rules.specs.Devices.{Rose, HasCause, Stands};
 ghost use Rattle.arrayvec.specs.ArrayVec.{array_vec_len};
 ghost use Rattle.proof_text.specs.Texts.{first_number, bytes_refusal, with_bytes, start, verdict_answer, check_of};
-ghost use Rattle.victor_run.specs.Check.{word_of, accepted_line, IsRightInput, Checks, Serves};
+ghost use Rattle.io_ports.specs.Lines.{PassesLines};
+ghost use Rattle.victor_run.specs.Check.{word_of, accepted_line, IsRightInput, Checks, Serves, TakesLines};
 ghost use Rattle.victor_run.specs.CheckSteps.{game_from, lines_from, pending, Both, GoesOn, KeepsLine, Adds, StopsBy, IsRefused};
 ghost use Rattle.victor_run.specs.declared.ending.Ending.TheVariants as endings;
 ghost use Rattle.victor_run.specs.declared.check.Stop.TheVariants as stops;
@@ -16,13 +17,10 @@ use crate::output::put_line;
 use arrayvec::ArrayVec;
 use board_bits::{InputFault, Position, Size, read_game};
 use cert_checker::{Accepted, AddStop, Checker, Refusal};
-use cert_format::{LineText, push_number, push_text, read_line};
+use cert_format::{FIRST_LINE, LineText, push_number, push_text, read_line};
 use io_ports::{Failed, LineGot, Lines, Sink, Source};
 use proof_text::{Verdict, Why};
 use std::alloc::Global;
-
-/// The first line of a proof.
-const FIRST_LINE: &[u8] = b"victor 1";
 
 /// How much of a line of the game is kept. The lines of a game are shorter.
 const GAME_FRONT: usize = 256;
@@ -50,6 +48,7 @@ enum Stop {
 pub(crate) fn check<S: Source, O: Sink>(alloc: Global, source: &mut S, out: &mut O) -> Ending
     ensures outcome { Checks (S.left source.old) (S.left source.new) (O.written out.old) (O.written out.new) result }
     ensures complete { Serves (S.left source.old) result }
+    ensures lines { TakesLines 20000001 (S.left source.old) (S.left source.new) }
     ensures read_fault { result ≡ endings.Read → Rose (S.faults source.old) (S.faults source.new) }
     ensures write_fault { result ≡ endings.Write → Rose (O.faults out.old) (O.faults out.new) }
 {
@@ -67,8 +66,9 @@ pub(crate) fn check<S: Source, O: Sink>(alloc: Global, source: &mut S, out: &mut
 
 /// Reads a proof to its end, or to what stops the reading.
 fn judge<S: Source>(alloc: Global, source: &mut S) -> Result<Accepted, Stop>
-    ensures { MatchResult result (λ accepted. IsRightInput (S.left source.old) (S.left source.new) accepted.verdict accepted.lemmas)
+    ensures answer { MatchResult result (λ accepted. IsRightInput (S.left source.old) (S.left source.new) accepted.verdict accepted.lemmas)
         (StopsBy (S.left source.old) check_of (S.faults source.old) (S.faults source.new)) }
+    ensures lines { TakesLines 20000001 (S.left source.old) (S.left source.new) }
 {
     let mut lines = Lines::new();
     read_head(&mut lines, source)?;
@@ -87,6 +87,8 @@ fn read_head<S: Source>(lines: &mut Lines, source: &mut S) -> Result<(), Stop>
     ensures answer { MatchResult result
         (λ _. GoesOn (pending lines.old (S.left source.old)) (pending lines.new (S.left source.new)) check_of game_from)
         (StopsBy (pending lines.old (S.left source.old)) check_of (S.faults source.old) (S.faults source.new)) }
+    ensures passes { PassesLines 1 (pending lines.old (S.left source.old)) (pending lines.new (S.left source.new)) }
+    ensures held { length lines.new.ahead ≤ 16384 }
     ensures later { S.faults source.old ≤ S.faults source.new }
 {
     if let LineGot::Failed = lines.next(source) {
@@ -104,6 +106,8 @@ fn read_root<S: Source>(lines: &mut Lines, source: &mut S) -> Result<Position, S
     ensures answer { MatchResult result
         (λ root. GoesOn (pending lines.old (S.left source.old)) (pending lines.new (S.left source.new)) game_from (lines_from (start root) first_number))
         (StopsBy (pending lines.old (S.left source.old)) game_from (S.faults source.old) (S.faults source.new)) }
+    ensures passes { PassesLines 2 (pending lines.old (S.left source.old)) (pending lines.new (S.left source.new)) }
+    ensures held { length lines.new.ahead ≤ 16384 }
     ensures later { S.faults source.old ≤ S.faults source.new }
 {
     let mut text = ArrayVec::new();
@@ -126,27 +130,19 @@ fn keep_line<S: Source>(
         (λ _. KeepsLine (pending lines.old (S.left source.old)) (pending lines.new (S.left source.new)) text.old.items text.new.items)
         (λ stop. (stop ≡ stops.Read) × Rose (S.faults source.old) (S.faults source.new)) }
     ensures bound { array_vec_len text.new ≤ array_vec_len text.old + GAME_FRONT + 1 }
+    ensures passes { PassesLines 1 (pending lines.old (S.left source.old)) (pending lines.new (S.left source.new)) }
+    ensures held { length lines.new.ahead ≤ 16384 }
     ensures later { S.faults source.old ≤ S.faults source.new }
 {
     if let LineGot::Failed = lines.next(source) {
         return Err(Stop::Read);
     }
     let line = lines.text();
-    push_front(text, &line[..line.len().min(GAME_FRONT)]);
+    push_text(text, &line[..line.len().min(GAME_FRONT)]);
     if lines.fed() {
         text.push(b'\n');
     }
     Ok(())
-}
-
-/// Puts the front of a line behind the text.
-fn push_front(text: &mut ArrayVec<u8, MOST_KEPT>, line: &[u8])
-    requires { array_vec_len text.old + length line.now ≤ MOST_KEPT }
-    ensures items { text.new.items ≡ text.old.items ++ line.now }
-    ensures len { array_vec_len text.new ≡ array_vec_len text.old + length line.now }
-{
-    // the requirement says that it fits
-    let _ = text.try_extend_from_slice(line);
 }
 
 /// Adds the lines behind the game, and answers the number after that of the last.
@@ -162,6 +158,8 @@ fn add_lines<S: Source>(
         (λ bytes rest. (lines_from checker.old first_number bytes ≡ verdict_answer end (length checker.new.known) checker.new.verdict) × (rest ≡ [])))
         (StopsBy (pending lines.old (S.left source.old)) (lines_from checker.old first_number) (S.faults source.old) (S.faults source.new)) }
     ensures few { IfOk result (λ end. end ≤ MOST_LINES + 1) }
+    ensures passes { PassesLines 19999998 (pending lines.old (S.left source.old)) (pending lines.new (S.left source.new)) }
+    ensures held { length lines.new.ahead ≤ 16384 }
     ensures later { S.faults source.old ≤ S.faults source.new }
 {
     let mut at = FIRST_NUMBER;
@@ -185,6 +183,8 @@ fn add_next<S: Source>(
         (StopsBy (pending lines.old (S.left source.old)) (lines_from checker.old at) (S.faults source.old) (S.faults source.new)) }
     ensures few { result ≡ Ok true → at ≤ MOST_LINES }
     ensures root { OnOk result (checker.new.root ≡ checker.old.root) }
+    ensures passes { PassesLines 1 (pending lines.old (S.left source.old)) (pending lines.new (S.left source.new)) }
+    ensures held { length lines.new.ahead ≤ 16384 }
     ensures later { S.faults source.old ≤ S.faults source.new }
 {
     match lines.next(source) {

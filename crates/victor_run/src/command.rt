@@ -6,10 +6,10 @@ ghost use Rattle.game_rules.specs.Cost.{cost, none_closed};
 ghost use Rattle.game_rules.specs.Text.{game_at};
 ghost use Rattle.proof_text.specs.Texts.{check_of, Accepted};
 ghost use Rattle.proof_text.specs.declared.Verdict.{Verdict};
-ghost use Rattle.victor_run.specs.Check.{Serves};
+ghost use Rattle.victor_run.specs.Check.{Serves, TakesLines};
 ghost use Rattle.victor_run.specs.Words.{form_of};
 ghost use Rattle.victor_run.specs.Output.{fault_text};
-ghost use Rattle.victor_run.specs.Outcome.{status_of, Outcome, Tells, TakesAtMost};
+ghost use Rattle.victor_run.specs.Outcome.{status_of, Outcome, Tells, TakesAtMost, most_taken};
 ghost use Rattle.victor_run.specs.declared.words.Form.TheVariants as forms;
 ghost use Rattle.victor_run.specs.declared.ending.Ending.{Ending};
 ghost use Rattle.victor_run.specs.declared.ending.Ending.TheVariants as endings;
@@ -27,6 +27,10 @@ use std::alloc::Global;
 ///
 /// `prove` and `prove --nodes N` read a game and write a proof of its value under perfect play, for the side to move.
 /// `check` reads a proof and writes a line where it is right. Only `check` takes memory, and only for lemmas.
+///
+/// The status is 0 where that was done, 2 where the words are neither command, 3 where the game is none, 4 where the
+/// proof is refused, 5 where the budget of `prove` was below the cost (the proof then says so), 6 where reading failed,
+/// 7 where writing failed, and 8 where `check` found no memory for a lemma. What stops the run first decides it.
 pub fn run<S: Source, O: Sink, E: Sink>(
     alloc: Global,
     words: &[String],
@@ -49,7 +53,8 @@ pub fn run<S: Source, O: Sink, E: Sink>(
     ensures check_complete { form_of (map string_bytes words.now) ≡ Some forms.Check
         → (Rose (S.faults source.old) (S.faults source.new) → ⊥) → (Rose (O.faults out.old) (O.faults out.new) → ⊥)
         → IfSome (S.left source.old) (λ bytes. (v : Verdict) (count : ℕ) → check_of bytes ≡ Accepted v count → (result ≡ 0) ⊎ (result ≡ 8)) }
-    ensures taken { (form_of (map string_bytes words.now) ≡ Some forms.Check → ⊥) → TakesAtMost 256 (S.left source.old) (S.left source.new) }
+    ensures taken { TakesAtMost (most_taken (form_of (map string_bytes words.now))) (S.left source.old) (S.left source.new) }
+    ensures lines { form_of (map string_bytes words.now) ≡ Some forms.Check → TakesLines 20000001 (S.left source.old) (S.left source.new) }
 {
     let ending = run_words(alloc, words, source, out);
     tell(err, ending);
@@ -67,7 +72,8 @@ fn run_words<S: Source, O: Sink>(
     ensures read_fault { result ≡ endings.Read → Rose (S.faults source.old) (S.faults source.new) }
     ensures write_fault { result ≡ endings.Write → Rose (O.faults out.old) (O.faults out.new) }
     ensures serves { form_of (map string_bytes words.now) ≡ Some forms.Check → Serves (S.left source.old) result }
-    ensures taken { (form_of (map string_bytes words.now) ≡ Some forms.Check → ⊥) → TakesAtMost 256 (S.left source.old) (S.left source.new) }
+    ensures taken { TakesAtMost (most_taken (form_of (map string_bytes words.now))) (S.left source.old) (S.left source.new) }
+    ensures lines { form_of (map string_bytes words.now) ≡ Some forms.Check → TakesLines 20000001 (S.left source.old) (S.left source.new) }
 {
     match read_words(words) {
         Some(Form::Prove(nodes)) => prove(nodes, source, out),

@@ -7,7 +7,7 @@ use cert_checker::Refusal;
 
 /// How a run ends.
 #[derive(Clone, Copy, Debug, PartialEq, Eq)]
-pub enum Ending {
+pub(crate) enum Ending {
     /// All was done: status 0.
     Done,
     /// The budget is below the cost, and that was written: status 5.
@@ -28,7 +28,7 @@ pub enum Ending {
 
 impl Ending {
     /// The exit status.
-    pub fn status(self) -> u8
+    pub(crate) fn status(self) -> u8
         ensures { result ≡ status_of self }
     {
         match self {

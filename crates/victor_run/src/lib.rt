@@ -11,7 +11,6 @@ mod search;
 mod words;
 
 pub use command::run;
-pub use ending::Ending;
 
 #[cfg(test)]
 mod tests;

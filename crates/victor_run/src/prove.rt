@@ -12,7 +12,7 @@ ghost use Rattle.victor_run.specs.declared.ending.Ending.TheVariants as endings;
 use crate::ending::Ending;
 use crate::search::{SearchStop, ask};
 use board_bits::{Position, read_game};
-use cert_format::{Line, LineText, Verdict, print_line, push_text};
+use cert_format::{FIRST_LINE, Line, LineText, Verdict, print_line, push_text};
 use io_ports::{Failed, Sink, Source, put_all, read_all};
 
 /// No more bytes of the input are read. The text of a game is shorter.
@@ -51,7 +51,7 @@ fn ending_of(written: Result<Verdict, Failed>) -> Ending
 
 /// Writes a proof of the position, which is that of the text, from a search that may enter `nodes` positions. The verdict
 /// is `Unknown` only where that is below the position's cost.
-pub(crate) fn write_proof<O: Sink>(
+fn write_proof<O: Sink>(
     position: &Position,
     text: &[u8],
     nodes: u32,
@@ -77,10 +77,11 @@ fn head_for(text: &[u8]) -> LineText
     ensures { result.items ≡ head_for text.now }
 {
     let mut head = LineText::new();
-    push_text(&mut head, b"victor 1\n");
+    push_text(&mut head, FIRST_LINE);
+    head.push(b'\n');
     push_text(&mut head, text);
     if text.last() != Some(&b'\n') {
-        push_text(&mut head, b"\n");
+        head.push(b'\n');
     }
     head
 }

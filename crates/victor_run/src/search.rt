@@ -2,13 +2,13 @@
 //! It is the plain recursion: the moves from the middle outwards, up to the first that decides. It takes no memory.
 ghost use Rattle.std.specs.Prelude.{◌≡◌, ℕ, ◌+◌, ◌<◌, ◌≤◌, List, Ok, Err, Some, length, map, IfOk, OnOk};
 ghost use Rattle.device_rules.specs.Devices.{Rose};
-ghost use Rattle.game_rules.specs.Position.{Position as Men, played, empty_count, open_columns, same_side};
+ghost use Rattle.game_rules.specs.Position.{Position as Men, played, empty_count, open_columns};
 ghost use Rattle.game_rules.specs.Value.{wins, win_of, same_end};
 ghost use Rattle.game_rules.specs.Cost.{centre_out, count, cost, none_closed};
 ghost use Rattle.proof_text.specs.Lemma.{claim_for, ByAll};
 ghost use Rattle.proof_text.specs.Right.{Shown, HasReason};
 ghost use Rattle.cert_format.specs.Shape.{cite_of, reason_of};
-ghost use Rattle.victor_run.specs.Search.{Proves, Asks, cites_from, won_by};
+ghost use Rattle.victor_run.specs.Search.{Solves, Asks, cites_from, won_by};
 ghost use Rattle.victor_run.specs.declared.search.SearchStop.TheVariants as stops;
 
 use arrayvec::ArrayVec;
@@ -56,16 +56,16 @@ pub(crate) fn solve<O: Sink>(
     ensures later { O.faults out.old ≤ O.faults out.new }
     ensures fault { result ≡ Err stops.WriteFault → Rose (O.faults out.old) (O.faults out.new) }
     ensures wrote { (root : Men) (known : List Shown) → played root path.old.items ≡ Some position.now → length known ≡ lemmas.old
-        → Proves root position.now side known (O.written out.old) (O.written out.new) lemmas.new result }
+        → Solves root position.now side known (O.written out.old) (O.written out.new) lemmas.new result }
 {
     let Some(left) = budget.checked_sub(1) else {
         return Err(SearchStop::Spent);
     };
     *budget = left;
     if let Some(end) = position.ended() {
-        return tell(path, side, is_win(side, end), Reason::Ended, lemmas, out);
+        return put_lemma(path, side, is_win(side, end), Reason::Ended, lemmas, out);
     }
-    let own = is_same(side, position.to_move());
+    let own = side == position.to_move();
     let mut numbers = [0; 10];
     for column in order {
         if position.has_room(*column) {
@@ -86,16 +86,16 @@ pub(crate) fn solve<O: Sink>(
                     column: *column,
                     lemma: found.lemma,
                 };
-                return tell(path, side, own, Reason::One(cite), lemmas, out);
+                return put_lemma(path, side, own, Reason::One(cite), lemmas, out);
             }
             numbers[column.index() as usize] = found.lemma;
         }
     }
-    tell_all(position, path, side, !own, &numbers, lemmas, out)
+    put_lemma_by_all(position, path, side, !own, &numbers, lemmas, out)
 }
 
 /// Puts a lemma, and answers with its number.
-fn tell<O: Sink>(
+fn put_lemma<O: Sink>(
     path: &[Column],
     side: Side,
     yes: bool,
@@ -112,7 +112,7 @@ fn tell<O: Sink>(
     ensures fault { result ≡ Err stops.WriteFault → Rose (O.faults out.old) (O.faults out.new) }
     ensures wrote { (root p : Men) (known : List Shown) → played root path.now ≡ Some p → length known ≡ lemmas.old
         → HasReason known p (claim_for side yes) (reason_of reason)
-        → Proves root p side known (O.written out.old) (O.written out.new) lemmas.new result }
+        → Solves root p side known (O.written out.old) (O.written out.new) lemmas.new result }
 {
     match lemmas.put(out, path, claim_for(side, yes), reason) {
         Ok(lemma) => Ok(Answer { yes, lemma }),
@@ -121,7 +121,7 @@ fn tell<O: Sink>(
 }
 
 /// Puts the lemma that every move leads to one that claims the same; their numbers stand at their columns.
-fn tell_all<O: Sink>(
+fn put_lemma_by_all<O: Sink>(
     position: &Position,
     path: &[Column],
     side: Side,
@@ -139,10 +139,10 @@ fn tell_all<O: Sink>(
     ensures fault { result ≡ Err stops.WriteFault → Rose (O.faults out.old) (O.faults out.new) }
     ensures wrote { (root : Men) (known : List Shown) → played root path.now ≡ Some position.now → length known ≡ lemmas.old
         → HasReason known position.now (claim_for side yes) (ByAll (cites_from numbers.now (open_columns position.now)))
-        → Proves root position.now side known (O.written out.old) (O.written out.new) lemmas.new result }
+        → Solves root position.now side known (O.written out.old) (O.written out.new) lemmas.new result }
 {
     let cites = cites_from(position, numbers);
-    tell(path, side, yes, Reason::All(cites), lemmas, out)
+    put_lemma(path, side, yes, Reason::All(cites), lemmas, out)
 }
 
 /// The playable columns, each with the lemma whose number stands at its place.
@@ -223,19 +223,10 @@ pub(crate) fn ask<O: Sink>(
 fn won_by(winner: Side, to_move: Side, lemma: u32) -> Verdict
     ensures { result ≡ won_by winner to_move lemma }
 {
-    if is_same(winner, to_move) {
+    if winner == to_move {
         Verdict::Win(lemma)
     } else {
         Verdict::Loss(lemma)
-    }
-}
-
-pub(crate) fn is_same(side: Side, other: Side) -> bool
-    ensures { result ≡ same_side side other }
-{
-    match side {
-        Side::White => matches!(other, Side::White),
-        Side::Black => matches!(other, Side::Black),
     }
 }
 

@@ -539,7 +539,7 @@ fn a_failing_stream_has_its_status_and_leaves_a_front(rt: HostRuntime) -> Result
 }
 
 /// The devices of a check of the same proof, its status, and what it writes and tells.
-const CHECK_STREAMS: [(Devices<'static>, u8, &str, &str); 3] = [
+const CHECK_STREAMS: [(Devices<'static>, u8, &str, &str); 4] = [
     (
         Devices {
             piece: 4,
@@ -557,6 +557,16 @@ const CHECK_STREAMS: [(Devices<'static>, u8, &str, &str); 3] = [
         },
         7,
         "",
+        "write fault\n",
+    ),
+    // the line is written, and then it can't be handed on
+    (
+        Devices {
+            out_fails: &[2],
+            ..SOUND
+        },
+        7,
+        "accepted draw 6\n",
         "write fault\n",
     ),
     (

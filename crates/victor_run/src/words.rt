@@ -34,8 +34,8 @@ pub(crate) fn read_words(words: &[String]) -> Option<Form>
     }
 }
 
-fn is_word(word: &String, text: &str) -> bool
-    ensures { result ≡ bytes_eq (string_bytes word.now) text.now }
+fn is_word(word: &str, text: &str) -> bool
+    ensures { result ≡ bytes_eq word.now text.now }
 {
-    word.as_str() == text
+    word == text
 }

@@ -8,8 +8,8 @@ use Rattle.game_rules.specs.Cost.{decides, count_until, count, none_closed, cent
 use Rattle.game_rules.proofs.Values.{value_at_end}
 use Rattle.game_rules.proofs.Costs.{count_closed, count_positive}
 use Rattle.game_rules.proofs.Moves.{empty_count_moved, cols_moved}
-use Rattle.victor_run.specs.Search.{Proves}
-use Rattle.victor_run.proofs.Moves.{moves_left_room, moves_left_none, moves_left_full, any_after, other_from_apart, decides_yes, decides_no, some_decides, none_decides, left_at, spent_at, spent_after, left_none, same_from_beq, apart_from_beq}
+use Rattle.victor_run.specs.Search.{Solves}
+use Rattle.victor_run.proofs.Moves.{side_same, moves_left_room, moves_left_none, moves_left_full, any_after, other_from_apart, decides_yes, decides_no, some_decides, none_decides, left_at, spent_at, spent_after, left_none, same_from_beq, apart_from_beq}
 use Rattle.victor_run.proofs.Proving.{ok_more, on_ok, played_more, closed_by_one, closed_by_all, path_back, so_far_start, so_far_full, so_far_more, then_stopped}
 use Rattle.victor_run.proofs.search.+solve.Goals as goal
 use Rattle.victor_run.proofs.search.+solve.Goals.{then-has_room+in_ok-found+else-found-own, else-has_room}
@@ -18,13 +18,13 @@ pub returns-in_default-clause-spent : goal.returns-in_default-clause-spent
 returns-in_default-clause-spent g t c _ = omega (arith, c.in_default.ensures, count_positive none_closed c.args.side c.args.position.now)
 
 pub returns-in-Some-ended-clause-answer : goal.returns-in-Some-ended-clause-answer
-returns-in-Some-ended-clause-answer g t c = ok_more c.tell.result _ _ c.tell.ensures.answer (λ answer told.
+returns-in-Some-ended-clause-answer g t c = ok_more c.put_lemma.result _ _ c.put_lemma.ensures.answer (λ answer told.
     told ∙ c.is_win.ensures ∙ ap (same_end (win_of c.args.side)) (sym (value_at_end c.args.position.now c.in-Some-ended.end (sym c.ended.ensures ∙ c.in-Some-ended.is))))
 
 pub returns-in-Some-ended-clause-left : goal.returns-in-Some-ended-clause-left
 returns-in-Some-ended-clause-left g t c =
     let ended : end_of c.args.position.now ≡ Some c.in-Some-ended.end = sym c.ended.ensures ∙ c.in-Some-ended.is in
-    on_ok c.tell.result _ (omega (arith, c.in-Some.ensures, count_closed none_closed c.args.side c.args.position.now (ap (λ e. is_some e || false) ended)))
+    on_ok c.put_lemma.result _ (omega (arith, c.in-Some.ensures, count_closed none_closed c.args.side c.args.position.now (ap (λ e. is_some e || false) ended)))
 
 pub loop-column-init : goal.loop-column-init
 loop-column-init g t c =
@@ -37,7 +37,7 @@ loop-column-init g t c =
       same_path = refl;
       ten = refl;
       later = omega arith;
-      wrote = λ root known along many. so_far_start root p c.args.side c.is_same-own.result known _ c.args.lemmas.now _ c.args.order.now many;
+      wrote = λ root known along many. so_far_start root p c.args.side c.eq-own.result known _ c.args.lemmas.now _ c.args.order.now many;
     }
 
 pub solve-found-requires : goal.solve-found-requires
@@ -79,8 +79,8 @@ returns-in_err-found-clause-wrote g t c root known along many =
     let deeper : played root c.push.new.self.items ≡ Some c.after.result =
     ap (played root) (c.push.ensures.items ∙ ap (λ xs. xs ++ c.column-item.result ∷ []) c.loop-column.invariant.same_path) ∙ played_more root c.args.path.now.items p c.column-item.result along going room ∙ ap (λ p. Some p) (sym c.after.ensures) in
     let child = c.solve-found.ensures.wrote root so_far.after deeper so_far.counted in
-    let stopped : Proves root c.after.result c.args.side so_far.after (g.O.Sink.written c.loop-column.out) (g.O.Sink.written c.solve-found.new.out) c.solve-found.new.lemmas (Err c.in_err-found.field-0.0) =
-    subst (λ r. Proves root c.after.result c.args.side so_far.after (g.O.Sink.written c.loop-column.out) (g.O.Sink.written c.solve-found.new.out) c.solve-found.new.lemmas r) c.in_err-found.was child in
+    let stopped : Solves root c.after.result c.args.side so_far.after (g.O.Sink.written c.loop-column.out) (g.O.Sink.written c.solve-found.new.out) c.solve-found.new.lemmas (Err c.in_err-found.field-0.0) =
+    subst (λ r. Solves root c.after.result c.args.side so_far.after (g.O.Sink.written c.loop-column.out) (g.O.Sink.written c.solve-found.new.out) c.solve-found.new.lemmas r) c.in_err-found.was child in
     rw is_stop (then_stopped root c.args.side known so_far.after _ _ _ so_far.more so_far.right so_far.sided so_far.text p c.after.result c.solve-found.new.lemmas c.in_err-found.field-0.0 stopped)
 
 pub returns-then-found-own-clause-answer : goal.returns-then-found-own-clause-answer
@@ -89,12 +89,12 @@ returns-then-found-own-clause-answer g t c =
     let going : end_of p ≡ None = sym c.ended.ensures ∙ c.in_default-ended.is in
     let room : has_room p (get_or order i d) ≡ true = ap (has_room p) (sym c.column-item.is) ∙ sym c.has_room.ensures ∙ c.if-has_room.true in
     let at : c.after.result ≡ after_move p (get_or order i d) = c.after.ensures ∙ ap (after_move p) c.column-item.is in
-    let is_own : c.is_same-own.result ≡ same_side c.args.side (side_to_move p) = c.is_same-own.ensures ∙ ap (same_side c.args.side) c.to_move.ensures in
+    let is_own : c.eq-own.result ≡ same_side c.args.side (side_to_move p) = c.eq-own.ensures ∙ side_same c.args.side c.to_move.result ∙ ap (same_side c.args.side) c.to_move.ensures in
     let yes' : decides c.args.side p (after_move p (get_or order i d)) ≡ true =
-    decides_yes c.args.side p c.is_same-own.result is_own (after_move p (get_or order i d)) c.in_ok-found.found.yes (c.in_ok-found.ensures.answer ∙ ap (wins c.args.side) at) (same_from_beq c.in_ok-found.found.yes c.is_same-own.result c.if-found-own.true) in
-    let decided : c.is_same-own.result ≡ wins c.args.side p = some_decides c.args.side p c.is_same-own.result is_own going
+    decides_yes c.args.side p c.eq-own.result is_own (after_move p (get_or order i d)) c.in_ok-found.found.yes (c.in_ok-found.ensures.answer ∙ ap (wins c.args.side) at) (same_from_beq c.in_ok-found.found.yes c.eq-own.result c.if-found-own.true) in
+    let decided : c.eq-own.result ≡ wins c.args.side p = some_decides c.args.side p c.eq-own.result is_own going
     (sym c.loop-column.invariant.answer ∙ ap (list_any (decides c.args.side p)) (moves_left_room p order i d c.loop-column-test.true room) ∙ rw yes' refl) in
-    ok_more c.tell-then-found-own.result _ _ c.tell-then-found-own.ensures.answer (λ answer told. told ∙ decided)
+    ok_more c.put_lemma-then-found-own.result _ _ c.put_lemma-then-found-own.ensures.answer (λ answer told. told ∙ decided)
 
 pub returns-then-found-own-clause-left : goal.returns-then-found-own-clause-left
 returns-then-found-own-clause-left g t c =
@@ -102,10 +102,10 @@ returns-then-found-own-clause-left g t c =
     let going : end_of p ≡ None = sym c.ended.ensures ∙ c.in_default-ended.is in
     let room : has_room p (get_or order i d) ≡ true = ap (has_room p) (sym c.column-item.is) ∙ sym c.has_room.ensures ∙ c.if-has_room.true in
     let at : c.after.result ≡ after_move p (get_or order i d) = c.after.ensures ∙ ap (after_move p) c.column-item.is in
-    let is_own : c.is_same-own.result ≡ same_side c.args.side (side_to_move p) = c.is_same-own.ensures ∙ ap (same_side c.args.side) c.to_move.ensures in
+    let is_own : c.eq-own.result ≡ same_side c.args.side (side_to_move p) = c.eq-own.ensures ∙ side_same c.args.side c.to_move.result ∙ ap (same_side c.args.side) c.to_move.ensures in
     let yes' : decides c.args.side p (after_move p (get_or order i d)) ≡ true =
-    decides_yes c.args.side p c.is_same-own.result is_own (after_move p (get_or order i d)) c.in_ok-found.found.yes (c.in_ok-found.ensures.answer ∙ ap (wins c.args.side) at) (same_from_beq c.in_ok-found.found.yes c.is_same-own.result c.if-found-own.true) in
-    on_ok c.tell-then-found-own.result _
+    decides_yes c.args.side p c.eq-own.result is_own (after_move p (get_or order i d)) c.in_ok-found.found.yes (c.in_ok-found.ensures.answer ∙ ap (wins c.args.side) at) (same_from_beq c.in_ok-found.found.yes c.eq-own.result c.if-found-own.true) in
+    on_ok c.put_lemma-then-found-own.result _
     (left_at c.args.side p going order i d c.loop-column-test.true room c.args.budget.now c.loop-column.budget c.loop-column.invariant.spent c.solve-found.new.budget yes' (rw (← at) c.in_ok-found.ensures.left))
 
 pub returns-then-found-own-clause-wrote : goal.returns-then-found-own-clause-wrote
@@ -114,30 +114,30 @@ returns-then-found-own-clause-wrote g t c root known along many =
     let so_far = c.loop-column.invariant.wrote root known along many in
     let going : end_of p ≡ None = sym c.ended.ensures ∙ c.in_default-ended.is in
     let room : has_room p c.column-item.result ≡ true = sym c.has_room.ensures ∙ c.if-has_room.true in
-    let is_own : c.is_same-own.result ≡ same_side c.args.side (side_to_move p) = c.is_same-own.ensures ∙ ap (same_side c.args.side) c.to_move.ensures in
+    let is_own : c.eq-own.result ≡ same_side c.args.side (side_to_move p) = c.eq-own.ensures ∙ side_same c.args.side c.to_move.result ∙ ap (same_side c.args.side) c.to_move.ensures in
     let pushed : c.push.new.self.items ≡ c.args.path.now.items ++ c.column-item.result ∷ [] = c.push.ensures.items ∙ ap (λ xs. xs ++ c.column-item.result ∷ []) c.loop-column.invariant.same_path in
     let deeper : played root c.push.new.self.items ≡ Some c.after.result = ap (played root) pushed ∙ played_more root c.args.path.now.items p c.column-item.result along going room ∙ ap (λ p. Some p) (sym c.after.ensures) in
-    let child = subst (λ q. Proves root q c.args.side so_far.after (g.O.Sink.written c.loop-column.out) (g.O.Sink.written c.solve-found.new.out) c.solve-found.new.lemmas (Ok c.in_ok-found.found)) c.after.ensures
-    (subst (λ r. Proves root c.after.result c.args.side so_far.after (g.O.Sink.written c.loop-column.out) (g.O.Sink.written c.solve-found.new.out) c.solve-found.new.lemmas r) c.in_ok-found.was (c.solve-found.ensures.wrote root so_far.after deeper so_far.counted)) in
+    let child = subst (λ q. Solves root q c.args.side so_far.after (g.O.Sink.written c.loop-column.out) (g.O.Sink.written c.solve-found.new.out) c.solve-found.new.lemmas (Ok c.in_ok-found.found)) c.after.ensures
+    (subst (λ r. Solves root c.after.result c.args.side so_far.after (g.O.Sink.written c.loop-column.out) (g.O.Sink.written c.solve-found.new.out) c.solve-found.new.lemmas r) c.in_ok-found.was (c.solve-found.ensures.wrote root so_far.after deeper so_far.counted)) in
     let back : c.deref-then-found-own.result.now ≡ c.args.path.now.items = c.deref-then-found-own.ensures.0 ∙ path_back c.args.path.now.items c.solve-found.new.path.items c.pop.new.self.items c.column-item.result (c.solve-found.ensures.path ∙ pushed) c.pop.ensures.rest in
-    closed_by_one root p c.args.side c.is_same-own.result known _ _ _ _ c.loop-column.lemmas c.solve-found.new.lemmas c.tell-then-found-own.new.lemmas c.loop-column.numbers c.args.order.now c.loop-column.column-index c.column-item.result c.in_ok-found.found c.tell-then-found-own.result
-    so_far going is_own room (same_from_beq c.in_ok-found.found.yes c.is_same-own.result c.if-found-own.true) child
-    (λ also counted reason. c.tell-then-found-own.ensures.wrote root p also (ap (played root) back ∙ along) counted reason)
+    closed_by_one root p c.args.side c.eq-own.result known _ _ _ _ c.loop-column.lemmas c.solve-found.new.lemmas c.put_lemma-then-found-own.new.lemmas c.loop-column.numbers c.args.order.now c.loop-column.column-index c.column-item.result c.in_ok-found.found c.put_lemma-then-found-own.result
+    so_far going is_own room (same_from_beq c.in_ok-found.found.yes c.eq-own.result c.if-found-own.true) child
+    (λ also counted reason. c.put_lemma-then-found-own.ensures.wrote root p also (ap (played root) back ∙ along) counted reason)
 
 pub returns-clause-answer : goal.returns-clause-answer
 returns-clause-answer g t c =
     let p = c.args.position.now in let order = c.args.order.now in
     let going : end_of p ≡ None = sym c.ended.ensures ∙ c.in_default-ended.is in
-    let is_own : c.is_same-own.result ≡ same_side c.args.side (side_to_move p) = c.is_same-own.ensures ∙ ap (same_side c.args.side) c.to_move.ensures in
-    let none : not c.is_same-own.result ≡ wins c.args.side p = none_decides c.args.side p c.is_same-own.result is_own going
+    let is_own : c.eq-own.result ≡ same_side c.args.side (side_to_move p) = c.eq-own.ensures ∙ side_same c.args.side c.to_move.result ∙ ap (same_side c.args.side) c.to_move.ensures in
+    let none : not c.eq-own.result ≡ wins c.args.side p = none_decides c.args.side p c.eq-own.result is_own going
     (sym c.loop-column.invariant.answer ∙ ap (list_any (decides c.args.side p)) (moves_left_none p order c.loop-column.column-index c.loop-column-test.false)) in
-    ok_more c.tell_all.result _ _ c.tell_all.ensures.answer (λ answer told. told ∙ none)
+    ok_more c.put_lemma_by_all.result _ _ c.put_lemma_by_all.ensures.answer (λ answer told. told ∙ none)
 
 pub returns-clause-left : goal.returns-clause-left
 returns-clause-left g t c =
     let p = c.args.position.now in let order = c.args.order.now in
     let going : end_of p ≡ None = sym c.ended.ensures ∙ c.in_default-ended.is in
-    on_ok c.tell_all.result _ (left_none c.args.side p going c.args.budget.now c.loop-column.budget
+    on_ok c.put_lemma_by_all.result _ (left_none c.args.side p going c.args.budget.now c.loop-column.budget
     (ap (λ qs. c.args.budget.now + count_until (decides c.args.side p) (count none_closed c.args.side) qs) (sym (moves_left_none p order c.loop-column.column-index c.loop-column-test.false)) ∙ c.loop-column.invariant.spent))
 
 pub returns-clause-wrote : goal.returns-clause-wrote
@@ -145,11 +145,11 @@ returns-clause-wrote g t c root known along many =
     let p = c.args.position.now in
     let so_far = c.loop-column.invariant.wrote root known along many in
     let going : end_of p ≡ None = sym c.ended.ensures ∙ c.in_default-ended.is in
-    let is_own : c.is_same-own.result ≡ same_side c.args.side (side_to_move p) = c.is_same-own.ensures ∙ ap (same_side c.args.side) c.to_move.ensures in
+    let is_own : c.eq-own.result ≡ same_side c.args.side (side_to_move p) = c.eq-own.ensures ∙ side_same c.args.side c.to_move.result ∙ ap (same_side c.args.side) c.to_move.ensures in
     let back : c.deref-2.result.now ≡ c.args.path.now.items = c.deref-2.ensures.0 ∙ c.loop-column.invariant.same_path in
-    closed_by_all root p c.args.side c.is_same-own.result known _ _ _ c.loop-column.lemmas c.tell_all.new.lemmas c.loop-column.numbers c.args.order.now c.loop-column.column-index c.tell_all.result
+    closed_by_all root p c.args.side c.eq-own.result known _ _ _ c.loop-column.lemmas c.put_lemma_by_all.new.lemmas c.loop-column.numbers c.args.order.now c.loop-column.column-index c.put_lemma_by_all.result
     so_far going is_own c.loop-column-test.false c.requires.order
-    (λ also counted reason. c.tell_all.ensures.wrote root also (ap (played root) back ∙ along) counted reason)
+    (λ also counted reason. c.put_lemma_by_all.ensures.wrote root also (ap (played root) back ∙ along) counted reason)
 
 pub loop-column-preserved : goal.loop-column-preserved
 loop-column-preserved g t c =
@@ -157,15 +157,15 @@ loop-column-preserved g t c =
     let going : end_of p ≡ None = sym c.ended.ensures ∙ c.in_default-ended.is in
     let low : i < length order = c.loop-column-test.true in
     let place : get_or order i 0 ≡ d = get_or_default order i 0 d low ∙ sym c.column-item.is in
-    let is_own : c.is_same-own.result ≡ same_side c.args.side (side_to_move p) = c.is_same-own.ensures ∙ ap (same_side c.args.side) c.to_move.ensures in
+    let is_own : c.eq-own.result ≡ same_side c.args.side (side_to_move p) = c.eq-own.ensures ∙ side_same c.args.side c.to_move.result ∙ ap (same_side c.args.side) c.to_move.ensures in
     elim c.if-has_room.branch [
       | then-has_room+in_ok-found+else-found-own w ↦
           let here : has_room p d ≡ true = sym c.has_room.ensures ∙ w.if-has_room.true in
           let room : has_room p (get_or order i d) ≡ true = ap (has_room p) (sym c.column-item.is) ∙ here in
           let at : w.after.result ≡ after_move p (get_or order i d) = w.after.ensures ∙ ap (after_move p) c.column-item.is in
-          let apart : w.in_ok-found.found.yes ≡ c.is_same-own.result → ⊥ = apart_from_beq w.in_ok-found.found.yes c.is_same-own.result w.if-found-own.false in
+          let apart : w.in_ok-found.found.yes ≡ c.eq-own.result → ⊥ = apart_from_beq w.in_ok-found.found.yes c.eq-own.result w.if-found-own.false in
           let no' : decides c.args.side p (after_move p (get_or order i d)) ≡ false =
-          decides_no c.args.side p c.is_same-own.result is_own (after_move p (get_or order i d)) w.in_ok-found.found.yes (w.in_ok-found.ensures.answer ∙ ap (wins c.args.side) at) apart in
+          decides_no c.args.side p c.eq-own.result is_own (after_move p (get_or order i d)) w.in_ok-found.found.yes (w.in_ok-found.ensures.answer ∙ ap (wins c.args.side) at) apart in
           let pushed : w.push.new.self.items ≡ c.args.path.now.items ++ d ∷ [] = w.push.ensures.items ∙ ap (λ xs. xs ++ d ∷ []) c.loop-column.invariant.same_path in
           rw (w.path-is, w.budget-is, w.lemmas-is, w.out-is, w.numbers-is) (record {
             answer = any_after (decides c.args.side p) _ _ _ _ (moves_left_room p order i d low room) no' c.loop-column.invariant.answer;
@@ -177,11 +177,11 @@ loop-column-preserved g t c =
             wrote = λ root known along many.
                 let so_far = c.loop-column.invariant.wrote root known along many in
                 let deeper : played root w.push.new.self.items ≡ Some w.after.result = ap (played root) pushed ∙ played_more root c.args.path.now.items p d along going here ∙ ap (λ p. Some p) (sym w.after.ensures) in
-                let child = subst (λ q. Proves root q c.args.side so_far.after (g.O.Sink.written c.loop-column.out) (g.O.Sink.written w.solve-found.new.out) w.solve-found.new.lemmas (Ok w.in_ok-found.found)) w.after.ensures
-                (subst (λ r. Proves root w.after.result c.args.side so_far.after (g.O.Sink.written c.loop-column.out) (g.O.Sink.written w.solve-found.new.out) w.solve-found.new.lemmas r) w.in_ok-found.was (w.solve-found.ensures.wrote root so_far.after deeper so_far.counted)) in
+                let child = subst (λ q. Solves root q c.args.side so_far.after (g.O.Sink.written c.loop-column.out) (g.O.Sink.written w.solve-found.new.out) w.solve-found.new.lemmas (Ok w.in_ok-found.found)) w.after.ensures
+                (subst (λ r. Solves root w.after.result c.args.side so_far.after (g.O.Sink.written c.loop-column.out) (g.O.Sink.written w.solve-found.new.out) w.solve-found.new.lemmas r) w.in_ok-found.was (w.solve-found.ensures.wrote root so_far.after deeper so_far.counted)) in
                 let within : d < length c.loop-column.numbers = omega (arith, w.index.ensures.value, w.index.ensures.within, c.loop-column.invariant.ten) in
-                rw w.index.ensures.value (so_far_more root p c.args.side c.is_same-own.result known _ _ c.loop-column.lemmas c.loop-column.numbers order i d so_far place _ w.solve-found.new.lemmas w.in_ok-found.found within
-                (other_from_apart w.in_ok-found.found.yes c.is_same-own.result apart) child);
+                rw w.index.ensures.value (so_far_more root p c.args.side c.eq-own.result known _ _ c.loop-column.lemmas c.loop-column.numbers order i d so_far place _ w.solve-found.new.lemmas w.in_ok-found.found within
+                (other_from_apart w.in_ok-found.found.yes c.eq-own.result apart) child);
           })
       | else-has_room w ↦
           let here : has_room p d ≡ false = sym c.has_room.ensures ∙ w.if-has_room.false in
@@ -194,6 +194,6 @@ loop-column-preserved g t c =
             same_path = c.loop-column.invariant.same_path;
             ten = c.loop-column.invariant.ten;
             later = c.loop-column.invariant.later;
-            wrote = λ root known along many. so_far_full root p c.args.side c.is_same-own.result known _ _ c.loop-column.lemmas c.loop-column.numbers order i d (c.loop-column.invariant.wrote root known along many) place here;
+            wrote = λ root known along many. so_far_full root p c.args.side c.eq-own.result known _ _ c.loop-column.lemmas c.loop-column.numbers order i d (c.loop-column.invariant.wrote root known along many) place here;
           })
     ]

@@ -5,7 +5,7 @@ use Rattle.game_rules.specs.Value.{wins}
 use Rattle.game_rules.specs.Cost.{none_closed}
 use Rattle.game_rules.specs.declared.Side.TheVariants.{White, Black}
 use Rattle.game_rules.proofs.Costs.{cost_first, cost_both}
-use Rattle.victor_run.specs.Search.{Proves}
+use Rattle.victor_run.specs.Search.{Solves}
 use Rattle.victor_run.proofs.Asking.{asks_none, asks_white, asks_one, asks_black, asks_draw, same_stop}
 use Rattle.victor_run.specs.declared.search.SearchStop.TheVariants.{Spent}
 use Rattle.victor_run.proofs.search.ask.Goals as goal
@@ -16,7 +16,7 @@ returns-in_err-white-clause-asked g c =
     let same = err_from_is_err_and c.from_residual.result c.from_residual.ensures.1 in
     let is_stop : c.from_residual.result ≡ Err c.in_err-white.field-0.0 = same.1 ∙ ap (λ e. Err e) same.2 in
     let root_path : played p c.new-path.result.items ≡ Some p = ap (played p) c.new-path.ensures in
-    let white = subst (λ r. Proves p p White [] (g.O.Sink.written c.args.out.now) (g.O.Sink.written c.solve.new.out) c.solve.new.lemmas r) c.in_err-white.was (c.solve.ensures.wrote p [] root_path (sym c.new-lemmas.ensures)) in
+    let white = subst (λ r. Solves p p White [] (g.O.Sink.written c.args.out.now) (g.O.Sink.written c.solve.new.out) c.solve.new.lemmas r) c.in_err-white.was (c.solve.ensures.wrote p [] root_path (sym c.new-lemmas.ensures)) in
     rw is_stop (asks_none p c.args.nodes _ _ c.solve.new.lemmas c.in_err-white.field-0.0 white (omega (arith, c.solve.ensures.few, c.new-lemmas.ensures)))
 
 pub returns-in_err-white-clause-spent : goal.returns-in_err-white-clause-spent
@@ -29,7 +29,7 @@ pub returns-then-white-clause-asked : goal.returns-then-white-clause-asked
 returns-then-white-clause-asked g c =
     let p = c.args.position.now in
     let root_path : played p c.new-path.result.items ≡ Some p = ap (played p) c.new-path.ensures in
-    let white = subst (λ r. Proves p p White [] (g.O.Sink.written c.args.out.now) (g.O.Sink.written c.solve.new.out) c.solve.new.lemmas r) c.in_ok-white.was (c.solve.ensures.wrote p [] root_path (sym c.new-lemmas.ensures)) in
+    let white = subst (λ r. Solves p p White [] (g.O.Sink.written c.args.out.now) (g.O.Sink.written c.solve.new.out) c.solve.new.lemmas r) c.in_ok-white.was (c.solve.ensures.wrote p [] root_path (sym c.new-lemmas.ensures)) in
     asks_white p c.args.nodes _ _ c.solve.new.lemmas c.in_ok-white.white c.to_move.result c.won_by.result white c.if-white.true c.to_move.ensures c.won_by.ensures (omega (arith, c.solve.ensures.few, c.new-lemmas.ensures))
 
 pub returns-in_err-black-clause-asked : goal.returns-in_err-black-clause-asked
@@ -39,10 +39,10 @@ returns-in_err-black-clause-asked g c =
     let is_stop : c.from_residual-in_err-black.result ≡ Err c.in_err-black.field-0.0 = same.1 ∙ ap (λ e. Err e) same.2 in
     let root_path : played p c.new-path.result.items ≡ Some p = ap (played p) c.new-path.ensures in
     let same_path : played p c.solve.new.path.items ≡ Some p = ap (played p) c.solve.ensures.path ∙ root_path in
-    let white = subst (λ r. Proves p p White [] (g.O.Sink.written c.args.out.now) (g.O.Sink.written c.solve.new.out) c.solve.new.lemmas r) c.in_ok-white.was (c.solve.ensures.wrote p [] root_path (sym c.new-lemmas.ensures)) in
+    let white = subst (λ r. Solves p p White [] (g.O.Sink.written c.args.out.now) (g.O.Sink.written c.solve.new.out) c.solve.new.lemmas r) c.in_ok-white.was (c.solve.ensures.wrote p [] root_path (sym c.new-lemmas.ensures)) in
     let many : length white.after ≡ c.solve.new.lemmas = omega (arith, white.counted) in
-    let black = subst (λ r. Proves p p Black white.after (g.O.Sink.written c.solve.new.out) (g.O.Sink.written c.solve-2.new.out) c.solve-2.new.lemmas r) c.in_err-black.was (c.solve-2.ensures.wrote p white.after same_path many) in
-    rw is_stop (asks_one p c.args.nodes _ _ _ c.solve.new.lemmas c.in_ok-white.white white c.solve-2.new.lemmas c.in_err-black.field-0.0 black (omega (arith, c.solve.ensures.few, c.solve-2.ensures.few, c.new-lemmas.ensures)))
+    let black = subst (λ r. Solves p p Black white.after (g.O.Sink.written c.solve.new.out) (g.O.Sink.written c.solve-2.new.out) c.solve-2.new.lemmas r) c.in_err-black.was (c.solve-2.ensures.wrote p white.after same_path many) in
+    rw is_stop (asks_one p c.args.nodes _ _ _ c.solve.new.lemmas c.in_ok-white.white white c.if-white.false c.solve-2.new.lemmas c.in_err-black.field-0.0 black (omega (arith, c.solve.ensures.few, c.solve-2.ensures.few, c.new-lemmas.ensures)))
 
 pub returns-in_err-black-clause-spent : goal.returns-in_err-black-clause-spent
 returns-in_err-black-clause-spent g c spent =
@@ -56,19 +56,19 @@ returns-then-black-clause-asked g c =
     let p = c.args.position.now in
     let root_path : played p c.new-path.result.items ≡ Some p = ap (played p) c.new-path.ensures in
     let same_path : played p c.solve.new.path.items ≡ Some p = ap (played p) c.solve.ensures.path ∙ root_path in
-    let white = subst (λ r. Proves p p White [] (g.O.Sink.written c.args.out.now) (g.O.Sink.written c.solve.new.out) c.solve.new.lemmas r) c.in_ok-white.was (c.solve.ensures.wrote p [] root_path (sym c.new-lemmas.ensures)) in
+    let white = subst (λ r. Solves p p White [] (g.O.Sink.written c.args.out.now) (g.O.Sink.written c.solve.new.out) c.solve.new.lemmas r) c.in_ok-white.was (c.solve.ensures.wrote p [] root_path (sym c.new-lemmas.ensures)) in
     let many : length white.after ≡ c.solve.new.lemmas = omega (arith, white.counted) in
-    let black = subst (λ r. Proves p p Black white.after (g.O.Sink.written c.solve.new.out) (g.O.Sink.written c.solve-2.new.out) c.solve-2.new.lemmas r) c.in_ok-black.was (c.solve-2.ensures.wrote p white.after same_path many) in
+    let black = subst (λ r. Solves p p Black white.after (g.O.Sink.written c.solve.new.out) (g.O.Sink.written c.solve-2.new.out) c.solve-2.new.lemmas r) c.in_ok-black.was (c.solve-2.ensures.wrote p white.after same_path many) in
     let few : c.solve-2.new.lemmas ≤ c.args.nodes = omega (arith, c.solve.ensures.few, c.solve-2.ensures.few, c.new-lemmas.ensures) in
-    asks_black p c.args.nodes _ _ _ c.solve.new.lemmas c.in_ok-white.white white c.solve-2.new.lemmas c.in_ok-black.black black few c.to_move-then-black.result c.won_by-then-black.result c.if-black.true c.to_move-then-black.ensures c.won_by-then-black.ensures
+    asks_black p c.args.nodes _ _ _ c.solve.new.lemmas c.in_ok-white.white white c.if-white.false c.solve-2.new.lemmas c.in_ok-black.black black few c.to_move-then-black.result c.won_by-then-black.result c.if-black.true c.to_move-then-black.ensures c.won_by-then-black.ensures
 
 pub returns-clause-asked : goal.returns-clause-asked
 returns-clause-asked g c =
     let p = c.args.position.now in
     let root_path : played p c.new-path.result.items ≡ Some p = ap (played p) c.new-path.ensures in
     let same_path : played p c.solve.new.path.items ≡ Some p = ap (played p) c.solve.ensures.path ∙ root_path in
-    let white = subst (λ r. Proves p p White [] (g.O.Sink.written c.args.out.now) (g.O.Sink.written c.solve.new.out) c.solve.new.lemmas r) c.in_ok-white.was (c.solve.ensures.wrote p [] root_path (sym c.new-lemmas.ensures)) in
+    let white = subst (λ r. Solves p p White [] (g.O.Sink.written c.args.out.now) (g.O.Sink.written c.solve.new.out) c.solve.new.lemmas r) c.in_ok-white.was (c.solve.ensures.wrote p [] root_path (sym c.new-lemmas.ensures)) in
     let many : length white.after ≡ c.solve.new.lemmas = omega (arith, white.counted) in
-    let black = subst (λ r. Proves p p Black white.after (g.O.Sink.written c.solve.new.out) (g.O.Sink.written c.solve-2.new.out) c.solve-2.new.lemmas r) c.in_ok-black.was (c.solve-2.ensures.wrote p white.after same_path many) in
+    let black = subst (λ r. Solves p p Black white.after (g.O.Sink.written c.solve.new.out) (g.O.Sink.written c.solve-2.new.out) c.solve-2.new.lemmas r) c.in_ok-black.was (c.solve-2.ensures.wrote p white.after same_path many) in
     let few : c.solve-2.new.lemmas ≤ c.args.nodes = omega (arith, c.solve.ensures.few, c.solve-2.ensures.few, c.new-lemmas.ensures) in
-    asks_draw p c.args.nodes _ _ _ c.solve.new.lemmas c.in_ok-white.white white c.solve-2.new.lemmas c.in_ok-black.black black few c.if-white.false c.if-black.false
+    asks_draw p c.args.nodes _ _ _ c.solve.new.lemmas c.in_ok-white.white white c.if-white.false c.solve-2.new.lemmas c.in_ok-black.black black few c.if-black.false

@@ -1,7 +1,7 @@
 use Rattle.std.proofs.Common.{refl, arith}
 use Rattle.cert_format.specs.Shape.{reason_of}
 use Rattle.victor_run.proofs.Proving.{told}
-use Rattle.victor_run.proofs.search.tell.Goals as goal
+use Rattle.victor_run.proofs.search.put_lemma.Goals as goal
 
 pub returns-in-Ok-clause-wrote : goal.returns-in-Ok-clause-wrote
 returns-in-Ok-clause-wrote g c root p known along many right =

@@ -1,8 +1,8 @@
 use Rattle.std.proofs.Common.{◌≡◌, cond, true, false, Some, None, sym, ap, ◌∙◌}
 use Rattle.game_rules.specs.Position.{after_move, is_legal}
 use Rattle.cert_checker.specs.Checking.{last_move}
-use Rattle.cert_checker.proofs.Walks.{walked}
-use Rattle.cert_checker.proofs.moves.walk.Goals as goal
+use Rattle.cert_checker.proofs.Paths.{walked}
+use Rattle.cert_checker.proofs.moves.position_after.Goals as goal
 
 pub returns-in_err-before : goal.returns-in_err-before
 returns-in_err-before c =
