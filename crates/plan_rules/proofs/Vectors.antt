@@ -7,7 +7,7 @@ use Rattle.game_rules.specs.Position.{Position, empty_position, height, end_of, 
 use Rattle.game_rules.specs.declared.End.{End}
 use Rattle.game_rules.specs.declared.End.TheVariants as ends
 use Rattle.game_rules.specs.declared.Way.TheVariants.{H, U}
-use Rattle.plan_rules.specs.Rules.{Written, claimeven, baseinverse, lowinverse, highinverse, baseclaim, vertical, aftereven, before, specialbefore, facts_of, barred, together}
+use Rattle.plan_rules.specs.Rules.{Written, claimeven, baseinverse, lowinverse, highinverse, baseclaim, vertical, aftereven, before, specialbefore, is_shaped, facts_of, barred, together}
 use Rattle.plan_rules.specs.Squares.{holds}
 use Rattle.plan_rules.specs.Plan.{is_plan, plan_reply, after_turn, duel, is_playable_list}
 
@@ -151,3 +151,16 @@ past_the_end = refl
 
 full_column : dueled six_zones (2 ∷ 2 ∷ 2 ∷ 3 ∷ 2 ∷ []) ≡ Some (false, 9)
 full_column = refl
+
+-- whether a Specialbefore has the shape on a board
+abbrev special_shape : ℕ → ℕ → Written → Bool
+special_shape cols rows w = is_shaped w (record { cols = cols; rows = rows })
+
+whole_on_the_board : special_shape 5 4 (specialbefore ((1, 1), U) (3, 4) (2, 2)) ≡ true
+whole_on_the_board = refl
+
+line_off_the_board : special_shape 4 4 (specialbefore ((1, 1), U) (3, 4) (2, 2)) ≡ false
+line_off_the_board = refl
+
+square_off_the_board : (special_shape 4 4 (specialbefore ((0, 2), H) (4, 1) (0, 2)) ≡ false) × (special_shape 4 4 (specialbefore ((0, 2), H) (3, 5) (0, 2)) ≡ false)
+square_off_the_board = (refl, refl)

@@ -76,7 +76,7 @@ line_of (specialbefore g f e0) = Some g
 abbrev pub is_low_column : Square → Square → Bool
 is_low_column bottom top = (bottom.0 == top.0) && is_even bottom.1 && is_even top.1 && nat_le (bottom.1 + 2) top.1
 
--- the shape needs only the board
+-- the shape needs only the board; of Aftereven and Before it asks nothing
 abbrev pub has_shape : Written → Board → Bool
 has_shape (claimeven x) board = is_odd x.1
 has_shape (baseinverse s t) board = nat_lt s.0 t.0
@@ -86,9 +86,10 @@ has_shape (baseclaim a b e) board = not (a.0 == b.0) && not (a.0 == e.0) && not 
 has_shape (vertical e) board = on_board board e && on_board board (above e) && is_even e.1
 has_shape (aftereven g) board = true
 has_shape (before g) board = true
-has_shape (specialbefore g f e0) board = not (holds (squares_of g) f) && holds (squares_of g) e0 && not (f.0 == e0.0)
+has_shape (specialbefore g f e0) board = lies_on board g && on_board board f && not (holds (squares_of g) f) && holds (squares_of g) e0 && not (f.0 == e0.0)
 
--- with the whole zone on the board
+-- With the whole zone on the board. A standing rule owns no square: Vertical and Specialbefore ask above for a board that
+-- has their squares and their line; Aftereven and Before ask for it where they fit.
 abbrev pub is_shaped : Written → Board → Bool
 is_shaped w board = list_all (on_board board) (zone_of w) && has_shape w board
 
