@@ -62,7 +62,8 @@ pub trait Rule {
         ensures { result ≡ fitted self.now p.now };
 
     /// Black's answer to White's move `last`, at the position after it. None exactly where the rule names no square:
-    /// where `last` is outside the zone, or the rule has no answer to it.
+    /// where `last` isn't in the zone, or is a Claimeven's upper square, or is a Lowinverse's top while the other column
+    /// is full.
     fn reply(&self, now: &Position, last: Square) -> Option<Square>
         ensures { result ≡ reply self.now now.now last };
 
@@ -82,7 +83,7 @@ pub trait Rule {
     fn pair(&self) -> Mask
         ensures { IsSetOf (holds (pair self.now)) result };
 
-    /// The two squares that it puts among the kept twins; None for each rule that gives none.
+    /// The two squares that it puts among the kept twins; None exactly where the kind isn't Baseinverse.
     fn twin(&self) -> Option<(Square, Square)>
         ensures { result ≡ twin self.now };
 
