@@ -4,9 +4,9 @@ use Rattle.std.specs.List.{list_all}
 use Rattle.std.proofs.lemmas.Bool.{cases_Bool, and_parts, leb-true}
 use Rattle.game_rules.specs.Board.{Board, Square, is_cols, is_rows, is_board, on_board}
 use Rattle.game_rules.specs.Position.{Position, board_of}
-use Rattle.game_rules.specs.Squares.{squares_of_board}
+use Rattle.game_rules.specs.Squares.{squares_of_board, is_empty}
 use Rattle.game_rules.proofs.Groups.{of_cols, of_rows}
-use Rattle.plan_rules.specs.Squares.{is_empty, is_odd}
+use Rattle.plan_rules.specs.Squares.{is_odd}
 use Rattle.plan_rules.specs.Rules.{claimeven, zone_of, is_shaped, fits}
 use Rattle.claimeven.specs.Fitting.{fitting_lowers}
 

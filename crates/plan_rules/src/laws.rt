@@ -6,19 +6,15 @@ ghost use Rattle.game_rules.specs.Board.{Square};
 ghost use Rattle.game_rules.specs.Position.{Position, man_at, is_legal};
 ghost use Rattle.game_rules.specs.Value.{value, wins};
 ghost use Rattle.game_rules.specs.Laws.{HasLine};
+ghost use Rattle.game_rules.specs.Squares.{has_square, is_empty, is_playable};
 ghost use Rattle.game_rules.specs.declared.Side.TheVariants as sides;
 ghost use Rattle.game_rules.specs.declared.End.TheVariants as ends;
-ghost use Rattle.plan_rules.specs.Squares.{holds, column_up, is_empty, is_even, is_odd, is_playable, men_on};
+ghost use Rattle.plan_rules.specs.Squares.{column_up, is_even, is_odd, men_on};
 ghost use Rattle.plan_rules.specs.Rules.{Written, zone_of, line_of, fits, reply_to, upper_of, pair_of, twin_of, barred, is_supported, together};
 ghost use Rattle.plan_rules.specs.Calm.{is_paired, is_capped, is_shifted, is_calm};
 ghost use Rattle.plan_rules.specs.Columns.{IsPairedColumn, IsCappedColumn, IsShiftedColumn};
 ghost use Rattle.plan_rules.specs.Laws.{StartLaw, LocalLaw, StepLaw, FactLaw, BarLaw};
 ghost use Rattle.plan_rules.specs.Plan.{is_plan, IsMember, IsPlan, IsKept, IsAnswered, IsTurn, after_turns, duel, is_playable_list};
-
-/// A square is playable exactly where it is empty and every square below it is filled.
-pub fn a_playable_square_rests_on_filled_ones()
-    ensures { (p : Position) (u : Square) → (is_playable p u ≡ true) ↔ ((is_empty p u ≡ true) × ((row : ℕ) → 1 ≤ row → row < u.1 → man_at p (u.0, row) ≢ None)) }
-{}
 
 /// An instance that fits is calm, and the line that it rests on is a line of the position's board.
 pub fn an_instance_that_fits_is_calm()
@@ -66,16 +62,16 @@ pub fn a_calm_zone_holds_an_even_number_of_men()
 /// Whether two instances may stand together is the same in both orders, and two that may share no square.
 pub fn instances_that_stand_together()
     ensures orders { (v w : Written) → together v w ≡ together w v }
-    ensures apart { (v w : Written) (u : Square) → together v w ≡ true → holds (zone_of v) u ≡ true → holds (zone_of w) u ≡ true → ⊥ }
+    ensures apart { (v w : Written) (u : Square) → together v w ≡ true → has_square (zone_of v) u ≡ true → has_square (zone_of w) u ≡ true → ⊥ }
 {}
 
 /// A plan in words of squares and lines; and each empty square stands in the zone of one member and of no other.
 pub fn a_plan_in_words()
     ensures words { (p : Position) (ws : List Written) → (is_plan p ws ≡ true) ↔ IsPlan p ws }
     ensures one_zone { (p : Position) (ws : List Written) (i j : ℕ) (v w : Written) (u : Square) → is_plan p ws ≡ true → IsMember ws i v → IsMember ws j w
-        → holds (zone_of v) u ≡ true → holds (zone_of w) u ≡ true → i ≡ j }
+        → has_square (zone_of v) u ≡ true → has_square (zone_of w) u ≡ true → i ≡ j }
     ensures empty_zones { (p : Position) (ws : List Written) (i : ℕ) (w : Written) (u : Square) → is_plan p ws ≡ true → IsMember ws i w
-        → holds (zone_of w) u ≡ true → is_empty p u ≡ true }
+        → has_square (zone_of w) u ≡ true → is_empty p u ≡ true }
 {}
 
 /// From a plan, after any of White's legal moves and the plan's replies: the board is the same, White is to move, the men
