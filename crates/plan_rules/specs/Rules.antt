@@ -4,7 +4,7 @@
 use Rattle.std.specs.Prelude.{◌+◌, Bool, true, false, not, ◌&&◌, ◌||◌, ◌==◌, nat_lt, nat_le, if◌then◌else◌, List, [], ◌∷◌, ◌++◌, Option, Some, None}
 use Rattle.std.specs.List.{list_all, list_any, flat_map}
 use Rattle.game_rules.specs.Board.{Board, Square, below, on_board}
-use Rattle.game_rules.specs.Position.{Position, board_of, has_man, lowest_empty}
+use Rattle.game_rules.specs.Position.{Position, board_of, has_man, has_room, lowest_empty}
 use Rattle.game_rules.specs.Squares.{same_square, has_square, is_empty, is_playable}
 use Rattle.game_rules.specs.Groups.{Group, squares_of, lies_on}
 use Rattle.game_rules.specs.declared.Side.TheVariants.{White}
@@ -153,6 +153,19 @@ reply_to (vertical e) now last = None
 reply_to (aftereven g) now last = None
 reply_to (before g) now last = None
 reply_to (specialbefore g f e0) now last = None
+
+-- the squares of its zone to which a rule names no answer: a Claimeven's upper square, and a Lowinverse's top while the
+-- other column is full
+abbrev pub has_no_answer : Written → Position → Square → Bool
+has_no_answer (claimeven x) now last = same_square last (above x)
+has_no_answer (baseinverse s t) now last = false
+has_no_answer (lowinverse x x_top y y_top) now last = (same_square last x_top && not (has_room now y.0)) || (same_square last y_top && not (has_room now x.0))
+has_no_answer (highinverse x y) now last = false
+has_no_answer (baseclaim a b e) now last = false
+has_no_answer (vertical e) now last = false
+has_no_answer (aftereven g) now last = false
+has_no_answer (before g) now last = false
+has_no_answer (specialbefore g f e0) now last = false
 
 -- ---- what instances give to others
 
