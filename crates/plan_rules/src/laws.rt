@@ -1,12 +1,12 @@
 //! Laws of the nine rules and of plans, each the contract of a function with an empty body. The first group is what
 //! every rule keeps; the second follows from it and from the table of instances that may stand together: by a plan
 //! Black has a reply to each move of White's, and White never has four in a line.
-ghost use Rattle.std.specs.Prelude.{◌≡◌, ◌≢◌, ◌↔◌, ℕ, ◌<◌, ◌≤◌, true, false, not, ◌||◌, List, length, Some, None, is_none, slice_get};
+ghost use Rattle.std.specs.Prelude.{◌≡◌, ◌≢◌, ◌↔◌, ℕ, ◌≤◌, true, false, not, ◌||◌, List, length, Some, is_none, slice_get};
 ghost use Rattle.game_rules.specs.Board.{Square};
-ghost use Rattle.game_rules.specs.Position.{Position, board_of, man_at, is_legal};
+ghost use Rattle.game_rules.specs.Position.{Position, board_of, is_legal};
 ghost use Rattle.game_rules.specs.Value.{value, wins};
 ghost use Rattle.game_rules.specs.Laws.{HasLine};
-ghost use Rattle.game_rules.specs.Squares.{has_square, is_empty, is_playable};
+ghost use Rattle.game_rules.specs.Squares.{has_square, is_empty};
 ghost use Rattle.game_rules.specs.declared.Side.TheVariants as sides;
 ghost use Rattle.game_rules.specs.declared.End.TheVariants as ends;
 ghost use Rattle.plan_rules.specs.Squares.{column_up, is_even, is_odd, men_on};
