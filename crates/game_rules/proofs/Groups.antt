@@ -10,7 +10,7 @@ use Rattle.game_rules.specs.Board.{Board, Square, below, is_cols, is_rows, is_bo
 use Rattle.game_rules.specs.Position.{Position, board_of, has_man, four_at, four_in_column, four_along, has_four}
 use Rattle.game_rules.specs.Squares.{same_square, has_square, squares_in_column, squares_of_board, widest, StandsBefore}
 use Rattle.game_rules.specs.Groups.{Group, squares_of, lies_on, rank, same_group, has_group, groups_along, groups_of, Precedes, groups_where, IsGroupSetOf}
-use Rattle.game_rules.proofs.Lists.{Among, any_gives, any_from, any_same, any_map, Among-append_cases, Among-filter, Among-filter_gives, Among-map, Among-flat_map, Among-flat_map_gives, Among-range_gives, Among-below, Among-below_gives}
+use Rattle.game_rules.proofs.Lists.{Among, any_gives, any_from, any_same, any_map, all_gives, Among-append_cases, Among-filter, Among-filter_gives, Among-map, Among-flat_map, Among-flat_map_gives, Among-range_gives, Among-below, Among-below_gives}
 use Rattle.game_rules.proofs.Ends.{on_board_parts, on_board_from, each_step, from_steps, step_none, Among-ways}
 use Rattle.game_rules.proofs.Squares.{agree, same_square_refl, same_square_is, has_gives, has_from, Among-map_gives, Among-board, filter_same}
 use Rattle.game_rules.specs.declared.Side.{Side}
@@ -87,44 +87,38 @@ board_most b h =
 pub line_widest : (b : Board) → is_board b ≡ true → (way : Way) (anchor : Square) → is_line b way anchor ≡ true → is_line widest way anchor ≡ true
 line_widest b h way anchor line = let most = board_most b h in line_wider b widest most.0 most.1 way anchor line
 
--- ---- how many groups there are, size by size
+-- ---- at every size
 
-abbrev Fits : ℕ → Type 0
-Fits cols = (rows : ℕ) → is_rows rows ≡ true → nat_le (length (groups_of (record { cols = cols; rows = rows }))) 238 ≡ true
+-- the numbers of columns and of rows that a board has
+abbrev all_cols : List ℕ
+all_cols = 4 ∷ 5 ∷ 6 ∷ 7 ∷ 8 ∷ 9 ∷ 10 ∷ []
 
-at_4 : Fits 4
-unfolding groups_of squares_of_board
-at_4 = of_rows (λ rows. nat_le (length (groups_of (record { cols = 4; rows = rows }))) 238 ≡ true) refl refl refl refl
+abbrev all_rows : List ℕ
+all_rows = 4 ∷ 6 ∷ 8 ∷ 10 ∷ []
 
-at_5 : Fits 5
-unfolding groups_of squares_of_board
-at_5 = of_rows (λ rows. nat_le (length (groups_of (record { cols = 5; rows = rows }))) 238 ≡ true) refl refl refl refl
+-- the sizes with a number of columns
+abbrev with_cols : ℕ → List Board
+with_cols cols = map (λ rows. record { cols = cols; rows = rows }) all_rows
 
-at_6 : Fits 6
-unfolding groups_of squares_of_board
-at_6 = of_rows (λ rows. nat_le (length (groups_of (record { cols = 6; rows = rows }))) 238 ≡ true) refl refl refl refl
+cols_among : (n : ℕ) → is_cols n ≡ true → Among n all_cols
+cols_among =
+    of_cols (λ n. Among n all_cols)
+    (inl refl) (inr (inl refl)) (inr (inr (inl refl))) (inr (inr (inr (inl refl)))) (inr (inr (inr (inr (inl refl))))) (inr (inr (inr (inr (inr (inl refl)))))) (inr (inr (inr (inr (inr (inr (inl refl)))))))
 
-at_7 : Fits 7
-unfolding groups_of squares_of_board
-at_7 = of_rows (λ rows. nat_le (length (groups_of (record { cols = 7; rows = rows }))) 238 ≡ true) refl refl refl refl
+rows_among : (n : ℕ) → is_rows n ≡ true → Among n all_rows
+rows_among = of_rows (λ n. Among n all_rows) (inl refl) (inr (inl refl)) (inr (inr (inl refl))) (inr (inr (inr (inl refl))))
 
-at_8 : Fits 8
-unfolding groups_of squares_of_board
-at_8 = of_rows (λ rows. nat_le (length (groups_of (record { cols = 8; rows = rows }))) 238 ≡ true) refl refl refl refl
-
-at_9 : Fits 9
-unfolding groups_of squares_of_board
-at_9 = of_rows (λ rows. nat_le (length (groups_of (record { cols = 9; rows = rows }))) 238 ≡ true) refl refl refl refl
-
-at_10 : Fits 10
-unfolding groups_of squares_of_board
-at_10 = of_rows (λ rows. nat_le (length (groups_of (record { cols = 10; rows = rows }))) 238 ≡ true) refl refl refl refl
+-- what passes at each of the sizes passes on each board
+pub on_each_size : (test : Board → Bool) → list_all test (flat_map with_cols all_cols) ≡ true → (b : Board) → is_board b ≡ true → test b ≡ true
+on_each_size test h b is =
+    let both = and_parts (is_cols b.cols) (is_rows b.rows) is in
+    all_gives test (flat_map with_cols all_cols) b h
+    (Among-flat_map with_cols all_cols b.cols b (cols_among b.cols both.0) (Among-map (λ rows. record { cols = b.cols; rows = rows }) all_rows b.rows (rows_among b.rows both.1)))
 
 -- no board has more than 238 groups
 pub groups_fit : (b : Board) → is_board b ≡ true → length (groups_of b) ≤ 238
-groups_fit b h =
-    let both = and_parts (is_cols b.cols) (is_rows b.rows) h in
-    leb-true (length (groups_of b)) 238 (of_cols Fits at_4 at_5 at_6 at_7 at_8 at_9 at_10 b.cols both.0 b.rows both.1)
+unfolding groups_of squares_of_board
+groups_fit b h = leb-true (length (groups_of b)) 238 (on_each_size (λ b. nat_le (length (groups_of b)) 238) refl b h)
 
 -- ---- order
 
