@@ -58,6 +58,7 @@ impl Position {
     pub fn empty(size: Size) -> Position
         ensures { result ≡ empty_position size }
     {
+        // its contract tells that the size is a board's
         let _board = size.cols();
         Position {
             size,

@@ -8,11 +8,11 @@ use Rattle.std.proofs.lemmas.List.Folds.{list_any-append}
 use Rattle.std.proofs.lemmas.List.Kept.{AllPairs-cons}
 use Rattle.game_rules.specs.Board.{Board, Square, below, is_cols, is_rows, is_board, on_board, step_of, is_line, ways}
 use Rattle.game_rules.specs.Position.{Position, board_of, has_man, four_at, four_in_column, four_along, has_four}
-use Rattle.game_rules.specs.Squares.{same_square, squares_in_column, squares_of_board, widest, StandsBefore}
+use Rattle.game_rules.specs.Squares.{same_square, has_square, squares_in_column, squares_of_board, widest, StandsBefore}
 use Rattle.game_rules.specs.Groups.{Group, squares_of, lies_on, rank, same_group, has_group, groups_along, groups_of, Precedes, groups_where, IsGroupSetOf}
-use Rattle.game_rules.proofs.Lists.{Among, any_gives, any_from, any_same, any_map, Among-append_cases, Among-filter, Among-filter_gives, Among-map, Among-flat_map, Among-flat_map_gives, Among-range_gives}
+use Rattle.game_rules.proofs.Lists.{Among, any_gives, any_from, any_same, any_map, all_gives, Among-append_cases, Among-filter, Among-filter_gives, Among-map, Among-flat_map, Among-flat_map_gives, Among-range_gives, Among-below, Among-below_gives}
 use Rattle.game_rules.proofs.Ends.{on_board_parts, on_board_from, each_step, from_steps, step_none, Among-ways}
-use Rattle.game_rules.proofs.Squares.{agree, same_square_refl, same_square_is, Among-map_gives, Among-board, filter_same}
+use Rattle.game_rules.proofs.Squares.{agree, same_square_refl, same_square_is, has_gives, has_from, Among-map_gives, Among-board, filter_same}
 use Rattle.game_rules.specs.declared.Side.{Side}
 use Rattle.game_rules.specs.declared.Way.{Way}
 use Rattle.game_rules.specs.declared.Way.TheVariants.{H, V, U, D}
@@ -87,44 +87,38 @@ board_most b h =
 pub line_widest : (b : Board) → is_board b ≡ true → (way : Way) (anchor : Square) → is_line b way anchor ≡ true → is_line widest way anchor ≡ true
 line_widest b h way anchor line = let most = board_most b h in line_wider b widest most.0 most.1 way anchor line
 
--- ---- how many groups there are, size by size
+-- ---- at every size
 
-abbrev Fits : ℕ → Type 0
-Fits cols = (rows : ℕ) → is_rows rows ≡ true → nat_le (length (groups_of (record { cols = cols; rows = rows }))) 238 ≡ true
+-- the numbers of columns and of rows that a board has
+abbrev all_cols : List ℕ
+all_cols = 4 ∷ 5 ∷ 6 ∷ 7 ∷ 8 ∷ 9 ∷ 10 ∷ []
 
-at_4 : Fits 4
-unfolding groups_of squares_of_board
-at_4 = of_rows (λ rows. nat_le (length (groups_of (record { cols = 4; rows = rows }))) 238 ≡ true) refl refl refl refl
+abbrev all_rows : List ℕ
+all_rows = 4 ∷ 6 ∷ 8 ∷ 10 ∷ []
 
-at_5 : Fits 5
-unfolding groups_of squares_of_board
-at_5 = of_rows (λ rows. nat_le (length (groups_of (record { cols = 5; rows = rows }))) 238 ≡ true) refl refl refl refl
+-- the sizes with a number of columns
+abbrev with_cols : ℕ → List Board
+with_cols cols = map (λ rows. record { cols = cols; rows = rows }) all_rows
 
-at_6 : Fits 6
-unfolding groups_of squares_of_board
-at_6 = of_rows (λ rows. nat_le (length (groups_of (record { cols = 6; rows = rows }))) 238 ≡ true) refl refl refl refl
+cols_among : (n : ℕ) → is_cols n ≡ true → Among n all_cols
+cols_among =
+    of_cols (λ n. Among n all_cols)
+    (inl refl) (inr (inl refl)) (inr (inr (inl refl))) (inr (inr (inr (inl refl)))) (inr (inr (inr (inr (inl refl))))) (inr (inr (inr (inr (inr (inl refl)))))) (inr (inr (inr (inr (inr (inr (inl refl)))))))
 
-at_7 : Fits 7
-unfolding groups_of squares_of_board
-at_7 = of_rows (λ rows. nat_le (length (groups_of (record { cols = 7; rows = rows }))) 238 ≡ true) refl refl refl refl
+rows_among : (n : ℕ) → is_rows n ≡ true → Among n all_rows
+rows_among = of_rows (λ n. Among n all_rows) (inl refl) (inr (inl refl)) (inr (inr (inl refl))) (inr (inr (inr (inl refl))))
 
-at_8 : Fits 8
-unfolding groups_of squares_of_board
-at_8 = of_rows (λ rows. nat_le (length (groups_of (record { cols = 8; rows = rows }))) 238 ≡ true) refl refl refl refl
-
-at_9 : Fits 9
-unfolding groups_of squares_of_board
-at_9 = of_rows (λ rows. nat_le (length (groups_of (record { cols = 9; rows = rows }))) 238 ≡ true) refl refl refl refl
-
-at_10 : Fits 10
-unfolding groups_of squares_of_board
-at_10 = of_rows (λ rows. nat_le (length (groups_of (record { cols = 10; rows = rows }))) 238 ≡ true) refl refl refl refl
+-- what passes at each of the sizes passes on each board
+pub on_each_size : (test : Board → Bool) → list_all test (flat_map with_cols all_cols) ≡ true → (b : Board) → is_board b ≡ true → test b ≡ true
+on_each_size test h b is =
+    let both = and_parts (is_cols b.cols) (is_rows b.rows) is in
+    all_gives test (flat_map with_cols all_cols) b h
+    (Among-flat_map with_cols all_cols b.cols b (cols_among b.cols both.0) (Among-map (λ rows. record { cols = b.cols; rows = rows }) all_rows b.rows (rows_among b.rows both.1)))
 
 -- no board has more than 238 groups
 pub groups_fit : (b : Board) → is_board b ≡ true → length (groups_of b) ≤ 238
-groups_fit b h =
-    let both = and_parts (is_cols b.cols) (is_rows b.rows) h in
-    leb-true (length (groups_of b)) 238 (of_cols Fits at_4 at_5 at_6 at_7 at_8 at_9 at_10 b.cols both.0 b.rows both.1)
+unfolding groups_of squares_of_board
+groups_fit b h = leb-true (length (groups_of b)) 238 (on_each_size (λ b. nat_le (length (groups_of b)) 238) refl b h)
 
 -- ---- order
 
@@ -317,3 +311,62 @@ group_set_same f g gs set same = record {
   in_order = set.in_order ∙ groups_where_same f g (λ h on. same h);
   has = λ h. set.has h ∙ same h;
 }
+
+-- ---- a group is told by its squares
+
+-- a square of a line is one of its four steps
+step_gives : (way : Way) (s u : Square) → has_square (squares_of (s, way)) u ≡ true → (i : ℕ) × (i < 4) × (step_of way s i ≡ u)
+step_gives way s u h =
+    let from = Among-map_gives (step_of way s) (below 4) u (has_gives (squares_of (s, way)) u h) in
+    (from.0, Among-below_gives 4 from.0 from.1, from.2)
+
+step_has : (way : Way) (s : Square) (i : ℕ) → i < 4 → has_square (squares_of (s, way)) (step_of way s i) ≡ true
+step_has way s i low = has_from (squares_of (s, way)) (step_of way s i) (Among-map (step_of way s) (below 4) i (Among-below 4 i low))
+
+-- Two lines above the ground, the first two squares of the one among the other's, and the other's anchor among the
+-- one's: they are one.
+told_by_steps : (v w : Way) (s t : Square) (i j k : ℕ) → 1 ≤ (step_of v s 3).1 → 1 ≤ (step_of w t 3).1 → i < 4 → j < 4 → k < 4
+    → step_of w t i ≡ s → step_of w t j ≡ step_of v s 1 → step_of v s k ≡ t → ◌≡◌ {A = Group} (s, v) (t, w)
+told_by_steps v w (c, r) (d, q) i j k high_s high_t low_i low_j low_k first second back =
+    at v w (ap column first) (ap row first) (ap column second) (ap row second) (ap column back) (ap row back) high_s high_t
+  where
+    column : Square → ℕ
+    column u = u.0
+
+    row : Square → ℕ
+    row u = u.1
+
+    same : (v : Way) → c ≡ d → r ≡ q → ◌≡◌ {A = Group} ((c, r), v) ((d, q), v)
+    same v a b = rw (a, b) refl
+
+    at : (v w : Way) → (step_of w (d, q) i).0 ≡ c → (step_of w (d, q) i).1 ≡ r → (step_of w (d, q) j).0 ≡ (step_of v (c, r) 1).0
+        → (step_of w (d, q) j).1 ≡ (step_of v (c, r) 1).1 → (step_of v (c, r) k).0 ≡ d → (step_of v (c, r) k).1 ≡ q
+        → 1 ≤ (step_of v (c, r) 3).1 → 1 ≤ (step_of w (d, q) 3).1 → ◌≡◌ {A = Group} ((c, r), v) ((d, q), w)
+    at H H a b x y e f m n = same H (omega arith) (omega arith)
+    at H V a b x y e f m n = absurd (omega arith)
+    at H U a b x y e f m n = absurd (omega arith)
+    at H D a b x y e f m n = absurd (omega arith)
+    at V H a b x y e f m n = absurd (omega arith)
+    at V V a b x y e f m n = same V (omega arith) (omega arith)
+    at V U a b x y e f m n = absurd (omega arith)
+    at V D a b x y e f m n = absurd (omega arith)
+    at U H a b x y e f m n = absurd (omega arith)
+    at U V a b x y e f m n = absurd (omega arith)
+    at U U a b x y e f m n = same U (omega arith) (omega arith)
+    at U D a b x y e f m n = absurd (omega arith)
+    at D H a b x y e f m n = absurd (omega arith)
+    at D V a b x y e f m n = absurd (omega arith)
+    at D U a b x y e f m n = absurd (omega arith)
+    at D D a b x y e f m n = same D (omega arith) (omega arith)
+
+-- two groups of a board with the same four squares are one
+pub group_told : (b : Board) (g h : Group) → lies_on b g ≡ true → lies_on b h ≡ true → ((u : Square) → has_square (squares_of g) u ≡ has_square (squares_of h) u) → g ≡ h
+group_told b (s, v) (t, w) on_g on_h same =
+    let first = step_gives w t (step_of v s 0) (sym (same (step_of v s 0)) ∙ step_has v s 0 (omega arith)) in
+    let second = step_gives w t (step_of v s 1) (sym (same (step_of v s 1)) ∙ step_has v s 1 (omega arith)) in
+    let back = step_gives v s (step_of w t 0) (same (step_of w t 0) ∙ step_has w t 0 (omega arith)) in
+    told_by_steps v w s t first.0 second.0 back.0 (above_ground v s on_g) (above_ground w t on_h) first.1 second.1 back.1
+    (first.2 ∙ step_none v s) second.2 (back.2 ∙ step_none w t)
+  where
+    above_ground : (way : Way) (s : Square) → is_line b way s ≡ true → 1 ≤ (step_of way s 3).1
+    above_ground way s on = let last = step_of way s 3 in (on_board_parts b last.0 last.1 (each_step (on_board b) way s on 3 (omega arith))).1

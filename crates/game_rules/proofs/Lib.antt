@@ -1,5 +1,6 @@
 mod Vectors
 pub mod Lists
+pub mod Filtered
 pub mod Numbers
 pub mod Moves
 pub mod Values

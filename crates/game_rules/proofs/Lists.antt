@@ -1,5 +1,5 @@
 -- Tests of some element of a list, and which elements a list has.
-use Rattle.std.proofs.Common.{◌≡◌, ◌⊎◌, ℕ, zero, suc, ◌+◌, ◌<◌, ◌≤◌, Bool, true, false, not, ◌||◌, cond, List, [], ◌∷◌, ◌++◌, map, filter, refl, sym, ap, ◌∙◌, subst, inl, inr, arith}
+use Rattle.std.proofs.Common.{◌≡◌, ◌⊎◌, ℕ, zero, suc, ◌+◌, ◌<◌, ◌≤◌, Bool, true, false, not, ◌||◌, cond, List, [], ◌∷◌, ◌++◌, length, map, filter, refl, sym, ap, ◌∙◌, subst, inl, inr, arith}
 use Rattle.std.specs.List.{list_any, list_all, flat_map, range_with_len}
 use Rattle.std.proofs.lemmas.Bool.{or_cases, or_right, cases_Bool, cases_lt, false_from_ne_true, both_ways, and_parts, and_from}
 use Rattle.std.proofs.lemmas.List.Concat.{flat_map-cons}
@@ -127,3 +127,17 @@ all_gives p (y ∷ xs) x h (inr later) = all_gives p xs x (and_parts (p y) (list
 pub all_from : {X : Type 0} (p : X → Bool) (xs : List X) → ((x : X) → Among x xs → p x ≡ true) → list_all p xs ≡ true
 all_from p [] each = refl
 all_from p (y ∷ xs) each = and_from (p y) (list_all p xs) (each y (inl refl)) (all_from p xs (λ x among. each x (inr among)))
+
+-- fewer pass a stronger test
+pub filter_fewer : {X : Type 0} (p q : X → Bool) (xs : List X) → ((x : X) → p x ≡ true → q x ≡ true) → length (filter p xs) ≤ length (filter q xs)
+filter_fewer p q [] h = omega arith
+filter_fewer p q (x ∷ xs) h = elim (cases_Bool (q x)) [
+  | inl weaker ↦ elim (cases_Bool (p x)) [
+    | inl passes ↦ rw (passes, weaker) (let rest = filter_fewer p q xs h in omega (arith, rest))
+    | inr fails ↦ rw (fails, weaker) (let rest = filter_fewer p q xs h in omega (arith, rest))
+  ]
+  | inr none ↦ elim (cases_Bool (p x)) [
+    | inl passes ↦ absurd (cc (h x passes, none))
+    | inr fails ↦ rw (fails, none) (filter_fewer p q xs h)
+  ]
+]

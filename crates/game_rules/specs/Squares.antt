@@ -4,6 +4,7 @@ use Rattle.std.specs.List.{list_any, flat_map}
 use Rattle.game_rules.specs.Board.{Board, Square, below, on_board}
 use Rattle.game_rules.specs.Position.{Position, board_of, height, man_at}
 
+-- the same column and the same row
 abbrev pub same_square : Square → Square → Bool
 same_square u v = (u.0 == v.0) && (u.1 == v.1)
 

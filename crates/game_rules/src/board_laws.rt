@@ -31,10 +31,13 @@ pub fn a_playable_square_is_empty_over_filled_ones()
         → (is_playable p u ≡ true) ↔ ((is_empty p u ≡ true) × ((row : ℕ) → 1 ≤ row → row < u.1 → man_at p (u.0, row) ≢ None)) }
 {}
 
-/// The groups of a board are exactly its lines, each once, in group order, and at most 238.
+/// The groups of a board are exactly its lines, each once, in group order, and at most 238. Two groups with the same four
+/// squares are one group, so each line stands there once as a set of squares too.
 pub fn groups_are_the_lines_of_the_board()
     ensures lines { (board : Board) (g : Group) → has_group (groups_of board) g ≡ lies_on board g }
     ensures order { (board : Board) → AllPairs Precedes (groups_of board) }
+    ensures told { (board : Board) (g h : Group) → lies_on board g ≡ true → lies_on board h ≡ true
+        → ((u : Square) → has_square (squares_of g) u ≡ has_square (squares_of h) u) → g ≡ h }
     ensures most { (board : Board) → is_board board ≡ true → length (groups_of board) ≤ 238 }
 {}
 

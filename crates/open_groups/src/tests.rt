@@ -1,6 +1,8 @@
-//! How many groups a board has, and which of them a man takes from the other side, as counted by hand.
+//! How many groups a board has, and which of them a man takes from the other side, as counted by hand. Two tests are of
+//! the sizes, positions and squares of `board_bits`, which has none of its own: what a square holds, and that a game
+//! without moves is the empty position.
 use crate::{GroupId, GroupSet, free_for, group_anchor, group_at, group_mask, group_way, groups};
-use board_bits::{Mask, Side, Size, Square, read_game};
+use board_bits::{Mask, Position, Side, Size, Square, read_game};
 use game_rules::Way;
 use std::test::Fail;
 
@@ -69,5 +71,14 @@ fn squares_are_empty_playable_or_held(rt: HostRuntime) -> Result<(), Fail> {
     assert!(rt; position.is_empty(high) && !position.is_playable(high));
     assert!(rt; position.same(&read_game(b"board 4 4\nmoves ab")?));
     assert!(rt; !position.same(&read_game(b"board 4 4\nmoves ba\n")?));
+    Ok(())
+}
+
+#[test]
+fn a_game_without_moves_is_the_empty_position(rt: HostRuntime) -> Result<(), Fail> {
+    let empty = Position::empty(Size::new(4, 4)?);
+    assert!(rt; read_game(b"board 4 4\nmoves -")?.same(&empty));
+    assert!(rt; !read_game(b"board 4 6\nmoves -")?.same(&empty));
+    assert!(rt; !read_game(b"board 4 4\nmoves a")?.same(&empty));
     Ok(())
 }

@@ -3,14 +3,16 @@ use Rattle.std.proofs.Common.{◌≡◌, ◌≢◌, ◌+◌, ◌≤◌, true, fa
 use Rattle.std.proofs.lemmas.Bool.{and_parts, and_from, or_cases, both_ways, not-true, eq-eqb}
 use Rattle.game_rules.specs.Board.{Square, on_board}
 use Rattle.game_rules.specs.Position.{Position, board_of, height, man_at, after_move}
+use Rattle.game_rules.specs.Squares.{same_square, is_playable}
 use Rattle.game_rules.specs.declared.Side.TheVariants.{White, Black}
 use Rattle.game_rules.proofs.Lists.{Among}
 use Rattle.game_rules.proofs.Ends.{on_board_parts}
-use Rattle.plan_rules.specs.Squares.{same_square, above, is_playable, word_at}
+use Rattle.game_rules.proofs.Squares.{same_square_refl, has_gives, has_from}
+use Rattle.plan_rules.specs.Squares.{above, word_at}
 use Rattle.plan_rules.specs.Rules.{baseclaim, zone_of, fits, reply_to, upper_of, pair_of, twin_of, barred, is_supported}
 use Rattle.plan_rules.specs.Calm.{claim_words, is_calm}
 use Rattle.plan_rules.specs.Laws.{StartLaw, LocalLaw, StepLaw, FactLaw, BarLaw, Answers}
-use Rattle.plan_rules.proofs.Squares.{same_square_refl, other_column, other_row, holds_gives, holds_from}
+use Rattle.plan_rules.proofs.Squares.{other_column, other_row}
 use Rattle.plan_rules.proofs.Turns.{turn, answer_at, low_kept, low_above, low_over}
 use Rattle.plan_rules.proofs.Grounds.{fits_shape}
 use Rattle.plan_rules.proofs.Words.{narrow, are_white, is_free, is_free_over, free_from, free_over_from, words_local, zone_on_board, zone_none, foot_low, no_facts, empty_now, filled_now}
@@ -60,7 +62,7 @@ module _ (a b e : Square) where
       }
 
   pub baseclaim_step : StepLaw (zone_of (baseclaim a b e)) (fits (baseclaim a b e)) (is_calm (baseclaim a b e)) (reply_to (baseclaim a b e))
-  baseclaim_step p q s fitted board calm white playable owned founded = elim (holds_gives zone s owned) [
+  baseclaim_step p q s fitted board calm white playable owned founded = elim (has_gives zone s owned) [
     | inl here ↦ move a here at_a
     | inr later ↦ elim later [
       | inl here ↦ move b here at_b
@@ -118,7 +120,7 @@ module _ (a b e : Square) where
       u_e = other_column (above b) e three.b_e
 
       foot_a : a.1 ≤ height q a.0 + 1
-      foot_a = foot_low (zone_of (baseclaim a b e)) q founded a (holds_from (zone_of (baseclaim a b e)) a in_a) (λ u owned same. elim (holds_gives (zone_of (baseclaim a b e)) u owned) [
+      foot_a = foot_low (zone_of (baseclaim a b e)) q founded a (has_from (zone_of (baseclaim a b e)) a in_a) (λ u owned same. elim (has_gives (zone_of (baseclaim a b e)) u owned) [
         | inl here ↦ omega (arith, ap (λ (v : Square). v.1) here)
         | inr later ↦ elim later [
           | inl here ↦ absurd (three.a_b (sym (ap (λ (v : Square). v.0) here ∙ same)))
@@ -130,7 +132,7 @@ module _ (a b e : Square) where
       ])
 
       foot_b : b.1 ≤ height q b.0 + 1
-      foot_b = foot_low (zone_of (baseclaim a b e)) q founded b (holds_from (zone_of (baseclaim a b e)) b in_b) (λ u owned same. elim (holds_gives (zone_of (baseclaim a b e)) u owned) [
+      foot_b = foot_low (zone_of (baseclaim a b e)) q founded b (has_from (zone_of (baseclaim a b e)) b in_b) (λ u owned same. elim (has_gives (zone_of (baseclaim a b e)) u owned) [
         | inl here ↦ absurd (three.a_b (ap (λ (v : Square). v.0) here ∙ same))
         | inr later ↦ elim later [
           | inl here ↦ omega (arith, ap (λ (v : Square). v.1) here)
@@ -142,7 +144,7 @@ module _ (a b e : Square) where
       ])
 
       foot_e : e.1 ≤ height q e.0 + 1
-      foot_e = foot_low (zone_of (baseclaim a b e)) q founded e (holds_from (zone_of (baseclaim a b e)) e in_e) (λ u owned same. elim (holds_gives (zone_of (baseclaim a b e)) u owned) [
+      foot_e = foot_low (zone_of (baseclaim a b e)) q founded e (has_from (zone_of (baseclaim a b e)) e in_e) (λ u owned same. elim (has_gives (zone_of (baseclaim a b e)) u owned) [
         | inl here ↦ absurd (three.a_e (ap (λ (v : Square). v.0) here ∙ same))
         | inr later ↦ elim later [
           | inl here ↦ absurd (three.b_e (ap (λ (v : Square). v.0) here ∙ same))
@@ -168,7 +170,7 @@ module _ (a b e : Square) where
             record {
               to = e;
               is_reply = rw (here, e_now) refl;
-              in_zone = holds_from (zone_of (baseclaim a b e)) e in_e;
+              in_zone = has_from (zone_of (baseclaim a b e)) e in_e;
               playable = open_now;
               calm_after = rw (after.white, now_b, after.black, now_u) refl;
             }
@@ -187,7 +189,7 @@ module _ (a b e : Square) where
               record {
                 to = (above b);
                 is_reply = rw (here, e_now) refl;
-                in_zone = holds_from (zone_of (baseclaim a b e)) (above b) in_u;
+                in_zone = has_from (zone_of (baseclaim a b e)) (above b) in_u;
                 playable = open_now;
                 calm_after = rw (after.white, now_b, now_e, after.black) refl;
               }
@@ -206,7 +208,7 @@ module _ (a b e : Square) where
                 record {
                   to = (above b);
                   is_reply = rw (here, e_now) refl;
-                  in_zone = holds_from (zone_of (baseclaim a b e)) (above b) in_u;
+                  in_zone = has_from (zone_of (baseclaim a b e)) (above b) in_u;
                   playable = open_now;
                   calm_after = rw (after.white, now_b, now_e, after.black) refl;
                 }
@@ -230,7 +232,7 @@ module _ (a b e : Square) where
             record {
               to = e;
               is_reply = rw (b_a, here, e_now) refl;
-              in_zone = holds_from (zone_of (baseclaim a b e)) e in_e;
+              in_zone = has_from (zone_of (baseclaim a b e)) e in_e;
               playable = open_now;
               calm_after = rw (now_a, after.white, after.black, now_u) refl;
             }
@@ -248,7 +250,7 @@ module _ (a b e : Square) where
               record {
                 to = (above b);
                 is_reply = rw (b_a, here, e_now) refl;
-                in_zone = holds_from (zone_of (baseclaim a b e)) (above b) in_u;
+                in_zone = has_from (zone_of (baseclaim a b e)) (above b) in_u;
                 playable = open_now;
                 calm_after = rw (now_a, after.white, now_e, after.black) refl;
               }
@@ -270,7 +272,7 @@ module _ (a b e : Square) where
             record {
               to = b;
               is_reply = rw (e_a, e_b, here) refl;
-              in_zone = holds_from (zone_of (baseclaim a b e)) b in_b;
+              in_zone = has_from (zone_of (baseclaim a b e)) b in_b;
               playable = open_now;
               calm_after = rw (now_a, after.black, after.white, now_u) refl;
             }
@@ -291,7 +293,7 @@ module _ (a b e : Square) where
             record {
               to = a;
               is_reply = rw (u_a, u_b, u_e, here) refl;
-              in_zone = holds_from (zone_of (baseclaim a b e)) a in_a;
+              in_zone = has_from (zone_of (baseclaim a b e)) a in_a;
               playable = open_now;
               calm_after = rw (after.black, now_b, now_e, after.white) refl;
             }
@@ -308,7 +310,7 @@ module _ (a b e : Square) where
               record {
                 to = a;
                 is_reply = rw (u_a, u_b, u_e, here) refl;
-                in_zone = holds_from (zone_of (baseclaim a b e)) a in_a;
+                in_zone = has_from (zone_of (baseclaim a b e)) a in_a;
                 playable = open_now;
                 calm_after = rw (after.black, now_b, now_e, after.white) refl;
               }

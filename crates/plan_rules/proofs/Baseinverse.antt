@@ -4,13 +4,15 @@ use Rattle.std.specs.List.{slice_get}
 use Rattle.std.proofs.lemmas.Bool.{ltb-true, and_parts, and_from, false_from_ne_true}
 use Rattle.game_rules.specs.Board.{Square, on_board}
 use Rattle.game_rules.specs.Position.{Position, board_of, height, man_at, has_man, after_move}
+use Rattle.game_rules.specs.Squares.{same_square, is_playable}
 use Rattle.game_rules.specs.declared.Side.TheVariants.{White}
 use Rattle.game_rules.proofs.Lists.{Among}
-use Rattle.plan_rules.specs.Squares.{same_square, is_playable, word_at}
+use Rattle.game_rules.proofs.Squares.{same_square_refl, has_gives, has_from}
+use Rattle.plan_rules.specs.Squares.{word_at}
 use Rattle.plan_rules.specs.Rules.{baseinverse, zone_of, fits, reply_to, upper_of, pair_of, twin_of, as_list, barred, is_supported}
 use Rattle.plan_rules.specs.Calm.{inverse_words, is_calm}
 use Rattle.plan_rules.specs.Laws.{StartLaw, LocalLaw, StepLaw, FactLaw, BarLaw, Answers}
-use Rattle.plan_rules.proofs.Squares.{same_square_refl, other_column, holds_gives, holds_from}
+use Rattle.plan_rules.proofs.Squares.{other_column}
 use Rattle.plan_rules.proofs.Turns.{turn, answer_at, low_kept}
 use Rattle.plan_rules.proofs.Grounds.{fits_shape}
 use Rattle.plan_rules.proofs.Words.{narrow, are_white, is_free, free_from, words_local, zone_on_board, zone_none, foot_low}
@@ -41,7 +43,7 @@ module _ (s t : Square) where
   baseinverse_local = words_local inverse_words zone
 
   pub baseinverse_step : StepLaw (zone_of (baseinverse s t)) (fits (baseinverse s t)) (is_calm (baseinverse s t)) (reply_to (baseinverse s t))
-  baseinverse_step p q last fitted board calm white playable owned founded = elim (holds_gives zone last owned) [
+  baseinverse_step p q last fitted board calm white playable owned founded = elim (has_gives zone last owned) [
     | inl here ↦ subst (λ u. Answers zone (is_calm (baseinverse s t)) (reply_to (baseinverse s t)) q u) here (at_s (subst (λ u. is_playable q u ≡ true) (sym here) playable))
     | inr later ↦ elim later [
       | inl here ↦ subst (λ u. Answers zone (is_calm (baseinverse s t)) (reply_to (baseinverse s t)) q u) here (at_t (subst (λ u. is_playable q u ≡ true) (sym here) playable))
@@ -62,13 +64,13 @@ module _ (s t : Square) where
       t_s = other_column t s (λ same. apart (sym same))
 
       foot_s : s.1 ≤ height q s.0 + 1
-      foot_s = foot_low (zone_of (baseinverse s t)) q founded s (holds_from (zone_of (baseinverse s t)) s (inl refl)) (λ u owned same. elim (holds_gives (zone_of (baseinverse s t)) u owned) [
+      foot_s = foot_low (zone_of (baseinverse s t)) q founded s (has_from (zone_of (baseinverse s t)) s (inl refl)) (λ u owned same. elim (has_gives (zone_of (baseinverse s t)) u owned) [
         | inl here ↦ omega (arith, ap (λ (v : Square). v.1) here)
         | inr later ↦ elim later [ inl here ↦ absurd (apart (sym same ∙ sym (ap (λ (v : Square). v.0) here))) | inr more ↦ absurd more ]
       ])
 
       foot_t : t.1 ≤ height q t.0 + 1
-      foot_t = foot_low (zone_of (baseinverse s t)) q founded t (holds_from (zone_of (baseinverse s t)) t (inr (inl refl))) (λ u owned same. elim (holds_gives (zone_of (baseinverse s t)) u owned) [
+      foot_t = foot_low (zone_of (baseinverse s t)) q founded t (has_from (zone_of (baseinverse s t)) t (inr (inl refl))) (λ u owned same. elim (has_gives (zone_of (baseinverse s t)) u owned) [
         | inl here ↦ absurd (apart (ap (λ (v : Square). v.0) here ∙ same))
         | inr later ↦ elim later [ inl here ↦ omega (arith, ap (λ (v : Square). v.1) here) | inr more ↦ absurd more ]
       ])
@@ -83,7 +85,7 @@ module _ (s t : Square) where
             record {
               to = t;
               is_reply = let here = same_square_refl s in rw here refl;
-              in_zone = holds_from (zone_of (baseinverse s t)) t (inr (inl refl));
+              in_zone = has_from (zone_of (baseinverse s t)) t (inr (inl refl));
               playable = open_now;
               calm_after = rw (after.white, after.black) refl;
             }
@@ -99,7 +101,7 @@ module _ (s t : Square) where
             record {
               to = s;
               is_reply = let here = same_square_refl t in rw (t_s, here) refl;
-              in_zone = holds_from (zone_of (baseinverse s t)) s (inl refl);
+              in_zone = has_from (zone_of (baseinverse s t)) s (inl refl);
               playable = open_now;
               calm_after = rw (after.white, after.black) refl;
             }

@@ -3,14 +3,16 @@ use Rattle.std.proofs.Common.{◌≡◌, true, false, List, [], ◌∷◌, Some,
 use Rattle.std.proofs.lemmas.Bool.{cond-true, false_from_ne_true}
 use Rattle.game_rules.specs.Board.{Square, on_board}
 use Rattle.game_rules.specs.Position.{board_of, man_at, has_man, after_move}
+use Rattle.game_rules.specs.Squares.{same_square, is_playable}
 use Rattle.game_rules.specs.declared.Side.TheVariants.{White}
 use Rattle.game_rules.proofs.Lists.{Among}
 use Rattle.game_rules.proofs.Ends.{on_board_parts}
-use Rattle.plan_rules.specs.Squares.{same_square, above, is_playable, word_at}
+use Rattle.game_rules.proofs.Squares.{same_square_refl, has_gives, has_from}
+use Rattle.plan_rules.specs.Squares.{above, word_at}
 use Rattle.plan_rules.specs.Rules.{claimeven, zone_of, fits, reply_to, upper_of, pair_of, twin_of, barred, is_supported}
 use Rattle.plan_rules.specs.Calm.{even_words, is_calm}
 use Rattle.plan_rules.specs.Laws.{StartLaw, LocalLaw, StepLaw, FactLaw, BarLaw, Answers}
-use Rattle.plan_rules.proofs.Squares.{same_square_refl, other_row, holds_gives, holds_from}
+use Rattle.plan_rules.proofs.Squares.{other_row}
 use Rattle.plan_rules.proofs.Turns.{turn, answer_at, low_above}
 use Rattle.plan_rules.proofs.Words.{narrow, is_white, is_free, is_free_over, free_from, free_over_from, words_local, zone_on_board, zone_none}
 use Rattle.plan_rules.proofs.Lawful.{Lawful}
@@ -29,7 +31,7 @@ module _ (x : Square) where
   claimeven_local = words_local even_words zone
 
   pub claimeven_step : StepLaw (zone_of (claimeven x)) (fits (claimeven x)) (is_calm (claimeven x)) (reply_to (claimeven x))
-  claimeven_step p q s fitted board calm white playable owned founded = elim (holds_gives zone s owned) [
+  claimeven_step p q s fitted board calm white playable owned founded = elim (has_gives zone s owned) [
     | inl here ↦ subst (λ s. Answers zone (is_calm (claimeven x)) (reply_to (claimeven x)) q s) here (at_lower (subst (λ s. is_playable q s ≡ true) (sym here) playable))
     | inr later ↦ elim later [
       | inl here ↦ absurd (at_upper (subst (λ s. is_playable q s ≡ true) (sym here) playable))
@@ -54,7 +56,7 @@ module _ (x : Square) where
             record {
               to = above x;
               is_reply = cond-true (same_square x x) (Some (above x)) None (same_square_refl x);
-              in_zone = holds_from zone (above x) (inr (inl refl));
+              in_zone = has_from zone (above x) (inr (inl refl));
               playable = open_now;
               calm_after = rw (after.white, after.black) refl;
             }
@@ -62,7 +64,7 @@ module _ (x : Square) where
 
   pub claimeven_keeps : FactLaw (fits (claimeven x)) (is_calm (claimeven x)) (upper_of (claimeven x)) (pair_of (claimeven x)) (twin_of (claimeven x))
   claimeven_keeps p q fitted calm = record {
-    uppers = λ u among. elim (holds_gives (above x ∷ []) u among) [
+    uppers = λ u among. elim (has_gives (above x ∷ []) u among) [
       | inl here ↦ subst (λ u. has_man q White u ≡ false) here (false_from_ne_true _ (λ owned. narrow (is_white 1) even_words (word_at q zone) calm owned))
       | inr more ↦ absurd more
     ];

@@ -4,10 +4,11 @@ use Rattle.std.specs.List.{slice_get}
 use Rattle.std.proofs.lemmas.Bool.{cases_lt}
 use Rattle.game_rules.specs.Board.{Square}
 use Rattle.game_rules.specs.Position.{Position, men_in, height, man_at, side_to_move, after_move}
+use Rattle.game_rules.specs.Squares.{is_playable}
 use Rattle.game_rules.specs.declared.Side.{Side}
 use Rattle.game_rules.proofs.Lists.{Among}
 use Rattle.game_rules.proofs.Moves.{man_past}
-use Rattle.plan_rules.specs.Squares.{above, column_up, is_playable, put_first, men_on}
+use Rattle.plan_rules.specs.Squares.{above, column_up, put_first, men_on}
 use Rattle.plan_rules.proofs.Squares.{other_column, other_row, column_gives}
 use Rattle.plan_rules.proofs.Turns.{filled_under, playable_parts, placed, beside, height_here}
 

@@ -5,16 +5,18 @@ use Rattle.std.specs.List.{list_all}
 use Rattle.std.proofs.lemmas.Bool.{cases_lt, cases_order, both_ways, and_parts, or_cases, ltb-true, leb-true}
 use Rattle.game_rules.specs.Board.{Square, on_board}
 use Rattle.game_rules.specs.Position.{Position, board_of, height, man_at}
+use Rattle.game_rules.specs.Squares.{has_square, is_empty, is_playable}
 use Rattle.game_rules.specs.declared.Side.{Side}
 use Rattle.game_rules.specs.declared.Side.TheVariants.{White, Black}
 use Rattle.game_rules.proofs.Ends.{on_board_parts}
 use Rattle.game_rules.proofs.Lists.{Among}
-use Rattle.plan_rules.specs.Squares.{holds, above, under, column_up, span, is_empty, is_playable, men_on}
+use Rattle.game_rules.proofs.Squares.{has_gives, has_from}
+use Rattle.plan_rules.specs.Squares.{above, under, column_up, span, men_on}
 use Rattle.plan_rules.specs.Rules.{Written, claimeven, baseinverse, lowinverse, highinverse, baseclaim, vertical, aftereven, before, specialbefore, zone_of, is_standing, has_shape, is_shaped, is_grounded, fits_besides, fits, rests_on, stands_over, together}
 use Rattle.plan_rules.specs.Calm.{is_one_of, inverse_words, is_calm}
 use Rattle.plan_rules.specs.Laws.{IsFounded}
 use Rattle.plan_rules.specs.Plan.{IsMember, SomeMember, IsPlan, bottoms_of, HasFloors}
-use Rattle.plan_rules.proofs.Squares.{holds_gives, holds_from, holds_append, holds_left, holds_right, column_gives, column_from}
+use Rattle.plan_rules.proofs.Squares.{has_append, has_left, has_right, column_gives, column_from}
 use Rattle.plan_rules.proofs.Turns.{playable_parts, playable_empty, playable_on_board, filled_height, empty_height, filled_under, height_stays}
 use Rattle.plan_rules.proofs.Columns.{none_on, men_on_append}
 use Rattle.plan_rules.proofs.Table.{RestsOn, together_sym, floor_owner}
@@ -37,24 +39,24 @@ fits_more w p h = (and_parts _ (fits_besides w p) h).1
 pub record Foot (zone : List Square) (q : Position) (u : Square) : Type 0 where
   pub foot : Square
   pub same_column : foot.0 ≡ u.0
-  pub in_zone : holds zone foot ≡ true
+  pub in_zone : has_square zone foot ≡ true
   pub low : foot.1 ≤ height q foot.0 + 1
 
-pub founded_by : (zone : List Square) (q : Position) → ((u : Square) → holds zone u ≡ true → Foot zone q u) → IsFounded zone q
+pub founded_by : (zone : List Square) (q : Position) → ((u : Square) → has_square zone u ≡ true → Foot zone q u) → IsFounded zone q
 founded_by zone q feet u owned lowest = told (feet u owned)
   where
     told : Foot zone q u → u.1 ≤ height q u.0 + 1
     told f = elim (cases_lt f.foot.1 u.1) [
-      | inl lower ↦ absurd (both_ways (holds zone (u.0, f.foot.1)) (lowest f.foot.1 lower) (subst (λ c. holds zone (c, f.foot.1) ≡ true) f.same_column f.in_zone))
+      | inl lower ↦ absurd (both_ways (has_square zone (u.0, f.foot.1)) (lowest f.foot.1 lower) (subst (λ c. has_square zone (c, f.foot.1) ≡ true) f.same_column f.in_zone))
       | inr high ↦ let low : f.foot.1 ≤ height q f.foot.0 + 1 = f.low in omega (arith, ap (height q) f.same_column)
     ]
 
 -- the low squares of the two columns of an inverse
 pub record TwoColumns (zone : List Square) (x y : Square) : Type 0 where
-  pub has_x : holds zone x ≡ true
-  pub has_y : holds zone y ≡ true
+  pub has_x : has_square zone x ≡ true
+  pub has_y : has_square zone y ≡ true
   pub apart : x.0 ≢ y.0
-  pub each : (u : Square) → holds zone u ≡ true → ((u.0 ≡ x.0) × (x.1 ≤ u.1)) ⊎ ((u.0 ≡ y.0) × (y.1 ≤ u.1))
+  pub each : (u : Square) → has_square zone u ≡ true → ((u.0 ≡ x.0) × (x.1 ≤ u.1)) ⊎ ((u.0 ≡ y.0) × (y.1 ≤ u.1))
 
 two_founded : (zone : List Square) (x y : Square) (q : Position) → TwoColumns zone x y → x.1 ≤ height q x.0 + 1 → y.1 ≤ height q y.0 + 1 → IsFounded zone q
 two_founded zone x y q two low_x low_y = founded_by zone q (λ u owned. elim (two.each u owned) [
@@ -70,18 +72,18 @@ low_two x x_top y y_top p h =
     let size_y = leb-true (y.1 + 2) y_top.1 (and_parts _ _ outer.1).1 in
     let order : x.0 < y.0 = ltb-true x.0 y.0 inner.0 in
     record {
-      has_x = holds_left (span x x_top) (span y y_top) x (bottom x x_top (omega (arith, size_x)));
-      has_y = holds_right (span x x_top) (span y y_top) y (bottom y y_top (omega (arith, size_y)));
+      has_x = has_left (span x x_top) (span y y_top) x (bottom x x_top (omega (arith, size_x)));
+      has_y = has_right (span x x_top) (span y y_top) y (bottom y y_top (omega (arith, size_y)));
       apart = λ same. omega arith;
-      each = λ u owned. elim (holds_append (span x x_top) (span y y_top) u owned) [ inl left ↦ inl (within x x_top u left) | inr right ↦ inr (within y y_top u right) ];
+      each = λ u owned. elim (has_append (span x x_top) (span y y_top) u owned) [ inl left ↦ inl (within x x_top u left) | inr right ↦ inr (within y y_top u right) ];
     }
   where
-    bottom : (x x_top : Square) → x.1 ≤ x_top.1 → holds (span x x_top) x ≡ true
-    bottom x x_top size = holds_from (span x x_top) x (subst (λ r. Among (x.0, r) (span x x_top)) (omega arith) (column_from x (x_top.1 + 1 - x.1) 0 (omega arith)))
+    bottom : (x x_top : Square) → x.1 ≤ x_top.1 → has_square (span x x_top) x ≡ true
+    bottom x x_top size = has_from (span x x_top) x (subst (λ r. Among (x.0, r) (span x x_top)) (omega arith) (column_from x (x_top.1 + 1 - x.1) 0 (omega arith)))
 
-    within : (x x_top u : Square) → holds (span x x_top) u ≡ true → (u.0 ≡ x.0) × (x.1 ≤ u.1)
+    within : (x x_top u : Square) → has_square (span x x_top) u ≡ true → (u.0 ≡ x.0) × (x.1 ≤ u.1)
     within x x_top u owned =
-        let at = column_gives x (x_top.1 + 1 - x.1) u (holds_gives (span x x_top) u owned) in
+        let at = column_gives x (x_top.1 + 1 - x.1) u (has_gives (span x x_top) u owned) in
         let row : u.1 ≡ x.1 + at.0 = ap (λ (s : Square). s.1) at.2 in
         (ap (λ (s : Square). s.0) at.2, omega arith)
 
@@ -90,15 +92,15 @@ high_two x y p h =
     let shape = fits_shape (highinverse x y) p h in
     let order : x.0 < y.0 = ltb-true x.0 y.0 (and_parts _ _ (and_parts _ _ shape).0).0 in
     record {
-      has_x = holds_from (column_up x 3 ++ column_up y 3) x (inl refl);
-      has_y = holds_from (column_up x 3 ++ column_up y 3) y (inr (inr (inr (inl refl))));
+      has_x = has_from (column_up x 3 ++ column_up y 3) x (inl refl);
+      has_y = has_from (column_up x 3 ++ column_up y 3) y (inr (inr (inr (inl refl))));
       apart = λ same. omega arith;
-      each = λ u owned. elim (holds_append (column_up x 3) (column_up y 3) u owned) [ inl left ↦ inl (within x u left) | inr right ↦ inr (within y u right) ];
+      each = λ u owned. elim (has_append (column_up x 3) (column_up y 3) u owned) [ inl left ↦ inl (within x u left) | inr right ↦ inr (within y u right) ];
     }
   where
-    within : (x u : Square) → holds (column_up x 3) u ≡ true → (u.0 ≡ x.0) × (x.1 ≤ u.1)
+    within : (x u : Square) → has_square (column_up x 3) u ≡ true → (u.0 ≡ x.0) × (x.1 ≤ u.1)
     within x u owned =
-        let at = column_gives x 3 u (holds_gives (column_up x 3) u owned) in
+        let at = column_gives x 3 u (has_gives (column_up x 3) u owned) in
         let row : u.1 ≡ x.1 + at.0 = ap (λ (s : Square). s.1) at.2 in
         (ap (λ (s : Square). s.0) at.2, omega arith)
 
@@ -138,7 +140,7 @@ module _ (p q : Position) (ws : List Written) (plan : IsPlan p ws)
   -- the floors of an inverse that isn't playable itself: the column of White's square is filled below it, and so is the other
   module _ (i : ℕ) (w : Written) (x y : Square) (member : IsMember ws i w) (moving : is_standing w ≡ false) (none : (a b : Square) → rests_on a b w ≡ false)
       (over : (v : Written) → stands_over w v ≡ true → rests_on x y v ≡ true) (two : TwoColumns (zone_of w) x y) where
-    inverse_owner : (v : Written) (j : ℕ) → IsMember ws j v → is_playable p (under x) ≡ true → holds (zone_of v) (under x) ≡ true → RestsOn x y v
+    inverse_owner : (v : Written) (j : ℕ) → IsMember ws j v → is_playable p (under x) ≡ true → has_square (zone_of v) (under x) ≡ true → RestsOn x y v
     inverse_owner v j member_v floor owned =
         let on = on_board_parts (board_of p) (under x).0 (under x).1 (playable_on_board p (under x) floor) in
         floor_owner x y x w v moving none (over v) two.has_x (omega (arith, on.1)) (members_together j i v w (λ same. not_own same on.1) member_v member) owned
@@ -149,7 +151,7 @@ module _ (p q : Position) (ws : List Written) (plan : IsPlan p ws)
         not_own : j ≡ i → 1 ≤ x.1 - 1 → ⊥
         not_own same low =
             let own : v ≡ w = some_same (sym member_v ∙ subst (λ k. IsMember ws k w) (sym same) member) in
-            elim (two.each (under x) (subst (λ w. holds (zone_of w) (under x) ≡ true) own owned)) [
+            elim (two.each (under x) (subst (λ w. has_square (zone_of w) (under x) ≡ true) own owned)) [
               | inl at_x ↦ omega (arith, at_x.1)
               | inr at_y ↦ two.apart at_y.0
             ]
@@ -158,7 +160,7 @@ module _ (p q : Position) (ws : List Written) (plan : IsPlan p ws)
     floors_alike : is_playable p (under x) ≡ true → is_none (man_at q (under x)) ≡ is_none (man_at q (under y))
     floors_alike floor = told (plan.covered (under x) (playable_empty p (under x) floor))
       where
-        told : SomeMember ws (λ v. holds (zone_of v) (under x) ≡ true) → is_none (man_at q (under x)) ≡ is_none (man_at q (under y))
+        told : SomeMember ws (λ v. has_square (zone_of v) (under x) ≡ true) → is_none (man_at q (under x)) ≡ is_none (man_at q (under y))
         told some =
             let rest = inverse_owner some.member some.place some.is_member floor some.has_it in
             let calm : is_calm (baseinverse rest.s rest.t) q ≡ true = subst (λ v. is_calm v q ≡ true) rest.is_inverse (calms some.place some.member some.is_member) in
@@ -168,7 +170,7 @@ module _ (p q : Position) (ws : List Written) (plan : IsPlan p ws)
             ∙ ap (λ r. is_none (man_at q (rest.t.0, r))) (omega arith)
             ∙ ap (λ u. is_none (man_at q (under u))) rest.below_y
 
-    inverse_founded : is_grounded p x y ≡ true → (s : Square) → is_playable q s ≡ true → holds (zone_of w) s ≡ true → IsFounded (zone_of w) q
+    inverse_founded : is_grounded p x y ≡ true → (s : Square) → is_playable q s ≡ true → has_square (zone_of w) s ≡ true → IsFounded (zone_of w) q
     inverse_founded grounded s playable owned = elim (or_cases _ _ grounded) [
       | inl bottoms ↦ let both = and_parts _ _ bottoms in two_founded (zone_of w) x y q two (still_low x both.0) (still_low y both.1)
       | inr floors ↦
@@ -239,11 +241,11 @@ module _ (p q : Position) (ws : List Written) (plan : IsPlan p ws)
   has_floors i (before g) bottoms member is = absurd (cc is)
   has_floors i (specialbefore g f e0) bottoms member is = absurd (cc is)
 
-  pub founded : (i : ℕ) (w : Written) → IsMember ws i w → (s : Square) → is_playable q s ≡ true → holds (zone_of w) s ≡ true → IsFounded (zone_of w) q
-  founded i (claimeven x) member s playable owned = founded_by (x ∷ above x ∷ []) q (λ u among. elim (holds_gives (x ∷ above x ∷ []) u among) [
-    | inl here ↦ record { foot = x; same_column = ap (λ (s : Square). s.0) here; in_zone = holds_from (x ∷ above x ∷ []) x (inl refl); low = low }
+  pub founded : (i : ℕ) (w : Written) → IsMember ws i w → (s : Square) → is_playable q s ≡ true → has_square (zone_of w) s ≡ true → IsFounded (zone_of w) q
+  founded i (claimeven x) member s playable owned = founded_by (x ∷ above x ∷ []) q (λ u among. elim (has_gives (x ∷ above x ∷ []) u among) [
+    | inl here ↦ record { foot = x; same_column = ap (λ (s : Square). s.0) here; in_zone = has_from (x ∷ above x ∷ []) x (inl refl); low = low }
     | inr later ↦ elim later [
-      | inl here ↦ record { foot = x; same_column = ap (λ (s : Square). s.0) here; in_zone = holds_from (x ∷ above x ∷ []) x (inl refl); low = low }
+      | inl here ↦ record { foot = x; same_column = ap (λ (s : Square). s.0) here; in_zone = has_from (x ∷ above x ∷ []) x (inl refl); low = low }
       | inr more ↦ absurd more
     ]
   ])
@@ -252,7 +254,7 @@ module _ (p q : Position) (ws : List Written) (plan : IsPlan p ws)
       row = (playable_parts q s playable).1
 
       low : x.1 ≤ height q x.0 + 1
-      low = elim (holds_gives (x ∷ above x ∷ []) s owned) [
+      low = elim (has_gives (x ∷ above x ∷ []) s owned) [
         | inl here ↦ omega (arith, row, ap (λ (s : Square). s.1) here, ap (height q) (ap (λ (s : Square). s.0) here))
         | inr later ↦ elim later [
           | inl here ↦ omega (arith, row, ap (λ (s : Square). s.1) here, ap (height q) (ap (λ (s : Square). s.0) here))
@@ -261,10 +263,10 @@ module _ (p q : Position) (ws : List Written) (plan : IsPlan p ws)
       ]
   founded i (baseinverse a b) member s playable owned =
       let both = and_parts _ _ (fits_more (baseinverse a b) p (plan.fitting i (baseinverse a b) member)) in
-      founded_by (a ∷ b ∷ []) q (λ u among. elim (holds_gives (a ∷ b ∷ []) u among) [
-        | inl here ↦ record { foot = a; same_column = ap (λ (s : Square). s.0) here; in_zone = holds_from (a ∷ b ∷ []) a (inl refl); low = still_low a both.0 }
+      founded_by (a ∷ b ∷ []) q (λ u among. elim (has_gives (a ∷ b ∷ []) u among) [
+        | inl here ↦ record { foot = a; same_column = ap (λ (s : Square). s.0) here; in_zone = has_from (a ∷ b ∷ []) a (inl refl); low = still_low a both.0 }
         | inr later ↦ elim later [
-          | inl here ↦ record { foot = b; same_column = ap (λ (s : Square). s.0) here; in_zone = holds_from (a ∷ b ∷ []) b (inr (inl refl)); low = still_low b both.1 }
+          | inl here ↦ record { foot = b; same_column = ap (λ (s : Square). s.0) here; in_zone = has_from (a ∷ b ∷ []) b (inr (inl refl)); low = still_low b both.1 }
           | inr more ↦ absurd more
         ]
       ])
@@ -277,14 +279,14 @@ module _ (p q : Position) (ws : List Written) (plan : IsPlan p ws)
   founded i (baseclaim a b e) member s playable owned =
       let outer = and_parts _ _ (fits_more (baseclaim a b e) p (plan.fitting i (baseclaim a b e) member)) in
       let inner = and_parts _ _ outer.0 in
-      founded_by zone q (λ u among. elim (holds_gives zone u among) [
-        | inl here ↦ record { foot = a; same_column = ap (λ (s : Square). s.0) here; in_zone = holds_from zone a (inl refl); low = still_low a inner.0 }
+      founded_by zone q (λ u among. elim (has_gives zone u among) [
+        | inl here ↦ record { foot = a; same_column = ap (λ (s : Square). s.0) here; in_zone = has_from zone a (inl refl); low = still_low a inner.0 }
         | inr later ↦ elim later [
-          | inl here ↦ record { foot = b; same_column = ap (λ (s : Square). s.0) here; in_zone = holds_from zone b (inr (inl refl)); low = still_low b inner.1 }
+          | inl here ↦ record { foot = b; same_column = ap (λ (s : Square). s.0) here; in_zone = has_from zone b (inr (inl refl)); low = still_low b inner.1 }
           | inr more ↦ elim more [
-            | inl here ↦ record { foot = e; same_column = ap (λ (s : Square). s.0) here; in_zone = holds_from zone e (inr (inr (inl refl))); low = still_low e outer.1 }
+            | inl here ↦ record { foot = e; same_column = ap (λ (s : Square). s.0) here; in_zone = has_from zone e (inr (inr (inl refl))); low = still_low e outer.1 }
             | inr last ↦ elim last [
-              | inl here ↦ record { foot = b; same_column = ap (λ (s : Square). s.0) here; in_zone = holds_from zone b (inr (inl refl)); low = still_low b inner.1 }
+              | inl here ↦ record { foot = b; same_column = ap (λ (s : Square). s.0) here; in_zone = has_from zone b (inr (inl refl)); low = still_low b inner.1 }
               | inr past ↦ absurd past
             ]
           ]

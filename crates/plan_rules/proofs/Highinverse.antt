@@ -4,14 +4,16 @@ use Rattle.std.proofs.Common.{◌≡◌, ◌≢◌, ◌+◌, ◌≤◌, true, fa
 use Rattle.std.proofs.lemmas.Bool.{and_parts, and_from, or_cases, eq-eqb, ne_eqb, cond-true, cond-false, false_from_ne_true}
 use Rattle.game_rules.specs.Board.{Square, on_board}
 use Rattle.game_rules.specs.Position.{Position, board_of, height, man_at, has_man, side_to_move, after_move}
+use Rattle.game_rules.specs.Squares.{same_square, is_playable}
 use Rattle.game_rules.specs.declared.Side.TheVariants.{White, Black}
 use Rattle.game_rules.proofs.Lists.{Among}
 use Rattle.game_rules.proofs.Ends.{on_board_parts}
-use Rattle.plan_rules.specs.Squares.{same_square, above, column_up, is_playable, word_at}
+use Rattle.game_rules.proofs.Squares.{same_square_refl, has_gives, has_from}
+use Rattle.plan_rules.specs.Squares.{above, column_up, word_at}
 use Rattle.plan_rules.specs.Rules.{highinverse, zone_of, fits, high_reply, reply_to, upper_of, pair_of, twin_of, barred, is_supported}
 use Rattle.plan_rules.specs.Calm.{Word, high_words, is_one_of, is_calm}
 use Rattle.plan_rules.specs.Laws.{StartLaw, LocalLaw, StepLaw, FactLaw, BarLaw, Answers}
-use Rattle.plan_rules.proofs.Squares.{same_square_refl, other_column, other_row, holds_gives, holds_from, holds_append}
+use Rattle.plan_rules.proofs.Squares.{other_column, other_row, has_append}
 use Rattle.plan_rules.proofs.Turns.{turn, answer_at, low_kept, low_above, low_over}
 use Rattle.plan_rules.proofs.Grounds.{TwoColumns, high_two}
 use Rattle.plan_rules.proofs.Words.{narrow, mapped, are_white, is_free, is_free_over, free_from, free_over_from, words_local, zone_on_board, zone_none, foot_low, empty_now, filled_now}
@@ -212,10 +214,10 @@ module _ (x y : Square) where
   highinverse_local = words_local high_words zone
 
   pub highinverse_step : StepLaw (zone_of (highinverse x y)) (fits (highinverse x y)) (is_calm (highinverse x y)) (reply_to (highinverse x y))
-  highinverse_step p q s fitted board calm white playable owned founded = elim (holds_append (column_up x 3) (column_up y 3) s owned) [
-    | inl left ↦ first (holds_gives (column_up x 3) s left) (high_answer x y two.apart q white on calm foot_y s playable (holds_gives (column_up x 3) s left))
-    | inr right ↦ second (holds_gives (column_up y 3) s right)
-        (high_answer y x (λ same. two.apart (sym same)) q white (λ t among. on t (turned_among y x t among)) (swapped x y q calm) foot_x s playable (holds_gives (column_up y 3) s right))
+  highinverse_step p q s fitted board calm white playable owned founded = elim (has_append (column_up x 3) (column_up y 3) s owned) [
+    | inl left ↦ first (has_gives (column_up x 3) s left) (high_answer x y two.apart q white on calm foot_y s playable (has_gives (column_up x 3) s left))
+    | inr right ↦ second (has_gives (column_up y 3) s right)
+        (high_answer y x (λ same. two.apart (sym same)) q white (λ t among. on t (turned_among y x t among)) (swapped x y q calm) foot_x s playable (has_gives (column_up y 3) s right))
   ]
     where
       two : TwoColumns (zone_of (highinverse x y)) x y
@@ -234,7 +236,7 @@ module _ (x y : Square) where
       first among answer = record {
         to = answer.to;
         is_reply = cond-true (s.0 == x.0) _ _ (eq-eqb s.0 x.0 (column_of x s among)) ∙ answer.is_reply;
-        in_zone = holds_from (zone_of (highinverse x y)) answer.to answer.in_zone;
+        in_zone = has_from (zone_of (highinverse x y)) answer.to answer.in_zone;
         playable = answer.playable;
         calm_after = answer.calm_after;
       }
@@ -243,7 +245,7 @@ module _ (x y : Square) where
       second among answer = record {
         to = answer.to;
         is_reply = cond-false (s.0 == x.0) (high_reply x y (after_move q s.0) s) (high_reply y x (after_move q s.0) s) (ne_eqb s.0 x.0 (λ same. two.apart (sym same ∙ column_of y s among))) ∙ answer.is_reply;
-        in_zone = holds_from (zone_of (highinverse x y)) answer.to (turned_among y x answer.to answer.in_zone);
+        in_zone = has_from (zone_of (highinverse x y)) answer.to (turned_among y x answer.to answer.in_zone);
         playable = answer.playable;
         calm_after = swapped y x (after_move (after_move q s.0) answer.to.0) answer.calm_after;
       }
@@ -251,7 +253,7 @@ module _ (x y : Square) where
   pub highinverse_keeps : FactLaw (fits (highinverse x y)) (is_calm (highinverse x y)) (upper_of (highinverse x y)) (pair_of (highinverse x y)) (twin_of (highinverse x y))
   highinverse_keeps p q fitted calm = record {
     uppers = λ u h. absurd (cc h);
-    pairs = λ u among white. elim (holds_gives (above x ∷ above y ∷ []) u among) [
+    pairs = λ u among white. elim (has_gives (above x ∷ above y ∷ []) u among) [
       | inl here ↦ subst (λ u. has_man q White (above u) ≡ false) here (false_from_ne_true _ (λ over.
           narrow (are_white 1 2) high_words (word_at q zone) calm (and_from _ _ (ap (has_man q White) here ∙ white) over)))
       | inr later ↦ elim later [

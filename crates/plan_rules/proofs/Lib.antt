@@ -21,5 +21,6 @@ pub mod Highinverse
 pub mod Columns
 pub mod Pairs
 pub mod Lowinverse
+pub mod Replies
 pub mod Theorems
 pub mod ColumnWords

@@ -6,16 +6,18 @@ use Rattle.std.proofs.lemmas.Bool.{cases_lt, leb-true, eqb-true, eq-eqb, and_par
 use Rattle.std.proofs.lemmas.List.{length_push}
 use Rattle.game_rules.specs.Board.{Square, on_board}
 use Rattle.game_rules.specs.Position.{Position, board_of, height, man_at, has_man, men_in, side_to_move, has_room, lowest_empty, other, after_move}
+use Rattle.game_rules.specs.Squares.{same_square, is_playable}
 use Rattle.game_rules.specs.declared.Side.{Side}
 use Rattle.game_rules.specs.declared.Side.TheVariants.{White, Black}
 use Rattle.game_rules.proofs.Lists.{Among, any_gives, Among-append_cases, Among-append_left, Among-append_right}
 use Rattle.game_rules.proofs.Moves.{man_past}
 use Rattle.game_rules.proofs.Ends.{on_board_parts}
-use Rattle.plan_rules.specs.Squares.{same_square, above, under, is_odd, column_up, span, is_playable, put_first, men_on}
+use Rattle.game_rules.proofs.Squares.{same_square_refl, has_gives, has_from}
+use Rattle.plan_rules.specs.Squares.{above, under, is_odd, column_up, span, put_first, men_on}
 use Rattle.plan_rules.specs.Rules.{lowinverse, zone_of, is_low_column, fits, reply_to, upper_of, pair_of, twin_of, barred, is_supported}
 use Rattle.plan_rules.specs.Calm.{is_paired, is_topped, is_shifted, is_calm_low, is_calm}
 use Rattle.plan_rules.specs.Laws.{StartLaw, LocalLaw, StepLaw, FactLaw, BarLaw, Answers}
-use Rattle.plan_rules.proofs.Squares.{same_square_refl, other_column, other_row, holds_gives, holds_from, holds_append, column_gives, column_from}
+use Rattle.plan_rules.proofs.Squares.{other_column, other_row, has_append, column_gives, column_from}
 use Rattle.plan_rules.proofs.Turns.{man_from, answer_at, low_above, side_after, playable_parts, playable_room, height_beside}
 use Rattle.plan_rules.proofs.Grounds.{TwoColumns, low_two, fits_shape}
 use Rattle.plan_rules.proofs.Words.{zone_on_board, zone_none, foot_low}
@@ -262,16 +264,16 @@ module _ (x x_top y y_top : Square) where
 
   pub lowinverse_local : LocalLaw (zone_of (lowinverse x x_top y y_top)) (is_calm (lowinverse x x_top y y_top))
   lowinverse_local p q same calm =
-      let left : men_on p (span x x_top) ≡ men_on q (span x x_top) = same_on q p (span x x_top) (λ u among. same u (holds_from zone u (Among-append_left u (span x x_top) (span y y_top) among))) in
-      let right : men_on p (span y y_top) ≡ men_on q (span y y_top) = same_on q p (span y y_top) (λ u among. same u (holds_from zone u (Among-append_right u (span x x_top) (span y y_top) among))) in
+      let left : men_on p (span x x_top) ≡ men_on q (span x x_top) = same_on q p (span x x_top) (λ u among. same u (has_from zone u (Among-append_left u (span x x_top) (span y y_top) among))) in
+      let right : men_on p (span y y_top) ≡ men_on q (span y y_top) = same_on q p (span y y_top) (λ u among. same u (has_from zone u (Among-append_right u (span x x_top) (span y y_top) among))) in
       calm_from q x y n m (subst (λ us. CalmLow n m us (men_on q (column_up y m))) left (subst (λ vs. CalmLow n m (men_on p (column_up x n)) vs) right (calm_gives p x y n m calm)))
 
   pub lowinverse_keeps : FactLaw (fits (lowinverse x x_top y y_top)) (is_calm (lowinverse x x_top y y_top)) (upper_of (lowinverse x x_top y y_top)) (pair_of (lowinverse x x_top y y_top)) (twin_of (lowinverse x x_top y y_top))
   lowinverse_keeps p q fitted calm = record {
     uppers = λ u h. absurd (cc h);
-    pairs = λ u among white. false_from_ne_true _ (λ over. elim (holds_append (span x (under x_top)) (span y (under y_top)) u among) [
-      | inl left ↦ below x n m (men_on q (column_up y m)) (low_x p fitted) (calm_gives q x y n m calm) (x_top.1 - 1 + 1 - x.1) (λ i less. omega (arith, (column_x p fitted).rows, (column_x p fitted).more)) u (holds_gives (span x (under x_top)) u left) white over
-      | inr right ↦ below y m n (men_on q (column_up x n)) (low_y p fitted) (calm_turned n m _ _ (calm_gives q x y n m calm)) (y_top.1 - 1 + 1 - y.1) (λ i less. omega (arith, (column_y p fitted).rows, (column_y p fitted).more)) u (holds_gives (span y (under y_top)) u right) white over
+    pairs = λ u among white. false_from_ne_true _ (λ over. elim (has_append (span x (under x_top)) (span y (under y_top)) u among) [
+      | inl left ↦ below x n m (men_on q (column_up y m)) (low_x p fitted) (calm_gives q x y n m calm) (x_top.1 - 1 + 1 - x.1) (λ i less. omega (arith, (column_x p fitted).rows, (column_x p fitted).more)) u (has_gives (span x (under x_top)) u left) white over
+      | inr right ↦ below y m n (men_on q (column_up x n)) (low_y p fitted) (calm_turned n m _ _ (calm_gives q x y n m calm)) (y_top.1 - 1 + 1 - y.1) (λ i less. omega (arith, (column_y p fitted).rows, (column_y p fitted).more)) u (has_gives (span y (under y_top)) u right) white over
     ]);
     twins = λ i u v h. absurd (cc h);
   }
@@ -338,13 +340,13 @@ module _ (x x_top y y_top : Square) where
           (white_above q bottom size at.0 low within (subst (λ u. has_man q White (above u) ≡ true) at.2 over))
 
   pub lowinverse_step : StepLaw (zone_of (lowinverse x x_top y y_top)) (fits (lowinverse x x_top y y_top)) (is_calm (lowinverse x x_top y y_top)) (reply_to (lowinverse x x_top y y_top))
-  lowinverse_step p q s fitted board calm white playable owned founded = elim (holds_append (span x x_top) (span y y_top) s owned) [
+  lowinverse_step p q s fitted board calm white playable owned founded = elim (has_append (span x x_top) (span y y_top) s owned) [
     | inl left ↦
-        let at = column_gives x n s (holds_gives (span x x_top) s left) in
+        let at = column_gives x n s (has_gives (span x x_top) s left) in
         subst (λ s. Answers zone (is_calm (lowinverse x x_top y y_top)) (reply_to (lowinverse x x_top y y_top)) q s) (sym at.2)
         (left_column at.0 at.1 (subst (λ s. is_playable q s ≡ true) at.2 playable) (cases_lt (at.0 + 1) n))
     | inr right ↦
-        let at = column_gives y m s (holds_gives (span y y_top) s right) in
+        let at = column_gives y m s (has_gives (span y y_top) s right) in
         subst (λ s. Answers zone (is_calm (lowinverse x x_top y y_top)) (reply_to (lowinverse x x_top y y_top)) q s) (sym at.2)
         (right_column at.0 at.1 (subst (λ s. is_playable q s ≡ true) at.2 playable) (cases_lt (at.0 + 1) m))
   ]
@@ -379,11 +381,11 @@ module _ (x x_top y y_top : Square) where
           let open_now = up i x playable (on_x p q fitted board (i + 1) more) in
           let not_left = other_row (place_in x i) x_top (λ same. omega (arith, (column_x p fitted).rows)) in
           let not_right = other_column (place_in x i) y_top (λ same. two.apart (same ∙ (column_y p fitted).same)) in
-          let here = holds_from (zone_of (lowinverse x x_top y y_top)) (place_in x i) (in_x i within) in
+          let here = has_from (zone_of (lowinverse x x_top y y_top)) (place_in x i) (in_x i within) in
           record {
             to = above (place_in x i);
             is_reply = cond-false {A = Option Square} _ _ _ not_left ∙ cond-false {A = Option Square} _ _ _ not_right ∙ cond-true {A = Option Square} _ _ _ here;
-            in_zone = holds_from (zone_of (lowinverse x x_top y y_top)) (above (place_in x i)) (subst (λ r. Among (x.0, r) (zone_of (lowinverse x x_top y y_top))) (omega arith) (in_x (i + 1) more));
+            in_zone = has_from (zone_of (lowinverse x x_top y y_top)) (above (place_in x i)) (subst (λ r. Among (x.0, r) (zone_of (lowinverse x x_top y y_top))) (omega arith) (in_x (i + 1) more));
             playable = open_now;
             calm_after = calm_from (after_move (after_move q x.0) x.0) x y (x_top.1 + 1 - x.1) (y_top.1 + 1 - y.1)
                 (inner x y (x_top.1 + 1 - x.1) (y_top.1 + 1 - y.1) (column_x p fitted).odd (column_y p fitted).odd two.apart (low_x p fitted) (low_y p fitted) q white foot_x foot_y cases
@@ -396,7 +398,7 @@ module _ (x x_top y y_top : Square) where
           record {
             to = place_in y answer.place;
             is_reply = cond-true {A = Option Square} _ _ _ here ∙ answer.is_reply;
-            in_zone = holds_from (zone_of (lowinverse x x_top y y_top)) (place_in y answer.place) (in_y answer.place answer.within);
+            in_zone = has_from (zone_of (lowinverse x x_top y y_top)) (place_in y answer.place) (in_y answer.place answer.within);
             playable = answer.playable;
             calm_after = calm_from (after_move (after_move q x.0) y.0) x y (x_top.1 + 1 - x.1) (y_top.1 + 1 - y.1) answer.calm_after;
           }
@@ -407,11 +409,11 @@ module _ (x x_top y y_top : Square) where
           let open_now = up i y playable (on_y p q fitted board (i + 1) more) in
           let not_left = other_column (place_in y i) x_top (λ same. turned_apart (same ∙ (column_x p fitted).same)) in
           let not_right = other_row (place_in y i) y_top (λ same. omega (arith, (column_y p fitted).rows)) in
-          let here = holds_from (zone_of (lowinverse x x_top y y_top)) (place_in y i) (in_y i within) in
+          let here = has_from (zone_of (lowinverse x x_top y y_top)) (place_in y i) (in_y i within) in
           record {
             to = above (place_in y i);
             is_reply = cond-false {A = Option Square} _ _ _ not_left ∙ cond-false {A = Option Square} _ _ _ not_right ∙ cond-true {A = Option Square} _ _ _ here;
-            in_zone = holds_from (zone_of (lowinverse x x_top y y_top)) (above (place_in y i)) (subst (λ r. Among (y.0, r) (zone_of (lowinverse x x_top y y_top))) (omega arith) (in_y (i + 1) more));
+            in_zone = has_from (zone_of (lowinverse x x_top y y_top)) (above (place_in y i)) (subst (λ r. Among (y.0, r) (zone_of (lowinverse x x_top y y_top))) (omega arith) (in_y (i + 1) more));
             playable = open_now;
             calm_after = calm_from (after_move (after_move q y.0) y.0) x y (x_top.1 + 1 - x.1) (y_top.1 + 1 - y.1) (calm_turned _ _ _ _
                 (inner y x (y_top.1 + 1 - y.1) (x_top.1 + 1 - x.1) (column_y p fitted).odd (column_x p fitted).odd turned_apart (low_y p fitted) (low_x p fitted) q white foot_y foot_x (calm_turned _ _ _ _ cases)
@@ -425,7 +427,7 @@ module _ (x x_top y y_top : Square) where
           record {
             to = place_in x answer.place;
             is_reply = cond-false {A = Option Square} _ _ _ not_left ∙ cond-true {A = Option Square} _ _ _ here ∙ answer.is_reply;
-            in_zone = holds_from (zone_of (lowinverse x x_top y y_top)) (place_in x answer.place) (in_x answer.place answer.within);
+            in_zone = has_from (zone_of (lowinverse x x_top y y_top)) (place_in x answer.place) (in_x answer.place answer.within);
             playable = answer.playable;
             calm_after = calm_from (after_move (after_move q y.0) x.0) x y (x_top.1 + 1 - x.1) (y_top.1 + 1 - y.1) (calm_turned _ _ _ _ answer.calm_after);
           }

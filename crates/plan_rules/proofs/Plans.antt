@@ -4,15 +4,18 @@ use Rattle.std.specs.List.{list_all, list_any}
 use Rattle.std.proofs.lemmas.Bool.{cases_Bool, both_ways, and_parts, and_from, or_cases, or_left, or_right, not-true, not_from_false, false_from_ne_true}
 use Rattle.game_rules.specs.Board.{Board, Square, below, on_board, ways}
 use Rattle.game_rules.specs.Position.{Position, board_of, has_man, side_to_move, same_side, end_of}
+use Rattle.game_rules.specs.Squares.{has_square, is_empty}
+use Rattle.game_rules.specs.Groups.{Group, squares_of, lies_on}
 use Rattle.game_rules.specs.declared.Side.TheVariants.{White, Black}
 use Rattle.game_rules.specs.declared.End.{End}
 use Rattle.game_rules.proofs.Lists.{any_gives, any_from, all_gives, all_from, Among-below}
 use Rattle.game_rules.proofs.Moves.{same_side_is}
-use Rattle.game_rules.proofs.Ends.{on_board_parts, Among-ways, each_step, step_none}
-use Rattle.plan_rules.specs.Squares.{holds, is_empty, Line, squares_of, lies_on}
+use Rattle.game_rules.proofs.Ends.{on_board_parts, Among-ways}
+use Rattle.game_rules.proofs.Squares.{has_gives, has_from}
+use Rattle.game_rules.proofs.Groups.{anchor_on}
 use Rattle.plan_rules.specs.Rules.{Written, zone_of, fits, facts_of, barred, is_supported, together}
 use Rattle.plan_rules.specs.Plan.{each_two, every_square, every_line, has_owner, empty_part, is_barred, is_plan, IsMember, SomeMember, IsPlan}
-use Rattle.plan_rules.proofs.Squares.{holds_gives, holds_from, Among-get, get-Among}
+use Rattle.plan_rules.proofs.Squares.{Among-get, get-Among}
 use Rattle.plan_rules.proofs.Turns.{empty_parts}
 
 -- ---- members
@@ -58,17 +61,13 @@ every_square_from : (board : Board) (test : Square → Bool) → ((u : Square) �
 every_square_from board test each = all_from (λ c. list_all (λ r. test (c, r + 1)) (below board.rows)) (below board.cols) (λ c _.
     all_from (λ r. test (c, r + 1)) (below board.rows) (λ r _. each (c, r + 1)))
 
--- a line of the board has its anchor there
-anchor_on : (board : Board) (g : Line) → lies_on board g ≡ true → on_board board g.0 ≡ true
-anchor_on board g h = subst (λ u. on_board board u ≡ true) (step_none g.1 g.0) (each_step (on_board board) g.1 g.0 h 0 (omega arith))
-
-every_line_gives : (board : Board) (test : Line → Bool) → every_line board test ≡ true → (g : Line) → lies_on board g ≡ true → test g ≡ true
+every_line_gives : (board : Board) (test : Group → Bool) → every_line board test ≡ true → (g : Group) → lies_on board g ≡ true → test g ≡ true
 every_line_gives board test h g lies =
     let along = all_gives (λ way. every_square board (λ anchor. not (lies_on board (anchor, way)) || test (anchor, way))) ways g.1 h (Among-ways g.1) in
-    let at = every_square_gives board (λ anchor. not (lies_on board (anchor, g.1)) || test (anchor, g.1)) along g.0 (anchor_on board g lies) in
+    let at = every_square_gives board (λ anchor. not (lies_on board (anchor, g.1)) || test (anchor, g.1)) along g.0 (anchor_on board g.1 g.0 lies) in
     elim (or_cases _ _ at) [ inl off ↦ absurd (both_ways (lies_on board g) (not-true _ off) lies) | inr passes ↦ passes ]
 
-every_line_from : (board : Board) (test : Line → Bool) → ((g : Line) → lies_on board g ≡ true → test g ≡ true) → every_line board test ≡ true
+every_line_from : (board : Board) (test : Group → Bool) → ((g : Group) → lies_on board g ≡ true → test g ≡ true) → every_line board test ≡ true
 every_line_from board test each =
     all_from (λ way. every_square board (λ anchor. not (lies_on board (anchor, way)) || test (anchor, way))) ways (λ way _.
     every_square_from board (λ anchor. not (lies_on board (anchor, way)) || test (anchor, way)) (λ anchor. elim (cases_Bool (lies_on board (anchor, way))) [
@@ -93,12 +92,12 @@ plan_gives p ws h =
       standing = two_give together ws standing.1;
       covered = λ u empty. elim (or_cases _ _ (every_square_gives (board_of p) (λ u. not (is_empty p u) || has_owner ws u) covered.1 u (empty_parts p u empty).0)) [
         | inl filled ↦ absurd (both_ways (is_empty p u) (not-true _ filled) empty)
-        | inr owned ↦ member_of (λ w. holds (zone_of w) u) ws owned
+        | inr owned ↦ member_of (λ w. has_square (zone_of w) u) ws owned
       ];
       supported = each_member (λ w. is_supported w (facts_of p ws)) ws supported.1;
       answered = λ g lies no_black. elim (or_cases _ _ (every_line_gives (board_of p) (λ g. list_any (has_man p Black) (squares_of g) || is_barred p ws g) answered.1 g lies)) [
         | inl some ↦ let found = any_gives (has_man p Black) (squares_of g) some in
-            absurd (both_ways (has_man p Black found.0) (no_black found.0 (holds_from (squares_of g) found.0 found.1)) found.2)
+            absurd (both_ways (has_man p Black found.0) (no_black found.0 (has_from (squares_of g) found.0 found.1)) found.2)
         | inr barred_one ↦ member_of (λ w. barred w (facts_of p ws) (empty_part p g)) ws barred_one
       ];
     }
@@ -111,12 +110,12 @@ plan_from p ws plan =
     (all_members (λ w. fits w p) ws plan.fitting))
     (two_from together ws plan.standing))
     (every_square_from (board_of p) (λ u. not (is_empty p u) || has_owner ws u) (λ u. elim (cases_Bool (is_empty p u)) [
-      | inl empty ↦ or_right _ _ (any_member (λ w. holds (zone_of w) u) ws (plan.covered u empty))
+      | inl empty ↦ or_right _ _ (any_member (λ w. has_square (zone_of w) u) ws (plan.covered u empty))
       | inr filled ↦ or_left _ _ (not_from_false _ filled)
     ])))
     (all_members (λ w. is_supported w (facts_of p ws)) ws plan.supported))
     (every_line_from (board_of p) (λ g. list_any (has_man p Black) (squares_of g) || is_barred p ws g) (λ g lies. elim (cases_Bool (list_any (has_man p Black) (squares_of g))) [
       | inl some ↦ or_left _ _ some
       | inr none ↦ or_right _ _ (any_member (λ w. barred w (facts_of p ws) (empty_part p g)) ws (plan.answered g lies (λ u owned.
-          false_from_ne_true _ (λ black. both_ways (list_any (has_man p Black) (squares_of g)) none (any_from (has_man p Black) (squares_of g) u (holds_gives (squares_of g) u owned) black)))))
+          false_from_ne_true _ (λ black. both_ways (list_any (has_man p Black) (squares_of g)) none (any_from (has_man p Black) (squares_of g) u (has_gives (squares_of g) u owned) black)))))
     ]))

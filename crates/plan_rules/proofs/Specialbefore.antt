@@ -3,14 +3,17 @@ use Rattle.std.proofs.Common.{◌≡◌, true, false, ◌&&◌, ◌||◌, Some, 
 use Rattle.std.proofs.lemmas.Bool.{both_ways, and_parts, or_cases, or_left, or_right, false_from_ne_true}
 use Rattle.game_rules.specs.Board.{Square}
 use Rattle.game_rules.specs.Position.{Position, board_of, has_man}
+use Rattle.game_rules.specs.Groups.{Group, squares_of}
+use Rattle.game_rules.specs.Squares.{same_square}
 use Rattle.game_rules.specs.declared.Side.TheVariants.{White}
 use Rattle.game_rules.proofs.Lists.{any_gives}
 use Rattle.game_rules.proofs.Ends.{on_board_parts}
-use Rattle.plan_rules.specs.Squares.{Line, squares_of, above, same_square, each_of}
+use Rattle.game_rules.proofs.Squares.{same_square_is}
+use Rattle.plan_rules.specs.Squares.{above, each_of}
 use Rattle.plan_rules.specs.Rules.{specialbefore, fits, reply_to, barred, is_supported, is_open_line, is_low_line, is_twin, Facts}
 use Rattle.plan_rules.specs.Calm.{is_calm}
 use Rattle.plan_rules.specs.Laws.{BarLaw, AreTrue}
-use Rattle.plan_rules.proofs.Squares.{same_square_is, Among-get}
+use Rattle.plan_rules.proofs.Squares.{Among-get}
 use Rattle.plan_rules.proofs.Grounds.{fits_more}
 use Rattle.plan_rules.proofs.Words.{no_facts}
 use Rattle.plan_rules.proofs.Lines.{each_of_gives, open_lies, line_square_on, line_black, black_under, no_step}
@@ -32,7 +35,7 @@ twin_not_white facts q u v are_true twins white =
           (ap (has_man q White) (same_square_is u found.0.1 both.0) ∙ are_true.twins at.0 found.0.0 found.0.1 at.1 (ap (has_man q White) (sym (same_square_is v found.0.0 both.1)) ∙ other)) white)
     ]
 
-module _ (g : Line) (f e0 : Square) where
+module _ (g : Group) (f e0 : Square) where
   low_line : (p : Position) → fits (specialbefore g f e0) p ≡ true → is_low_line p g ≡ true
   low_line p fitted = (and_parts (is_low_line p g) _ (and_parts _ _ (fits_more (specialbefore g f e0) p fitted)).0).0
 

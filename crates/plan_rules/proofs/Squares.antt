@@ -1,19 +1,12 @@
 -- Squares, lists of squares and members of lists.
 use Rattle.std.proofs.Common.{◌≡◌, ◌≢◌, ◌⊎◌, ℕ, zero, suc, ◌+◌, ◌<◌, Bool, true, false, ◌||◌, List, [], ◌∷◌, ◌++◌, Some, refl, sym, ap, ◌∙◌, subst, inl, inr, arith}
 use Rattle.std.specs.List.{list_any, slice_get, find}
-use Rattle.std.proofs.lemmas.Bool.{cases_Bool, and_parts, and_from, and_left, and_right, eqb-true, eq-eqb, ne_eqb, cond-true, cond-false}
+use Rattle.std.proofs.lemmas.Bool.{cases_Bool, and_left, and_right, ne_eqb, cond-true, cond-false}
 use Rattle.game_rules.specs.Board.{Square}
-use Rattle.game_rules.proofs.Lists.{Among, any_gives, any_from, Among-append_cases, Among-append_left, Among-append_right}
-use Rattle.plan_rules.specs.Squares.{same_square, holds, above, column_up}
-
-pub same_square_refl : (u : Square) → same_square u u ≡ true
-same_square_refl u = and_from _ _ (eq-eqb u.0 u.0 refl) (eq-eqb u.1 u.1 refl)
-
-pub same_square_is : (u v : Square) → same_square u v ≡ true → u ≡ v
-same_square_is u v h = let both = and_parts _ _ h in pair u v (eqb-true u.0 v.0 both.0) (eqb-true u.1 v.1 both.1)
-  where
-    pair : (u v : Square) → u.0 ≡ v.0 → u.1 ≡ v.1 → u ≡ v
-    pair (a, b) (c, d) column row = rw (column, row) refl
+use Rattle.game_rules.specs.Squares.{same_square, has_square}
+use Rattle.game_rules.proofs.Lists.{Among, Among-append_cases, Among-append_left, Among-append_right}
+use Rattle.game_rules.proofs.Squares.{has_gives, has_from}
+use Rattle.plan_rules.specs.Squares.{above, column_up}
 
 pub other_column : (u v : Square) → u.0 ≢ v.0 → same_square u v ≡ false
 other_column u v apart = and_left _ _ (ne_eqb u.0 v.0 apart)
@@ -21,23 +14,17 @@ other_column u v apart = and_left _ _ (ne_eqb u.0 v.0 apart)
 pub other_row : (u v : Square) → u.1 ≢ v.1 → same_square u v ≡ false
 other_row u v apart = and_right _ _ (ne_eqb u.1 v.1 apart)
 
-pub holds_gives : (us : List Square) (u : Square) → holds us u ≡ true → Among u us
-holds_gives us u h = let found = any_gives (same_square u) us h in subst (λ v. Among v us) (sym (same_square_is u found.0 found.2)) found.1
-
-pub holds_from : (us : List Square) (u : Square) → Among u us → holds us u ≡ true
-holds_from us u among = any_from (same_square u) us u among (same_square_refl u)
-
-pub holds_append : (us vs : List Square) (u : Square) → holds (us ++ vs) u ≡ true → (holds us u ≡ true) ⊎ (holds vs u ≡ true)
-holds_append us vs u h = elim (Among-append_cases u us vs (holds_gives (us ++ vs) u h)) [
-  | inl left ↦ inl (holds_from us u left)
-  | inr right ↦ inr (holds_from vs u right)
+pub has_append : (us vs : List Square) (u : Square) → has_square (us ++ vs) u ≡ true → (has_square us u ≡ true) ⊎ (has_square vs u ≡ true)
+has_append us vs u h = elim (Among-append_cases u us vs (has_gives (us ++ vs) u h)) [
+  | inl left ↦ inl (has_from us u left)
+  | inr right ↦ inr (has_from vs u right)
 ]
 
-pub holds_left : (us vs : List Square) (u : Square) → holds us u ≡ true → holds (us ++ vs) u ≡ true
-holds_left us vs u h = holds_from (us ++ vs) u (Among-append_left u us vs (holds_gives us u h))
+pub has_left : (us vs : List Square) (u : Square) → has_square us u ≡ true → has_square (us ++ vs) u ≡ true
+has_left us vs u h = has_from (us ++ vs) u (Among-append_left u us vs (has_gives us u h))
 
-pub holds_right : (us vs : List Square) (u : Square) → holds vs u ≡ true → holds (us ++ vs) u ≡ true
-holds_right us vs u h = holds_from (us ++ vs) u (Among-append_right u us vs (holds_gives vs u h))
+pub has_right : (us vs : List Square) (u : Square) → has_square vs u ≡ true → has_square (us ++ vs) u ≡ true
+has_right us vs u h = has_from (us ++ vs) u (Among-append_right u us vs (has_gives vs u h))
 
 -- ---- members of a list by their place
 

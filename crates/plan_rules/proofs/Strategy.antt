@@ -7,6 +7,8 @@ use Rattle.std.proofs.lemmas.Bool.{cases_eq, both_ways, and_parts, and_from, con
 use Rattle.game_rules.specs.Board.{Square, below, on_board}
 use Rattle.game_rules.specs.Position.{Position, board_of, men_in, height, man_at, has_man, other, side_to_move, has_room, has_four, is_full, end_of, is_legal, after_move, empty_count, moved, open_columns}
 use Rattle.game_rules.specs.Value.{wins, same_end}
+use Rattle.game_rules.specs.Squares.{same_square, has_square, is_empty, is_playable}
+use Rattle.game_rules.specs.Groups.{Group, squares_of, lies_on}
 use Rattle.game_rules.specs.declared.Side.{Side}
 use Rattle.game_rules.specs.declared.Side.TheVariants.{White, Black}
 use Rattle.game_rules.specs.declared.End.{End}
@@ -15,13 +17,14 @@ use Rattle.game_rules.proofs.Lists.{Among, any_gives, any_from, all_gives, all_f
 use Rattle.game_rules.proofs.Moves.{man_past, board_moved, room_column, room_height, empty_count_moved, side_moved}
 use Rattle.game_rules.proofs.Values.{wins_own, wins_other, value_at_end}
 use Rattle.game_rules.proofs.Ends.{on_board_from, line_from_four, four_from_line, four_same, each_step, from_steps, ended_told, legal_parts, none_for_other, other_kept, disjoint, white_end}
-use Rattle.plan_rules.specs.Squares.{same_square, holds, above, is_empty, is_playable, Line, squares_of, lies_on}
+use Rattle.game_rules.proofs.Squares.{has_gives, has_from, same_square_is}
+use Rattle.plan_rules.specs.Squares.{above}
 use Rattle.plan_rules.specs.Rules.{Written, zone_of, line_of, reply_to, upper_of, pair_of, twin_of, as_list, facts_of, barred}
 use Rattle.plan_rules.specs.Calm.{is_calm}
 use Rattle.plan_rules.specs.Laws.{IsLineOf, Answers, AreTrue, Owns, IsHeld}
 use Rattle.plan_rules.specs.Plan.{empty_part, IsMember, IsPlan, plan_reply, after_turn, after_turns, duel, is_playable_list, is_nil, IsKept, IsAnswered, IsTurn}
-use Rattle.plan_rules.proofs.Squares.{holds_gives, holds_from, Among-get, get-Among, find_one, same_square_is}
-use Rattle.plan_rules.proofs.Turns.{man_from, has_from, playable_from, playable_on_board, playable_room, playable_man, beside, stays, side_after, Turned, turn}
+use Rattle.plan_rules.proofs.Squares.{Among-get, get-Among, find_one}
+use Rattle.plan_rules.proofs.Turns.{man_from, has_man_from, playable_from, playable_on_board, playable_room, playable_man, beside, stays, side_after, Turned, turn}
 use Rattle.plan_rules.proofs.Table.{always_calm, zones_apart}
 use Rattle.plan_rules.proofs.Lawful.{Lawful}
 use Rattle.plan_rules.proofs.Plans.{any_member}
@@ -50,20 +53,20 @@ facts_same upper pair twin q r same facts = record {
 }
 
 -- a line that a side has, as a line and its squares
-line_squares : (q : Position) (side : Side) → has_four q side ≡ true → (g : Line) × (lies_on (board_of q) g ≡ true) × Owns side q (holds (squares_of g))
+line_squares : (q : Position) (side : Side) → has_four q side ≡ true → (g : Group) × (lies_on (board_of q) g ≡ true) × Owns side q (has_square (squares_of g))
 line_squares q side h =
     let line = line_from_four q side h in (
       (line.anchor, line.way),
       from_steps (on_board (board_of q)) line.way line.anchor line.on_the_board,
-      λ u owned. all_gives (has_man q side) (squares_of (line.anchor, line.way)) u (from_steps (has_man q side) line.way line.anchor line.owned) (holds_gives (squares_of (line.anchor, line.way)) u owned),
+      λ u owned. all_gives (has_man q side) (squares_of (line.anchor, line.way)) u (from_steps (has_man q side) line.way line.anchor line.owned) (has_gives (squares_of (line.anchor, line.way)) u owned),
     )
 
-four_squares : (q : Position) (side : Side) (g : Line) → lies_on (board_of q) g ≡ true → Owns side q (holds (squares_of g)) → has_four q side ≡ true
+four_squares : (q : Position) (side : Side) (g : Group) → lies_on (board_of q) g ≡ true → Owns side q (has_square (squares_of g)) → has_four q side ≡ true
 four_squares q side g lies owns = four_from_line q side (record {
   way = g.1;
   anchor = g.0;
   on_the_board = each_step (on_board (board_of q)) g.1 g.0 lies;
-  owned = each_step (has_man q side) g.1 g.0 (all_from (has_man q side) (squares_of g) (λ u among. owns u (holds_from (squares_of g) u among)));
+  owned = each_step (has_man q side) g.1 g.0 (all_from (has_man q side) (squares_of g) (λ u among. owns u (has_from (squares_of g) u among)));
 })
 
 module _ (laws : (w : Written) → Lawful w) (p : Position) (ws : List Written) (plan : IsPlan p ws) where
@@ -71,18 +74,18 @@ module _ (laws : (w : Written) → Lawful w) (p : Position) (ws : List Written) 
   facts_true : (q : Position) → ((i : ℕ) (w : Written) → IsMember ws i w → is_calm w q ≡ true) → AreTrue (facts_of p ws).upper (facts_of p ws).pair (facts_of p ws).twin q
   facts_true q calms = record {
     uppers = λ u h.
-        let found = Among-flat_map_gives upper_of ws u (holds_gives (flat_map upper_of ws) u h) in
-        (own found.0 found.1).uppers u (holds_from (upper_of found.0) u found.2);
+        let found = Among-flat_map_gives upper_of ws u (has_gives (flat_map upper_of ws) u h) in
+        (own found.0 found.1).uppers u (has_from (upper_of found.0) u found.2);
     pairs = λ u h white.
-        let found = Among-flat_map_gives pair_of ws u (holds_gives (flat_map pair_of ws) u h) in
-        (own found.0 found.1).pairs u (holds_from (pair_of found.0) u found.2) white;
+        let found = Among-flat_map_gives pair_of ws u (has_gives (flat_map pair_of ws) u h) in
+        (own found.0 found.1).pairs u (has_from (pair_of found.0) u found.2) white;
     twins = λ i u v h white.
         let found = Among-flat_map_gives (λ w. as_list (twin_of w)) ws (u, v) (get-Among (flat_map (λ w. as_list (twin_of w)) ws) i (u, v) h) in
         let at = Among-get (as_list (twin_of found.0)) (u, v) found.2 in
         (own found.0 found.1).twins at.0 u v at.1 white;
   }
     where
-      own : (w : Written) → Among w ws → AreTrue (holds (upper_of w)) (holds (pair_of w)) (as_list (twin_of w)) q
+      own : (w : Written) → Among w ws → AreTrue (has_square (upper_of w)) (has_square (pair_of w)) (as_list (twin_of w)) q
       own w among = let at = Among-get ws w among in (laws w).keeps p q (plan.fitting at.0 w at.1) (calms at.0 w at.1)
 
   pub first_kept : IsKept p ws p
@@ -119,10 +122,10 @@ module _ (laws : (w : Written) → Lawful w) (p : Position) (ws : List Written) 
 
   reply : (q : Position) → IsKept p ws q → (s : Square) → is_playable q s ≡ true → Reply q s
   reply q kept s playable =
-      let owner = find_one (λ w. holds (zone_of w) s) ws (any_member (λ w. holds (zone_of w) s) ws (plan.covered s (last_empty q kept s playable))) in
+      let owner = find_one (λ w. has_square (zone_of w) s) ws (any_member (λ w. has_square (zone_of w) s) ws (plan.covered s (last_empty q kept s playable))) in
       from owner.0 owner.1 owner.2 owner.3 owner.4
     where
-      from : (i : ℕ) (w : Written) → IsMember ws i w → holds (zone_of w) s ≡ true → find (λ w. holds (zone_of w) s) ws ≡ Some w → Reply q s
+      from : (i : ℕ) (w : Written) → IsMember ws i w → has_square (zone_of w) s ≡ true → find (λ w. has_square (zone_of w) s) ws ≡ Some w → Reply q s
       from i w member owned found = record {
         to = answer.to;
         is_reply = ap (option_and_then (λ w. reply_to w (after_move q s.0) s)) found ∙ answer.is_reply;
@@ -138,10 +141,10 @@ module _ (laws : (w : Written) → Lawful w) (p : Position) (ws : List Written) 
           turned = turn q s answer.to kept.white playable answer.playable
 
           -- the squares of another zone are neither White's nor Black's
-          other_zone : (j : ℕ) (v : Written) → IsMember ws j v → j ≢ i → (t u : Square) → holds (zone_of w) t ≡ true → holds (zone_of v) u ≡ true → same_square u t ≡ false
+          other_zone : (j : ℕ) (v : Written) → IsMember ws j v → j ≢ i → (t u : Square) → has_square (zone_of w) t ≡ true → has_square (zone_of v) u ≡ true → same_square u t ≡ false
           other_zone j v other beside t u in_w in_v = false_from_ne_true _ (λ same.
               zones_apart v w t (members_together p q ws plan kept.stay kept.calms j i v w beside other member)
-              (subst (λ u. holds (zone_of v) u ≡ true) (same_square_is u t same) in_v) in_w)
+              (subst (λ u. has_square (zone_of v) u ≡ true) (same_square_is u t same) in_v) in_w)
 
           one_member : (j : ℕ) (v : Written) → IsMember ws j v → j ≡ i → w ≡ v
           one_member j v other same = let both : Some w ≡ Some v = sym member ∙ ap (slice_get ws) (sym same) ∙ other in cc
@@ -178,33 +181,33 @@ module _ (laws : (w : Written) → Lawful w) (p : Position) (ws : List Written) 
           ∙ ap (λ side. has_man q (other side) u) kept.white
 
       stay_now : (u : Square) → has_man p Black u ≡ true → has_man (after_move q s.0) Black u ≡ true
-      stay_now u black = black_same u ∙ has_from q Black u (kept.stay u Black (man_from p Black u black))
+      stay_now u black = black_same u ∙ has_man_from q Black u (kept.stay u Black (man_from p Black u black))
 
       stay_next : (u : Square) → has_man p Black u ≡ true → has_man (after_move (after_move q s.0) answer.to.0) Black u ≡ true
-      stay_next u black = has_from (after_move (after_move q s.0) answer.to.0) Black u
+      stay_next u black = has_man_from (after_move (after_move q s.0) answer.to.0) Black u
           (stays (after_move q s.0) answer.to u Black answer.playable (man_from (after_move q s.0) Black u (stay_now u black)))
 
       facts_next : AreTrue (facts_of p ws).upper (facts_of p ws).pair (facts_of p ws).twin (after_move (after_move q s.0) answer.to.0)
       facts_next = facts_true (after_move (after_move q s.0) answer.to.0) answer.calms
 
       -- the member that bars the line's empty squares
-      barring : (g : Line) → Owns White (after_move q s.0) (holds (squares_of g)) → (i : ℕ) (w : Written) → IsMember ws i w
-          → barred w (facts_of p ws) (empty_part p g) ≡ true → (line : Option Line) → line_of w ≡ line → ⊥
+      barring : (g : Group) → Owns White (after_move q s.0) (has_square (squares_of g)) → (i : ℕ) (w : Written) → IsMember ws i w
+          → barred w (facts_of p ws) (empty_part p g) ≡ true → (line : Option Group) → line_of w ≡ line → ⊥
       barring g owns i w member is_barred None line =
           subst (λ line. IsHeld line (after_move (after_move q s.0) answer.to.0)) line
           ((laws w).bars p (after_move (after_move q s.0) answer.to.0) (facts_of p ws) (empty_part p g) (plan.fitting i w member) (λ u. refl) (plan.supported i w member)
           (answer.calms i w member) facts_next stay_next is_barred
-          (λ u in_part. white_same u ∙ owns u (and_parts (is_empty p u) (holds (squares_of g) u) in_part).1))
+          (λ u in_part. white_same u ∙ owns u (and_parts (is_empty p u) (has_square (squares_of g) u) in_part).1))
       barring g owns i w member is_barred (Some h) line =
           let held : IsHeld (Some h) (after_move q s.0) = subst (λ line. IsHeld line (after_move q s.0)) line
           ((laws w).bars p (after_move q s.0) (facts_of p ws) (empty_part p g) (plan.fitting i w member) (λ u. refl) (plan.supported i w member)
           (always_calm w h line (after_move q s.0)) (facts_same _ _ _ (after_move (after_move q s.0) answer.to.0) (after_move q s.0) white_same facts_next) stay_now is_barred
-          (λ u in_part. owns u (and_parts (is_empty p u) (holds (squares_of g) u) in_part).1)) in
+          (λ u in_part. owns u (and_parts (is_empty p u) (has_square (squares_of g) u) in_part).1)) in
           let lies : lies_on (board_of p) h ≡ true = subst (λ line. IsLineOf line p) line ((laws w).starts p (plan.fitting i w member)).line_on_board in
           both_ways (has_four q Black) (ended_told q going).1
           (four_squares q Black h (subst (λ board. lies_on board h ≡ true) kept.board lies) (λ u in_line. sym (black_same u) ∙ held u in_line))
 
-      against : (g : Line) → lies_on (board_of (after_move q s.0)) g ≡ true → Owns White (after_move q s.0) (holds (squares_of g)) → ⊥
+      against : (g : Group) → lies_on (board_of (after_move q s.0)) g ≡ true → Owns White (after_move q s.0) (has_square (squares_of g)) → ⊥
       against g lies owns =
           let some = plan.answered g (subst (λ board. lies_on board g ≡ true) (sym board_now) lies)
           (λ u in_line. false_from_ne_true _ (λ black. disjoint (after_move q s.0) u (owns u in_line) (stay_now u black))) in

@@ -5,13 +5,15 @@ use Rattle.std.specs.List.{list_all}
 use Rattle.std.proofs.lemmas.Bool.{both_ways, and_parts, and_from, or_cases, or_left, or_right, ltb-true, eqb-true, eq-eqb, not-true, not_from_false, false_from_ne_true}
 use Rattle.game_rules.specs.Board.{Square}
 use Rattle.game_rules.specs.Position.{Position}
+use Rattle.game_rules.specs.Squares.{has_square}
+use Rattle.game_rules.specs.Groups.{Group}
 use Rattle.game_rules.proofs.Lists.{Among, all_gives, all_from}
-use Rattle.plan_rules.specs.Squares.{holds, above, under, Line}
+use Rattle.game_rules.proofs.Squares.{same_square_is, has_gives, has_from}
+use Rattle.plan_rules.specs.Squares.{above, under}
 use Rattle.plan_rules.specs.Rules.{Written, claimeven, baseinverse, lowinverse, highinverse, baseclaim, vertical, aftereven, before, specialbefore, zone_of, line_of, is_standing, no_shared_square, no_shared_column, is_over, rests_on, stands_over, together}
 use Rattle.plan_rules.specs.Calm.{is_calm}
-use Rattle.plan_rules.proofs.Squares.{same_square_is, holds_gives, holds_from}
 
-pub standing_owns_none : (w : Written) → is_standing w ≡ true → (u : Square) → holds (zone_of w) u ≡ true → ⊥
+pub standing_owns_none : (w : Written) → is_standing w ≡ true → (u : Square) → has_square (zone_of w) u ≡ true → ⊥
 standing_owns_none (claimeven x) standing u owned = cc
 standing_owns_none (baseinverse s t) standing u owned = cc
 standing_owns_none (lowinverse x x_top y y_top) standing u owned = cc
@@ -23,7 +25,7 @@ standing_owns_none (before g) standing u owned = cc
 standing_owns_none (specialbefore g f e0) standing u owned = cc
 
 -- a rule with a line of Black's is always calm
-pub always_calm : (w : Written) (g : Line) → line_of w ≡ Some g → (q : Position) → is_calm w q ≡ true
+pub always_calm : (w : Written) (g : Group) → line_of w ≡ Some g → (q : Position) → is_calm w q ≡ true
 always_calm (claimeven x) g line q = absurd (cc line)
 always_calm (baseinverse s t) g line q = absurd (cc line)
 always_calm (lowinverse x x_top y y_top) g line q = absurd (cc line)
@@ -36,22 +38,22 @@ always_calm (specialbefore h f e0) g line q = refl
 
 -- ---- sets that share no square or column
 
-no_shared : (us vs : List Square) (u : Square) → no_shared_square us vs ≡ true → holds us u ≡ true → holds vs u ≡ true → ⊥
-no_shared us vs u none left right = both_ways (holds vs u) (not-true _ (all_gives (λ u. not (holds vs u)) us u none (holds_gives us u left))) right
+no_shared : (us vs : List Square) (u : Square) → no_shared_square us vs ≡ true → has_square us u ≡ true → has_square vs u ≡ true → ⊥
+no_shared us vs u none left right = both_ways (has_square vs u) (not-true _ (all_gives (λ u. not (has_square vs u)) us u none (has_gives us u left))) right
 
 no_shared_sym : (us vs : List Square) → no_shared_square us vs ≡ true → no_shared_square vs us ≡ true
-no_shared_sym us vs none = all_from (λ v. not (holds us v)) vs (λ v among. not_from_false _ (false_from_ne_true _ (λ left. no_shared us vs v none left (holds_from vs v among))))
+no_shared_sym us vs none = all_from (λ v. not (has_square us v)) vs (λ v among. not_from_false _ (false_from_ne_true _ (λ left. no_shared us vs v none left (has_from vs v among))))
 
-no_column : (us vs : List Square) (u v : Square) → no_shared_column us vs ≡ true → holds us u ≡ true → holds vs v ≡ true → u.0 ≡ v.0 → ⊥
+no_column : (us vs : List Square) (u v : Square) → no_shared_column us vs ≡ true → has_square us u ≡ true → has_square vs v ≡ true → u.0 ≡ v.0 → ⊥
 no_column us vs u v none left right same =
-    let of_u = all_gives (λ u. list_all (λ v. not (u.0 == v.0)) vs) us u none (holds_gives us u left) in
-    let of_v = all_gives (λ v. not (u.0 == v.0)) vs v of_u (holds_gives vs v right) in
+    let of_u = all_gives (λ u. list_all (λ v. not (u.0 == v.0)) vs) us u none (has_gives us u left) in
+    let of_v = all_gives (λ v. not (u.0 == v.0)) vs v of_u (has_gives vs v right) in
     both_ways (u.0 == v.0) (not-true _ of_v) (eq-eqb u.0 v.0 same)
 
 no_column_sym : (us vs : List Square) → no_shared_column us vs ≡ true → no_shared_column vs us ≡ true
 no_column_sym us vs none =
     all_from (λ v. list_all (λ u. not (v.0 == u.0)) us) vs (λ v right. all_from (λ u. not (v.0 == u.0)) us (λ u left.
-    not_from_false _ (false_from_ne_true _ (λ same. no_column us vs u v none (holds_from us u left) (holds_from vs v right) (sym (eqb-true v.0 u.0 same))))))
+    not_from_false _ (false_from_ne_true _ (λ same. no_column us vs u v none (has_from us u left) (has_from vs v right) (sym (eqb-true v.0 u.0 same))))))
 
 -- ---- the table
 
@@ -89,7 +91,7 @@ together_sym v w h = turned (apart_gives v w h)
     turned (left_over squares h) = apart_from w v (right_over (no_shared_sym (zone_of v) (zone_of w) squares) h)
     turned (right_over squares h) = apart_from w v (left_over (no_shared_sym (zone_of v) (zone_of w) squares) h)
 
-pub zones_apart : (v w : Written) (u : Square) → together v w ≡ true → holds (zone_of v) u ≡ true → holds (zone_of w) u ≡ true → ⊥
+pub zones_apart : (v w : Written) (u : Square) → together v w ≡ true → has_square (zone_of v) u ≡ true → has_square (zone_of w) u ≡ true → ⊥
 zones_apart v w u h left right = told (apart_gives v w h)
   where
     told : Apart v w → ⊥
@@ -134,13 +136,13 @@ over_gives (specialbefore g f e0) w none h = absurd (cc h)
 
 -- whoever owns the square below one bottom of an inverse is the Baseinverse that it rests on
 pub floor_owner : (x y u : Square) (w v : Written) → is_standing w ≡ false → ((a b : Square) → rests_on a b w ≡ false) → (stands_over w v ≡ true → rests_on x y v ≡ true)
-    → holds (zone_of w) u ≡ true → 1 ≤ u.1 → together v w ≡ true → holds (zone_of v) (under u) ≡ true → RestsOn x y v
+    → has_square (zone_of w) u ≡ true → 1 ≤ u.1 → together v w ≡ true → has_square (zone_of v) (under u) ≡ true → RestsOn x y v
 floor_owner x y u w v moving none over owned low h below = told (apart_gives v w h)
   where
     -- a Claimeven that owns the square below isn't above it
     no_claimeven : (z : Square) → is_over z (zone_of w) ≡ true → Among (under u) (z ∷ above z ∷ []) → ⊥
     no_claimeven z h among =
-        let at_u = all_gives (λ u. not (z.0 == u.0) || _) (zone_of w) u h (holds_gives (zone_of w) u owned) in
+        let at_u = all_gives (λ u. not (z.0 == u.0) || _) (zone_of w) u h (has_gives (zone_of w) u owned) in
         elim (or_cases _ _ at_u) [
           | inl column ↦ both_ways (z.0 == u.0) (not-true _ column) (eq-eqb z.0 u.0 (elim among [
             | inl here ↦ ap (λ (s : Square). s.0) here
@@ -161,5 +163,5 @@ floor_owner x y u w v moving none over owned low h below = told (apart_gives v w
     told (columns_apart squares h) = absurd (no_column (zone_of v) (zone_of w) (under u) u h below owned refl)
     told (left_over squares h) =
         let z = over_gives v w none h in
-        absurd (no_claimeven z.0 z.2 (holds_gives (zone_of (claimeven z.0)) (under u) (subst (λ w. holds (zone_of w) (under u) ≡ true) z.1 below)))
+        absurd (no_claimeven z.0 z.2 (has_gives (zone_of (claimeven z.0)) (under u) (subst (λ w. has_square (zone_of w) (under u) ≡ true) z.1 below)))
     told (right_over squares h) = rests_gives x y v (over h)

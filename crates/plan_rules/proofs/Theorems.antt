@@ -1,50 +1,30 @@
 -- What the laws of the crate say, from the strategy and the nine rules.
-use Rattle.std.proofs.Common.{◌≡◌, ◌≢◌, ◌⊎◌, ◌↔◌, ℕ, ◌+◌, ◌<◌, ◌≤◌, Bool, true, false, List, Some, None, refl, sym, ap, inl, inr, arith}
+use Rattle.std.proofs.Common.{◌≡◌, ◌≢◌, ℕ, true, false, List, Some, ap, inl, inr}
 use Rattle.std.specs.List.{slice_get}
-use Rattle.std.proofs.lemmas.Bool.{cases_eq, cases_lt, both_ways}
+use Rattle.std.proofs.lemmas.Bool.{cases_eq, both_ways}
 use Rattle.game_rules.specs.Board.{Square}
-use Rattle.game_rules.specs.Position.{Position, height, men_in, man_at, has_four, is_legal}
+use Rattle.game_rules.specs.Position.{Position, has_four, is_legal}
 use Rattle.game_rules.specs.Value.{value, wins, same_end}
 use Rattle.game_rules.specs.Laws.{HasLine}
+use Rattle.game_rules.specs.Squares.{has_square, is_empty}
 use Rattle.game_rules.specs.declared.Side.TheVariants as sides
 use Rattle.game_rules.specs.declared.End.TheVariants as ends
 use Rattle.game_rules.proofs.Lists.{all_gives}
-use Rattle.game_rules.proofs.Moves.{man_past}
 use Rattle.game_rules.proofs.Ends.{four_from_line}
-use Rattle.plan_rules.specs.Squares.{holds, is_empty, is_playable}
+use Rattle.game_rules.proofs.Squares.{agree, has_gives}
 use Rattle.plan_rules.specs.Rules.{Written, zone_of, together}
 use Rattle.plan_rules.specs.Plan.{is_plan, IsMember, IsKept, IsAnswered, IsTurn, after_turns, duel, is_playable_list}
-use Rattle.plan_rules.proofs.Squares.{holds_gives}
-use Rattle.plan_rules.proofs.Turns.{playable_parts, playable_empty, playable_from, filled_under, empty_parts}
 use Rattle.plan_rules.proofs.Table.{together_sym, zones_apart}
 use Rattle.plan_rules.proofs.Plans.{plan_gives}
 use Rattle.plan_rules.proofs.Grounds.{fits_empty, members_together}
 use Rattle.plan_rules.proofs.AllRules.{lawful}
 use Rattle.plan_rules.proofs.Strategy.{first_kept, kept_at, answered_at, turn_in_duel, no_four_in_duel, white_never_wins}
 
-pub playable_in_words : (p : Position) (u : Square) → (is_playable p u ≡ true) ↔ ((is_empty p u ≡ true) × ((row : ℕ) → 1 ≤ row → row < u.1 → man_at p (u.0, row) ≢ None))
-playable_in_words p u = (to, from)
-  where
-    to : is_playable p u ≡ true → (is_empty p u ≡ true) × ((row : ℕ) → 1 ≤ row → row < u.1 → man_at p (u.0, row) ≢ None)
-    to h = (playable_empty p u h, λ row low under none. let some = filled_under p (u.0, row) low (omega (arith, (playable_parts p u h).1)) in cc (some.1, none))
-
-    from : (is_empty p u ≡ true) × ((row : ℕ) → 1 ≤ row → row < u.1 → man_at p (u.0, row) ≢ None) → is_playable p u ≡ true
-    from (empty, filled) = let parts = empty_parts p u empty in playable_from p u parts.0 parts.1 (low (cases_lt (height p u.0 + 1) u.1))
-      where
-        low : (height p u.0 + 1 < u.1) ⊎ (u.1 ≤ height p u.0 + 1) → u.1 ≤ height p u.0 + 1
-        low (inl past) = absurd (filled (height p u.0 + 1) (omega arith) past (man_past (men_in p u.0) (height p u.0 + 1) (omega arith)))
-        low (inr under) = under
-
-same_tests : (a b : Bool) → (a ≡ true → b ≡ true) → (b ≡ true → a ≡ true) → a ≡ b
-same_tests true b to from = sym (to refl)
-same_tests false true to from = from refl
-same_tests false false to from = refl
-
 pub together_orders : (v w : Written) → together v w ≡ together w v
-together_orders v w = same_tests (together v w) (together w v) (together_sym v w) (together_sym w v)
+together_orders v w = agree (together v w) (together w v) (together_sym v w) (together_sym w v)
 
 pub one_zone : (p : Position) (ws : List Written) (i j : ℕ) (v w : Written) (u : Square) → is_plan p ws ≡ true → IsMember ws i v → IsMember ws j w
-    → holds (zone_of v) u ≡ true → holds (zone_of w) u ≡ true → i ≡ j
+    → has_square (zone_of v) u ≡ true → has_square (zone_of w) u ≡ true → i ≡ j
 one_zone p ws i j v w u is left right in_v in_w =
     let plan = plan_gives p ws is in
     elim (cases_eq i j) [
@@ -52,8 +32,8 @@ one_zone p ws i j v w u is left right in_v in_w =
       | inr apart ↦ absurd (zones_apart v w u (members_together p p ws plan (λ u m h. h) (first_kept lawful p ws plan).calms i j v w apart left right) in_v in_w)
     ]
 
-pub zones_empty : (p : Position) (ws : List Written) (i : ℕ) (w : Written) (u : Square) → is_plan p ws ≡ true → IsMember ws i w → holds (zone_of w) u ≡ true → is_empty p u ≡ true
-zones_empty p ws i w u is member owned = all_gives (is_empty p) (zone_of w) u (fits_empty w p ((plan_gives p ws is).fitting i w member)) (holds_gives (zone_of w) u owned)
+pub zones_empty : (p : Position) (ws : List Written) (i : ℕ) (w : Written) (u : Square) → is_plan p ws ≡ true → IsMember ws i w → has_square (zone_of w) u ≡ true → is_empty p u ≡ true
+zones_empty p ws i w u is member owned = all_gives (is_empty p) (zone_of w) u (fits_empty w p ((plan_gives p ws is).fitting i w member)) (has_gives (zone_of w) u owned)
 
 pub plan_kept : (p : Position) (ws : List Written) (columns : List ℕ) (q : Position) → is_plan p ws ≡ true → after_turns ws p columns ≡ Some q → IsKept p ws q
 plan_kept p ws columns q is h = kept_at lawful p ws (plan_gives p ws is) columns q h

@@ -3,13 +3,14 @@ use Rattle.std.proofs.Common.{◌≡◌, ◌≢◌, ◌⊎◌, ℕ, ◌+◌, ◌
 use Rattle.std.proofs.lemmas.Bool.{cases_eq, cases_lt, both_ways, and_parts, and_from, eqb-true, eq-eqb}
 use Rattle.game_rules.specs.Board.{Square, on_board}
 use Rattle.game_rules.specs.Position.{Position, board_of, men_in, height, man_at, has_man, is_man, other, side_to_move, has_room, after_move}
+use Rattle.game_rules.specs.Squares.{same_square, is_empty, is_playable}
 use Rattle.game_rules.specs.declared.Side.{Side}
 use Rattle.game_rules.specs.declared.Side.TheVariants.{White, Black}
 use Rattle.game_rules.proofs.Moves as moves
 use Rattle.game_rules.proofs.Moves.{man_past, man_within, men_moved, men_beside, board_moved, height_moved, side_moved, room_from}
 use Rattle.game_rules.proofs.Ends.{on_board_parts}
-use Rattle.plan_rules.specs.Squares.{same_square, above, is_empty, is_playable}
-use Rattle.plan_rules.proofs.Squares.{same_square_is}
+use Rattle.game_rules.proofs.Squares.{same_square_is}
+use Rattle.plan_rules.specs.Squares.{above}
 
 -- ---- men and heights
 
@@ -51,8 +52,8 @@ is_man_some Black (Some Black) h = refl
 pub man_from : (q : Position) (side : Side) (u : Square) → has_man q side u ≡ true → man_at q u ≡ Some side
 man_from q side u h = is_man_some side (man_at q u) h
 
-pub has_from : (q : Position) (side : Side) (u : Square) → man_at q u ≡ Some side → has_man q side u ≡ true
-has_from q side u h = ap (is_man side) h ∙ own side
+pub has_man_from : (q : Position) (side : Side) (u : Square) → man_at q u ≡ Some side → has_man q side u ≡ true
+has_man_from q side u h = ap (is_man side) h ∙ own side
   where
     own : (side : Side) → is_man side (Some side) ≡ true
     own White = refl

@@ -4,11 +4,11 @@ use Rattle.std.proofs.Common.{◌≡◌, ℕ, ◌+◌, Bool, true, false, List, 
 use Rattle.std.specs.Option.{option_map, option_map_or}
 use Rattle.game_rules.specs.Board.{Square}
 use Rattle.game_rules.specs.Position.{Position, empty_position, height, end_of, after_move, played}
+use Rattle.game_rules.specs.Squares.{has_square}
 use Rattle.game_rules.specs.declared.End.{End}
 use Rattle.game_rules.specs.declared.End.TheVariants as ends
 use Rattle.game_rules.specs.declared.Way.TheVariants.{H, U}
-use Rattle.plan_rules.specs.Rules.{Written, claimeven, baseinverse, lowinverse, highinverse, baseclaim, vertical, aftereven, before, specialbefore, facts_of, barred, together}
-use Rattle.plan_rules.specs.Squares.{holds}
+use Rattle.plan_rules.specs.Rules.{Written, claimeven, baseinverse, lowinverse, highinverse, baseclaim, vertical, aftereven, before, specialbefore, is_shaped, facts_of, barred, together}
 use Rattle.plan_rules.specs.Plan.{is_plan, plan_reply, after_turn, duel, is_playable_list}
 
 -- whether a list is a plan after some moves on a board
@@ -135,7 +135,7 @@ specialbefore_to_the_end : answered 5 4 (0 ∷ 1 ∷ 1 ∷ 0 ∷ 0 ∷ 1 ∷ 1 �
 specialbefore_to_the_end = refl
 
 -- White may own the bottom and the middle of one column of a Highinverse
-bottom_and_middle : (p : Position) → barred (highinverse (2, 2) (3, 2)) (facts_of p []) (holds ((3, 2) ∷ (3, 3) ∷ [])) ≡ false
+bottom_and_middle : (p : Position) → barred (highinverse (2, 2) (3, 2)) (facts_of p []) (has_square ((3, 2) ∷ (3, 3) ∷ [])) ≡ false
 bottom_and_middle p = refl
 
 -- whether a list of White's columns is playable, and how many positions the duel over it has
@@ -151,3 +151,16 @@ past_the_end = refl
 
 full_column : dueled six_zones (2 ∷ 2 ∷ 2 ∷ 3 ∷ 2 ∷ []) ≡ Some (false, 9)
 full_column = refl
+
+-- whether a Specialbefore has the shape on a board
+abbrev special_shape : ℕ → ℕ → Written → Bool
+special_shape cols rows w = is_shaped w (record { cols = cols; rows = rows })
+
+whole_on_the_board : special_shape 5 4 (specialbefore ((1, 1), U) (3, 4) (2, 2)) ≡ true
+whole_on_the_board = refl
+
+line_off_the_board : special_shape 4 4 (specialbefore ((1, 1), U) (3, 4) (2, 2)) ≡ false
+line_off_the_board = refl
+
+square_off_the_board : (special_shape 4 4 (specialbefore ((0, 2), H) (4, 1) (0, 2)) ≡ false) × (special_shape 4 4 (specialbefore ((0, 2), H) (3, 5) (0, 2)) ≡ false)
+square_off_the_board = (refl, refl)

@@ -4,15 +4,16 @@ use Rattle.std.specs.List.{list_all, slice_index_or}
 use Rattle.std.proofs.lemmas.Bool.{and_parts, and_from, and_right, or_cases, false_from_ne_true}
 use Rattle.game_rules.specs.Board.{Square, on_board}
 use Rattle.game_rules.specs.Position.{Position, board_of, height, man_at, is_man, after_move}
+use Rattle.game_rules.specs.Squares.{same_square, has_square, is_empty, is_playable}
 use Rattle.game_rules.specs.declared.Side.{Side}
 use Rattle.game_rules.specs.declared.Side.TheVariants.{White}
 use Rattle.game_rules.proofs.Lists.{Among, any_gives, all_gives}
 use Rattle.game_rules.proofs.Moves.{same_side_is, board_moved}
-use Rattle.plan_rules.specs.Squares.{same_square, holds, above, is_empty, is_playable, word_at}
+use Rattle.game_rules.proofs.Squares.{has_from}
+use Rattle.plan_rules.specs.Squares.{above, word_at}
 use Rattle.plan_rules.specs.Rules.{Written, zone_of, fits}
 use Rattle.plan_rules.specs.Calm.{Word, same_man, same_word, is_one_of}
 use Rattle.plan_rules.specs.Laws.{LocalLaw, IsFounded, AreTrue}
-use Rattle.plan_rules.proofs.Squares.{holds_from}
 use Rattle.plan_rules.proofs.Turns.{empty_parts, playable_man, playable_parts, filled_under, beside, stays}
 use Rattle.plan_rules.proofs.Grounds.{fits_on_board, fits_empty}
 
@@ -67,8 +68,8 @@ is_free i word = is_none (letter word i)
 abbrev pub is_free_over : ℕ → ℕ → Word → Bool
 is_free_over i j word = not (is_none (letter word i)) && is_none (letter word j)
 
-pub word_same : (us : List Square) (p q : Position) → ((u : Square) → holds us u ≡ true → man_at p u ≡ man_at q u) → word_at p us ≡ word_at q us
-word_same us p q same = along us (λ u among. same u (holds_from us u among))
+pub word_same : (us : List Square) (p q : Position) → ((u : Square) → has_square us u ≡ true → man_at p u ≡ man_at q u) → word_at p us ≡ word_at q us
+word_same us p q same = along us (λ u among. same u (has_from us u among))
   where
     along : (us : List Square) → ((u : Square) → Among u us → man_at p u ≡ man_at q u) → word_at p us ≡ word_at q us
     along [] same = refl
@@ -86,7 +87,7 @@ pub zone_none : (w : Written) (p : Position) → fits w p ≡ true → (u : Squa
 zone_none w p fitted u among = (empty_parts p u (all_gives (is_empty p) (zone_of w) u (fits_empty w p fitted) among)).1
 
 -- the lowest square of a zone in its column stands on the column
-pub foot_low : (zone : List Square) (q : Position) → IsFounded zone q → (v : Square) → holds zone v ≡ true → ((u : Square) → holds zone u ≡ true → u.0 ≡ v.0 → v.1 ≤ u.1) → v.1 ≤ height q v.0 + 1
+pub foot_low : (zone : List Square) (q : Position) → IsFounded zone q → (v : Square) → has_square zone v ≡ true → ((u : Square) → has_square zone u ≡ true → u.0 ≡ v.0 → v.1 ≤ u.1) → v.1 ≤ height q v.0 + 1
 foot_low zone q founded v owned lowest = founded v owned (λ r low. false_from_ne_true _ (λ below. let high : v.1 ≤ r = lowest (v.0, r) below refl in omega arith))
 
 -- a playable square is empty, and the square below it in the zone filled
@@ -100,7 +101,7 @@ free_over_from q u low playable =
     and_from _ _ (ap (λ m. not (is_none m)) some.1) (free_from q (above u) playable)
 
 -- nothing is owed to others
-pub no_facts : (q : Position) → AreTrue (holds []) (holds []) [] q
+pub no_facts : (q : Position) → AreTrue (has_square []) (has_square []) [] q
 no_facts q = record { uppers = λ u h. absurd (cc h); pairs = λ u h white. absurd (cc h); twins = λ i u v h white. absurd (cc h) }
 
 -- ---- after White's move

@@ -5,9 +5,11 @@ use Rattle.std.specs.List.{list_all, list_any, find}
 use Rattle.std.specs.Option.{option_map, option_map_or}
 use Rattle.game_rules.specs.Board.{Board, Square, below, ways}
 use Rattle.game_rules.specs.Position.{Position, board_of, height, man_at, has_man, side_to_move, same_side, has_four, end_of, is_legal, after_move}
+use Rattle.game_rules.specs.Squares.{has_square, is_empty, is_playable}
+use Rattle.game_rules.specs.Groups.{Group, squares_of, lies_on}
 use Rattle.game_rules.specs.declared.Side.{Side}
 use Rattle.game_rules.specs.declared.Side.TheVariants.{White, Black}
-use Rattle.plan_rules.specs.Squares.{holds, is_even, men_on, is_empty, is_playable, Line, squares_of, lies_on}
+use Rattle.plan_rules.specs.Squares.{is_even, men_on}
 use Rattle.plan_rules.specs.Rules.{Written, claimeven, baseinverse, lowinverse, highinverse, baseclaim, vertical, aftereven, before, specialbefore, zone_of, fits, reply_to, facts_of, barred, is_supported, together}
 use Rattle.plan_rules.specs.Calm.{is_calm}
 use Rattle.plan_rules.specs.Laws.{AreTrue}
@@ -24,19 +26,19 @@ abbrev pub every_square : Board → (Square → Bool) → Bool
 every_square board test = list_all (λ c. list_all (λ r. test (c, r + 1)) (below board.rows)) (below board.cols)
 
 -- each line of the board passes the test
-abbrev pub every_line : Board → (Line → Bool) → Bool
+abbrev pub every_line : Board → (Group → Bool) → Bool
 every_line board test = list_all (λ way. every_square board (λ anchor. not (lies_on board (anchor, way)) || test (anchor, way))) ways
 
 -- the square stands in the zone of some member
 abbrev pub has_owner : List Written → Square → Bool
-has_owner ws u = list_any (λ w. holds (zone_of w) u) ws
+has_owner ws u = list_any (λ w. has_square (zone_of w) u) ws
 
 -- the squares of a line that are empty at the position
-abbrev pub empty_part : Position → Line → Square → Bool
-empty_part p g u = is_empty p u && holds (squares_of g) u
+abbrev pub empty_part : Position → Group → Square → Bool
+empty_part p g u = is_empty p u && has_square (squares_of g) u
 
 -- a member bars the line's empty squares
-abbrev pub is_barred : Position → List Written → Line → Bool
+abbrev pub is_barred : Position → List Written → Group → Bool
 is_barred p ws g = list_any (λ w. barred w (facts_of p ws) (empty_part p g)) ws
 
 -- White is to move and the game goes on; each member fits, and each two may stand together, so that no two zones share
@@ -69,16 +71,16 @@ pub record IsPlan (p : Position) (ws : List Written) : Type 0 where
   pub going : end_of p ≡ None
   pub fitting : (i : ℕ) (w : Written) → IsMember ws i w → fits w p ≡ true
   pub standing : (i j : ℕ) (v w : Written) → i < j → IsMember ws i v → IsMember ws j w → together v w ≡ true
-  pub covered : (u : Square) → is_empty p u ≡ true → SomeMember ws (λ w. holds (zone_of w) u ≡ true)
+  pub covered : (u : Square) → is_empty p u ≡ true → SomeMember ws (λ w. has_square (zone_of w) u ≡ true)
   pub supported : (i : ℕ) (w : Written) → IsMember ws i w → is_supported w (facts_of p ws) ≡ true
-  pub answered : (g : Line) → lies_on (board_of p) g ≡ true → ((u : Square) → holds (squares_of g) u ≡ true → has_man p Black u ≡ false)
+  pub answered : (g : Group) → lies_on (board_of p) g ≡ true → ((u : Square) → has_square (squares_of g) u ≡ true → has_man p Black u ≡ false)
       → SomeMember ws (λ w. barred w (facts_of p ws) (empty_part p g) ≡ true)
 
 -- ---- play by a plan
 
 -- Black's answer to White's move to a square, at the position after it: the reply of the zone that owns the square
 abbrev pub plan_reply : List Written → Position → Square → Option Square
-plan_reply ws now last = option_and_then (λ w. reply_to w now last) (find (λ w. holds (zone_of w) last) ws)
+plan_reply ws now last = option_and_then (λ w. reply_to w now last) (find (λ w. has_square (zone_of w) last) ws)
 
 -- the position after White's move into a column and Black's answer; none where White's move ended the game
 abbrev pub after_turn : List Written → Position → ℕ → Option Position

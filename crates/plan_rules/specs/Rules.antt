@@ -4,9 +4,11 @@
 use Rattle.std.specs.Prelude.{◌+◌, Bool, true, false, not, ◌&&◌, ◌||◌, ◌==◌, nat_lt, nat_le, if◌then◌else◌, List, [], ◌∷◌, ◌++◌, Option, Some, None}
 use Rattle.std.specs.List.{list_all, list_any, flat_map}
 use Rattle.game_rules.specs.Board.{Board, Square, below, on_board}
-use Rattle.game_rules.specs.Position.{Position, board_of, has_man, lowest_empty}
+use Rattle.game_rules.specs.Position.{Position, board_of, has_man, has_room, lowest_empty}
+use Rattle.game_rules.specs.Squares.{same_square, has_square, is_empty, is_playable}
+use Rattle.game_rules.specs.Groups.{Group, squares_of, lies_on}
 use Rattle.game_rules.specs.declared.Side.TheVariants.{White}
-use Rattle.plan_rules.specs.Squares.{same_square, holds, above, under, is_even, is_odd, column_up, span, is_empty, is_playable, Line, squares_of, lies_on, each_of}
+use Rattle.plan_rules.specs.Squares.{above, under, is_even, is_odd, column_up, span, each_of}
 use Rattle.plan_rules.specs.declared.Kind.{Kind}
 use Rattle.plan_rules.specs.declared.Kind.TheVariants as kinds
 
@@ -18,9 +20,9 @@ pub data Written : Type 0 where
   highinverse : Square → Square → Written  -- x, y
   baseclaim : Square → Square → Square → Written  -- a, b, e
   vertical : Square → Written  -- e
-  aftereven : Line → Written  -- G
-  before : Line → Written  -- G
-  specialbefore : Line → Square → Square → Written  -- G, f, e0
+  aftereven : Group → Written  -- G
+  before : Group → Written  -- G
+  specialbefore : Group → Square → Square → Written  -- G, f, e0
 
 -- which rule it is an instance of
 abbrev pub kind_of : Written → Kind
@@ -59,7 +61,7 @@ zone_of (before g) = []
 zone_of (specialbefore g f e0) = []
 
 -- the line of Black's that a rule rests on
-abbrev pub line_of : Written → Option Line
+abbrev pub line_of : Written → Option Group
 line_of (claimeven x) = None
 line_of (baseinverse s t) = None
 line_of (lowinverse x x_top y y_top) = None
@@ -76,7 +78,7 @@ line_of (specialbefore g f e0) = Some g
 abbrev pub is_low_column : Square → Square → Bool
 is_low_column bottom top = (bottom.0 == top.0) && is_even bottom.1 && is_even top.1 && nat_le (bottom.1 + 2) top.1
 
--- the shape needs only the board
+-- the shape needs only the board; of Aftereven and Before it asks nothing
 abbrev pub has_shape : Written → Board → Bool
 has_shape (claimeven x) board = is_odd x.1
 has_shape (baseinverse s t) board = nat_lt s.0 t.0
@@ -86,9 +88,10 @@ has_shape (baseclaim a b e) board = not (a.0 == b.0) && not (a.0 == e.0) && not 
 has_shape (vertical e) board = on_board board e && on_board board (above e) && is_even e.1
 has_shape (aftereven g) board = true
 has_shape (before g) board = true
-has_shape (specialbefore g f e0) board = not (holds (squares_of g) f) && holds (squares_of g) e0 && not (f.0 == e0.0)
+has_shape (specialbefore g f e0) board = lies_on board g && on_board board f && not (has_square (squares_of g) f) && has_square (squares_of g) e0 && not (f.0 == e0.0)
 
--- with the whole zone on the board
+-- With the whole zone on the board. A standing rule owns no square: Vertical and Specialbefore ask above for a board that
+-- has their squares and their line; Aftereven and Before ask for it where they fit.
 abbrev pub is_shaped : Written → Board → Bool
 is_shaped w board = list_all (on_board board) (zone_of w) && has_shape w board
 
@@ -97,11 +100,11 @@ abbrev pub is_grounded : Position → Square → Square → Bool
 is_grounded p x y = (is_playable p x && is_playable p y) || (is_playable p (under x) && is_playable p (under y))
 
 -- a line of the board without a White man and with an empty square
-abbrev pub is_open_line : Position → Line → Bool
+abbrev pub is_open_line : Position → Group → Bool
 is_open_line p g = lies_on (board_of p) g && list_all (λ u. not (has_man p White u)) (squares_of g) && list_any (is_empty p) (squares_of g)
 
 -- and every empty square of it lies below the top row
-abbrev pub is_low_line : Position → Line → Bool
+abbrev pub is_low_line : Position → Group → Bool
 is_low_line p g = is_open_line p g && each_of (is_empty p) (λ u. nat_lt u.1 p.rows) (squares_of g)
 
 -- what the position has to offer besides an empty zone
@@ -139,7 +142,7 @@ reply_to (baseinverse s t) now last = if same_square last s then Some t else (if
 reply_to (lowinverse x x_top y y_top) now last =
     if same_square last x_top then lowest_empty now y.0
     else (if same_square last y_top then lowest_empty now x.0
-    else (if holds (span x x_top ++ span y y_top) last then Some (above last) else None))
+    else (if has_square (span x x_top ++ span y y_top) last then Some (above last) else None))
 reply_to (highinverse x y) now last = if last.0 == x.0 then high_reply x y now last else high_reply y x now last
 reply_to (baseclaim a b e) now last =
     if same_square last a then (if is_empty now e then Some e else Some (above b))
@@ -150,6 +153,19 @@ reply_to (vertical e) now last = None
 reply_to (aftereven g) now last = None
 reply_to (before g) now last = None
 reply_to (specialbefore g f e0) now last = None
+
+-- the squares of its zone to which a rule names no answer: a Claimeven's upper square, and a Lowinverse's top while the
+-- other column is full
+abbrev pub has_no_answer : Written → Position → Square → Bool
+has_no_answer (claimeven x) now last = same_square last (above x)
+has_no_answer (baseinverse s t) now last = false
+has_no_answer (lowinverse x x_top y y_top) now last = (same_square last x_top && not (has_room now y.0)) || (same_square last y_top && not (has_room now x.0))
+has_no_answer (highinverse x y) now last = false
+has_no_answer (baseclaim a b e) now last = false
+has_no_answer (vertical e) now last = false
+has_no_answer (aftereven g) now last = false
+has_no_answer (before g) now last = false
+has_no_answer (specialbefore g f e0) now last = false
 
 -- ---- what instances give to others
 
@@ -206,8 +222,8 @@ as_list (Some twin) = twin ∷ []
 abbrev pub facts_of : Position → List Written → Facts
 facts_of p ws = record {
   empty = is_empty p;
-  upper = holds (flat_map upper_of ws);
-  pair = holds (flat_map pair_of ws);
+  upper = has_square (flat_map upper_of ws);
+  pair = has_square (flat_map pair_of ws);
   twin = flat_map (λ w. as_list (twin_of w)) ws;
 }
 
@@ -255,7 +271,7 @@ is_supported (specialbefore g f e0) facts = is_twin facts.twin f e0 && each_of f
 
 -- no square is in both lists, and no two squares of them stand in one column
 abbrev pub no_shared_square : List Square → List Square → Bool
-no_shared_square us vs = list_all (λ u. not (holds vs u)) us
+no_shared_square us vs = list_all (λ u. not (has_square vs u)) us
 
 abbrev pub no_shared_column : List Square → List Square → Bool
 no_shared_column us vs = list_all (λ u. list_all (λ v. not (u.0 == v.0)) vs) us

@@ -1,24 +1,20 @@
 //! Laws of the nine rules and of plans, each the contract of a function with an empty body. The first group is what
 //! every rule keeps; the second follows from it and from the table of instances that may stand together: by a plan
 //! Black has a reply to each move of White's, and White never has four in a line.
-ghost use Rattle.std.specs.Prelude.{◌≡◌, ◌≢◌, ◌↔◌, ℕ, ◌<◌, ◌≤◌, true, false, List, length, Some, None, slice_get};
+ghost use Rattle.std.specs.Prelude.{◌≡◌, ◌≢◌, ◌↔◌, ℕ, ◌≤◌, true, false, not, ◌||◌, List, length, Some, is_none, slice_get};
 ghost use Rattle.game_rules.specs.Board.{Square};
-ghost use Rattle.game_rules.specs.Position.{Position, man_at, is_legal};
+ghost use Rattle.game_rules.specs.Position.{Position, board_of, is_legal};
 ghost use Rattle.game_rules.specs.Value.{value, wins};
 ghost use Rattle.game_rules.specs.Laws.{HasLine};
+ghost use Rattle.game_rules.specs.Squares.{has_square, is_empty};
 ghost use Rattle.game_rules.specs.declared.Side.TheVariants as sides;
 ghost use Rattle.game_rules.specs.declared.End.TheVariants as ends;
-ghost use Rattle.plan_rules.specs.Squares.{holds, column_up, is_empty, is_even, is_odd, is_playable, men_on};
-ghost use Rattle.plan_rules.specs.Rules.{Written, zone_of, line_of, fits, reply_to, upper_of, pair_of, twin_of, barred, is_supported, together};
+ghost use Rattle.plan_rules.specs.Squares.{column_up, is_even, is_odd, men_on};
+ghost use Rattle.plan_rules.specs.Rules.{Written, zone_of, line_of, is_shaped, fits, reply_to, has_no_answer, upper_of, pair_of, twin_of, barred, is_supported, together};
 ghost use Rattle.plan_rules.specs.Calm.{is_paired, is_capped, is_shifted, is_calm};
 ghost use Rattle.plan_rules.specs.Columns.{IsPairedColumn, IsCappedColumn, IsShiftedColumn};
 ghost use Rattle.plan_rules.specs.Laws.{StartLaw, LocalLaw, StepLaw, FactLaw, BarLaw};
 ghost use Rattle.plan_rules.specs.Plan.{is_plan, IsMember, IsPlan, IsKept, IsAnswered, IsTurn, after_turns, duel, is_playable_list};
-
-/// A square is playable exactly where it is empty and every square below it is filled.
-pub fn a_playable_square_rests_on_filled_ones()
-    ensures { (p : Position) (u : Square) → (is_playable p u ≡ true) ↔ ((is_empty p u ≡ true) × ((row : ℕ) → 1 ≤ row → row < u.1 → man_at p (u.0, row) ≢ None)) }
-{}
 
 /// An instance that fits is calm, and the line that it rests on is a line of the position's board.
 pub fn an_instance_that_fits_is_calm()
@@ -35,6 +31,13 @@ pub fn calm_depends_on_the_zone_alone()
 /// after White's move, and the instance is calm after both men.
 pub fn a_move_in_a_zone_is_answered_in_it()
     ensures { (w : Written) → StepLaw (zone_of w) (fits w) (is_calm w) (reply_to w) }
+{}
+
+/// Of an instance with its shape on the board, a square has no reply exactly where it isn't in the zone, or is a
+/// Claimeven's upper square, or is a Lowinverse's top while the other column is full.
+pub fn a_reply_is_missing_where_the_rule_names_none()
+    ensures { (w : Written) (now : Position) (last : Square) → is_shaped w (board_of now) ≡ true
+        → is_none (reply_to w now last) ≡ (not (has_square (zone_of w) last) || has_no_answer w now last) }
 {}
 
 /// The instance fitted where the empty squares were those of the facts, it is supported by them and calm, the facts are
@@ -66,16 +69,16 @@ pub fn a_calm_zone_holds_an_even_number_of_men()
 /// Whether two instances may stand together is the same in both orders, and two that may share no square.
 pub fn instances_that_stand_together()
     ensures orders { (v w : Written) → together v w ≡ together w v }
-    ensures apart { (v w : Written) (u : Square) → together v w ≡ true → holds (zone_of v) u ≡ true → holds (zone_of w) u ≡ true → ⊥ }
+    ensures apart { (v w : Written) (u : Square) → together v w ≡ true → has_square (zone_of v) u ≡ true → has_square (zone_of w) u ≡ true → ⊥ }
 {}
 
 /// A plan in words of squares and lines; and each empty square stands in the zone of one member and of no other.
 pub fn a_plan_in_words()
     ensures words { (p : Position) (ws : List Written) → (is_plan p ws ≡ true) ↔ IsPlan p ws }
     ensures one_zone { (p : Position) (ws : List Written) (i j : ℕ) (v w : Written) (u : Square) → is_plan p ws ≡ true → IsMember ws i v → IsMember ws j w
-        → holds (zone_of v) u ≡ true → holds (zone_of w) u ≡ true → i ≡ j }
+        → has_square (zone_of v) u ≡ true → has_square (zone_of w) u ≡ true → i ≡ j }
     ensures empty_zones { (p : Position) (ws : List Written) (i : ℕ) (w : Written) (u : Square) → is_plan p ws ≡ true → IsMember ws i w
-        → holds (zone_of w) u ≡ true → is_empty p u ≡ true }
+        → has_square (zone_of w) u ≡ true → is_empty p u ≡ true }
 {}
 
 /// From a plan, after any of White's legal moves and the plan's replies: the board is the same, White is to move, the men

@@ -2,11 +2,12 @@
 use Rattle.std.proofs.Common.{◌≡◌, Bool, true, List, Option, refl, ◌∙◌}
 use Rattle.game_rules.specs.Board.{Square}
 use Rattle.game_rules.specs.Position.{Position, after_move}
-use Rattle.plan_rules.specs.Squares.{is_playable, Line}
+use Rattle.game_rules.specs.Squares.{is_playable}
+use Rattle.game_rules.specs.Groups.{Group}
 use Rattle.plan_rules.specs.Laws.{StartLaw, StepLaw}
 use Rattle.rule_law.specs.Start.{IsStart, IsAnswer}
 
-pub first_answer : (zone : List Square) (fitted calm : Position → Bool) (reply : Position → Square → Option Square) (line : Option Line)
+pub first_answer : (zone : List Square) (fitted calm : Position → Bool) (reply : Position → Square → Option Square) (line : Option Group)
     → StartLaw fitted calm line → StepLaw zone fitted calm reply → (p : Position) (last : Square) → is_playable p last ≡ true → IsStart zone fitted p last
     → (result : Option Square) → result ≡ reply (after_move p last.0) last → IsAnswer zone calm p last result
 first_answer zone fitted calm reply line starts steps p last playable h result same =

@@ -3,7 +3,7 @@ ghost use Rattle.std.specs.Prelude.{◌≡◌, Bool, List, Option};
 ghost use Rattle.game_rules.specs.Board.{Square};
 ghost use Rattle.game_rules.specs.Position.{Position};
 ghost use Rattle.game_rules.specs.Squares.{has_square, IsSetOf};
-ghost use Rattle.plan_rules.specs.Squares.{holds, Line};
+ghost use Rattle.game_rules.specs.Groups.{Group};
 ghost use Rattle.plan_rules.specs.Rules.{Facts};
 ghost use Rattle.plan_rules.specs.Laws.{StartLaw, LocalLaw, StepLaw, BarLaw, FactLaw};
 ghost use Rattle.plan_rules.specs.declared.Kind.{Kind};
@@ -46,7 +46,7 @@ pub trait Rule {
     ghost calm: { Self → Position → Bool };
 
     /// The line of four that a group rule rests on; None for each other rule.
-    ghost line: { Self → Option Line };
+    ghost line: { Self → Option Group };
 
     /// Which of the nine rules it is an instance of.
     fn kind(&self) -> Kind
@@ -54,7 +54,7 @@ pub trait Rule {
 
     /// The squares that it owns; none for a standing rule.
     fn zone(&self) -> Mask
-        ensures { IsSetOf (holds (zone self.now)) result };
+        ensures { IsSetOf (has_square (zone self.now)) result };
 
     /// Whether it fits at the position: its shape is one of the board's, its zone is empty, and what its rule asks
     /// besides is there.
@@ -62,7 +62,8 @@ pub trait Rule {
         ensures { result ≡ fitted self.now p.now };
 
     /// Black's answer to White's move `last`, at the position after it. None exactly where the rule names no square:
-    /// where `last` is outside the zone, or the rule has no answer to it.
+    /// where `last` isn't in the zone, or is a Claimeven's upper square, or is a Lowinverse's top while the other column
+    /// is full.
     fn reply(&self, now: &Position, last: Square) -> Option<Square>
         ensures { result ≡ reply self.now now.now last };
 
@@ -76,13 +77,13 @@ pub trait Rule {
 
     /// The squares that it puts among the kept upper squares.
     fn upper(&self) -> Mask
-        ensures { IsSetOf (holds (upper self.now)) result };
+        ensures { IsSetOf (has_square (upper self.now)) result };
 
     /// The squares that it puts among those that White never owns together with the square above.
     fn pair(&self) -> Mask
-        ensures { IsSetOf (holds (pair self.now)) result };
+        ensures { IsSetOf (has_square (pair self.now)) result };
 
-    /// The two squares that it puts among the kept twins; None for each rule that gives none.
+    /// The two squares that it puts among the kept twins; None exactly where the kind isn't Baseinverse.
     fn twin(&self) -> Option<(Square, Square)>
         ensures { result ≡ twin self.now };
 
