@@ -156,100 +156,40 @@ proof_accepted board columns root text v proof has_board has_moves few =
 
 -- ---- texts that are being written
 
+module _ (root : Position) (head text : List ℕ) (remark : Option (List ℕ)) (white : List Lemma) (mid : List Shown) (also : Option (List ℕ)) (black : List Lemma) (after : List Shown) where
+  -- both questions' remarks and lemmas, and what follows them
+  abbrev pub both_written : (last : List ℕ) → AreRight root [] white mid → AreRight root mid black after → AreSided White white → AreSided Black black → IsAskedInTurn root mid black
+      → IsRemarkLine remark → IsRemarkLine also → text ≡ head ++ (remark_line remark ++ (lines_of white ++ (remark_line also ++ (lines_of black ++ last)))) → HasWritten root head text after last
+  both_written last first second white_sided black_sided asked remarked also_remarked spelled = record {
+    white_remark = remark;
+    white = white;
+    black_remark = also;
+    black = black;
+    mid = mid;
+    white_right = first;
+    black_right = second;
+    asked = asked;
+    white_sided = white_sided;
+    black_sided = black_sided;
+    white_remarked = remarked;
+    black_remarked = also_remarked;
+    spelled = spelled;
+  }
+
+  -- nothing follows them yet
+  abbrev pub lemmas_stand : AreRight root [] white mid → AreRight root mid black after → AreSided White white → AreSided Black black → IsAskedInTurn root mid black
+      → IsRemarkLine remark → IsRemarkLine also → text ≡ head ++ (remark_line remark ++ (lines_of white ++ (remark_line also ++ lines_of black))) → MayStand root head text
+  lemmas_stand first second white_sided black_sided asked remarked also_remarked spelled = record {
+    after = after;
+    last = [];
+    written = both_written [] first second white_sided black_sided asked remarked also_remarked
+        (spelled ∙ ap (λ lines. head ++ (remark_line remark ++ (lines_of white ++ (remark_line also ++ lines)))) (sym (append-nil (lines_of black))));
+    ends = inl refl;
+  }
+
 -- the head alone
 abbrev pub head_stands : (root : Position) (head : List ℕ) → MayStand root head head
-head_stands root head =
-    record {
-      after = [];
-      last = [];
-      written = record {
-        white_remark = None;
-        white = [];
-        black_remark = None;
-        black = [];
-        mid = [];
-        white_right = refl;
-        black_right = refl;
-        asked = λ some. absurd (some refl);
-        white_sided = tt;
-        black_sided = tt;
-        white_remarked = tt;
-        black_remarked = tt;
-        spelled = sym (append-nil head);
-      };
-      ends = inl refl;
-    }
-
--- the first question's remark and lemmas
-pub white_stands : (root : Position) (head : List ℕ) (remark : Option (List ℕ)) (white : List Lemma) (after : List Shown)
-    → AreRight root [] white after → AreSided White white → IsRemarkLine remark → MayStand root head (head ++ (remark_line remark ++ lines_of white))
-white_stands root head remark white after right sided remarked =
-    record {
-      after = after;
-      last = [];
-      written = record {
-        white_remark = remark;
-        white = white;
-        black_remark = None;
-        black = [];
-        mid = after;
-        white_right = right;
-        black_right = refl;
-        asked = λ some. absurd (some refl);
-        white_sided = sided;
-        black_sided = tt;
-        white_remarked = remarked;
-        black_remarked = tt;
-        spelled = ap (λ text. head ++ (remark_line remark ++ text)) (sym (append-nil (lines_of white)));
-      };
-      ends = inl refl;
-    }
-
--- both questions', and the last line
-abbrev pub both_written : (root : Position) (head : List ℕ) (remark : Option (List ℕ)) (white : List Lemma) (mid : List Shown) (also : Option (List ℕ)) (black : List Lemma) (after : List Shown) (last : List ℕ)
-    → AreRight root [] white mid → AreRight root mid black after → AreSided White white → AreSided Black black → IsAskedInTurn root mid black → IsRemarkLine remark → IsRemarkLine also
-    → HasWritten root head (head ++ (remark_line remark ++ (lines_of white ++ (remark_line also ++ (lines_of black ++ last))))) after last
-both_written root head remark white mid also black after last first second white_sided black_sided asked remarked also_remarked =
-    record {
-      white_remark = remark;
-      white = white;
-      black_remark = also;
-      black = black;
-      mid = mid;
-      white_right = first;
-      black_right = second;
-      asked = asked;
-      white_sided = white_sided;
-      black_sided = black_sided;
-      white_remarked = remarked;
-      black_remarked = also_remarked;
-      spelled = refl;
-    }
-
-abbrev pub black_stands : (root : Position) (head : List ℕ) (remark : Option (List ℕ)) (white : List Lemma) (mid : List Shown) (also : Option (List ℕ)) (black : List Lemma) (after : List Shown)
-    → AreRight root [] white mid → AreRight root mid black after → AreSided White white → AreSided Black black → IsAskedInTurn root mid black → IsRemarkLine remark → IsRemarkLine also
-    → MayStand root head (head ++ (remark_line remark ++ (lines_of white ++ (remark_line also ++ lines_of black))))
-black_stands root head remark white mid also black after first second white_sided black_sided asked remarked also_remarked =
-    record {
-      after = after;
-      last = [];
-      written = record {
-        white_remark = remark;
-        white = white;
-        black_remark = also;
-        black = black;
-        mid = mid;
-        white_right = first;
-        black_right = second;
-        asked = asked;
-        white_sided = white_sided;
-        black_sided = black_sided;
-        white_remarked = remarked;
-        black_remarked = also_remarked;
-        spelled = ap (λ text. head ++ (remark_line remark ++ (lines_of white ++ (remark_line also ++ text)))) (sym (append-nil (lines_of black)));
-      };
-      ends = inl refl;
-    }
+head_stands root head = lemmas_stand root head head None [] [] None [] [] refl refl tt tt (λ some. absurd (some refl)) tt tt (sym (append-nil head))
 
 -- a whole proof may stand
 abbrev pub proof_stands : (root : Position) (head text : List ℕ) (v : Verdict) → IsProof root head text v → MayStand root head text

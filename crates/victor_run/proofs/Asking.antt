@@ -40,13 +40,9 @@ stopped_text : (stop : SearchStop) (old new : Option (List ℕ)) (text : List �
 stopped_text Spent old new text h = h
 stopped_text WriteFault old new text h = h
 
-stopped_few : (stop : SearchStop) (nodes count : ℕ) (after : List Shown) → length after ≡ count + uncounted (Err stop) → count ≤ nodes → is_whole_verdict (Err stop) ≡ true → length after ≤ nodes
-stopped_few Spent nodes count after counted few whole = omega (arith, counted)
-stopped_few WriteFault nodes count after counted few whole = cc
-
 module _ (root : Position) (nodes : ℕ) (old new : Option (List ℕ)) (count : ℕ) where
   -- the first question stopped
-  pub asks_none : (stop : SearchStop) → Solves root root White [] old new count (Err stop) → count ≤ nodes → Asks root nodes old new (Err stop)
+  pub asks_none : (stop : SearchStop) → Solves root root White [] old new count (Err stop) → count + uncounted (Err stop) ≤ nodes → Asks root nodes old new (Err stop)
   asks_none stop white few = record {
     white = white.more;
     mid = white.after;
@@ -59,7 +55,7 @@ module _ (root : Position) (nodes : ℕ) (old new : Option (List ℕ)) (count : 
     black_sided = tt;
     asked = λ some. absurd (some refl);
     verdict = tt;
-    few = stopped_few stop nodes count white.after white.counted few;
+    few = omega (arith, white.counted, few);
   }
 
   -- White wins
@@ -80,7 +76,7 @@ module _ (root : Position) (nodes : ℕ) (old new : Option (List ℕ)) (count : 
       rw told (won_verdict root white.after White to_move answer.lemma turn (subst (λ b. Shows white.after answer.lemma root (claim_for White b)) won white.shown)),
       (λ h. won_known White to_move answer.lemma (sym told ∙ h)),
     );
-    few = λ _. omega (arith, white.counted);
+    few = omega (arith, white.counted, few);
   }
 
 module _ (root : Position) (nodes : ℕ) (old held new : Option (List ℕ)) (count : ℕ) (first : Answer) (white : Solves root root White [] old held count (Ok first)) (none : first.yes ≡ false) (counted : ℕ) where
@@ -88,7 +84,7 @@ module _ (root : Position) (nodes : ℕ) (old held new : Option (List ℕ)) (cou
   white_fails = subst (λ b. Shows white.after first.lemma root (claim_for White b)) none white.shown
 
   -- the second question stopped
-  pub asks_one : (stop : SearchStop) → Solves root root Black white.after held new counted (Err stop) → counted ≤ nodes → Asks root nodes old new (Err stop)
+  pub asks_one : (stop : SearchStop) → Solves root root Black white.after held new counted (Err stop) → counted + uncounted (Err stop) ≤ nodes → Asks root nodes old new (Err stop)
   asks_one stop black few = record {
     white = white.more;
     mid = white.after;
@@ -101,7 +97,7 @@ module _ (root : Position) (nodes : ℕ) (old held new : Option (List ℕ)) (cou
     black_sided = black.sided;
     asked = λ _. (first.lemma, white_fails);
     verdict = tt;
-    few = stopped_few stop nodes counted black.after black.counted few;
+    few = omega (arith, black.counted, few);
   }
 
   module _ (second : Answer) (black : Solves root root Black white.after held new counted (Ok second)) (few : counted ≤ nodes) where
@@ -122,7 +118,7 @@ module _ (root : Position) (nodes : ℕ) (old held new : Option (List ℕ)) (cou
         rw told (won_verdict root black.after Black to_move second.lemma turn (subst (λ b. Shows black.after second.lemma root (claim_for Black b)) won black.shown)),
         (λ h. won_known Black to_move second.lemma (sym told ∙ h)),
       );
-      few = λ _. omega (arith, black.counted);
+      few = omega (arith, black.counted, few);
     }
 
     -- neither wins
@@ -147,7 +143,7 @@ module _ (root : Position) (nodes : ℕ) (old held new : Option (List ℕ)) (cou
             ),
             (λ h. cc),
           );
-          few = λ _. omega (arith, black.counted);
+          few = omega (arith, black.counted, few);
         }
 
 pub same_stop : {A : Type 0} (r : Result A SearchStop) (stop other : SearchStop) → r ≡ Err stop → r ≡ Err other → stop ≡ other

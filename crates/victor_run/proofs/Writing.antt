@@ -13,10 +13,10 @@ use Rattle.proof_text.specs.Texts.{first_line, head_of}
 use Rattle.proof_text.specs.Written.{IsProof}
 use Rattle.proof_text.proofs.Append.{AreRight_append}
 use Rattle.proof_text.proofs.Sound.{AreTrue_none, true_lemmas, true_verdict}
-use Rattle.proof_text.proofs.Written.{both_written, black_stands, head_stands, proof_stands, proof_accepted, head_of_fed, head_of_bare}
+use Rattle.proof_text.proofs.Written.{both_written, lemmas_stand, head_stands, proof_stands, proof_accepted, head_of_fed, head_of_bare}
 use Rattle.proof_text.specs.declared.Verdict.{Verdict}
 use Rattle.victor_run.specs.Proof.{head_for, IsProofOf, Writes}
-use Rattle.victor_run.specs.Search.{Asks, is_whole_verdict}
+use Rattle.victor_run.specs.Search.{Asks}
 use Rattle.victor_run.specs.declared.search.SearchStop.{SearchStop}
 use Rattle.victor_run.specs.declared.search.SearchStop.TheVariants.{WriteFault}
 use Rattle.io_ports.specs.declared.ports.Failed.{Failed}
@@ -78,14 +78,14 @@ module _ (nodes : ℕ) (bytes : List ℕ) (p : Position) (game : IsGameText byte
   the_head = head_of game.board game.columns
 
   -- a proof, with the verdict behind the lemmas
-  module _ (mid held : Option (List ℕ)) (r : Result Verdict SearchStop) (asks : Asks p nodes mid held r) (whole : is_whole_verdict r ≡ true) (v : Verdict) (right : IsVerdict p asks.after v) where
+  module _ (mid held : Option (List ℕ)) (r : Result Verdict SearchStop) (asks : Asks p nodes mid held r) (v : Verdict) (right : IsVerdict p asks.after v) where
     abbrev proof_text : List ℕ
     proof_text = the_head ++ (lines_of asks.white ++ (lines_of asks.black ++ verdict_line v))
 
     abbrev is_proof : IsProof p the_head proof_text v
     is_proof = record {
       after = asks.after;
-      written = both_written p the_head None asks.white asks.mid None asks.black asks.after (verdict_line v) asks.white_right asks.black_right asks.white_sided asks.black_sided asks.asked tt tt;
+      written = both_written p the_head proof_text None asks.white asks.mid None asks.black asks.after (verdict_line v) asks.white_right asks.black_right asks.white_sided asks.black_sided asks.asked tt tt refl;
       verdict = right;
     }
 
@@ -94,8 +94,8 @@ module _ (nodes : ℕ) (bytes : List ℕ) (p : Position) (game : IsGameText byte
       game = game;
       proof = is_proof;
       plain = (refl, refl);
-      few = asks.few whole;
-      accepted = proof_accepted game.board game.columns p proof_text v is_proof game.has_board game.has_moves (let few : length asks.after ≤ nodes = asks.few whole in omega arith);
+      few = asks.few;
+      accepted = proof_accepted game.board game.columns p proof_text v is_proof game.has_board game.has_moves (let few : length asks.after ≤ nodes = asks.few in omega arith);
       says = true_verdict p asks.after v (true_lemmas p [] (asks.white ++ asks.black) asks.after (AreRight_append p [] asks.mid asks.after asks.white asks.black asks.white_right asks.black_right) AreTrue_none) right;
     }
 
@@ -108,18 +108,18 @@ module _ (nodes : ℕ) (bytes : List ℕ) (p : Position) (game : IsGameText byte
     )
     writes_verdict old new (Err failed) head lemmas same stands = (
       proof_text,
-      record { game = game; stands = proof_stands p the_head proof_text v is_proof; plain = (refl, refl) },
+      record { game = game; stands = proof_stands p the_head proof_text v is_proof; plain = (refl, refl); few = asks.few },
       stands_all false old mid held new the_head (lines_of asks.white) (lines_of asks.black) (verdict_line v) (subst (Appends old mid) (head_is bytes p game) head) lemmas stands,
     )
 
   -- the head was cut
   pub writes_head : (old new : Option (List ℕ)) (failed : Failed) → Stands false old new (head_for bytes) → Writes nodes bytes p old new (Err failed)
-  writes_head old new failed stands = (the_head, record { game = game; stands = head_stands p the_head; plain = (refl, refl) }, subst (Stands false old new) (head_is bytes p game) stands)
+  writes_head old new failed stands = (the_head, record { game = game; stands = head_stands p the_head; plain = (refl, refl); few = omega arith }, subst (Stands false old new) (head_is bytes p game) stands)
 
   -- a lemma was cut
   pub writes_lemmas : (old mid new : Option (List ℕ)) (failed : Failed) (asks : Asks p nodes mid new (Err WriteFault)) → Appends old mid (head_for bytes) → Writes nodes bytes p old new (Err failed)
   writes_lemmas old mid new failed asks head = (
     the_head ++ (lines_of asks.white ++ lines_of asks.black),
-    record { game = game; stands = black_stands p the_head None asks.white asks.mid None asks.black asks.after asks.white_right asks.black_right asks.white_sided asks.black_sided asks.asked tt tt; plain = (refl, refl) },
+    record { game = game; stands = lemmas_stand p the_head (the_head ++ (lines_of asks.white ++ lines_of asks.black)) None asks.white asks.mid None asks.black asks.after asks.white_right asks.black_right asks.white_sided asks.black_sided asks.asked tt tt refl; plain = (refl, refl); few = asks.few },
     Stands_more false old mid new the_head (lines_of asks.white ++ lines_of asks.black) (subst (Appends old mid) (head_is bytes p game) head) asks.text,
   )

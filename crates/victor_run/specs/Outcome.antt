@@ -55,11 +55,11 @@ pub record LeavesUnknown (nodes : ℕ) (bytes : List ℕ) (old new : Option (Lis
   pub written : Appends old new text
 
 -- The bytes are a game, and of a text that may stand while a proof is written a front was.
-pub record WasCut (bytes : List ℕ) (old new : Option (List ℕ)) : Type 0 where
+pub record WasCut (nodes : ℕ) (bytes : List ℕ) (old new : Option (List ℕ)) : Type 0 where
   pub position : Position
   pub game : game_at bytes ≡ Ok position
   pub text : List ℕ
-  pub stands : MayStandFor bytes position text
+  pub stands : MayStandFor nodes bytes position text
   pub written : Stands false old new text
 
 -- what the source has left, and what the sink held, before and after a run
@@ -73,7 +73,7 @@ pub record Streams : Type 0 where
 abbrev pub Proves : ℕ → Streams → Ending → Type 0
 Proves nodes s Done = IfSome s.input (λ bytes. HasProved nodes bytes s.old s.new) × IsAtEnd s.left
 Proves nodes s Unknown = IfSome s.input (λ bytes. LeavesUnknown nodes bytes s.old s.new) × IsAtEnd s.left
-Proves nodes s Write = IfSome s.input (λ bytes. WasCut bytes s.old s.new) × IsAtEnd s.left
+Proves nodes s Write = IfSome s.input (λ bytes. WasCut nodes bytes s.old s.new) × IsAtEnd s.left
 Proves nodes s (Input fault) = IfSome s.input (λ bytes. game_at bytes ≡ Err fault) × Keeps s.old s.new
 Proves nodes s Read = Keeps s.old s.new
 Proves nodes s Usage = ⊥

@@ -34,12 +34,13 @@ pub record IsProofOf (nodes : ℕ) (bytes : List ℕ) (p : Position) (text : Lis
   pub says : IsTrueVerdict p v
 
 -- a text that may stand while such a proof is written
-pub record MayStandFor (bytes : List ℕ) (p : Position) (text : List ℕ) : Type 0 where
+pub record MayStandFor (nodes : ℕ) (bytes : List ℕ) (p : Position) (text : List ℕ) : Type 0 where
   pub game : IsGameText bytes p
   pub stands : MayStand p (head_of game.board game.columns) text
   pub plain : IsPlain stands.written
+  pub few : length stands.after ≤ nodes
 
 -- Behind the bytes that were there stands a proof with the verdict; after a failure, a front of what may stand.
 abbrev pub Writes : ℕ → List ℕ → Position → Option (List ℕ) → Option (List ℕ) → Result Verdict Failed → Type 0
 Writes nodes bytes p old new (Ok v) = (text : List ℕ) × IsProofOf nodes bytes p text v × Appends old new text
-Writes nodes bytes p old new (Err failed) = (text : List ℕ) × MayStandFor bytes p text × Stands false old new text
+Writes nodes bytes p old new (Err failed) = (text : List ℕ) × MayStandFor nodes bytes p text × Stands false old new text

@@ -65,4 +65,4 @@ pub record Asks (root : Position) (nodes : ℕ) (old new : Option (List ℕ)) (r
   pub black_sided : AreSided Black black
   pub asked : IsAskedInTurn root mid black
   pub verdict : IfOk result (λ v. IsVerdict root after v × (v ≢ Unknown))
-  pub few : is_whole_verdict result ≡ true → length after ≤ nodes
+  pub few : length after ≤ nodes

@@ -8,7 +8,7 @@ ghost use Rattle.game_rules.specs.Cost.{centre_out, count, cost, none_closed};
 ghost use Rattle.proof_text.specs.Lemma.{claim_for, ByAll};
 ghost use Rattle.proof_text.specs.Right.{Shown, HasReason};
 ghost use Rattle.cert_format.specs.Shape.{cite_of, reason_of};
-ghost use Rattle.victor_run.specs.Search.{Solves, Asks, cites_from, won_by};
+ghost use Rattle.victor_run.specs.Search.{uncounted, Solves, Asks, cites_from, won_by};
 ghost use Rattle.victor_run.specs.declared.search.SearchStop.TheVariants as stops;
 
 use arrayvec::ArrayVec;
@@ -52,7 +52,7 @@ pub(crate) fn solve<O: Sink>(
     ensures left { OnOk result (budget.new + count none_closed side position.now ≡ budget.old) }
     ensures spent { result ≡ Err stops.Spent → budget.old < count none_closed side position.now }
     ensures path { path.new.items ≡ path.old.items }
-    ensures few { lemmas.new + budget.new ≤ lemmas.old + budget.old }
+    ensures few { lemmas.new + uncounted result + budget.new ≤ lemmas.old + budget.old }
     ensures later { O.faults out.old ≤ O.faults out.new }
     ensures fault { result ≡ Err stops.WriteFault → Rose (O.faults out.old) (O.faults out.new) }
     ensures wrote { (root : Men) (known : List Shown) → played root path.old.items ≡ Some position.now → length known ≡ lemmas.old
@@ -107,7 +107,7 @@ fn put_lemma<O: Sink>(
     requires deep { length path.now ≤ 100 }
     ensures answer { IfOk result (λ answer. answer.yes ≡ yes) }
     ensures spent { result ≡ Err stops.Spent → ⊥ }
-    ensures few { lemmas.new ≤ lemmas.old + 1 }
+    ensures few { lemmas.new + uncounted result ≤ lemmas.old + 1 }
     ensures later { O.faults out.old ≤ O.faults out.new }
     ensures fault { result ≡ Err stops.WriteFault → Rose (O.faults out.old) (O.faults out.new) }
     ensures wrote { (root p : Men) (known : List Shown) → played root path.now ≡ Some p → length known ≡ lemmas.old
@@ -134,7 +134,7 @@ fn put_lemma_by_all<O: Sink>(
     requires deep { length path.now ≤ 100 }
     ensures answer { IfOk result (λ answer. answer.yes ≡ yes) }
     ensures spent { result ≡ Err stops.Spent → ⊥ }
-    ensures few { lemmas.new ≤ lemmas.old + 1 }
+    ensures few { lemmas.new + uncounted result ≤ lemmas.old + 1 }
     ensures later { O.faults out.old ≤ O.faults out.new }
     ensures fault { result ≡ Err stops.WriteFault → Rose (O.faults out.old) (O.faults out.new) }
     ensures wrote { (root : Men) (known : List Shown) → played root path.now ≡ Some position.now → length known ≡ lemmas.old

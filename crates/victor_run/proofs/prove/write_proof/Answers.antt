@@ -28,7 +28,7 @@ pub returns-in-Ok-clause-written : goal.returns-in-Ok-clause-written
 returns-in-Ok-clause-written g c =
     let head : c.as_slice.result.now ≡ head_for c.args.text.now = c.as_slice.ensures.value ∙ c.head_for.ensures in
     let asks = c.in-Ok.ensures.asked in
-    writes_verdict c.args.nodes c.args.text.now c.args.position.now (read_in_grammar c.args.text.now c.args.position.now c.requires.game) c.requires.nodes _ _ (Ok c.in-Ok.verdict) asks refl c.in-Ok.verdict asks.verdict.0 _ _ c.write_verdict.result
+    writes_verdict c.args.nodes c.args.text.now c.args.position.now (read_in_grammar c.args.text.now c.args.position.now c.requires.game) c.requires.nodes _ _ (Ok c.in-Ok.verdict) asks c.in-Ok.verdict asks.verdict.0 _ _ c.write_verdict.result
     (subst (Appends (g.O.Sink.written c.args.out.now) (g.O.Sink.written c.put_all.new.out)) head c.in_ok-put_all.ensures.bytes) asks.text c.write_verdict.ensures.verdict c.write_verdict.ensures.written
 
 pub returns-in-Err-Spent-clause-written : goal.returns-in-Err-Spent-clause-written
@@ -36,7 +36,7 @@ returns-in-Err-Spent-clause-written g c =
     let p = c.args.position.now in
     let head : c.as_slice.result.now ≡ head_for c.args.text.now = c.as_slice.ensures.value ∙ c.head_for.ensures in
     let asks = subst (λ stop. Asks p c.args.nodes (g.O.Sink.written c.put_all.new.out) (g.O.Sink.written c.ask.new.out) (Err stop)) c.in-Err-Spent.field-0-is c.in-Err-Spent.ensures.asked in
-    writes_verdict c.args.nodes c.args.text.now p (read_in_grammar c.args.text.now p c.requires.game) c.requires.nodes _ _ (Err Spent) asks refl Unknown tt _ _ c.write_verdict-in-Err-Spent.result
+    writes_verdict c.args.nodes c.args.text.now p (read_in_grammar c.args.text.now p c.requires.game) c.requires.nodes _ _ (Err Spent) asks Unknown tt _ _ c.write_verdict-in-Err-Spent.result
     (subst (Appends (g.O.Sink.written c.args.out.now) (g.O.Sink.written c.put_all.new.out)) head c.in_ok-put_all.ensures.bytes) asks.text c.write_verdict-in-Err-Spent.ensures.verdict c.write_verdict-in-Err-Spent.ensures.written
 
 pub returns-in-Err-WriteFault-clause-written : goal.returns-in-Err-WriteFault-clause-written

@@ -17,7 +17,7 @@ returns-in_err-white-clause-asked g c =
     let is_stop : c.from_residual.result ≡ Err c.in_err-white.field-0.0 = same.1 ∙ ap (λ e. Err e) same.2 in
     let root_path : played p c.new-path.result.items ≡ Some p = ap (played p) c.new-path.ensures in
     let white = subst (λ r. Solves p p White [] (g.O.Sink.written c.args.out.now) (g.O.Sink.written c.solve.new.out) c.solve.new.lemmas r) c.in_err-white.was (c.solve.ensures.wrote p [] root_path (sym c.new-lemmas.ensures)) in
-    rw is_stop (asks_none p c.args.nodes _ _ c.solve.new.lemmas c.in_err-white.field-0.0 white (omega (arith, c.solve.ensures.few, c.new-lemmas.ensures)))
+    rw is_stop (asks_none p c.args.nodes _ _ c.solve.new.lemmas c.in_err-white.field-0.0 white (omega (arith, c.in_err-white.ensures.few, c.new-lemmas.ensures)))
 
 pub returns-in_err-white-clause-spent : goal.returns-in_err-white-clause-spent
 returns-in_err-white-clause-spent g c spent =
@@ -42,7 +42,7 @@ returns-in_err-black-clause-asked g c =
     let white = subst (λ r. Solves p p White [] (g.O.Sink.written c.args.out.now) (g.O.Sink.written c.solve.new.out) c.solve.new.lemmas r) c.in_ok-white.was (c.solve.ensures.wrote p [] root_path (sym c.new-lemmas.ensures)) in
     let many : length white.after ≡ c.solve.new.lemmas = omega (arith, white.counted) in
     let black = subst (λ r. Solves p p Black white.after (g.O.Sink.written c.solve.new.out) (g.O.Sink.written c.solve-2.new.out) c.solve-2.new.lemmas r) c.in_err-black.was (c.solve-2.ensures.wrote p white.after same_path many) in
-    rw is_stop (asks_one p c.args.nodes _ _ _ c.solve.new.lemmas c.in_ok-white.white white c.if-white.false c.solve-2.new.lemmas c.in_err-black.field-0.0 black (omega (arith, c.solve.ensures.few, c.solve-2.ensures.few, c.new-lemmas.ensures)))
+    rw is_stop (asks_one p c.args.nodes _ _ _ c.solve.new.lemmas c.in_ok-white.white white c.if-white.false c.solve-2.new.lemmas c.in_err-black.field-0.0 black (omega (arith, c.in_ok-white.ensures.few, c.in_err-black.ensures.few, c.new-lemmas.ensures)))
 
 pub returns-in_err-black-clause-spent : goal.returns-in_err-black-clause-spent
 returns-in_err-black-clause-spent g c spent =
