@@ -1,5 +1,5 @@
 -- Lines that are passed, one after another, and the bytes that they are.
-use Rattle.std.proofs.Common.{◌≡◌, ℕ, zero, suc, ◌+◌, ◌*◌, ◌≤◌, List, [], ◌++◌, length, Bool, true, false, Option, Some, None, refl, sym, ap, ◌∙◌, subst, arith, append_assoc, length-append}
+use Rattle.std.proofs.Common.{◌≡◌, ℕ, zero, suc, ◌+◌, ◌-◌, ◌*◌, ◌≤◌, List, [], ◌++◌, length, Bool, true, false, Option, Some, None, refl, sym, ap, ◌∙◌, subst, arith, append_assoc, length-append}
 use Rattle.std.proofs.KnownBytes.{prepend_known-nil}
 use Rattle.io_ports.specs.Lines.{Cutting, next_line, behind_lines, PassesLines, feed, IsCut}
 use Rattle.io_ports.specs.declared.line_reader.LineGot.{LineGot}
@@ -31,11 +31,19 @@ passes_most m n None b few p = tt
 passes_most m n (Some x) None few p = absurd p
 passes_most m n (Some x) (Some y) few p = (p.0, omega (arith, p.1, few), p.2)
 
--- from a reader of lines that had taken nothing
-pub takes_from : (most : ℕ) (fresh lines : Cutting) (old new : Option (List ℕ)) → fresh ≡ record { ahead = []; text = []; fed = false } → length lines.ahead ≤ 16384
-    → PassesLines most (pending fresh old) (pending lines new) → TakesLines most old new
-takes_from most fresh lines old new is held passes =
-    (lines.ahead, held, subst (λ a. PassesLines most a (pending lines new)) (ap (λ lines. pending lines old) is ∙ prepend_known-nil old) passes)
+-- ---- from a reader of lines that had taken nothing
+
+module _ (most : ℕ) (fresh lines : Cutting) (old new b : Option (List ℕ)) (is_fresh : fresh ≡ record { ahead = []; text = []; fed = false }) (held : length lines.ahead ≤ 16384) where
+  takes : PassesLines most (pending fresh old) (pending lines new) → TakesLines most old new
+  takes passes = (lines.ahead, held, subst (λ a. PassesLines most a (pending lines new)) (ap (λ lines. pending lines old) is_fresh ∙ prepend_known-nil old) passes)
+
+  -- the first line, and the two of the game
+  pub takes_game : PassesLines 1 (pending fresh old) b → PassesLines 2 b (pending lines new) → 3 ≤ most → TakesLines most old new
+  takes_game head game enough = takes (passes_most (1 + 2) most _ _ enough (passes_then 1 2 _ _ _ head game))
+
+  -- and those behind them, up to line n
+  pub takes_lines : (n : ℕ) (c : Option (List ℕ)) → PassesLines 1 (pending fresh old) b → PassesLines 2 b c → PassesLines (n - 3) c (pending lines new) → 3 ≤ n → n ≤ most → TakesLines most old new
+  takes_lines n c head game more from enough = takes (passes_most (1 + 2 + (n - 3)) most _ _ (omega (arith, from, enough)) (passes_then (1 + 2) (n - 3) _ _ _ (passes_then 1 2 _ _ _ head game) more))
 
 -- ---- the bytes that were passed
 

@@ -41,12 +41,21 @@ pub record SaysTruth (bytes : List ℕ) (v : Verdict) (count : ℕ) : Type 0 whe
 abbrev pub IsRightInput : Option (List ℕ) → Option (List ℕ) → Verdict → ℕ → Type 0
 IsRightInput input left v count = IsAccepted input left v count × IfSome input (λ bytes. SaysTruth bytes v count)
 
--- `check`, from what the source has left and what the sink holds before and after it
+-- At most so many lines were taken from the source, and at most 16,384 bytes that were read ahead of them.
+abbrev pub TakesLines : ℕ → Option (List ℕ) → Option (List ℕ) → Type 0
+TakesLines most old new = (ahead : List ℕ) × (length ahead ≤ 16384) × PassesLines most old (prepend_known ahead new)
+
+-- no more lines are ever read: the last that a proof may have, and one behind it
+abbrev pub most_lines_read : ℕ
+most_lines_read = 20000001
+
+-- `check`, from what the source has left and what the sink holds before and after it. Reading stops at the line that is
+-- refused, and behind the game where that is none.
 abbrev pub Checks : Option (List ℕ) → Option (List ℕ) → Option (List ℕ) → Option (List ℕ) → Ending → Type 0
 Checks input left old new endings.Done = (v : Verdict) × (count : ℕ) × IsRightInput input left v count × Appends old new (accepted_line v count)
 Checks input left old new endings.Write = (v : Verdict) × (count : ℕ) × IsRightInput input left v count × Stands false old new (accepted_line v count)
-Checks input left old new (endings.Input fault) = IsAnswer input (NoGame fault) × Keeps old new
-Checks input left old new (endings.Refused r) = IsAnswer input (Refused r.at r.why) × Keeps old new
+Checks input left old new (endings.Input fault) = IsAnswer input (NoGame fault) × Keeps old new × TakesLines 3 input left
+Checks input left old new (endings.Refused r) = IsAnswer input (Refused r.at r.why) × Keeps old new × TakesLines r.at input left
 Checks input left old new endings.Read = Keeps old new
 Checks input left old new endings.Memory = Keeps old new
 Checks input left old new endings.Usage = ⊥
@@ -66,7 +75,3 @@ IsNoRefusal endings.Unknown = ⊥
 -- a proof that the definitions accept is refused by no end
 abbrev pub Serves : Option (List ℕ) → Ending → Type 0
 Serves input end = IfSome input (λ bytes. (v : Verdict) (count : ℕ) → check_of bytes ≡ Accepted v count → IsNoRefusal end)
-
--- At most so many lines were taken from the source, and at most 16,384 bytes that were read ahead of them.
-abbrev pub TakesLines : ℕ → Option (List ℕ) → Option (List ℕ) → Type 0
-TakesLines most old new = (ahead : List ℕ) × (length ahead ≤ 16384) × PassesLines most old (prepend_known ahead new)

@@ -8,6 +8,7 @@ use Rattle.game_rules.specs.Text.{game_at}
 use Rattle.proof_text.specs.Checked.{Standing}
 use Rattle.proof_text.specs.Texts.{pieces, lines_in, game_front, game_of, behind_game, CheckAnswer, NoGame, Refused, game_answer, verdict_answer, check_from}
 use Rattle.proof_text.specs.declared.Why.{Why}
+use Rattle.victor_run.specs.Check.{most_lines_read}
 use Rattle.victor_run.specs.declared.check.Stop.{Stop}
 use Rattle.victor_run.specs.declared.check.Stop.TheVariants as stops
 
@@ -59,3 +60,11 @@ IsRefused at refusal (stops.Refused r) = (refusal ≡ Some r.why) × (r.at ≡ a
 IsRefused at refusal stops.Memory = ⊤
 IsRefused at refusal (stops.Input fault) = ⊥
 IsRefused at refusal stops.Read = ⊥
+
+-- How many lines are read at most by what stops the reading: it stops at the line that is refused, and behind the game
+-- where that is none.
+abbrev pub lines_until : Stop → ℕ
+lines_until (stops.Refused r) = r.at
+lines_until (stops.Input fault) = 3
+lines_until stops.Read = most_lines_read
+lines_until stops.Memory = most_lines_read

@@ -9,7 +9,7 @@ use Rattle.game_rules.specs.Text.{game_at}
 use Rattle.proof_text.specs.declared.Verdict.{Verdict}
 use Rattle.proof_text.specs.declared.Verdict.TheVariants as verdicts
 use Rattle.io_ports.specs.declared.ports.Failed.{Failed}
-use Rattle.victor_run.specs.Check.{Checks}
+use Rattle.victor_run.specs.Check.{Checks, most_lines_read}
 use Rattle.victor_run.specs.Proof.{IsProofOf, MayStandFor}
 use Rattle.victor_run.specs.declared.words.Form.{Form}
 use Rattle.victor_run.specs.declared.words.Form.TheVariants.{Prove, Check}
@@ -101,4 +101,4 @@ TakesAtMost most old new = (bytes : List ℕ) × (length bytes ≤ most) × Cons
 abbrev pub most_taken : Option Form → ℕ
 most_taken None = 0
 most_taken (Some (Prove nodes)) = 256
-most_taken (Some Check) = 20000001 * 8193 + 16384
+most_taken (Some Check) = most_lines_read * 8193 + 16384

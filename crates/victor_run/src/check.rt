@@ -1,13 +1,13 @@
 //! The command `check`: a proof is read line by line, and each line is judged as it comes, so that only what its lemmas
 //! show is kept. Reading stops at the first line that is refused. Nothing is written before the end of the input was
 //! reached: then one line says that the proof is accepted, with its verdict and the number of its lemmas.
-ghost use Rattle.std.specs.Prelude.{◌≡◌, ◌+◌, ◌≤◌, true, [], length, is_ok, MatchResult, IfOk, OnOk};
+ghost use Rattle.std.specs.Prelude.{◌≡◌, ◌+◌, ◌-◌, ◌≤◌, true, [], length, is_ok, MatchResult, IfOk, IfErr, OnOk};
 ghost use Rattle.device_rules.specs.Devices.{Rose, HasCause, Stands};
 ghost use Rattle.arrayvec.specs.ArrayVec.{array_vec_len};
 ghost use Rattle.proof_text.specs.Texts.{first_number, bytes_refusal, with_bytes, start, verdict_answer, check_of};
 ghost use Rattle.io_ports.specs.Lines.{PassesLines};
-ghost use Rattle.victor_run.specs.Check.{word_of, accepted_line, IsRightInput, Checks, Serves, TakesLines};
-ghost use Rattle.victor_run.specs.CheckSteps.{game_from, lines_from, pending, Both, GoesOn, KeepsLine, Adds, StopsBy, IsRefused};
+ghost use Rattle.victor_run.specs.Check.{word_of, accepted_line, IsRightInput, Checks, Serves, TakesLines, most_lines_read};
+ghost use Rattle.victor_run.specs.CheckSteps.{game_from, lines_from, pending, Both, GoesOn, KeepsLine, Adds, StopsBy, IsRefused, lines_until};
 ghost use Rattle.victor_run.specs.declared.ending.Ending.TheVariants as endings;
 ghost use Rattle.victor_run.specs.declared.check.Stop.TheVariants as stops;
 ghost use Rattle.proof_text.specs.declared.Why.TheVariants as whys;
@@ -68,7 +68,8 @@ pub(crate) fn check<S: Source, O: Sink>(alloc: Global, source: &mut S, out: &mut
 fn judge<S: Source>(alloc: Global, source: &mut S) -> Result<Accepted, Stop>
     ensures answer { MatchResult result (λ accepted. IsRightInput (S.left source.old) (S.left source.new) accepted.verdict accepted.lemmas)
         (StopsBy (S.left source.old) check_of (S.faults source.old) (S.faults source.new)) }
-    ensures lines { TakesLines 20000001 (S.left source.old) (S.left source.new) }
+    ensures lines { TakesLines most_lines_read (S.left source.old) (S.left source.new) }
+    ensures stops { IfErr result (λ stop. TakesLines (lines_until stop) (S.left source.old) (S.left source.new)) }
 {
     let mut lines = Lines::new();
     read_head(&mut lines, source)?;
@@ -89,6 +90,7 @@ fn read_head<S: Source>(lines: &mut Lines, source: &mut S) -> Result<(), Stop>
         (StopsBy (pending lines.old (S.left source.old)) check_of (S.faults source.old) (S.faults source.new)) }
     ensures passes { PassesLines 1 (pending lines.old (S.left source.old)) (pending lines.new (S.left source.new)) }
     ensures held { length lines.new.ahead ≤ 16384 }
+    ensures stops { IfErr result (λ stop. 1 ≤ lines_until stop) }
     ensures later { S.faults source.old ≤ S.faults source.new }
 {
     if let LineGot::Failed = lines.next(source) {
@@ -108,6 +110,7 @@ fn read_root<S: Source>(lines: &mut Lines, source: &mut S) -> Result<Position, S
         (StopsBy (pending lines.old (S.left source.old)) game_from (S.faults source.old) (S.faults source.new)) }
     ensures passes { PassesLines 2 (pending lines.old (S.left source.old)) (pending lines.new (S.left source.new)) }
     ensures held { length lines.new.ahead ≤ 16384 }
+    ensures stops { IfErr result (λ stop. 3 ≤ lines_until stop) }
     ensures later { S.faults source.old ≤ S.faults source.new }
 {
     let mut text = ArrayVec::new();
@@ -157,8 +160,9 @@ fn add_lines<S: Source>(
         (λ end. Both (pending lines.old (S.left source.old)) (pending lines.new (S.left source.new))
         (λ bytes rest. (lines_from checker.old first_number bytes ≡ verdict_answer end (length checker.new.known) checker.new.verdict) × (rest ≡ [])))
         (StopsBy (pending lines.old (S.left source.old)) (lines_from checker.old first_number) (S.faults source.old) (S.faults source.new)) }
-    ensures few { IfOk result (λ end. end ≤ MOST_LINES + 1) }
-    ensures passes { PassesLines 19999998 (pending lines.old (S.left source.old)) (pending lines.new (S.left source.new)) }
+    ensures few { IfOk result (λ end. (FIRST_NUMBER ≤ end) × (end ≤ most_lines_read)) }
+    ensures read { MatchResult result (λ end. PassesLines (end - 3) (pending lines.old (S.left source.old)) (pending lines.new (S.left source.new)))
+        (λ stop. PassesLines (lines_until stop - 3) (pending lines.old (S.left source.old)) (pending lines.new (S.left source.new)) × (3 ≤ lines_until stop) × (lines_until stop ≤ most_lines_read)) }
     ensures held { length lines.new.ahead ≤ 16384 }
     ensures later { S.faults source.old ≤ S.faults source.new }
 {
@@ -185,6 +189,7 @@ fn add_next<S: Source>(
     ensures root { OnOk result (checker.new.root ≡ checker.old.root) }
     ensures passes { PassesLines 1 (pending lines.old (S.left source.old)) (pending lines.new (S.left source.new)) }
     ensures held { length lines.new.ahead ≤ 16384 }
+    ensures stops { at ≤ most_lines_read → IfErr result (λ stop. (at ≤ lines_until stop) × (lines_until stop ≤ most_lines_read)) }
     ensures later { S.faults source.old ≤ S.faults source.new }
 {
     match lines.next(source) {

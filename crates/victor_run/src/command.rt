@@ -6,7 +6,7 @@ ghost use Rattle.game_rules.specs.Cost.{cost, none_closed};
 ghost use Rattle.game_rules.specs.Text.{game_at};
 ghost use Rattle.proof_text.specs.Texts.{check_of, Accepted};
 ghost use Rattle.proof_text.specs.declared.Verdict.{Verdict};
-ghost use Rattle.victor_run.specs.Check.{Serves, TakesLines};
+ghost use Rattle.victor_run.specs.Check.{Serves, TakesLines, most_lines_read};
 ghost use Rattle.victor_run.specs.Words.{form_of};
 ghost use Rattle.victor_run.specs.Output.{fault_text};
 ghost use Rattle.victor_run.specs.Outcome.{status_of, Outcome, Tells, TakesAtMost, most_taken};
@@ -54,7 +54,7 @@ pub fn run<S: Source, O: Sink, E: Sink>(
         → (Rose (S.faults source.old) (S.faults source.new) → ⊥) → (Rose (O.faults out.old) (O.faults out.new) → ⊥)
         → IfSome (S.left source.old) (λ bytes. (v : Verdict) (count : ℕ) → check_of bytes ≡ Accepted v count → (result ≡ 0) ⊎ (result ≡ 8)) }
     ensures taken { TakesAtMost (most_taken (form_of (map string_bytes words.now))) (S.left source.old) (S.left source.new) }
-    ensures lines { form_of (map string_bytes words.now) ≡ Some forms.Check → TakesLines 20000001 (S.left source.old) (S.left source.new) }
+    ensures lines { form_of (map string_bytes words.now) ≡ Some forms.Check → TakesLines most_lines_read (S.left source.old) (S.left source.new) }
 {
     let ending = run_words(alloc, words, source, out);
     tell(err, ending);
@@ -73,7 +73,7 @@ fn run_words<S: Source, O: Sink>(
     ensures write_fault { result ≡ endings.Write → Rose (O.faults out.old) (O.faults out.new) }
     ensures serves { form_of (map string_bytes words.now) ≡ Some forms.Check → Serves (S.left source.old) result }
     ensures taken { TakesAtMost (most_taken (form_of (map string_bytes words.now))) (S.left source.old) (S.left source.new) }
-    ensures lines { form_of (map string_bytes words.now) ≡ Some forms.Check → TakesLines 20000001 (S.left source.old) (S.left source.new) }
+    ensures lines { form_of (map string_bytes words.now) ≡ Some forms.Check → TakesLines most_lines_read (S.left source.old) (S.left source.new) }
 {
     match read_words(words) {
         Some(Form::Prove(nodes)) => prove(nodes, source, out),

@@ -1,18 +1,25 @@
 use Rattle.std.proofs.Common.{◌+◌, ◌-◌, Bool, Ok, ap, ◌∙◌, subst, arith}
 use Rattle.victor_run.proofs.Passing.{passes_then, passes_most}
-use Rattle.victor_run.specs.CheckSteps.{pending, Adds}
+use Rattle.std.proofs.lemmas.Result.{err_from_is_err_and}
+use Rattle.victor_run.specs.CheckSteps.{pending, Adds, lines_until}
 use Rattle.victor_run.proofs.CheckTold.{Both_then}
 use Rattle.victor_run.proofs.check.add_lines.Goals as goal
 
-pub returns-in_err-add_next-clause-passes : goal.returns-in_err-add_next-clause-passes
-returns-in_err-add_next-clause-passes g c =
+pub returns-in_err-add_next-clause-read : goal.returns-in_err-add_next-clause-read
+returns-in_err-add_next-clause-read g c =
     let before = c.loop-at.invariant in
-    passes_most (c.loop-at.at - 4 + 1) 19999998 _ _ (omega (arith, before.few, before.from)) (passes_then _ 1 _ _ _ before.passes c.add_next.ensures.passes)
+    let same = err_from_is_err_and c.from_residual.result c.from_residual.ensures.1 in
+    let stops = c.in_err-add_next.ensures.stops before.few in
+    rw (same.1, same.2) (
+      passes_most (c.loop-at.at - 4 + 1) (lines_until c.in_err-add_next.field-0.0 - 3) _ _ (omega (arith, stops.0, before.from)) (passes_then _ 1 _ _ _ before.passes c.add_next.ensures.passes),
+      omega (arith, stops.0, before.from),
+      stops.1,
+    )
 
-pub returns-clause-passes : goal.returns-clause-passes
-returns-clause-passes g c =
+pub returns-clause-read : goal.returns-clause-read
+returns-clause-read g c =
     let before = c.loop-at.invariant in
-    passes_most (c.loop-at.at - 4 + 1) 19999998 _ _ (omega (arith, before.few, before.from)) (passes_then _ 1 _ _ _ before.passes c.add_next.ensures.passes)
+    passes_most (c.loop-at.at - 4 + 1) (c.loop-at.at - 3) _ _ (omega (arith, before.from)) (passes_then _ 1 _ _ _ before.passes c.add_next.ensures.passes)
 
 pub loop-at-preserved : goal.loop-at-preserved
 loop-at-preserved g c =
