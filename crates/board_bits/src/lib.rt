@@ -1,6 +1,6 @@
-//! The board: sizes, columns and squares, sets of squares, positions and their moves, and the reading of a game text. A position is the
-//! men of its columns, as in `game_rules`, whose definitions each contract here cites; how the men are kept is known
-//! to this crate alone.
+//! The board: sizes, columns and squares, sets of squares, positions and their moves, and the reading of a game text. A
+//! position is the men of its columns, as in `game_rules`, whose definitions each contract here cites; how the men are
+//! kept is known to this crate alone.
 #![tactic(auto)]
 
 mod game_text;

@@ -7,15 +7,13 @@ ghost use Rattle.game_rules.specs.Squares.{same_square, has_square, widest, IsSe
 ghost use Rattle.board_bits.specs.SquarePlaces.{place_of};
 
 use crate::Square;
+use crate::size::MOST_SQUARES;
 use std::marker::Model;
-
-/// How many squares the widest board has.
-const PLACES: usize = 100;
 
 /// A set of squares.
 #[derive(Clone, Copy, Debug, PartialEq, Eq, Hash)]
 pub struct Mask {
-    places: [bool; PLACES],
+    places: [bool; MOST_SQUARES],
 }
 
 impl Model for Mask {
@@ -40,7 +38,7 @@ impl Mask {
         ensures { IsSetOf (λ _. false) result }
     {
         Mask {
-            places: [false; PLACES],
+            places: [false; MOST_SQUARES],
         }
     }
 
@@ -76,7 +74,7 @@ impl Mask {
         ensures { IsSetOf (λ u. has_square self.now u || has_square other u) result }
     {
         let mut places = self.places;
-        for place in 0..PLACES {
+        for place in 0..MOST_SQUARES {
             places[place] = places[place] || other.places[place];
         }
         Mask { places }
@@ -86,7 +84,7 @@ impl Mask {
     pub fn within(&self, other: Mask) -> bool
         ensures { result ≡ list_all (has_square other) self.now }
     {
-        for place in 0..PLACES {
+        for place in 0..MOST_SQUARES {
             let is_outside = self.places[place] && !other.places[place];
             if is_outside {
                 return false;
@@ -99,7 +97,7 @@ impl Mask {
     pub fn meets(&self, other: Mask) -> bool
         ensures { result ≡ list_any (has_square other) self.now }
     {
-        for place in 0..PLACES {
+        for place in 0..MOST_SQUARES {
             let is_common = self.places[place] && other.places[place];
             if is_common {
                 return true;

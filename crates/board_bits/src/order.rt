@@ -3,12 +3,13 @@ ghost use Rattle.std.specs.Prelude.{◌≡◌, ◌+◌, ◌<◌, ◌≤◌};
 ghost use Rattle.game_rules.specs.Cost.{centre_out};
 ghost use Rattle.board_bits.specs.Order.{column_at};
 
+use crate::size::MOST_COLS;
 use crate::{Column, Size};
 use arrayvec::ArrayVec;
 
 /// The columns by their distance from the middle, and of two equally far ones the left one first: four columns give
 /// `b c a d`, and seven give `d c e b f a g`.
-pub fn centre_out(size: Size) -> ArrayVec<Column, 10>
+pub fn centre_out(size: Size) -> ArrayVec<Column, MOST_COLS>
     ensures { result.items ≡ centre_out size.cols }
 {
     let mut order = ArrayVec::new();

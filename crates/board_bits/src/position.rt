@@ -11,13 +11,11 @@ ghost use Rattle.board_bits.specs.Held.{is_held, holds_on_board};
 ghost use Rattle.board_bits.specs.Move.{moved_into};
 
 use crate::line::{LINE_LENGTH, is_line, step_of};
+use crate::size::MOST_COLS;
 use crate::stack::Stack;
 use crate::{Column, End, Mask, Side, Size, Square, Way};
 use std::hash::Hash;
 use std::marker::Model;
-
-/// No board has more columns.
-const MOST_COLS: usize = 10;
 
 /// Why a man can't be dropped into a column.
 #[derive(Clone, Copy, Debug, PartialEq, Eq, Hash)]

@@ -10,7 +10,7 @@ use crate::{Failed, Sink};
 pub struct NullSink;
 
 impl NullSink {
-    /// A sink to write to for nothing.
+    /// The sink; all of them are alike.
     pub fn new() -> NullSink {
         NullSink
     }
