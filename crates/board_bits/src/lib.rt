@@ -16,4 +16,4 @@ pub use game_text::read_game;
 pub use mask::Mask;
 pub use order::centre_out;
 pub use position::{MoveFault, Position};
-pub use size::{Column, Size, SizeFault, Square};
+pub use size::{Column, MOST_COLS, MOST_SQUARES, Size, SizeFault, Square};

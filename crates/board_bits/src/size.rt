@@ -12,10 +12,10 @@ use arrayvec::ArrayVec;
 use std::marker::Model;
 
 /// No board has more columns.
-pub(crate) const MOST_COLS: usize = 10;
+pub const MOST_COLS: usize = 10;
 
 /// No board has more squares.
-pub(crate) const MOST_SQUARES: usize = 100;
+pub const MOST_SQUARES: usize = 100;
 
 /// Why two numbers are no size of a board.
 #[derive(Clone, Copy, Debug, PartialEq, Eq, Hash)]

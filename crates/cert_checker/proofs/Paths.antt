@@ -80,7 +80,7 @@ path_split path d some =
     ∙ ap (λ xs. take (length path - 1) path ++ xs) (drop_more path (length path - 1) d (omega arith) ∙ ap (λ xs. get_or path (length path - 1) d ∷ xs) (drop_all (length path - 1 + 1) path (omega arith)))
 
 -- the moves up to the last, and then that one
-pub walked : (root : Position) (path : List ℕ) (last : ℕ) → 1 ≤ length path → last ≡ get_or path (length path - 1) last → played root path ≡ last_move (stacked root (take (length path - 1) path)) last
-walked root path last some is_last =
+pub played_by_last : (root : Position) (path : List ℕ) (last : ℕ) → 1 ≤ length path → last ≡ get_or path (length path - 1) last → played root path ≡ last_move (stacked root (take (length path - 1) path)) last
+played_by_last root path last some is_last =
     ap (played root) (path_split path last some ∙ ap (λ c. take (length path - 1) path ++ c ∷ []) (sym is_last))
     ∙ played_last (take (length path - 1) path) root last

@@ -6,12 +6,12 @@ use Rattle.proof_text.specs.Right.{Shown}
 use Rattle.proof_text.specs.declared.Why.{Why}
 use Rattle.cert_format.specs.Shape.{cite_of}
 use Rattle.cert_format.specs.declared.lines.Cite.{Cite}
-use Rattle.cert_checker.specs.declared.known.Shown.{Shown as Kept}
+use Rattle.cert_checker.specs.declared.known.Known.{Known}
 use Rattle.cert_checker.specs.declared.stops.AddStop.{AddStop}
 use Rattle.cert_checker.specs.declared.stops.AddStop.TheVariants.{Refused, Memory}
 
-abbrev pub shown_of : Kept → Shown
-shown_of kept = (kept.position, kept.claim)
+abbrev pub shown_of : Known → Shown
+shown_of lemma = (lemma.position, lemma.claim)
 
 -- the columns cited, in order
 abbrev pub columns_of : List Cite → List ℕ

@@ -8,7 +8,7 @@ ghost use Rattle.cert_format.specs.Shape.{lemma_of, line_of};
 ghost use Rattle.cert_checker.specs.Checking.{shown_of, Finds, StopsAt};
 ghost use Rattle.cert_checker.specs.declared.stops.AddStop.TheVariants.{Refused};
 
-use crate::known::Shown;
+use crate::known::Known;
 use crate::moves::position_after;
 use crate::reasons::{check_reason, verdict_stands};
 use crate::stops::{Accepted, AddStop, Refusal};
@@ -23,7 +23,7 @@ use std::marker::Model;
 #[derive(Drop)]
 pub struct Checker {
     root: Position,
-    known: Vec<Shown>,
+    known: Vec<Known>,
     verdict: Option<Verdict>,
 }
 
@@ -82,7 +82,7 @@ impl Checker {
         self.keep(shown).map_err(AddStop::Memory)
     }
 
-    fn keep(&mut self, shown: Shown) -> Result<(), AllocError>
+    fn keep(&mut self, shown: Known) -> Result<(), AllocError>
         requires { length self.old.known + 1 < 2 ^ 32 }
         ensures kept { OnOk result (self.new ≡ record self.old { known = self.old.known ++ shown_of shown ∷ [] }) }
         ensures none { OnErr result (self.new ≡ self.old) }
@@ -125,7 +125,7 @@ impl Checker {
 }
 
 /// What the lemma shows, where it is right behind the lemmas known, and else the first name of what is wrong with it.
-fn check_lemma(root: &Position, known: &[Shown], lemma: &Lemma) -> Result<Shown, Why>
+fn check_lemma(root: &Position, known: &[Known], lemma: &Lemma) -> Result<Known, Why>
     ensures refusal { Finds result (lemma_refusal root.now (map shown_of known.now) (lemma_of lemma.now)) }
     ensures shown { IfOk result (λ shown. shown_of_lemma root.now (lemma_of lemma.now) ≡ shown_of shown ∷ []) }
     ensures few { OnOk result (length known.now + 1 < 2 ^ 32) }
@@ -135,7 +135,7 @@ fn check_lemma(root: &Position, known: &[Shown], lemma: &Lemma) -> Result<Shown,
     }
     let position = position_after(root, lemma.path.as_slice()).ok_or(Why::BadPath)?;
     check_reason(known, &position, lemma.claim, &lemma.reason)?;
-    Ok(Shown {
+    Ok(Known {
         position,
         claim: lemma.claim,
     })

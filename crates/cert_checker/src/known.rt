@@ -9,13 +9,13 @@ use proof_text::{Claim, Why};
 
 /// What a lemma shows: a claim at a position. The path to it is forgotten.
 #[derive(Clone, Copy)]
-pub(crate) struct Shown {
+pub(crate) struct Known {
     pub(crate) position: Position,
     pub(crate) claim: Claim,
 }
 
 /// What the lemma with this number, counted from 1, shows.
-fn lemma_at(known: &[Shown], lemma: u32) -> Option<&Shown>
+fn lemma_at(known: &[Known], lemma: u32) -> Option<&Known>
     ensures { option_map (λ shown. shown_of shown.now) result ≡ lemma_at (map shown_of known.now) lemma }
 {
     known.get(lemma.checked_sub(1)? as usize)
@@ -23,7 +23,7 @@ fn lemma_at(known: &[Shown], lemma: u32) -> Option<&Shown>
 
 /// Tests that a cited lemma stands before, at this position, and makes this claim.
 pub(crate) fn check_cited(
-    known: &[Shown],
+    known: &[Known],
     position: &Position,
     claim: Claim,
     lemma: u32,
@@ -43,7 +43,7 @@ pub(crate) fn check_cited(
 }
 
 /// Whether the lemma with this number shows the claim at the position.
-pub(crate) fn is_shown(known: &[Shown], position: &Position, claim: Claim, lemma: u32) -> bool
+pub(crate) fn is_shown(known: &[Known], position: &Position, claim: Claim, lemma: u32) -> bool
     ensures { result ≡ is_shown position.now claim (lemma_at (map shown_of known.now) lemma) }
 {
     match lemma_at(known, lemma) {

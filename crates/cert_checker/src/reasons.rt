@@ -7,7 +7,7 @@ ghost use Rattle.cert_format.specs.Shape.{cite_of, reason_of};
 ghost use Rattle.cert_checker.specs.Checking.{shown_of, columns_of, Finds};
 
 use crate::claims::{claim_of_end, goes_by_one, loss_of, win_of};
-use crate::known::{Shown, check_cited, is_shown};
+use crate::known::{Known, check_cited, is_shown};
 use crate::moves::cites_all;
 use board_bits::{End, Position};
 use cert_format::{Cite, Reason};
@@ -15,7 +15,7 @@ use proof_text::{Claim, Verdict, Why};
 
 /// Tests that the reason shows the claim at the position, by the lemmas known.
 pub(crate) fn check_reason(
-    known: &[Shown],
+    known: &[Known],
     position: &Position,
     claim: Claim,
     reason: &Reason,
@@ -40,7 +40,7 @@ fn check_end(claim: Claim, ended: Option<End>) -> Result<(), Why>
     }
 }
 
-fn check_one(known: &[Shown], position: &Position, claim: Claim, cite: Cite) -> Result<(), Why>
+fn check_one(known: &[Known], position: &Position, claim: Claim, cite: Cite) -> Result<(), Why>
     ensures { Finds result (reason_refusal (map shown_of known.now) position.now claim (ByOne (cite_of cite))) }
 {
     let serves = goes_by_one(claim, position.to_move());
@@ -48,7 +48,7 @@ fn check_one(known: &[Shown], position: &Position, claim: Claim, cite: Cite) -> 
     check_cited(known, &position.after(cite.column), claim, cite.lemma)
 }
 
-fn check_all(known: &[Shown], position: &Position, claim: Claim, cites: &[Cite]) -> Result<(), Why>
+fn check_all(known: &[Known], position: &Position, claim: Claim, cites: &[Cite]) -> Result<(), Why>
     ensures { Finds result (reason_refusal (map shown_of known.now) position.now claim (ByAll (map cite_of cites.now))) }
 {
     let serves = !goes_by_one(claim, position.to_move());
@@ -58,7 +58,7 @@ fn check_all(known: &[Shown], position: &Position, claim: Claim, cites: &[Cite])
 
 /// Tests each cite from the left, the columns cited being those that have room.
 fn check_cites(
-    known: &[Shown],
+    known: &[Known],
     position: &Position,
     claim: Claim,
     cites: &[Cite],
@@ -90,7 +90,7 @@ fn check_moves(position: &Position, serves: bool, playable: bool) -> Result<(), 
 }
 
 /// Whether the lemmas that the verdict names show it at the root.
-pub(crate) fn verdict_stands(known: &[Shown], root: &Position, verdict: Verdict) -> bool
+pub(crate) fn verdict_stands(known: &[Known], root: &Position, verdict: Verdict) -> bool
     ensures { result ≡ verdict_stands root.now (map shown_of known.now) verdict }
 {
     match verdict {

@@ -151,11 +151,11 @@ pub fn push_number(line: &mut LineText, number: u32)
 }
 
 /// Puts a text behind what is there.
-pub fn push_text<const N: usize>(line: &mut ArrayVec<u8, N>, text: &[u8])
-    requires { array_vec_len line.old + length text.now ≤ N }
-    ensures items { line.new.items ≡ line.old.items ++ text.now }
-    ensures bound { array_vec_len line.new ≡ array_vec_len line.old + length text.now }
+pub fn push_text<const N: usize>(to: &mut ArrayVec<u8, N>, text: &[u8])
+    requires { array_vec_len to.old + length text.now ≤ N }
+    ensures items { to.new.items ≡ to.old.items ++ text.now }
+    ensures bound { array_vec_len to.new ≡ array_vec_len to.old + length text.now }
 {
     // the requirement says that it fits
-    let _ = line.try_extend_from_slice(text);
+    let _ = to.try_extend_from_slice(text);
 }

@@ -62,7 +62,7 @@ Gives (Some bytes) None got text fed = ⊥
 Gives (Some bytes) (Some rest) Failed text fed = rest ≡ bytes
 Gives (Some bytes) (Some rest) got text fed = record { got = got; text = text; fed = fed; rest = rest } ≡ next_line bytes
 
--- the bytes behind so many lines
+-- The bytes behind so many lines. None is passed at the end of the bytes, nor where the next line is too long.
 abbrev pub behind_lines : ℕ → List ℕ → List ℕ
 behind_lines zero bytes = bytes
 behind_lines (suc n) bytes = behind_lines n (next_line bytes).rest
@@ -72,6 +72,10 @@ abbrev pub PassesLines : ℕ → Option (List ℕ) → Option (List ℕ) → Typ
 PassesLines most None new = ⊤
 PassesLines most (Some bytes) None = ⊥
 PassesLines most (Some bytes) (Some rest) = (n : ℕ) × (n ≤ most) × (rest ≡ behind_lines n bytes)
+
+-- how many bytes a reader of lines holds at most
+abbrev pub most_held : ℕ
+most_held = 16384
 
 -- What a reader of lines holds: the bytes that it took from the source and hasn't given, and the line that it lends.
 pub record Cutting : Type 0 where

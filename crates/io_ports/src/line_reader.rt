@@ -4,7 +4,7 @@
 ghost use Rattle.std.specs.Prelude.{◌≡◌, ◌≢◌, ◌≤◌, [], false, length, All, IfOk};
 ghost use Rattle.std.specs.Io.KnownBytes.{Keeps, IsAtEnd, prepend_known};
 ghost use Rattle.device_rules.specs.Devices.{HasCause, Rose};
-ghost use Rattle.io_ports.specs.Lines.{EachTextIsCut, Gives, PassesLines, line_len};
+ghost use Rattle.io_ports.specs.Lines.{EachTextIsCut, Gives, PassesLines, line_len, most_held};
 
 use crate::ahead::{Ahead, LONGEST};
 use crate::{Failed, Source};
@@ -67,7 +67,7 @@ impl Lines {
         ensures gives { Gives (prepend_known self.old.ahead (S.left source.old))
             (prepend_known self.new.ahead (S.left source.new)) result self.new.text self.new.fed }
         ensures passes { PassesLines 1 (prepend_known self.old.ahead (S.left source.old)) (prepend_known self.new.ahead (S.left source.new)) }
-        ensures held { length self.new.ahead ≤ 16384 }
+        ensures held { length self.new.ahead ≤ most_held }
         ensures done { result ≡ LineGot.Done → self.new.text ≡ [] }
         ensures kept { result ≡ LineGot.Failed → (self.new.text ≡ []) × (self.new.fed ≡ false) }
         ensures short { length self.new.text ≤ 8192 }
@@ -119,7 +119,7 @@ fn gather<S: Source>(ahead: &mut Ahead, source: &mut S) -> Result<usize, Failed>
     ensures whole { IfOk result (λ n. n ≡ length ahead.new → n ≤ LONGEST → IsAtEnd (S.left source.new)) }
     ensures bytes { Keeps (prepend_known ahead.old (S.left source.old))
         (prepend_known ahead.new (S.left source.new)) }
-    ensures held { length ahead.new ≤ 16384 }
+    ensures held { length ahead.new ≤ most_held }
     ensures cause { HasCause (S.faults source.old) (S.faults source.new) result }
 {
     let mut searched = 0;

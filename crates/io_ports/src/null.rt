@@ -10,7 +10,7 @@ use crate::{Failed, Sink};
 pub struct NullSink;
 
 impl NullSink {
-    /// The sink; all of them are alike.
+    /// A sink that keeps nothing.
     pub fn new() -> NullSink {
         NullSink
     }

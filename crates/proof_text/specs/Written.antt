@@ -1,4 +1,4 @@
--- What stands written of a proof: its head, then for each of two questions the remarks and the right lemmas, and last
+-- What stands written of a proof: its head, then for each of two questions a remark or none and right lemmas, and last
 -- the verdict.
 use Rattle.std.specs.Prelude.{◌≡◌, ◌≢◌, ◌≤◌, ◌⊎◌, ℕ, true, List, [], ◌++◌, length, Option, Some, None, ⊤}
 use Rattle.std.specs.List.{AllByRecursion}
@@ -25,12 +25,13 @@ remark_line (Some bytes) = as_line bytes
 abbrev pub AreSided : Side → List Lemma → Type 0
 AreSided side ls = AllByRecursion (λ l. claim_side l.claim ≡ side) ls
 
--- The question whether Black wins is asked only where it is shown at the root that White doesn't.
+-- There are lemmas of the question whether Black wins only where it is shown at the root that White doesn't.
 abbrev pub IsAskedInTurn : Position → List Shown → List Lemma → Type 0
 IsAskedInTurn root known black = black ≢ [] → (n : ℕ) × Shows known n root WhiteFails
 
 -- Behind its head the text has, for the question whether White wins and then for the one whether Black does, a remark or
--- none and lemmas of that side; all lemmas are right and show what stands after. Behind them comes the last line.
+-- none and lemmas of that side. Those for White are right from the head on and show what stands in the middle; those for
+-- Black are right behind them and show what stands after. Behind them comes the last line.
 pub record HasWritten (root : Position) (head : List ℕ) (text : List ℕ) (after : List Shown) (last : List ℕ) : Type 0 where
   pub white_remark : Option (List ℕ)
   pub white : List Lemma

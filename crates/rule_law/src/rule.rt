@@ -61,9 +61,9 @@ pub trait Rule {
     fn fits(&self, p: &Position) -> bool
         ensures { result ≡ fitted self.now p.now };
 
-    /// Black's answer to White's move `last`, at the position after it. None exactly where the rule names no square:
-    /// where `last` isn't in the zone, or is a Claimeven's upper square, or is a Lowinverse's top while the other column
-    /// is full.
+    /// Black's answer to White's move `last`, at the position after it. None exactly where the rule names no square; of
+    /// the nine rules that is where `last` isn't in the zone, or is a Claimeven's upper square, or is a Lowinverse's top
+    /// while the other column is full.
     fn reply(&self, now: &Position, last: Square) -> Option<Square>
         ensures { result ≡ reply self.now now.now last };
 
@@ -83,7 +83,8 @@ pub trait Rule {
     fn pair(&self) -> Mask
         ensures { IsSetOf (has_square (pair self.now)) result };
 
-    /// The two squares that it puts among the kept twins; None exactly where the kind isn't Baseinverse.
+    /// The two squares that it puts among the kept twins; None for each rule that gives none, and of the nine rules
+    /// Baseinverse alone gives any.
     fn twin(&self) -> Option<(Square, Square)>
         ensures { result ≡ twin self.now };
 

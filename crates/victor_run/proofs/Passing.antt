@@ -1,7 +1,7 @@
 -- Lines that are passed, one after another, and the bytes that they are.
 use Rattle.std.proofs.Common.{◌≡◌, ℕ, zero, suc, ◌+◌, ◌-◌, ◌*◌, ◌≤◌, List, [], ◌++◌, length, Bool, true, false, Option, Some, None, refl, sym, ap, ◌∙◌, subst, arith, append_assoc, length-append}
 use Rattle.std.proofs.KnownBytes.{prepend_known-nil}
-use Rattle.io_ports.specs.Lines.{Cutting, next_line, behind_lines, PassesLines, feed, IsCut}
+use Rattle.io_ports.specs.Lines.{Cutting, next_line, behind_lines, PassesLines, most_held, feed, IsCut}
 use Rattle.io_ports.specs.declared.line_reader.LineGot.{LineGot}
 use Rattle.io_ports.specs.declared.line_reader.LineGot.TheVariants.{Line, Long, Done, Failed}
 use Rattle.io_ports.proofs.LineLemmas.{each_text_is_cut}
@@ -33,7 +33,7 @@ passes_most m n (Some x) (Some y) few p = (p.0, omega (arith, p.1, few), p.2)
 
 -- ---- from a reader of lines that had taken nothing
 
-module _ (most : ℕ) (fresh lines : Cutting) (old new b : Option (List ℕ)) (is_fresh : fresh ≡ record { ahead = []; text = []; fed = false }) (held : length lines.ahead ≤ 16384) where
+module _ (most : ℕ) (fresh lines : Cutting) (old new b : Option (List ℕ)) (is_fresh : fresh ≡ record { ahead = []; text = []; fed = false }) (held : length lines.ahead ≤ most_held) where
   takes : PassesLines most (pending fresh old) (pending lines new) → TakesLines most old new
   takes passes = (lines.ahead, held, subst (λ a. PassesLines most a (pending lines new)) (ap (λ lines. pending lines old) is_fresh ∙ prepend_known-nil old) passes)
 
@@ -79,7 +79,7 @@ lines_front (suc n) bytes =
       whole = first.whole ∙ ap (λ l. first.front ++ l) more.whole ∙ sym (append_assoc first.front more.front (behind_lines n cut.rest));
     }
 
-pub takes_bytes : (most : ℕ) (old new : Option (List ℕ)) → TakesLines most old new → TakesAtMost (most * 8193 + 16384) old new
+pub takes_bytes : (most : ℕ) (old new : Option (List ℕ)) → TakesLines most old new → TakesAtMost (most * 8193 + most_held) old new
 takes_bytes most None new takes = ([], omega arith, tt)
 takes_bytes most (Some x) None takes = absurd takes.2
 takes_bytes most (Some x) (Some y) takes =

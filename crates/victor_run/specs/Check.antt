@@ -1,11 +1,11 @@
 -- What `check` writes, and what it promises of its source and its sink, by its end. What is said of bytes is said of a
 -- source and a sink that tell theirs.
-use Rattle.std.specs.Prelude.{◌≡◌, ◌≤◌, ℕ, false, List, [], ◌∷◌, ◌++◌, Option, IfSome, ⊤, codes, decimal, length}
+use Rattle.std.specs.Prelude.{◌≡◌, ◌+◌, ◌≤◌, ℕ, false, List, [], ◌∷◌, ◌++◌, Option, IfSome, ⊤, codes, decimal, length}
 use Rattle.std.specs.Io.KnownBytes.{Keeps, Appends, IsAtEnd, prepend_known}
 use Rattle.device_rules.specs.Devices.{Stands}
-use Rattle.io_ports.specs.Lines.{PassesLines}
+use Rattle.io_ports.specs.Lines.{PassesLines, most_held}
 use Rattle.proof_text.specs.Right.{AreTrue, IsTrueVerdict}
-use Rattle.proof_text.specs.Texts.{check_of, CheckAnswer, NoGame, Refused, Accepted, IsRightText}
+use Rattle.proof_text.specs.Texts.{most_lines, check_of, CheckAnswer, NoGame, Refused, Accepted, IsRightText}
 use Rattle.proof_text.specs.declared.Verdict.{Verdict}
 use Rattle.proof_text.specs.declared.Verdict.TheVariants as verdicts
 use Rattle.victor_run.specs.declared.ending.Ending.{Ending}
@@ -41,16 +41,16 @@ pub record SaysTruth (bytes : List ℕ) (v : Verdict) (count : ℕ) : Type 0 whe
 abbrev pub IsRightInput : Option (List ℕ) → Option (List ℕ) → Verdict → ℕ → Type 0
 IsRightInput input left v count = IsAccepted input left v count × IfSome input (λ bytes. SaysTruth bytes v count)
 
--- At most so many lines were taken from the source, and at most 16,384 bytes that were read ahead of them.
+-- No more was taken from the source than at most so many lines, and behind them at most the bytes that a reader holds.
 abbrev pub TakesLines : ℕ → Option (List ℕ) → Option (List ℕ) → Type 0
-TakesLines most old new = (ahead : List ℕ) × (length ahead ≤ 16384) × PassesLines most old (prepend_known ahead new)
+TakesLines most old new = (ahead : List ℕ) × (length ahead ≤ most_held) × PassesLines most old (prepend_known ahead new)
 
--- no more lines are ever read: the last that a proof may have, and one behind it
+-- the number of the first line that no proof may have; none behind it is read
 abbrev pub most_lines_read : ℕ
-most_lines_read = 20000001
+most_lines_read = most_lines + 1
 
--- `check`, from what the source has left and what the sink holds before and after it. Reading stops at the line that is
--- refused, and behind the game where that is none.
+-- `check`, from what the source has left and what the sink holds before and after it. Where a line is refused, no more
+-- was taken than the lines up to it, and where the game is none, than the first three; and behind them what was held.
 abbrev pub Checks : Option (List ℕ) → Option (List ℕ) → Option (List ℕ) → Option (List ℕ) → Ending → Type 0
 Checks input left old new endings.Done = (v : Verdict) × (count : ℕ) × IsRightInput input left v count × Appends old new (accepted_line v count)
 Checks input left old new endings.Write = (v : Verdict) × (count : ℕ) × IsRightInput input left v count × Stands false old new (accepted_line v count)

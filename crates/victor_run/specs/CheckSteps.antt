@@ -61,10 +61,9 @@ IsRefused at refusal stops.Memory = ⊤
 IsRefused at refusal (stops.Input fault) = ⊥
 IsRefused at refusal stops.Read = ⊥
 
--- How many lines are read at most by what stops the reading: it stops at the line that is refused, and behind the game
--- where that is none.
-abbrev pub lines_until : Stop → ℕ
-lines_until (stops.Refused r) = r.at
-lines_until (stops.Input fault) = 3
-lines_until stops.Read = most_lines_read
-lines_until stops.Memory = most_lines_read
+-- the number of the last line that is read, at most, by what stops the reading
+abbrev pub lines_read_until : Stop → ℕ
+lines_read_until (stops.Refused r) = r.at
+lines_read_until (stops.Input fault) = 3
+lines_read_until stops.Read = most_lines_read
+lines_read_until stops.Memory = most_lines_read

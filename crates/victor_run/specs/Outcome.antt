@@ -8,6 +8,8 @@ use Rattle.game_rules.specs.Cost.{cost, none_closed}
 use Rattle.game_rules.specs.Text.{game_at}
 use Rattle.proof_text.specs.declared.Verdict.{Verdict}
 use Rattle.proof_text.specs.declared.Verdict.TheVariants as verdicts
+use Rattle.proof_text.specs.Texts.{longest_line}
+use Rattle.io_ports.specs.Lines.{most_held}
 use Rattle.io_ports.specs.declared.ports.Failed.{Failed}
 use Rattle.victor_run.specs.Check.{Checks, most_lines_read}
 use Rattle.victor_run.specs.Proof.{IsProofOf, MayStandFor}
@@ -96,9 +98,9 @@ pub record Tells (before after : ℕ) (old new : Option (List ℕ)) (text : List
 abbrev pub TakesAtMost : ℕ → Option (List ℕ) → Option (List ℕ) → Type 0
 TakesAtMost most old new = (bytes : List ℕ) × (length bytes ≤ most) × Consumes old new bytes
 
--- How many bytes a run of the words that have this form takes at most: `check` takes 20,000,001 lines of at most 8,192
--- bytes with their line feeds, and what its reader holds.
+-- How many bytes a run of the words that have this form takes at most: `check` takes lines with their line feeds, and
+-- what its reader holds.
 abbrev pub most_taken : Option Form → ℕ
 most_taken None = 0
 most_taken (Some (Prove nodes)) = 256
-most_taken (Some Check) = most_lines_read * 8193 + 16384
+most_taken (Some Check) = most_lines_read * (longest_line + 1) + most_held

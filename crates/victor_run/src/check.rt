@@ -5,9 +5,9 @@ ghost use Rattle.std.specs.Prelude.{◌≡◌, ◌+◌, ◌-◌, ◌≤◌, true
 ghost use Rattle.device_rules.specs.Devices.{Rose, HasCause, Stands};
 ghost use Rattle.arrayvec.specs.ArrayVec.{array_vec_len};
 ghost use Rattle.proof_text.specs.Texts.{first_number, bytes_refusal, with_bytes, start, verdict_answer, check_of};
-ghost use Rattle.io_ports.specs.Lines.{PassesLines};
+ghost use Rattle.io_ports.specs.Lines.{PassesLines, most_held};
 ghost use Rattle.victor_run.specs.Check.{word_of, accepted_line, IsRightInput, Checks, Serves, TakesLines, most_lines_read};
-ghost use Rattle.victor_run.specs.CheckSteps.{game_from, lines_from, pending, Both, GoesOn, KeepsLine, Adds, StopsBy, IsRefused, lines_until};
+ghost use Rattle.victor_run.specs.CheckSteps.{game_from, lines_from, pending, Both, GoesOn, KeepsLine, Adds, StopsBy, IsRefused, lines_read_until};
 ghost use Rattle.victor_run.specs.declared.ending.Ending.TheVariants as endings;
 ghost use Rattle.victor_run.specs.declared.check.Stop.TheVariants as stops;
 ghost use Rattle.proof_text.specs.declared.Why.TheVariants as whys;
@@ -48,7 +48,7 @@ enum Stop {
 pub(crate) fn check<S: Source, O: Sink>(alloc: Global, source: &mut S, out: &mut O) -> Ending
     ensures outcome { Checks (S.left source.old) (S.left source.new) (O.written out.old) (O.written out.new) result }
     ensures complete { Serves (S.left source.old) result }
-    ensures lines { TakesLines 20000001 (S.left source.old) (S.left source.new) }
+    ensures lines { TakesLines most_lines_read (S.left source.old) (S.left source.new) }
     ensures read_fault { result ≡ endings.Read → Rose (S.faults source.old) (S.faults source.new) }
     ensures write_fault { result ≡ endings.Write → Rose (O.faults out.old) (O.faults out.new) }
 {
@@ -69,7 +69,7 @@ fn judge<S: Source>(alloc: Global, source: &mut S) -> Result<Accepted, Stop>
     ensures answer { MatchResult result (λ accepted. IsRightInput (S.left source.old) (S.left source.new) accepted.verdict accepted.lemmas)
         (StopsBy (S.left source.old) check_of (S.faults source.old) (S.faults source.new)) }
     ensures lines { TakesLines most_lines_read (S.left source.old) (S.left source.new) }
-    ensures stops { IfErr result (λ stop. TakesLines (lines_until stop) (S.left source.old) (S.left source.new)) }
+    ensures stops { IfErr result (λ stop. TakesLines (lines_read_until stop) (S.left source.old) (S.left source.new)) }
 {
     let mut lines = Lines::new();
     read_head(&mut lines, source)?;
@@ -89,8 +89,8 @@ fn read_head<S: Source>(lines: &mut Lines, source: &mut S) -> Result<(), Stop>
         (λ _. GoesOn (pending lines.old (S.left source.old)) (pending lines.new (S.left source.new)) check_of game_from)
         (StopsBy (pending lines.old (S.left source.old)) check_of (S.faults source.old) (S.faults source.new)) }
     ensures passes { PassesLines 1 (pending lines.old (S.left source.old)) (pending lines.new (S.left source.new)) }
-    ensures held { length lines.new.ahead ≤ 16384 }
-    ensures stops { IfErr result (λ stop. 1 ≤ lines_until stop) }
+    ensures held { length lines.new.ahead ≤ most_held }
+    ensures stops { IfErr result (λ stop. 1 ≤ lines_read_until stop) }
     ensures later { S.faults source.old ≤ S.faults source.new }
 {
     if let LineGot::Failed = lines.next(source) {
@@ -109,8 +109,8 @@ fn read_root<S: Source>(lines: &mut Lines, source: &mut S) -> Result<Position, S
         (λ root. GoesOn (pending lines.old (S.left source.old)) (pending lines.new (S.left source.new)) game_from (lines_from (start root) first_number))
         (StopsBy (pending lines.old (S.left source.old)) game_from (S.faults source.old) (S.faults source.new)) }
     ensures passes { PassesLines 2 (pending lines.old (S.left source.old)) (pending lines.new (S.left source.new)) }
-    ensures held { length lines.new.ahead ≤ 16384 }
-    ensures stops { IfErr result (λ stop. 3 ≤ lines_until stop) }
+    ensures held { length lines.new.ahead ≤ most_held }
+    ensures stops { IfErr result (λ stop. 3 ≤ lines_read_until stop) }
     ensures later { S.faults source.old ≤ S.faults source.new }
 {
     let mut text = ArrayVec::new();
@@ -134,7 +134,7 @@ fn keep_line<S: Source>(
         (λ stop. (stop ≡ stops.Read) × Rose (S.faults source.old) (S.faults source.new)) }
     ensures bound { array_vec_len text.new ≤ array_vec_len text.old + GAME_FRONT + 1 }
     ensures passes { PassesLines 1 (pending lines.old (S.left source.old)) (pending lines.new (S.left source.new)) }
-    ensures held { length lines.new.ahead ≤ 16384 }
+    ensures held { length lines.new.ahead ≤ most_held }
     ensures later { S.faults source.old ≤ S.faults source.new }
 {
     if let LineGot::Failed = lines.next(source) {
@@ -162,8 +162,8 @@ fn add_lines<S: Source>(
         (StopsBy (pending lines.old (S.left source.old)) (lines_from checker.old first_number) (S.faults source.old) (S.faults source.new)) }
     ensures few { IfOk result (λ end. (FIRST_NUMBER ≤ end) × (end ≤ most_lines_read)) }
     ensures read { MatchResult result (λ end. PassesLines (end - 3) (pending lines.old (S.left source.old)) (pending lines.new (S.left source.new)))
-        (λ stop. PassesLines (lines_until stop - 3) (pending lines.old (S.left source.old)) (pending lines.new (S.left source.new)) × (3 ≤ lines_until stop) × (lines_until stop ≤ most_lines_read)) }
-    ensures held { length lines.new.ahead ≤ 16384 }
+        (λ stop. PassesLines (lines_read_until stop - 3) (pending lines.old (S.left source.old)) (pending lines.new (S.left source.new)) × (3 ≤ lines_read_until stop) × (lines_read_until stop ≤ most_lines_read)) }
+    ensures held { length lines.new.ahead ≤ most_held }
     ensures later { S.faults source.old ≤ S.faults source.new }
 {
     let mut at = FIRST_NUMBER;
@@ -188,8 +188,8 @@ fn add_next<S: Source>(
     ensures few { result ≡ Ok true → at ≤ MOST_LINES }
     ensures root { OnOk result (checker.new.root ≡ checker.old.root) }
     ensures passes { PassesLines 1 (pending lines.old (S.left source.old)) (pending lines.new (S.left source.new)) }
-    ensures held { length lines.new.ahead ≤ 16384 }
-    ensures stops { at ≤ most_lines_read → IfErr result (λ stop. (at ≤ lines_until stop) × (lines_until stop ≤ most_lines_read)) }
+    ensures held { length lines.new.ahead ≤ most_held }
+    ensures stops { at ≤ most_lines_read → IfErr result (λ stop. (at ≤ lines_read_until stop) × (lines_read_until stop ≤ most_lines_read)) }
     ensures later { S.faults source.old ≤ S.faults source.new }
 {
     match lines.next(source) {

@@ -53,6 +53,8 @@ pub fn run<S: Source, O: Sink, E: Sink>(
     ensures check_complete { form_of (map string_bytes words.now) ≡ Some forms.Check
         → (Rose (S.faults source.old) (S.faults source.new) → ⊥) → (Rose (O.faults out.old) (O.faults out.new) → ⊥)
         → IfSome (S.left source.old) (λ bytes. (v : Verdict) (count : ℕ) → check_of bytes ≡ Accepted v count → (result ≡ 0) ⊎ (result ≡ 8)) }
+
+    // No run reads more than a bound that its words decide.
     ensures taken { TakesAtMost (most_taken (form_of (map string_bytes words.now))) (S.left source.old) (S.left source.new) }
     ensures lines { form_of (map string_bytes words.now) ≡ Some forms.Check → TakesLines most_lines_read (S.left source.old) (S.left source.new) }
 {

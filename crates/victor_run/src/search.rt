@@ -12,7 +12,7 @@ ghost use Rattle.victor_run.specs.Search.{uncounted, Solves, Asks, cites_from, w
 ghost use Rattle.victor_run.specs.declared.search.SearchStop.TheVariants as stops;
 
 use arrayvec::ArrayVec;
-use board_bits::{Column, End, Position, Side, centre_out};
+use board_bits::{Column, End, MOST_COLS, MOST_SQUARES, Position, Side, centre_out};
 use cert_format::{Cite, Claim, LemmaOut, Reason, Verdict};
 use io_ports::{Failed, Sink};
 
@@ -40,7 +40,7 @@ pub(crate) fn solve<O: Sink>(
     position: &Position,
     side: Side,
     order: &[Column],
-    path: &mut ArrayVec<Column, 100>,
+    path: &mut ArrayVec<Column, MOST_SQUARES>,
     budget: &mut u32,
     lemmas: &mut LemmaOut,
     out: &mut O,
@@ -66,7 +66,7 @@ pub(crate) fn solve<O: Sink>(
         return put_lemma(path, side, is_win(side, end), Reason::Ended, lemmas, out);
     }
     let own = side == position.to_move();
-    let mut numbers = [0; 10];
+    let mut numbers = [0; MOST_COLS];
     for column in order {
         if position.has_room(*column) {
             path.push(*column);
@@ -126,7 +126,7 @@ fn put_lemma_by_all<O: Sink>(
     path: &[Column],
     side: Side,
     yes: bool,
-    numbers: &[u32; 10],
+    numbers: &[u32; MOST_COLS],
     lemmas: &mut LemmaOut,
     out: &mut O,
 ) -> Result<Answer, SearchStop>
@@ -146,7 +146,7 @@ fn put_lemma_by_all<O: Sink>(
 }
 
 /// The playable columns, each with the lemma whose number stands at its place.
-fn cites_from(position: &Position, numbers: &[u32; 10]) -> ArrayVec<Cite, 10>
+fn cites_from(position: &Position, numbers: &[u32; MOST_COLS]) -> ArrayVec<Cite, 10>
     ensures { map cite_of result.items ≡ cites_from numbers.now (open_columns position.now) }
 {
     let mut cites = ArrayVec::new();

@@ -1,7 +1,7 @@
 use Rattle.std.proofs.Common.{◌+◌, ◌-◌, Bool, Ok, ap, ◌∙◌, subst, arith}
 use Rattle.victor_run.proofs.Passing.{passes_then, passes_most}
 use Rattle.std.proofs.lemmas.Result.{err_from_is_err_and}
-use Rattle.victor_run.specs.CheckSteps.{pending, Adds, lines_until}
+use Rattle.victor_run.specs.CheckSteps.{pending, Adds, lines_read_until}
 use Rattle.victor_run.proofs.CheckTold.{Both_then}
 use Rattle.victor_run.proofs.check.add_lines.Goals as goal
 
@@ -11,7 +11,7 @@ returns-in_err-add_next-clause-read g c =
     let same = err_from_is_err_and c.from_residual.result c.from_residual.ensures.1 in
     let stops = c.in_err-add_next.ensures.stops before.few in
     rw (same.1, same.2) (
-      passes_most (c.loop-at.at - 4 + 1) (lines_until c.in_err-add_next.field-0.0 - 3) _ _ (omega (arith, stops.0, before.from)) (passes_then _ 1 _ _ _ before.passes c.add_next.ensures.passes),
+      passes_most (c.loop-at.at - 4 + 1) (lines_read_until c.in_err-add_next.field-0.0 - 3) _ _ (omega (arith, stops.0, before.from)) (passes_then _ 1 _ _ _ before.passes c.add_next.ensures.passes),
       omega (arith, stops.0, before.from),
       stops.1,
     )

@@ -1,6 +1,7 @@
 use Rattle.std.proofs.Common.{◌≡◌, ◌-◌, ◌≤◌, length}
 use Rattle.proof_text.specs.Texts.{first_number}
 use Rattle.io_ports.specs.Lines.{PassesLines}
+use Rattle.victor_run.specs.Check.{most_lines_read}
 use Rattle.victor_run.specs.CheckSteps.{lines_from, pending, GoesOn}
 use Rattle.victor_run.proofs.check.add_lines.Given as goal
 
@@ -12,7 +13,7 @@ invariant-loop-at g l = record {
   passes : PassesLines (l.at - 4) (pending l.fn.lines (g.S.Source.left l.fn.source)) (pending l.lines (g.S.Source.left l.source));
   from : 4 ≤ l.at;
   later : g.S.Source.faults l.fn.source ≤ g.S.Source.faults l.source;
-  few : l.at ≤ 20000001;
+  few : l.at ≤ most_lines_read;
 }
 
 abbrev pub decreases-loop-at : goal.decreases-loop-at

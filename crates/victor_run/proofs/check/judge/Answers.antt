@@ -3,7 +3,7 @@ use Rattle.std.proofs.KnownBytes.{prepend_known-nil}
 use Rattle.std.proofs.lemmas.Result.{err_from_is_err_and}
 use Rattle.proof_text.specs.Texts.{check_of}
 use Rattle.victor_run.specs.Check.{most_lines_read}
-use Rattle.victor_run.specs.CheckSteps.{game_from, pending, GoesOn, lines_until}
+use Rattle.victor_run.specs.CheckSteps.{game_from, pending, GoesOn, lines_read_until}
 use Rattle.victor_run.proofs.CheckTold.{all_told, right_input}
 use Rattle.victor_run.proofs.Passing.{takes_game, takes_lines}
 use Rattle.victor_run.proofs.check.judge.Goals as goal
@@ -26,19 +26,19 @@ returns-in_err-root-clause-lines g c =
 pub returns-in_err-root-clause-stops : goal.returns-in_err-root-clause-stops
 returns-in_err-root-clause-stops g c =
     let same = err_from_is_err_and c.from_residual-in_err-root.result c.from_residual-in_err-root.ensures.1 in
-    rw (same.1, same.2) (takes_game (lines_until c.in_err-root.field-0.0) _ c.read_root.new.lines _ _ _ c.new-lines.ensures c.read_root.ensures.held c.read_head.ensures.passes c.read_root.ensures.passes c.in_err-root.ensures.stops)
+    rw (same.1, same.2) (takes_game (lines_read_until c.in_err-root.field-0.0) _ c.read_root.new.lines _ _ _ c.new-lines.ensures c.read_root.ensures.held c.read_head.ensures.passes c.read_root.ensures.passes c.in_err-root.ensures.stops)
 
 pub returns-in_err-end-clause-lines : goal.returns-in_err-end-clause-lines
 returns-in_err-end-clause-lines g c =
     let read = c.in_err-end.ensures.read in
-    takes_lines most_lines_read _ c.add_lines.new.lines _ _ _ c.new-lines.ensures c.add_lines.ensures.held (lines_until c.in_err-end.field-0.0) _ c.read_head.ensures.passes c.read_root.ensures.passes
+    takes_lines most_lines_read _ c.add_lines.new.lines _ _ _ c.new-lines.ensures c.add_lines.ensures.held (lines_read_until c.in_err-end.field-0.0) _ c.read_head.ensures.passes c.read_root.ensures.passes
     read.0 read.1 read.2
 
 pub returns-in_err-end-clause-stops : goal.returns-in_err-end-clause-stops
 returns-in_err-end-clause-stops g c =
     let same = err_from_is_err_and c.from_residual-in_err-end.result c.from_residual-in_err-end.ensures.1 in
     let read = c.in_err-end.ensures.read in
-    rw (same.1, same.2) (takes_lines (lines_until c.in_err-end.field-0.0) _ c.add_lines.new.lines _ _ _ c.new-lines.ensures c.add_lines.ensures.held (lines_until c.in_err-end.field-0.0) _ c.read_head.ensures.passes c.read_root.ensures.passes
+    rw (same.1, same.2) (takes_lines (lines_read_until c.in_err-end.field-0.0) _ c.add_lines.new.lines _ _ _ c.new-lines.ensures c.add_lines.ensures.held (lines_read_until c.in_err-end.field-0.0) _ c.read_head.ensures.passes c.read_root.ensures.passes
     read.0 read.1 (omega arith))
 
 pub returns-in-Ok-clause-lines : goal.returns-in-Ok-clause-lines
