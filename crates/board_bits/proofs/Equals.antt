@@ -13,8 +13,8 @@ use Rattle.game_rules.proofs.Squares.{agree}
 use Rattle.board_bits.specs.Padded.{padded}
 
 -- padded lists of one length are the same only where the lists are
-front_is : {X : Type 0} (filler : X) (xs ys : List X) → length xs ≡ length ys → padded 10 filler xs ≡ padded 10 filler ys → xs ≡ ys
-front_is filler xs ys size same =
+prefix_is : {X : Type 0} (filler : X) (xs ys : List X) → length xs ≡ length ys → padded 10 filler xs ≡ padded 10 filler ys → xs ≡ ys
+prefix_is filler xs ys size same =
     sym (take-append_seam xs (replicate (10 - length xs) filler))
     ∙ ap (λ zs. take (length xs) zs) same
     ∙ ap (λ n. take n (padded 10 filler ys)) size
@@ -27,7 +27,7 @@ module _ {S : Side → Side → Bool} (sides : (a b : Side) → Decides (S a b) 
   stacks_decide : (a b : List Side) → Decides (stacks_equal a b) (a ≡ b)
   stacks_decide a b = (
     (λ h. let both = and_parts (pointwise S (padded 10 White a) (padded 10 White b)) (length a == length b) h in
-        front_is White a b (eqb-true (length a) (length b) both.1) ((slice_eq-Decides sides (padded 10 White a) (padded 10 White b) (pointwise S (padded 10 White a) (padded 10 White b)) refl).0 both.0)),
+        prefix_is White a b (eqb-true (length a) (length b) both.1) ((slice_eq-Decides sides (padded 10 White a) (padded 10 White b) (pointwise S (padded 10 White a) (padded 10 White b)) refl).0 both.0)),
     (λ e. and_from _ _ ((slice_eq-Decides sides (padded 10 White a) (padded 10 White b) (pointwise S (padded 10 White a) (padded 10 White b)) refl).1 (ap (padded 10 White) e))
         (eq-eqb (length a) (length b) (ap length e))),
   )
@@ -35,8 +35,8 @@ module _ {S : Side → Side → Bool} (sides : (a b : Side) → Decides (S a b) 
   abbrev positions_equal : Position → Position → Bool
   positions_equal p q = (length p.columns == length q.columns) && (p.rows == q.rows) && pointwise stacks_equal (padded 10 [] p.columns) (padded 10 [] q.columns)
 
-  pub same_told : (p q : Position) (answer : Bool) → answer ≡ positions_equal p q → answer ≡ same_position p q
-  same_told p q answer told = told ∙ agree (positions_equal p q) (same_position p q) (λ h. (same_position_Decides p q).1 (to h)) (λ h. from ((same_position_Decides p q).0 h))
+  pub same_known : (p q : Position) (answer : Bool) → answer ≡ positions_equal p q → answer ≡ same_position p q
+  same_known p q answer told = told ∙ agree (positions_equal p q) (same_position p q) (λ h. (same_position_Decides p q).1 (to h)) (λ h. from ((same_position_Decides p q).0 h))
     where
       columns : Decides (pointwise stacks_equal (padded 10 [] p.columns) (padded 10 [] q.columns)) (padded 10 [] p.columns ≡ padded 10 [] q.columns)
       columns = slice_eq-Decides stacks_decide (padded 10 [] p.columns) (padded 10 [] q.columns) (pointwise stacks_equal (padded 10 [] p.columns) (padded 10 [] q.columns)) refl
@@ -46,7 +46,7 @@ module _ {S : Side → Side → Bool} (sides : (a b : Side) → Decides (S a b) 
           let both = and_parts ((length p.columns == length q.columns) && (p.rows == q.rows)) (pointwise stacks_equal (padded 10 [] p.columns) (padded 10 [] q.columns)) h in
           let sizes = and_parts (length p.columns == length q.columns) (p.rows == q.rows) both.0 in
           ap (λ n. record p { rows = n }) (eqb-true p.rows q.rows sizes.1)
-          ∙ ap (λ men. record q { columns = men }) (front_is [] p.columns q.columns (eqb-true (length p.columns) (length q.columns) sizes.0) (columns.0 both.1))
+          ∙ ap (λ men. record q { columns = men }) (prefix_is [] p.columns q.columns (eqb-true (length p.columns) (length q.columns) sizes.0) (columns.0 both.1))
 
       from : p ≡ q → positions_equal p q ≡ true
       from e = and_from _ _ (and_from _ _ (eq-eqb (length p.columns) (length q.columns) (ap (λ (r : Position). length r.columns) e)) (eq-eqb p.rows q.rows (ap (λ (r : Position). r.rows) e)))

@@ -18,8 +18,8 @@ use Rattle.board_bits.specs.MaskFields.{is_marked, squares_marked, square_on, pl
 place_low : (u : Square) → on_board widest u ≡ true → place_of u < 100
 place_low u on = let parts = on_board_parts widest u.0 u.1 on in omega arith
 
-place_tells : (u v : Square) → on_board widest u ≡ true → on_board widest v ≡ true → place_of u ≡ place_of v → u ≡ v
-place_tells (a, b) (c, d) left right same =
+place_determines : (u v : Square) → on_board widest u ≡ true → on_board widest v ≡ true → place_of u ≡ place_of v → u ≡ v
+place_determines (a, b) (c, d) left right same =
     let first = on_board_parts widest a b left in let second = on_board_parts widest c d right in
     let column : a ≡ c = omega arith in let row : b ≡ d = omega arith in rw (column, row) refl
 
@@ -40,7 +40,7 @@ with_set places s size on_s = marked_set test (set places (place_of s) true)
     ])
     (λ u on. elim (cases_eq (place_of u) (place_of s)) [
       | inl same ↦
-          let here : u ≡ s = place_tells u s on on_s same in
+          let here : u ≡ s = place_determines u s on on_s same in
           rw (here, same_square_refl s) (get_or-set_same places (place_of s) true false (let low = place_low s on_s in omega arith))
       | inr apart ↦
           get_or-set_other places (place_of s) (place_of u) true false apart

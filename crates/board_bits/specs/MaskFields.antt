@@ -1,4 +1,4 @@
--- The fields of a mask, and that its squares tell them.
+-- The fields of a mask, and that its squares determine them.
 use Rattle.std.specs.Prelude.{◌≡◌, ℕ, ◌+◌, ◌/◌, ◌%◌, ◌<◌, Bool, true, false, List, map, length, slice_index_or}
 use Rattle.std.proofs.Common.{sym, ap, ◌∙◌, arith}
 use Rattle.std.proofs.lemmas.List.{ext_get_or}
@@ -27,9 +27,9 @@ square_on place low = on_board_from widest (place / 10) (place % 10 + 1) (omega 
 pub place_at : (place : ℕ) → place_of (square_at place) ≡ place
 place_at place = omega arith
 
-pub squares_tell_the_places : (places : List Bool) → length places ≡ 100 → places_of (squares_marked places) ≡ places
+pub squares_determine_the_places : (places : List Bool) → length places ≡ 100 → places_of (squares_marked places) ≡ places
 unfolding places_of
-squares_tell_the_places places size =
+squares_determine_the_places places size =
     ext_get_or false (map at (below 100)) places (length-map-range_with_len at 0 100 ∙ sym size) (λ i within.
     let low : i < 100 = omega (arith, length-map-range_with_len at 0 100) in
     get_or-map-range_with_len at 0 100 i i false low (omega arith)
@@ -40,8 +40,8 @@ squares_tell_the_places places size =
     at place = has_square (squares_marked places) (square_at place)
 
 -- the squares give the fields back
-abbrev pub IsTold : Inside → Type 0
-IsTold a = record { places = places_of (squares_marked a.places) } ≡ a
+abbrev pub IsDetermined : Inside → Type 0
+IsDetermined a = record { places = places_of (squares_marked a.places) } ≡ a
 
-pub told_from : (a : Inside) → length a.places ≡ 100 → IsTold a
-told_from a size = ap (λ places. record a { places = places }) (squares_tell_the_places a.places size)
+pub determined_from : (a : Inside) → length a.places ≡ 100 → IsDetermined a
+determined_from a size = ap (λ places. record a { places = places }) (squares_determine_the_places a.places size)

@@ -1,4 +1,4 @@
--- A list of at most so many elements, kept in front of an array whose other places all hold one value.
+-- A list of at most so many elements, kept at the start of an array whose other places all hold one value.
 use Rattle.std.specs.Prelude.{◌≡◌, ℕ, ◌-◌, ◌≤◌, List, ◌++◌, length, take, replicate}
 use Rattle.std.proofs.Common.{sym, ap, ◌∙◌, subst}
 use Rattle.std.proofs.lemmas.List.{length-take-le}
@@ -12,9 +12,9 @@ pub record IsPadded {X : Type 0} (size n : ℕ) (filler : X) (places : List X) :
 abbrev pub padded : {X : Type 0} → ℕ → X → List X → List X
 padded size filler xs = xs ++ replicate (size - length xs) filler
 
-pub front_length : {X : Type 0} (size n : ℕ) (filler : X) (places : List X) → IsPadded size n filler places → length (take n places) ≡ n
-front_length size n filler places h = length-take-le n places (let within = h.within in let same = h.size_is in subst (λ m. n ≤ m) (sym same) within)
+pub prefix_length : {X : Type 0} (size n : ℕ) (filler : X) (places : List X) → IsPadded size n filler places → length (take n places) ≡ n
+prefix_length size n filler places h = length-take-le n places (let within = h.within in let same = h.size_is in subst (λ m. n ≤ m) (sym same) within)
 
--- what stands in front tells all places
-pub padded_front : {X : Type 0} (size n : ℕ) (filler : X) (places : List X) → IsPadded size n filler places → padded size filler (take n places) ≡ places
-padded_front size n filler places h = ap (λ m. take n places ++ replicate (size - m) filler) (front_length size n filler places h) ∙ sym h.rest
+-- the first places determine all
+pub padded_prefix : {X : Type 0} (size n : ℕ) (filler : X) (places : List X) → IsPadded size n filler places → padded size filler (take n places) ≡ places
+padded_prefix size n filler places h = ap (λ m. take n places ++ replicate (size - m) filler) (prefix_length size n filler places h) ∙ sym h.rest

@@ -1,9 +1,9 @@
--- The fields of a position, and that its value tells them.
+-- The fields of a position, and that its value determines them.
 use Rattle.std.specs.Prelude.{◌≡◌, true, [], take}
 use Rattle.std.proofs.Common.{ap, ◌∙◌}
 use Rattle.game_rules.specs.Board.{is_board}
 use Rattle.game_rules.specs.Position.{Position as Men, board_of, IsStacked}
-use Rattle.board_bits.specs.Padded.{IsPadded, padded, padded_front, front_length}
+use Rattle.board_bits.specs.Padded.{IsPadded, padded, padded_prefix, prefix_length}
 use Rattle.board_bits.specs.declared.position.Position.TheInside.{Inside}
 
 -- the men of the board's columns
@@ -16,7 +16,7 @@ pub record IsSound (a : Inside) : Type 0 where
   pub board : is_board a.size ≡ true
   pub stacked : IsStacked (men_of a)
 
-pub men_tell_the_fields : (a : Inside) → IsSound a → record { size = board_of (men_of a); columns = padded 10 [] (men_of a).columns } ≡ a
-men_tell_the_fields a h =
-    ap (λ n. record a { size = record { cols = n; rows = a.size.rows }; columns = padded 10 [] (take a.size.cols a.columns) }) (front_length 10 a.size.cols [] a.columns h.padding)
-    ∙ ap (λ columns. record a { columns = columns }) (padded_front 10 a.size.cols [] a.columns h.padding)
+pub men_determine_the_fields : (a : Inside) → IsSound a → record { size = board_of (men_of a); columns = padded 10 [] (men_of a).columns } ≡ a
+men_determine_the_fields a h =
+    ap (λ n. record a { size = record { cols = n; rows = a.size.rows }; columns = padded 10 [] (take a.size.cols a.columns) }) (prefix_length 10 a.size.cols [] a.columns h.padding)
+    ∙ ap (λ columns. record a { columns = columns }) (padded_prefix 10 a.size.cols [] a.columns h.padding)

@@ -63,7 +63,7 @@ fn after_text<'a>(text: &[u8], bytes: &'a [u8]) -> Result<&'a [u8], Stop>
     Ok(rest)
 }
 
-/// Reading stops in front of these bytes.
+/// Reading stops before these bytes.
 fn stop(kind: InputKind, rest: &[u8]) -> Stop
     ensures { result ≡ record { kind = kind; left = length rest.now } }
 {
@@ -73,7 +73,7 @@ fn stop(kind: InputKind, rest: &[u8]) -> Stop
     }
 }
 
-/// The longest run of digits at the front, and the bytes after it.
+/// The longest run of digits at the start, and the bytes after it.
 fn digit_run(bytes: &[u8]) -> (&[u8], &[u8])
     ensures run { result.0.now ≡ take_while is_digit bytes.now }
     ensures rest { result.1.now ≡ drop (length (take_while is_digit bytes.now)) bytes.now }

@@ -21,11 +21,11 @@ impl Model for Mask {
 
     ghost Value = { List (ℕ × ℕ) };
 
-    ghost use Rattle.board_bits.specs.MaskFields.{squares_marked, places_of, IsTold};
+    ghost use Rattle.board_bits.specs.MaskFields.{squares_marked, places_of, IsDetermined};
 
     ghost view = { λ mask. squares_marked mask.places };
 
-    ghost invariant = { IsTold };
+    ghost invariant = { IsDetermined };
 
     ghost inverse = { λ us. record { places = places_of us } };
 

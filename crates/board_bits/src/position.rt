@@ -40,7 +40,7 @@ impl Model for Position {
 
     ghost Value = { Men };
 
-    ghost use Rattle.board_bits.specs.PositionFields.{men_of, IsSound, men_tell_the_fields};
+    ghost use Rattle.board_bits.specs.PositionFields.{men_of, IsSound, men_determine_the_fields};
 
     ghost view = { men_of };
 
@@ -48,7 +48,7 @@ impl Model for Position {
 
     ghost inverse = { λ p. record { size = board_of p; columns = padded 10 [] p.columns } };
 
-    ghost inverse_ok = { men_tell_the_fields };
+    ghost inverse_ok = { men_determine_the_fields };
 }
 
 impl Position {
@@ -56,7 +56,7 @@ impl Position {
     pub fn empty(size: Size) -> Position
         ensures { result ≡ empty_position size }
     {
-        // its contract tells that the size is a board's
+        // its contract says that the size is a board's
         let _board = size.cols();
         Position {
             size,

@@ -105,7 +105,7 @@ impl Size {
         requires { index < self.now.cols }
         ensures { result ≡ index }
     {
-        // its contract tells that a board has at most ten columns
+        // its contract says that a board has at most ten columns
         let _within = self.cols();
         Column { index }
     }
@@ -130,7 +130,7 @@ impl Size {
         ensures value { result ≡ is_line self.now way anchor }
         ensures board { is_board self.now ≡ true }
     {
-        // its contract tells that the size is a board's
+        // its contract says that the size is a board's
         let _board = self.cols();
         is_line(*self, way, (anchor.column().index(), anchor.row()))
     }

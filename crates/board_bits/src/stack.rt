@@ -23,7 +23,7 @@ impl Model for Stack {
 
     ghost Value = { List Side };
 
-    ghost use Rattle.board_bits.specs.StackFields.{men_tell_the_fields};
+    ghost use Rattle.board_bits.specs.StackFields.{men_determine_the_fields};
 
     ghost view = { λ stack. take stack.height stack.men };
 
@@ -31,7 +31,7 @@ impl Model for Stack {
 
     ghost inverse = { λ men. record { men = padded 10 White men; height = length men } };
 
-    ghost inverse_ok = { men_tell_the_fields };
+    ghost inverse_ok = { men_determine_the_fields };
 }
 
 impl Stack {

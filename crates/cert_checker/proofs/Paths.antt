@@ -11,7 +11,7 @@ use Rattle.game_rules.specs.declared.Side.{Side}
 use Rattle.game_rules.specs.declared.Side.TheVariants.{White, Black}
 use Rattle.game_rules.proofs.Lists.{any_from, Among-below, chosen}
 use Rattle.game_rules.proofs.Moves.{unchanged, was_empty, board_moved, room_column}
-use Rattle.game_rules.proofs.Ends.{cases_square, line_from_four, four_from_line, ended_told, legal_parts}
+use Rattle.game_rules.proofs.Ends.{cases_square, line_from_four, four_from_line, ended_parts, legal_parts}
 use Rattle.cert_checker.specs.Checking.{stacked, last_move}
 
 module _ (p : Position) (column : ℕ) (room : has_room p column ≡ true) where
@@ -38,7 +38,7 @@ module _ (p : Position) (column : ℕ) (room : has_room p column ≡ true) where
   -- where the game goes on after a man was added, it went on before
   going_before : end_of (after_move p column) ≡ None → end_of p ≡ None
   going_before h =
-      let told = ended_told (after_move p column) h in
+      let told = ended_parts (after_move p column) h in
       let white : has_four p White ≡ false = false_from_ne_true _ (λ four. both_ways _ told.0 (four_stays White four)) in
       let black : has_four p Black ≡ false = false_from_ne_true _ (λ four. both_ways _ told.1 (four_stays Black four)) in
       let full : is_full p ≡ false = ap not (any_from (has_room p) (below (length p.columns)) column (Among-below (length p.columns) column (room_column p column room)) room) in
@@ -54,22 +54,22 @@ going_along (column ∷ columns) p q e h = elim (chosen (has_room p column) (sta
   | inr none ↦ absurd (cc none.1)
 ]
 
-pub played_last : (front : List ℕ) (p : Position) (last : ℕ) → played p (front ++ last ∷ []) ≡ last_move (stacked p front) last
+pub played_last : (prefix : List ℕ) (p : Position) (last : ℕ) → played p (prefix ++ last ∷ []) ≡ last_move (stacked p prefix) last
 played_last [] p last = refl
-played_last (column ∷ front) p last = elim (cases_Bool (is_legal p column)) [
+played_last (column ∷ prefix) p last = elim (cases_Bool (is_legal p column)) [
   | inl legal ↦
-      ap (λ b. cond b (played (after_move p column) (front ++ last ∷ [])) None) legal
-      ∙ played_last front (after_move p column) last
-      ∙ sym (ap (λ b. last_move (cond b (stacked (after_move p column) front) None) last) (legal_parts p column legal).1)
-  | inr barred ↦ ap (λ b. cond b (played (after_move p column) (front ++ last ∷ [])) None) barred ∙ sym (none_last barred (stacked p (column ∷ front)) refl)
+      ap (λ b. cond b (played (after_move p column) (prefix ++ last ∷ [])) None) legal
+      ∙ played_last prefix (after_move p column) last
+      ∙ sym (ap (λ b. last_move (cond b (stacked (after_move p column) prefix) None) last) (legal_parts p column legal).1)
+  | inr barred ↦ ap (λ b. cond b (played (after_move p column) (prefix ++ last ∷ [])) None) barred ∙ sym (none_last barred (stacked p (column ∷ prefix)) refl)
 ]
   where
-    none_last : is_legal p column ≡ false → (r : Option Position) → stacked p (column ∷ front) ≡ r → last_move r last ≡ None
+    none_last : is_legal p column ≡ false → (r : Option Position) → stacked p (column ∷ prefix) ≡ r → last_move r last ≡ None
     none_last barred None e = refl
     none_last barred (Some q) e = elim (cases_Bool (is_legal q last)) [
       | inr closed ↦ rw closed refl
-      | inl legal ↦ elim (chosen (has_room p column) (stacked (after_move p column) front) None (Some q) e) [
-        | inl room ↦ absurd (both_ways (is_legal p column) barred (and_from _ _ (ap is_none (going_along (column ∷ front) p q e (legal_parts q last legal).0)) room.0))
+      | inl legal ↦ elim (chosen (has_room p column) (stacked (after_move p column) prefix) None (Some q) e) [
+        | inl room ↦ absurd (both_ways (is_legal p column) barred (and_from _ _ (ap is_none (going_along (column ∷ prefix) p q e (legal_parts q last legal).0)) room.0))
         | inr none ↦ absurd (cc none.1)
       ]
     ]

@@ -29,10 +29,10 @@ pub struct Checker {
 
 impl Model for Checker {
     ghost use Rattle.std.specs.Prelude.{map, length, ◌<◌, ◌^◌};
-    ghost use Rattle.proof_text.specs.Checked.{Standing};
+    ghost use Rattle.proof_text.specs.Checked.{CheckerState};
     ghost use Rattle.cert_checker.specs.Checking.{shown_of};
 
-    ghost Value = { Standing };
+    ghost Value = { CheckerState };
 
     ghost view = { λ a. record { root = a.root; known = map shown_of a.known.items; verdict = a.verdict } };
 

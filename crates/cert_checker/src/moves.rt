@@ -12,10 +12,10 @@ use cert_format::Cite;
 pub(crate) fn position_after(root: &Position, path: &[Column]) -> Option<Position>
     ensures { result ≡ played root.now path.now }
 {
-    let [front @ .., last] = path else {
+    let [prefix @ .., last] = path else {
         return Some(*root);
     };
-    let before = stacked(root, front)?;
+    let before = stacked(root, prefix)?;
     if is_legal(&before, *last) {
         Some(before.after(*last))
     } else {

@@ -30,7 +30,7 @@ line_of (lines.Verdict v) = AVerdict v
 abbrev pub behind_spaces : List (List ℕ) → List ℕ
 behind_spaces words = flat_map (λ word. 32 ∷ word) words
 
--- the bytes of a lemma's or a verdict's line, with its line feed; a remark's aren't told by what it says
+-- the bytes of a lemma's or a verdict's line, with its line feed; a remark's aren't determined by what it says
 abbrev pub printed : PlainLine → List ℕ
 printed (ALemma l) = lemma_line l
 printed ARemark = []

@@ -14,7 +14,7 @@ use proof_text::{Claim, Verdict};
 /// No line that is made here is longer, with its line feed.
 const LONGEST_LINE: usize = 256;
 
-/// The bytes of a line, or of a front of it.
+/// The bytes of a line, or of a prefix of it.
 pub type LineText = ArrayVec<u8, LONGEST_LINE>;
 
 /// The line of a lemma, with its line feed.

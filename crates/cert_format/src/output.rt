@@ -1,6 +1,6 @@
-//! Lines put to a sink. Each line is made whole first and then put at once, so that a sink that fails has a front of it.
+//! Lines put to a sink. Each line is made whole first and then put at once, so that a sink that fails has a prefix of it.
 ghost use Rattle.std.specs.Prelude.{◌≡◌, ◌≢◌, ◌+◌, ◌<◌, ◌≤◌, length, is_ok, IfOk, OnOk, OnErr};
-ghost use Rattle.device_rules.specs.Devices.{HasCause, Stands};
+ghost use Rattle.device_rules.specs.Devices.{HasCause, AppendsPrefix};
 ghost use Rattle.proof_text.specs.Lemma.{ARemark};
 ghost use Rattle.proof_text.specs.Spelling.{lemma_line};
 ghost use Rattle.cert_format.specs.Shape.{reason_of, line_of, printed};
@@ -15,10 +15,10 @@ use std::marker::Model;
 /// Writes the spelling of a lemma or a verdict, and a line feed. A remark can't be written, since what it says isn't
 /// kept. The line is one of a proof, and read again as it was, where its numbers are from 1 to 10,000,000, `All` has at
 /// least one cite, and its columns are those of one board. On `Failed`, which comes only where the sink's count of
-/// faults rose, a front was written.
+/// faults rose, a prefix was written.
 pub fn print_line<O: Sink>(line: &Line, out: &mut O) -> Result<(), Failed>
     requires { line_of line.now ≢ ARemark }
-    ensures written { Stands (is_ok result) (O.written out.old) (O.written out.new) (printed (line_of line.now)) }
+    ensures written { AppendsPrefix (is_ok result) (O.written out.old) (O.written out.new) (printed (line_of line.now)) }
     ensures cause { HasCause (O.faults out.old) (O.faults out.new) result }
 {
     match line {
@@ -66,7 +66,7 @@ impl LemmaOut {
     }
 
     /// Puts the line of the next lemma, and answers its number. On `Failed`, which comes only where the sink's count of
-    /// faults rose, a front of the line was written, and the number is given to the lemma that is put next.
+    /// faults rose, a prefix of the line was written, and the number is given to the lemma that is put next.
     pub fn put<O: Sink>(
         &mut self,
         out: &mut O,
@@ -79,7 +79,7 @@ impl LemmaOut {
         ensures number { IfOk result (λ n. n ≡ self.old + 1) }
         ensures counted { OnOk result (self.new ≡ self.old + 1) }
         ensures kept { OnErr result (self.new ≡ self.old) }
-        ensures written { Stands (is_ok result) (O.written out.old) (O.written out.new)
+        ensures written { AppendsPrefix (is_ok result) (O.written out.old) (O.written out.new)
             (lemma_line (record { number = self.old + 1; path = path.now; claim = claim; reason = reason_of reason })) }
         ensures cause { HasCause (O.faults out.old) (O.faults out.new) result }
     {

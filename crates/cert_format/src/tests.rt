@@ -25,7 +25,7 @@ const LINES: [&str; 13] = [
     "value draw 1 1",
 ];
 
-const REMARKS: [&str; 4] = ["#", "# front W 12 inf 0", "#~ !", "##"];
+const REMARKS: [&str; 4] = ["#", "# prefix W 12 inf 0", "#~ !", "##"];
 
 const NO_LINES: [&str; 46] = [
     "",

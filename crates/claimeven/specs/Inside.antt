@@ -1,4 +1,4 @@
--- The fields of a Claimeven, and that its lower square tells them.
+-- The fields of a Claimeven, and that its lower square determines them.
 use Rattle.std.specs.Prelude.{◌≡◌, true}
 use Rattle.std.proofs.Common.{ap, sym}
 use Rattle.plan_rules.specs.Squares.{above, is_odd}
@@ -9,5 +9,5 @@ pub record IsPaired (a : Inside) : Type 0 where
   pub odd : is_odd a.lower.1 ≡ true
   pub over : a.upper ≡ above a.lower
 
-pub lower_tells_the_fields : (a : Inside) → IsPaired a → record { lower = a.lower; upper = above a.lower } ≡ a
-lower_tells_the_fields a h = ap (λ upper. record a { upper = upper }) (sym h.over)
+pub lower_determines_the_fields : (a : Inside) → IsPaired a → record { lower = a.lower; upper = above a.lower } ≡ a
+lower_determines_the_fields a h = ap (λ upper. record a { upper = upper }) (sym h.over)

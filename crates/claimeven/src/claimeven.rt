@@ -18,7 +18,7 @@ pub struct Claimeven {
 impl Model for Claimeven {
     ghost use Rattle.std.specs.Prelude.{ℕ};
     ghost use Rattle.plan_rules.specs.Squares.{above};
-    ghost use Rattle.claimeven.specs.Inside.{IsPaired, lower_tells_the_fields};
+    ghost use Rattle.claimeven.specs.Inside.{IsPaired, lower_determines_the_fields};
 
     ghost Value = { ℕ × ℕ };
 
@@ -28,7 +28,7 @@ impl Model for Claimeven {
 
     ghost inverse = { λ s. record { lower = s; upper = above s } };
 
-    ghost inverse_ok = { lower_tells_the_fields };
+    ghost inverse_ok = { lower_determines_the_fields };
 }
 
 impl Default for Claimeven {
@@ -53,7 +53,7 @@ impl Claimeven {
         if !size.has(lower) || lower.row() % 2 == 0 {
             return None;
         }
-        // its contract tells that the size is a board's, which has an even number of rows
+        // its contract says that the size is a board's, which has an even number of rows
         let _board = size.cols();
         let upper = size.square(lower.column(), lower.row() + 1)?;
         Some(Claimeven { lower, upper })
@@ -112,7 +112,7 @@ impl Rule for Claimeven {
     }
 
     fn fits(&self, p: &Position) -> bool {
-        // its contract tells that the row is odd
+        // its contract says that the row is odd
         let _odd = self.lower();
         p.is_empty(self.lower()) && p.is_empty(self.upper_square())
     }

@@ -4,7 +4,7 @@ use Rattle.std.specs.Io.KnownBytes.{Appends}
 use Rattle.std.proofs.KnownBytes.{Appends-trans}
 use Rattle.std.proofs.lemmas.List.{take-append-le, take_min}
 use Rattle.std.proofs.Math.Seq.{take-append-add, take-length}
-use Rattle.device_rules.specs.Devices.{Rose, HasCause, Stands}
+use Rattle.device_rules.specs.Devices.{Rose, HasCause, AppendsPrefix}
 
 -- A count that rose since a later moment rose since an earlier one.
 pub Rose_before : (before mid after : ℕ) → before ≤ mid → Rose mid after → Rose before after
@@ -18,20 +18,20 @@ HasCause_before before mid after result first cause = record {
 }
 
 -- What was put whole stands either way.
-pub Stands_all : (ok : Bool) (old new : Option (List ℕ)) (text : List ℕ) → Appends old new text → Stands ok old new text
-Stands_all true old new text whole = whole
-Stands_all false old new text whole = (length text, subst (Appends old new) (sym (take-length text)) whole)
+pub AppendsPrefix_all : (ok : Bool) (old new : Option (List ℕ)) (text : List ℕ) → Appends old new text → AppendsPrefix ok old new text
+AppendsPrefix_all true old new text whole = whole
+AppendsPrefix_all false old new text whole = (length text, subst (Appends old new) (sym (take-length text)) whole)
 
--- A front of x is a front of x ++ y.
-pub Stands_front : (old new : Option (List ℕ)) (x y : List ℕ) → Stands false old new x → Stands false old new (x ++ y)
-Stands_front old new x y front =
-    let n = min front.0 (length x) in
+-- A prefix of x is a prefix of x ++ y.
+pub AppendsPrefix_take : (old new : Option (List ℕ)) (x y : List ℕ) → AppendsPrefix false old new x → AppendsPrefix false old new (x ++ y)
+AppendsPrefix_take old new x y prefix =
+    let n = min prefix.0 (length x) in
     let within : n ≤ length x = omega arith in
-    let same : take front.0 x ≡ take n (x ++ y) = sym (take-append-le n x y within ∙ take_min front.0 x) in
-    (n, subst (Appends old new) same front.1)
+    let same : take prefix.0 x ≡ take n (x ++ y) = sym (take-append-le n x y within ∙ take_min prefix.0 x) in
+    (n, subst (Appends old new) same prefix.1)
 
 -- The whole of x, and then y either way, is x ++ y that way.
-pub Stands_more : (ok : Bool) (old mid new : Option (List ℕ)) (x y : List ℕ) → Appends old mid x → Stands ok mid new y → Stands ok old new (x ++ y)
-Stands_more true old mid new x y first rest = Appends-trans old mid new x y first rest
-Stands_more false old mid new x y first rest =
+pub AppendsPrefix_more : (ok : Bool) (old mid new : Option (List ℕ)) (x y : List ℕ) → Appends old mid x → AppendsPrefix ok mid new y → AppendsPrefix ok old new (x ++ y)
+AppendsPrefix_more true old mid new x y first rest = Appends-trans old mid new x y first rest
+AppendsPrefix_more false old mid new x y first rest =
     (length x + rest.0, subst (Appends old new) (sym (take-append-add x y rest.0)) (Appends-trans old mid new x (take rest.0 y) first rest.1))

@@ -16,7 +16,7 @@ pub record HasCause {X E : Type 0} (before after : ℕ) (result : Result X E) : 
   pub later : before ≤ after
   pub failed : IsErr result → Rose before after
 
--- A text was put after the bytes that were there: the whole of it where all went well, else some front of it.
-abbrev pub Stands : Bool → Option (List ℕ) → Option (List ℕ) → List ℕ → Type 0
-Stands true old new text = Appends old new text
-Stands false old new text = (n : ℕ) × Appends old new (take n text)
+-- A text was put after the bytes that were there: the whole of it where all went well, else some prefix of it.
+abbrev pub AppendsPrefix : Bool → Option (List ℕ) → Option (List ℕ) → List ℕ → Type 0
+AppendsPrefix true old new text = Appends old new text
+AppendsPrefix false old new text = (n : ℕ) × Appends old new (take n text)

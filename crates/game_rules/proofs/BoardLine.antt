@@ -256,8 +256,8 @@ size_of : (spelled : List ℕ → Option ℕ) (run rest : List ℕ) (n : ℕ) �
     → size_at spelled (run ++ rest) ≡ Ok (n, rest)
 size_of spelled run rest n h digits other =
     let size : prefix_len is_digit (run ++ rest) ≡ length run = prefix_len-append is_digit run rest ∙ at (prefix_len is_digit run == length run) (eq-eqb _ _ digits) in
-    let front : take_while is_digit (run ++ rest) ≡ run = ap (λ n. take n (run ++ rest)) size ∙ take-append_seam run rest in
-    ap (λ front. read_as (spelled front) (drop (length front) (run ++ rest)) (run ++ rest)) front
+    let prefix : take_while is_digit (run ++ rest) ≡ run = ap (λ n. take n (run ++ rest)) size ∙ take-append_seam run rest in
+    ap (λ prefix. read_as (spelled prefix) (drop (length prefix) (run ++ rest)) (run ++ rest)) prefix
     ∙ ap (λ n. read_as n (drop (length run) (run ++ rest)) (run ++ rest)) h
     ∙ ap (λ rest. Ok (n, rest)) (drop-append_seam run rest)
   where

@@ -144,8 +144,8 @@ other_kept p column room s = elim (cases_square s (column, height p column + 1))
     not_own White = refl
     not_own Black = refl
 
-pub ended_told : (p : Position) → (end_of p ≡ None) → (has_four p White ≡ false) × (has_four p Black ≡ false) × (is_full p ≡ false)
-ended_told p h = elim (chosen (has_four p White) (Some ends.White) _ None h) [
+pub ended_parts : (p : Position) → (end_of p ≡ None) → (has_four p White ≡ false) × (has_four p Black ≡ false) × (is_full p ≡ false)
+ended_parts p h = elim (chosen (has_four p White) (Some ends.White) _ None h) [
   | inl won ↦ absurd (cc won.1)
   | inr rest ↦ elim (chosen (has_four p Black) (Some ends.Black) _ None rest.1) [
     | inl lost ↦ absurd (cc lost.1)
@@ -167,7 +167,7 @@ legal_parts p column h = let both = and_parts (is_none (end_of p)) (has_room p c
 -- while the game went on before the move, the side that didn't move has no line after it
 pub none_for_other : (p : Position) (column : ℕ) → is_legal p column ≡ true → has_four (after_move p column) (other (side_to_move p)) ≡ false
 none_for_other p column h =
-    let parts = legal_parts p column h in let going = ended_told p parts.0 in
+    let parts = legal_parts p column h in let going = ended_parts p parts.0 in
     four_same (after_move p column) p (other (side_to_move p)) (board_moved p column) (other_kept p column parts.1) ∙ of_side (side_to_move p) going.0 going.1
   where
     of_side : (side : Side) → has_four p White ≡ false → has_four p Black ≡ false → has_four p (other side) ≡ false

@@ -8,7 +8,7 @@ use Rattle.std.proofs.lemmas.List.Folds.{list_any-append}
 use Rattle.std.proofs.lemmas.List.Kept.{AllPairs-cons}
 use Rattle.game_rules.specs.Board.{Board, Square, below, is_cols, is_rows, is_board, on_board, step_of, is_line, ways}
 use Rattle.game_rules.specs.Position.{Position, board_of, has_man, four_at, four_in_column, four_along, has_four}
-use Rattle.game_rules.specs.Squares.{same_square, has_square, squares_in_column, squares_of_board, widest, StandsBefore}
+use Rattle.game_rules.specs.Squares.{same_square, has_square, squares_in_column, squares_of_board, widest, Precedes as SquarePrecedes}
 use Rattle.game_rules.specs.Groups.{Group, squares_of, lies_on, rank, same_group, has_group, groups_along, groups_of, Precedes, groups_where, IsGroupSetOf}
 use Rattle.game_rules.proofs.Lists.{Among, any_gives, any_from, any_same, any_map, all_gives, Among-append_cases, Among-filter, Among-filter_gives, Among-map, Among-flat_map, Among-flat_map_gives, Among-range_gives, Among-below, Among-below_gives}
 use Rattle.game_rules.proofs.Ends.{on_board_parts, on_board_from, each_step, from_steps, step_none, Among-ways}
@@ -167,10 +167,10 @@ pairs_from_ordered R (x ∷ xs) h = AllPairs-cons R x xs (λ k d within. h.0 (sl
     among_at (x ∷ xs) zero d within = inl refl
     among_at (x ∷ xs) (suc k) d within = inr (among_at xs k d (omega arith))
 
-squares_in_order : (b : Board) → Ordered StandsBefore (squares_of_board b)
+squares_in_order : (b : Board) → Ordered SquarePrecedes (squares_of_board b)
 unfolding squares_of_board
-squares_in_order b = Ordered-flat_map (λ i j. i < j) StandsBefore (squares_in_column b.rows) (below b.cols)
-    (λ c. Ordered-map (λ i j. i < j) StandsBefore (λ i. (c, i + 1)) (below b.rows) (λ i j less. inr (refl, omega arith)) (Ordered-range 0 b.rows))
+squares_in_order b = Ordered-flat_map (λ i j. i < j) SquarePrecedes (squares_in_column b.rows) (below b.cols)
+    (λ c. Ordered-map (λ i j. i < j) SquarePrecedes (λ i. (c, i + 1)) (below b.rows) (λ i j less. inr (refl, omega arith)) (Ordered-range 0 b.rows))
     (λ c d u v less in_c in_d. inl (subst (λ n. n < v.0) (column_is c u in_c) (subst (λ n. c < n) (column_is d v in_d) less)))
     (Ordered-range 0 b.cols)
   where
@@ -192,8 +192,8 @@ ranks = (after_h, (after_v, (after_u, ((λ w among. absurd among), tt))))
     after_h w (inl v) = subst (λ w. 0 < rank w) v (lit< tt)
     after_h w (inr later) = let more : 1 < rank w = after_v w later in omega arith
 
-pub squares_ordered : (b : Board) → AllPairs StandsBefore (squares_of_board b)
-squares_ordered b = pairs_from_ordered StandsBefore (squares_of_board b) (squares_in_order b)
+pub squares_ordered : (b : Board) → AllPairs SquarePrecedes (squares_of_board b)
+squares_ordered b = pairs_from_ordered SquarePrecedes (squares_of_board b) (squares_in_order b)
 
 -- each group once, in group order
 pub groups_ordered : (b : Board) → AllPairs Precedes (groups_of b)
@@ -204,7 +204,7 @@ groups_ordered b = pairs_from_ordered Precedes (groups_of b) ordered
     way_is way g among = let from = Among-map_gives (λ s. (s, way)) (filter (is_line b way) (squares_of_board b)) g among in ap (λ (g : Group). g.1) from.2
 
     along : (way : Way) → Ordered Precedes (groups_along b way)
-    along way = Ordered-map StandsBefore Precedes (λ s. (s, way)) (filter (is_line b way) (squares_of_board b)) (λ u v less. inr (refl, less)) (Ordered-filter StandsBefore (is_line b way) (squares_of_board b) (squares_in_order b))
+    along way = Ordered-map SquarePrecedes Precedes (λ s. (s, way)) (filter (is_line b way) (squares_of_board b)) (λ u v less. inr (refl, less)) (Ordered-filter SquarePrecedes (is_line b way) (squares_of_board b) (squares_in_order b))
 
     ordered : Ordered Precedes (groups_of b)
     ordered = Ordered-flat_map (λ v w. rank v < rank w) Precedes (groups_along b) ways along
@@ -312,7 +312,7 @@ group_set_same f g gs set same = record {
   has = λ h. set.has h ∙ same h;
 }
 
--- ---- a group is told by its squares
+-- ---- a group is determined by its squares
 
 -- a square of a line is one of its four steps
 step_gives : (way : Way) (s u : Square) → has_square (squares_of (s, way)) u ≡ true → (i : ℕ) × (i < 4) × (step_of way s i ≡ u)
@@ -325,9 +325,9 @@ step_has way s i low = has_from (squares_of (s, way)) (step_of way s i) (Among-m
 
 -- Two lines above the ground, the first two squares of the one among the other's, and the other's anchor among the
 -- one's: they are one.
-told_by_steps : (v w : Way) (s t : Square) (i j k : ℕ) → 1 ≤ (step_of v s 3).1 → 1 ≤ (step_of w t 3).1 → i < 4 → j < 4 → k < 4
+determined_by_steps : (v w : Way) (s t : Square) (i j k : ℕ) → 1 ≤ (step_of v s 3).1 → 1 ≤ (step_of w t 3).1 → i < 4 → j < 4 → k < 4
     → step_of w t i ≡ s → step_of w t j ≡ step_of v s 1 → step_of v s k ≡ t → ◌≡◌ {A = Group} (s, v) (t, w)
-told_by_steps v w (c, r) (d, q) i j k high_s high_t low_i low_j low_k first second back =
+determined_by_steps v w (c, r) (d, q) i j k high_s high_t low_i low_j low_k first second back =
     at v w (ap column first) (ap row first) (ap column second) (ap row second) (ap column back) (ap row back) high_s high_t
   where
     column : Square → ℕ
@@ -360,12 +360,12 @@ told_by_steps v w (c, r) (d, q) i j k high_s high_t low_i low_j low_k first seco
     at D D a b x y e f m n = same D (omega arith) (omega arith)
 
 -- two groups of a board with the same four squares are one
-pub group_told : (b : Board) (g h : Group) → lies_on b g ≡ true → lies_on b h ≡ true → ((u : Square) → has_square (squares_of g) u ≡ has_square (squares_of h) u) → g ≡ h
-group_told b (s, v) (t, w) on_g on_h same =
+pub group_determined : (b : Board) (g h : Group) → lies_on b g ≡ true → lies_on b h ≡ true → ((u : Square) → has_square (squares_of g) u ≡ has_square (squares_of h) u) → g ≡ h
+group_determined b (s, v) (t, w) on_g on_h same =
     let first = step_gives w t (step_of v s 0) (sym (same (step_of v s 0)) ∙ step_has v s 0 (omega arith)) in
     let second = step_gives w t (step_of v s 1) (sym (same (step_of v s 1)) ∙ step_has v s 1 (omega arith)) in
     let back = step_gives v s (step_of w t 0) (same (step_of w t 0) ∙ step_has w t 0 (omega arith)) in
-    told_by_steps v w s t first.0 second.0 back.0 (above_ground v s on_g) (above_ground w t on_h) first.1 second.1 back.1
+    determined_by_steps v w s t first.0 second.0 back.0 (above_ground v s on_g) (above_ground w t on_h) first.1 second.1 back.1
     (first.2 ∙ step_none v s) second.2 (back.2 ∙ step_none w t)
   where
     above_ground : (way : Way) (s : Square) → is_line b way s ≡ true → 1 ≤ (step_of way s 3).1

@@ -32,7 +32,7 @@ pub other_other : (side : Side) → other (other side) ≡ side
 other_other White = refl
 other_other Black = refl
 
--- the test of two positions tells whether they are equal
+-- the test of two positions says whether they are equal
 pub same_side_Decides : (a b : Side) → Decides (same_side a b) (a ≡ b)
 same_side_Decides a b = (same_side_is a b, λ e. rw e (same_side_refl b))
 

@@ -60,8 +60,8 @@ fault_near bytes fault h = near (read_game bytes) (game_spends bytes) h
         (omega arith, omega arith)
 
 -- the first bytes decide, 120 or more
-pub same_front : (bytes : List ℕ) (n : ℕ) → 120 ≤ n → game_at (take n bytes) ≡ game_at bytes
-same_front bytes n h = elim (cases_lt n (length bytes)) [
+pub same_taken : (bytes : List ℕ) (n : ℕ) → 120 ≤ n → game_at (take n bytes) ≡ game_at bytes
+same_taken bytes n h = elim (cases_lt n (length bytes)) [
   | inr whole ↦ ap game_at (take_all n bytes whole)
   | inl long ↦
       sym (same_prefix (take n bytes) (drop n bytes) (omega (arith, length-take-le n bytes (omega arith)))) ∙ ap game_at (take-append-drop n bytes)

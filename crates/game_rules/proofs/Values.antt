@@ -171,9 +171,9 @@ wins_once p white black = once (value p) white black
     once Black white black = cc
     once Draw white black = cc
 
--- who wins tells the value
-pub value_told : (p : Position) (e : End) → value p ≡ e → same_end (value p) e ≡ true
-value_told p e h = rw h (same e)
+-- who wins determines the value
+pub value_known : (p : Position) (e : End) → value p ≡ e → same_end (value p) e ≡ true
+value_known p e h = rw h (same e)
   where
     same : (e : End) → same_end e e ≡ true
     same White = refl

@@ -3,7 +3,8 @@ use Rattle.std.specs.Prelude.{◌≡◌, ◌⊎◌, ℕ, ◌<◌, Bool, ◌&&◌
 use Rattle.std.specs.List.{list_any, flat_map}
 use Rattle.game_rules.specs.Board.{Board, Square, line_at, is_line, ways}
 use Rattle.game_rules.specs.Position.{Position, other, has_man}
-use Rattle.game_rules.specs.Squares.{same_square, squares_of_board, widest, StandsBefore}
+use Rattle.game_rules.specs.Squares.{same_square, squares_of_board, widest}
+use Rattle.game_rules.specs.Squares.{Precedes as SquarePrecedes}
 use Rattle.game_rules.specs.declared.Side.{Side}
 use Rattle.game_rules.specs.declared.Way.{Way}
 use Rattle.game_rules.specs.declared.Way.TheVariants.{H, V, U, D}
@@ -43,7 +44,7 @@ groups_of board = flat_map (groups_along board) ways
 
 -- one group stands before another in group order
 abbrev pub Precedes : Group → Group → Type 0
-Precedes g h = (rank g.1 < rank h.1) ⊎ ((g.1 ≡ h.1) × StandsBefore g.0 h.0)
+Precedes g h = (rank g.1 < rank h.1) ⊎ ((g.1 ≡ h.1) × SquarePrecedes g.0 h.0)
 
 -- no square of the group holds a man of the other side
 abbrev pub is_free_for : Side → Position → Group → Bool

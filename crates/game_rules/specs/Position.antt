@@ -1,5 +1,5 @@
 -- Positions and moves, by the rules of the game. A position is kept as the men of each column, read upwards, so that
--- no man can hang over an empty square. White's and Black's squares are what `has_man` tells.
+-- no man can hang over an empty square. White's and Black's squares are what `has_man` says.
 use Rattle.std.specs.Prelude.{ℕ, zero, suc, ◌+◌, ◌-◌, ◌%◌, ◌≤◌, Bool, true, false, not, ◌&&◌, ◌==◌, nat_lt, if◌then◌else◌, List, [], ◌∷◌, ◌++◌, map, length, replicate, sum_by, filter, Option, Some, None, is_none, slice_get, slice_set, slice_index_or, All}
 use Rattle.std.specs.List.{list_all, list_any}
 use Rattle.std.specs.Cmp.Lexicographic.{pointwise}

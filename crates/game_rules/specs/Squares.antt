@@ -21,8 +21,8 @@ unfoldable pub squares_of_board : Board → List Square
 squares_of_board board = flat_map (squares_in_column board.rows) (below board.cols)
 
 -- one square stands before another in square order
-abbrev pub StandsBefore : Square → Square → Type 0
-StandsBefore u v = (u.0 < v.0) ⊎ ((u.0 ≡ v.0) × (u.1 < v.1))
+abbrev pub Precedes : Square → Square → Type 0
+Precedes u v = (u.0 < v.0) ⊎ ((u.0 ≡ v.0) × (u.1 < v.1))
 
 -- no board has more columns or more rows
 abbrev pub widest : Board

@@ -45,7 +45,7 @@ abbrev pub read_as : {X : Type 0} → Option X → List ℕ → List ℕ → Res
 read_as (Some n) rest bytes = Ok (n, rest)
 read_as None rest bytes = stop BadSize (length bytes)
 
--- the longest run of digits at the front has to spell one
+-- the longest run of digits at the start has to spell one
 abbrev pub size_at : (List ℕ → Option ℕ) → List ℕ → Result (ℕ × List ℕ) Stop
 size_at spelled bytes = let run = take_while is_digit bytes in read_as (spelled run) (drop (length run) bytes) bytes
 

@@ -4,18 +4,18 @@ ghost use Rattle.std.specs.Prelude.{◌≡◌, ◌≢◌, ◌↔◌, ℕ, Bool, 
 ghost use Rattle.std.specs.List.{list_any, list_all};
 ghost use Rattle.game_rules.specs.Board.{Board, Square, is_board, on_board};
 ghost use Rattle.game_rules.specs.Position.{Position, board_of, has_man, man_at, has_four, IsStacked};
-ghost use Rattle.game_rules.specs.Squares.{has_square, squares_of_board, StandsBefore, widest, squares_where, IsSetOf, is_empty, is_playable};
+ghost use Rattle.game_rules.specs.Squares.{has_square, squares_of_board, Precedes as SquarePrecedes, widest, squares_where, IsSetOf, is_empty, is_playable};
 ghost use Rattle.game_rules.specs.Groups.{Group, squares_of, lies_on, has_group, groups_of, Precedes};
 ghost use Rattle.game_rules.specs.declared.Side.{Side};
 
 /// The squares of a board are exactly those on it, each once, in square order.
 pub fn squares_stand_in_square_order()
     ensures squares { (board : Board) (u : Square) → has_square (squares_of_board board) u ≡ on_board board u }
-    ensures order { (board : Board) → AllPairs StandsBefore (squares_of_board board) }
+    ensures order { (board : Board) → AllPairs SquarePrecedes (squares_of_board board) }
 {}
 
 /// A test that no square beyond the widest board passes has a set, and two sets with the same squares are one.
-pub fn a_set_is_told_by_its_squares()
+pub fn a_set_is_determined_by_its_squares()
     ensures some { (test : Square → Bool) → ((u : Square) → test u ≡ true → on_board widest u ≡ true) → IsSetOf test (squares_where test) }
     ensures one { (f g : Square → Bool) (us vs : List Square) → IsSetOf f us → IsSetOf g vs → ((u : Square) → f u ≡ g u) → us ≡ vs }
 {}
@@ -36,7 +36,7 @@ pub fn a_playable_square_is_empty_over_filled_ones()
 pub fn groups_are_the_lines_of_the_board()
     ensures lines { (board : Board) (g : Group) → has_group (groups_of board) g ≡ lies_on board g }
     ensures order { (board : Board) → AllPairs Precedes (groups_of board) }
-    ensures told { (board : Board) (g h : Group) → lies_on board g ≡ true → lies_on board h ≡ true
+    ensures determined { (board : Board) (g h : Group) → lies_on board g ≡ true → lies_on board h ≡ true
         → ((u : Square) → has_square (squares_of g) u ≡ has_square (squares_of h) u) → g ≡ h }
     ensures most { (board : Board) → is_board board ≡ true → length (groups_of board) ≤ 238 }
 {}

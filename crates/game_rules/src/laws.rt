@@ -18,12 +18,12 @@ pub fn sides_are_disjoint()
     ensures { (p : Position) (s : Square) → has_man p sides.White s ≡ true → has_man p sides.Black s ≡ true → ⊥ }
 {}
 
-/// A position is told by its board and the two sets of squares.
-pub fn squares_tell_the_position()
+/// A position is determined by its board and the two sets of squares.
+pub fn squares_determine_the_position()
     ensures { (p q : Position) → board_of p ≡ board_of q → ((side : Side) (s : Square) → has_man p side s ≡ has_man q side s) → p ≡ q }
 {}
 
-/// The test of two positions tells whether they are the same.
+/// The test of two positions says whether they are the same.
 pub fn same_position_is_equality()
     ensures { (p q : Position) → (same_position p q ≡ true) ↔ (p ≡ q) }
 {}

@@ -26,7 +26,7 @@ pub fn the_position_of_a_text_is_one_of_moves()
 pub fn a_long_text_is_no_game()
     ensures short { (bytes : List ℕ) (p : Position) → game_at bytes ≡ Ok p → length bytes ≤ 119 }
     ensures fault { (bytes : List ℕ) → 120 ≤ length bytes → (fault : InputFault) × (game_at bytes ≡ Err fault) × (fault.at < 120) }
-    ensures front { (bytes : List ℕ) (n : ℕ) → 120 ≤ n → game_at (take n bytes) ≡ game_at bytes }
+    ensures prefix { (bytes : List ℕ) (n : ℕ) → 120 ≤ n → game_at (take n bytes) ≡ game_at bytes }
     ensures behind { (bytes more : List ℕ) → 120 ≤ length bytes → game_at (bytes ++ more) ≡ game_at bytes }
 {}
 

@@ -1,4 +1,4 @@
-pub mod Fronts
+pub mod Prefixes
 pub mod LineLemmas
 pub mod Windows
 pub mod FirstByte

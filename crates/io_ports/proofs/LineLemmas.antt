@@ -18,13 +18,13 @@ fails false never = refl
 pub line_len-le : (xs : List ℕ) → line_len xs ≤ length xs
 line_len-le xs = prefix_len-le-length (λ b. not (eqb b 10)) xs
 
--- the front has none, so the line ends in what follows
+-- the prefix has none, so the line ends in what follows
 pub line_len-append_none : (xs ys : List ℕ) → line_len xs ≡ length xs → line_len (xs ++ ys) ≡ length xs + line_len ys
 line_len-append_none xs ys none =
     prefix_len-append (λ b. not (eqb b 10)) xs ys
     ∙ ap (λ t. cond t (length xs + line_len ys) (line_len xs)) (eq-eqb (line_len xs) (length xs) none)
 
--- the front has one
+-- the prefix has one
 pub line_len-append_found : (xs ys : List ℕ) → line_len xs < length xs → line_len (xs ++ ys) ≡ line_len xs
 line_len-append_found xs ys found =
     let other : eqb (line_len xs) (length xs) ≡ false = fails _ (λ same. absurd (omega (arith, eqb-true (line_len xs) (length xs) same))) in
@@ -67,7 +67,7 @@ next_line-unfed (b ∷ bs) short all some =
 long_is_cut : (bytes : List ℕ) → 8192 < line_len bytes → IsCut bytes Long (take 8192 bytes) false bytes
 long_is_cut bytes long = record {
   stays = refl;
-  front = refl;
+  prefix = refl;
   long = omega (arith, line_len-le bytes);
   no_feed = no_feed bytes 8193 (omega arith);
 }
@@ -118,10 +118,10 @@ each_text_is_cut (b ∷ bs) =
           ]
     ]
 
--- ---- what a reader gives, where it holds the front of the bytes that are not given
+-- ---- what a reader gives, where it holds the prefix of the bytes that are not given
 
-line_len-front : (xs ys : List ℕ) → line_len xs ≤ line_len (xs ++ ys)
-line_len-front xs ys =
+line_len-prefix : (xs ys : List ℕ) → line_len xs ≤ line_len (xs ++ ys)
+line_len-prefix xs ys =
     elim (cases_lt (line_len xs) (length xs)) [
       | inl found ↦ omega (arith, line_len-append_found xs ys found)
       | inr all ↦
@@ -136,10 +136,10 @@ Gives-long (Some x) None held kept long = absurd kept
 Gives-long (Some x) (Some y) held kept long =
     let bytes = held ++ y in
     let P : List ℕ → Type 0 = λ l. record { got = Long; text = take 8192 held; fed = false; rest = bytes } ≡ next_line l in
-    let front : take 8192 bytes ≡ take 8192 held = take-append-le 8192 held y (omega (arith, line_len-le held)) in
+    let prefix : take 8192 bytes ≡ take 8192 held = take-append-le 8192 held y (omega (arith, line_len-le held)) in
     subst P kept
-    (ap (λ t. record { got = Long; text = t; fed = false; rest = bytes }) (sym front)
-    ∙ sym (next_line-long bytes (omega (arith, line_len-front held y))))
+    (ap (λ t. record { got = Long; text = t; fed = false; rest = bytes }) (sym prefix)
+    ∙ sym (next_line-long bytes (omega (arith, line_len-prefix held y))))
 
 Gives-fed : (a b : Option (List ℕ)) (held : List ℕ) (n : ℕ) → Keeps a (prepend_known held b) → n ≡ line_len held → n ≤ 8192 → n < length held
     → Gives a (prepend_known (drop (n + 1) held) b) Line (take n held) true
@@ -148,11 +148,11 @@ Gives-fed (Some x) None held n kept is short found = absurd kept
 Gives-fed (Some x) (Some y) held n kept is short found =
     let bytes = held ++ y in
     let P : List ℕ → Type 0 = λ l. record { got = Line; text = take n held; fed = true; rest = drop (n + 1) held ++ y } ≡ next_line l in
-    let front : take n bytes ≡ take n held = take-append-le n held y (omega arith) in
+    let prefix : take n bytes ≡ take n held = take-append-le n held y (omega arith) in
     let after : drop (n + 1) bytes ≡ drop (n + 1) held ++ y = drop-append-le (n + 1) held y (omega arith) in
     let ends : n ≡ line_len bytes = is ∙ sym (line_len-append_found held y (omega (arith, is))) in
     subst P kept
-    (ap (λ t. record { got = Line; text = t; fed = true; rest = drop (n + 1) held ++ y }) (sym front)
+    (ap (λ t. record { got = Line; text = t; fed = true; rest = drop (n + 1) held ++ y }) (sym prefix)
     ∙ ap (λ r. record { got = Line; text = take n bytes; fed = true; rest = r }) (sym after)
     ∙ sym (next_line-fed_at bytes n ends short (omega (arith, length-append held y))))
 
@@ -162,11 +162,11 @@ Gives-unfed None b held n kept is short all some end = tt
 Gives-unfed (Some x) None held n kept is short all some end = absurd kept
 Gives-unfed (Some x) (Some y) held n kept is short all some end =
     let P : List ℕ → Type 0 = λ l. record { got = Line; text = take n held; fed = false; rest = drop n held ++ y } ≡ next_line l in
-    let front : take n held ≡ held = take_all n held (omega (arith, all)) in
+    let prefix : take n held ≡ held = take_all n held (omega (arith, all)) in
     let after : drop n held ++ y ≡ [] = ap (λ l. l ++ y) (drop_all n held (omega (arith, all))) ∙ end in
     let whole : held ≡ x = sym (append-nil held) ∙ ap (λ l. held ++ l) (sym end) ∙ kept in
     subst P whole
-    (ap (λ t. record { got = Line; text = t; fed = false; rest = drop n held ++ y }) front
+    (ap (λ t. record { got = Line; text = t; fed = false; rest = drop n held ++ y }) prefix
     ∙ ap (λ r. record { got = Line; text = held; fed = false; rest = r }) after
     ∙ sym (next_line-unfed held (omega (arith, is)) (sym is ∙ all) some))
 

@@ -1,4 +1,4 @@
--- The bytes of a buffer between two places, after a read past them, a step of their start, or a move to the front.
+-- The bytes of a buffer between two places, after a read past them, a step of their start, or a move to the start.
 use Rattle.std.proofs.Common.{◌≡◌, ℕ, ◌+◌, ◌-◌, ◌≤◌, List, ◌++◌, length, take, drop, slice_range, Result, OnErr, Ok, Err, Option, Some, None, sym, ap, ◌∙◌, arith, append_assoc}
 use Rattle.std.proofs.lemmas.List.{append-nil, take_at, take-append-le, drop-append-le, drop-take, drop-drop, length-take-le, length-drop}
 use Rattle.std.proofs.Math.Seq.{take-append-add}
@@ -33,7 +33,7 @@ skipped xs start end count inside =
     sym (ap (λ j. drop count (take j (drop start xs))) parts ∙ drop-take count (end - (start + count)) (drop start xs)
     ∙ ap (take (end - (start + count))) (drop-drop count start xs))
 
--- all of it went to the front
+-- all of it went to the start
 pub moved : (xs : List ℕ) (start end : ℕ) → start ≤ end → end ≤ length xs
     → slice_range (copy_within xs start end 0) 0 (end - start) ≡ slice_range xs start end
 moved xs start end ordered within =

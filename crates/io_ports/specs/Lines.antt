@@ -40,7 +40,7 @@ pub record IsLine (bytes text : List ℕ) (fed : Bool) (rest : List ℕ) : Type 
 
 pub record IsLong (bytes text rest : List ℕ) : Type 0 where
   pub stays : rest ≡ bytes
-  pub front : text ≡ take 8192 bytes
+  pub prefix : text ≡ take 8192 bytes
   pub long : 8192 < length bytes
   pub no_feed : All (λ b. b ≢ 10) (take 8193 bytes)
 

@@ -1,5 +1,5 @@
 //! The bytes that a reader of lines took from its source and hasn't given up, in a buffer of fixed size. They are moved
-//! to the front of it once half of it was given up, so no more bytes are ever moved than were given up before.
+//! to its start once half of it was given up, so no more bytes are ever moved than were given up before.
 ghost use Rattle.std.specs.Prelude.{◌≡◌, [], ◌+◌, ◌<◌, ◌≤◌, length, take, drop, IfOk, OnErr};
 ghost use Rattle.std.specs.Io.KnownBytes.{Keeps, IsAtEnd, prepend_known};
 ghost use Rattle.device_rules.specs.Devices.{HasCause};
@@ -65,7 +65,7 @@ impl Ahead {
     /// Takes more bytes from the source behind those held, and answers how many: none at the end of the input.
     pub(crate) fn fill<S: Source>(&mut self, source: &mut S) -> Result<usize, Failed>
         requires { length self.old ≤ LONGEST }
-        ensures front { take (length self.old) self.new ≡ self.old }
+        ensures prefix { take (length self.old) self.new ≡ self.old }
         ensures count { IfOk result (λ n. length self.new ≡ length self.old + n) }
         ensures bytes { Keeps (prepend_known self.old (S.left source.old))
             (prepend_known self.new (S.left source.new)) }

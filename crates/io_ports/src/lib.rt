@@ -153,10 +153,10 @@ mod tests {
     #[test]
     fn a_line_has_at_most_8192_bytes(rt: HostRuntime) -> Result<(), Fail> {
         let longest = vec![in rt.alloc(); b'a'; 8192]?;
-        let front = vec![in rt.alloc(); b'b'; 8192]?;
+        let prefix = vec![in rt.alloc(); b'b'; 8192]?;
         let mut text = longest.clone()?;
         text.push(b'\n')?;
-        text.extend_from_slice(&front)?;
+        text.extend_from_slice(&prefix)?;
         text.push(b'b')?;
         let mut source = MemSource::new(rt.alloc(), &text, 1000, &[])?;
         let mut lines = Lines::new();
@@ -165,7 +165,7 @@ mod tests {
         assert!(rt; lines.fed());
         for _ in 0..2 {
             assert_eq!(rt; lines.next(&mut source), LineGot::Long);
-            assert_eq!(rt; lines.text(), front.as_slice());
+            assert_eq!(rt; lines.text(), prefix.as_slice());
         }
         Ok(())
     }

@@ -16,7 +16,7 @@ pub trait Source {
     /// How often it has failed.
     ghost faults: { Self → ℕ };
 
-    /// Puts the next bytes into the front of the buffer, and answers how many: none only where no byte is left, which
+    /// Puts the next bytes at the start of the buffer, and answers how many: none only where no byte is left, which
     /// is the end of the input. `Failed` is answered only where the count of faults rose, and no byte is taken then.
     fn read(&mut self, buf: &mut [u8]) -> Result<usize, Failed>
         requires { 0 < length buf.old }
@@ -33,7 +33,7 @@ pub trait Sink {
     /// How often it has failed.
     ghost faults: { Self → ℕ };
 
-    /// Appends a front of the piece, and answers its length, which is at least one. `Failed` is answered only where the
+    /// Appends a prefix of the piece, and answers its length, which is at least one. `Failed` is answered only where the
     /// count of faults rose, and nothing is appended then.
     fn write(&mut self, piece: &[u8]) -> Result<usize, Failed>
         requires { 0 < length piece.now }

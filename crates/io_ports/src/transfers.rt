@@ -1,15 +1,15 @@
 //! The loops over a source or a sink that every command shares: a whole text out, and all of a short input in. What an
-//! error leaves is said too, since a caller has to tell how much of its output stands.
+//! error leaves is said too, since a caller has to say how much of its output stands.
 ghost use Rattle.std.specs.Prelude.{◌≡◌, [], is_ok, IsOk, IfOk, ◌≤◌, length};
-ghost use Rattle.device_rules.specs.Devices.{HasCause, Stands};
+ghost use Rattle.device_rules.specs.Devices.{HasCause, AppendsPrefix};
 ghost use Rattle.io_ports.specs.Transfers.{ReadsAll};
 
 use crate::{Failed, Sink, Source};
 
-/// Writes the whole piece. On `Failed`, which comes only where the count of faults rose, a front of the piece was
+/// Writes the whole piece. On `Failed`, which comes only where the count of faults rose, a prefix of the piece was
 /// written. An empty piece makes no call.
 pub fn put_all<O: Sink>(out: &mut O, piece: &[u8]) -> Result<(), Failed>
-    ensures bytes { Stands (is_ok result) (O.written out.old) (O.written out.new) piece.now }
+    ensures bytes { AppendsPrefix (is_ok result) (O.written out.old) (O.written out.new) piece.now }
     ensures cause { HasCause (O.faults out.old) (O.faults out.new) result }
     ensures none { piece.now ≡ [] → IsOk result × (out.new ≡ out.old) }
 {

@@ -9,7 +9,7 @@ use Rattle.game_rules.proofs.Squares.{set_where, set_same, where_same}
 use Rattle.game_rules.proofs.Groups.{anchor_on, rank_is, same_group_is, has_group_where, group_where_on, groups_where_same, group_set_where}
 use Rattle.game_rules.specs.declared.Way.{Way}
 use Rattle.game_rules.specs.declared.Way.TheVariants.{H, V, U, D}
-use Rattle.open_groups.specs.AnchorFields.{anchors_along, is_anchored, groups_anchored, anchors_of, IsTold}
+use Rattle.open_groups.specs.AnchorFields.{anchors_along, is_anchored, groups_anchored, anchors_of, IsDetermined}
 use Rattle.open_groups.specs.declared.group_set.GroupSet.TheInside.{Inside}
 
 four : {X : Type 0} (d : X) (xs : List X) → length xs ≡ 4 → xs ≡ get_or xs 0 d ∷ get_or xs 1 d ∷ get_or xs 2 d ∷ get_or xs 3 d ∷ []
@@ -30,17 +30,17 @@ module _ (anchors : List (List Square)) (size : length anchors ≡ 4) (test : Gr
   kept : (way : Way) → squares_where (λ s. has_group (groups_anchored anchors) (s, way)) ≡ anchors_along anchors way
   kept way = where_same (λ s. has_group (groups_anchored anchors) (s, way)) (λ s. test (s, way)) (λ s on. anchored_set.has (s, way)) ∙ sym (each way).in_order
 
-  pub told_anchors : anchors_of (groups_anchored anchors) ≡ anchors
+  pub determined_anchors : anchors_of (groups_anchored anchors) ≡ anchors
   unfolding anchors_of
-  told_anchors = rw (kept H, kept V, kept U, kept D) (sym (four [] anchors size))
+  determined_anchors = rw (kept H, kept V, kept U, kept D) (sym (four [] anchors size))
 
-pub told_from : (a : Inside) (size : length a.anchors ≡ 4) (test : Group → Bool) → ((g : Group) → test g ≡ true → lies_on widest g ≡ true)
-    → ((way : Way) → IsSetOf (λ s. test (s, way)) (anchors_along a.anchors way)) → IsTold a
-told_from a size test within each = ap (λ anchors. record a { anchors = anchors }) (told_anchors a.anchors size test within each)
+pub determined_from : (a : Inside) (size : length a.anchors ≡ 4) (test : Group → Bool) → ((g : Group) → test g ≡ true → lies_on widest g ≡ true)
+    → ((way : Way) → IsSetOf (λ s. test (s, way)) (anchors_along a.anchors way)) → IsDetermined a
+determined_from a size test within each = ap (λ anchors. record a { anchors = anchors }) (determined_anchors a.anchors size test within each)
 
-pub size_told : (a : Inside) → IsTold a → length a.anchors ≡ 4
+pub size_determined : (a : Inside) → IsDetermined a → length a.anchors ≡ 4
 unfolding anchors_of
-size_told a told = ap (λ (b : Inside). length b.anchors) (sym told)
+size_determined a told = ap (λ (b : Inside). length b.anchors) (sym told)
 
 pub each_empty : (m : List Square) → IsSetOf (λ _. false) m → (way : Way) → IsSetOf (λ _. false) (anchors_along (m ∷ m ∷ m ∷ m ∷ []) way)
 each_empty m none H = none
@@ -56,7 +56,7 @@ pub has_anchored : (anchors : List (List Square)) (g : Group) → lies_on widest
 unfolding groups_anchored
 has_anchored anchors g on = has_group_where (is_anchored anchors) g on
 
--- what the groups tell of the anchors
+-- what the groups say of the anchors
 old_along : (anchors : List (List Square)) → anchors_of (groups_anchored anchors) ≡ anchors → (way : Way)
     → IsSetOf (λ s. has_group (groups_anchored anchors) (s, way)) (anchors_along anchors way)
 unfolding anchors_of

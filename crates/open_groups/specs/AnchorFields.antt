@@ -1,4 +1,4 @@
--- The fields of a set of groups, and that its groups tell them.
+-- The fields of a set of groups, and that its groups determine them.
 use Rattle.std.specs.Prelude.{◌≡◌, Bool, List, [], map, slice_index_or}
 use Rattle.game_rules.specs.Board.{Square, ways}
 use Rattle.game_rules.specs.Squares.{has_square, squares_where}
@@ -22,5 +22,5 @@ unfoldable pub anchors_of : List Group → List (List Square)
 anchors_of gs = map (λ way. squares_where (λ s. has_group gs (s, way))) ways
 
 -- the groups give the fields back
-abbrev pub IsTold : Inside → Type 0
-IsTold a = record { anchors = anchors_of (groups_anchored a.anchors) } ≡ a
+abbrev pub IsDetermined : Inside → Type 0
+IsDetermined a = record { anchors = anchors_of (groups_anchored a.anchors) } ≡ a

@@ -26,11 +26,11 @@ impl Model for GroupSet {
 
     ghost Value = { List ((ℕ × ℕ) × Way) };
 
-    ghost use Rattle.open_groups.specs.AnchorFields.{groups_anchored, anchors_of, IsTold};
+    ghost use Rattle.open_groups.specs.AnchorFields.{groups_anchored, anchors_of, IsDetermined};
 
     ghost view = { λ set. groups_anchored set.anchors };
 
-    ghost invariant = { IsTold };
+    ghost invariant = { IsDetermined };
 
     ghost inverse = { λ gs. record { anchors = anchors_of gs } };
 

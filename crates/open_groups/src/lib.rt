@@ -1,4 +1,4 @@
-//! Groups: the lines of four squares on a board. A group is told by its anchor and its direction, and a set of groups
+//! Groups: the lines of four squares on a board. A group is determined by its anchor and its direction, and a set of groups
 //! by the anchors that it has in each direction. Each contract cites the groups of `game_rules`.
 #![tactic(auto)]
 

@@ -1,5 +1,5 @@
 -- Each of the nine rules keeps the laws.
-use Rattle.plan_rules.specs.Rules.{Written, claimeven, baseinverse, lowinverse, highinverse, baseclaim, vertical, aftereven, before, specialbefore}
+use Rattle.plan_rules.specs.Rules.{RuleInstance, claimeven, baseinverse, lowinverse, highinverse, baseclaim, vertical, aftereven, before, specialbefore}
 use Rattle.plan_rules.proofs.Lawful.{Lawful}
 use Rattle.plan_rules.proofs.Claimeven.{claimeven_laws}
 use Rattle.plan_rules.proofs.Baseinverse.{baseinverse_laws}
@@ -11,7 +11,7 @@ use Rattle.plan_rules.proofs.Aftereven.{aftereven_laws}
 use Rattle.plan_rules.proofs.Before.{before_laws}
 use Rattle.plan_rules.proofs.Specialbefore.{specialbefore_laws}
 
-pub lawful : (w : Written) → Lawful w
+pub lawful : (w : RuleInstance) → Lawful w
 lawful (claimeven x) = claimeven_laws x
 lawful (baseinverse s t) = baseinverse_laws s t
 lawful (lowinverse x x_top y y_top) = lowinverse_laws x x_top y y_top

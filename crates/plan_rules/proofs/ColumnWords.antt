@@ -29,8 +29,8 @@ get_past (x ∷ men) zero h = absurd (omega arith)
 get_past (x ∷ men) (suc i) h = get_past men i (omega arith)
 
 -- how many men there are where just the first so many places have one
-length_told : (men : List Side) (size n : ℕ) → length men ≤ size → n ≤ size → ((i : ℕ) → i < n → (m : Side) × (slice_get men i ≡ Some m)) → ((i : ℕ) → n ≤ i → i < size → slice_get men i ≡ None) → length men ≡ n
-length_told men size n short low some none = omega (arith, at_least (cases_eq n 0), at_most (cases_eq n size))
+length_known : (men : List Side) (size n : ℕ) → length men ≤ size → n ≤ size → ((i : ℕ) → i < n → (m : Side) × (slice_get men i ≡ Some m)) → ((i : ℕ) → n ≤ i → i < size → slice_get men i ≡ None) → length men ≡ n
+length_known men size n short low some none = omega (arith, at_least (cases_eq n 0), at_most (cases_eq n size))
   where
     at_least : (n ≡ 0) ⊎ (n ≢ 0) → n ≤ length men
     at_least (inl nothing) = omega arith
@@ -67,13 +67,13 @@ pub reads_paired : (men : List Side) (k : ℕ) → length men ≡ 2 * k → ((i 
 reads_paired [] k size at = refl
 reads_paired (a ∷ []) k size at = absurd (omega arith)
 reads_paired (a ∷ b ∷ men) zero size at = absurd (omega arith)
-reads_paired (a ∷ b ∷ men) (suc k) size at = told a b (at 0 (omega arith)) (at 1 (omega arith))
+reads_paired (a ∷ b ∷ men) (suc k) size at = by_case a b (at 0 (omega arith)) (at 1 (omega arith))
     (reads_paired men k (omega arith) (λ i low. at (suc (suc i)) (omega arith) ∙ ap (λ m. Some m) (pair_again i)))
   where
-    told : (a b : Side) → Some a ≡ Some White → Some b ≡ Some Black → is_paired men ≡ true → is_paired (a ∷ b ∷ men) ≡ true
-    told White Black first second rest = rest
-    told White White first second rest = absurd (cc second)
-    told Black b first second rest = absurd (cc first)
+    by_case : (a b : Side) → Some a ≡ Some White → Some b ≡ Some Black → is_paired men ≡ true → is_paired (a ∷ b ∷ men) ≡ true
+    by_case White Black first second rest = rest
+    by_case White White first second rest = absurd (cc second)
+    by_case Black b first second rest = absurd (cc first)
 
 pub topped_reads : (men : List Side) → is_topped men ≡ true → (i : ℕ) → i < length men → slice_get men i ≡ Some (pair_man i)
 topped_reads [] h i low = absurd (cc h)
@@ -92,13 +92,13 @@ reads_topped (a ∷ []) odd at = one a (at 0 (omega arith))
     one : (a : Side) → Some a ≡ Some White → is_topped (a ∷ []) ≡ true
     one White h = refl
     one Black h = absurd (cc h)
-reads_topped (a ∷ b ∷ men) odd at = told a b (at 0 (omega arith)) (at 1 (omega arith))
+reads_topped (a ∷ b ∷ men) odd at = by_case a b (at 0 (omega arith)) (at 1 (omega arith))
     (reads_topped men (omega arith) (λ i low. at (suc (suc i)) (omega arith) ∙ ap (λ m. Some m) (pair_again i)))
   where
-    told : (a b : Side) → Some a ≡ Some White → Some b ≡ Some Black → is_topped men ≡ true → is_topped (a ∷ b ∷ men) ≡ true
-    told White Black first second rest = rest
-    told White White first second rest = absurd (cc second)
-    told Black b first second rest = absurd (cc first)
+    by_case : (a b : Side) → Some a ≡ Some White → Some b ≡ Some Black → is_topped men ≡ true → is_topped (a ∷ b ∷ men) ≡ true
+    by_case White Black first second rest = rest
+    by_case White White first second rest = absurd (cc second)
+    by_case Black b first second rest = absurd (cc first)
 
 -- pairs, a man of Black's, and turned pairs
 pub record Shifted (men : List Side) (pairs turned : ℕ) : Type 0 where
@@ -147,16 +147,16 @@ shifted_reads (Black ∷ men) h = let rest = paired_reads men h in (
 
 pub reads_shifted : (men : List Side) (pairs turned : ℕ) → Shifted men pairs turned → is_shifted men ≡ true
 reads_shifted [] pairs turned h = absurd (omega (arith, h.size))
-reads_shifted (a ∷ men) zero turned h = told a h.black (reads_paired men turned (omega (arith, h.size)) (λ i low. ap (slice_get (a ∷ men)) (place i) ∙ h.shifted i low))
+reads_shifted (a ∷ men) zero turned h = by_case a h.black (reads_paired men turned (omega (arith, h.size)) (λ i low. ap (slice_get (a ∷ men)) (place i) ∙ h.shifted i low))
   where
     place : (i : ℕ) → suc i ≡ 2 * 0 + 1 + i
     place i = omega arith
 
-    told : (a : Side) → slice_get (a ∷ men) (2 * 0) ≡ Some Black → is_paired men ≡ true → is_shifted (a ∷ men) ≡ true
-    told Black black rest = rest
-    told White black rest = absurd (cc black)
+    by_case : (a : Side) → slice_get (a ∷ men) (2 * 0) ≡ Some Black → is_paired men ≡ true → is_shifted (a ∷ men) ≡ true
+    by_case Black black rest = rest
+    by_case White black rest = absurd (cc black)
 reads_shifted (a ∷ []) (suc pairs) turned h = absurd (omega (arith, h.size))
-reads_shifted (a ∷ b ∷ men) (suc pairs) turned h = told a b (h.filled 0 (omega arith)) (h.filled 1 (omega arith)) (reads_shifted men pairs turned (record {
+reads_shifted (a ∷ b ∷ men) (suc pairs) turned h = by_case a b (h.filled 0 (omega arith)) (h.filled 1 (omega arith)) (reads_shifted men pairs turned (record {
   size = omega (arith, h.size);
   filled = λ i low. h.filled (suc (suc i)) (omega arith) ∙ ap (λ m. Some m) (pair_again i);
   black = ap (slice_get (a ∷ b ∷ men)) two ∙ h.black;
@@ -169,10 +169,10 @@ reads_shifted (a ∷ b ∷ men) (suc pairs) turned h = told a b (h.filled 0 (ome
     past : (i : ℕ) → suc (suc (2 * pairs + 1 + i)) ≡ 2 * suc pairs + 1 + i
     past i = omega arith
 
-    told : (a b : Side) → Some a ≡ Some White → Some b ≡ Some Black → is_shifted men ≡ true → is_shifted (a ∷ b ∷ men) ≡ true
-    told White Black first second rest = rest
-    told White White first second rest = absurd (cc second)
-    told Black b first second rest = absurd (cc first)
+    by_case : (a b : Side) → Some a ≡ Some White → Some b ≡ Some Black → is_shifted men ≡ true → is_shifted (a ∷ b ∷ men) ≡ true
+    by_case White Black first second rest = rest
+    by_case White White first second rest = absurd (cc second)
+    by_case Black b first second rest = absurd (cc first)
 
 -- ---- squares
 
@@ -201,7 +201,7 @@ module _ (p : Position) (bottom : Square) (size : ℕ) (low : 1 ≤ bottom.1) wh
       from h =
           let upto = h.within in
           reads_paired (men_on p (column_up bottom size)) h.pairs
-          (length_told (men_on p (column_up bottom size)) size (2 * h.pairs) (length_within p size bottom) h.within
+          (length_known (men_on p (column_up bottom size)) size (2 * h.pairs) (length_within p size bottom) h.within
           (λ i less. (pair_man i, at i (omega arith) ∙ h.filled i less)) (λ i more within. at i within ∙ h.free i more within))
           (λ i less. at i (omega arith) ∙ h.filled i less)
 
@@ -219,7 +219,7 @@ module _ (p : Position) (bottom : Square) (size : ℕ) (low : 1 ≤ bottom.1) wh
 
       from : IsCappedColumn p bottom size → is_capped size (men_on p (column_up bottom size)) ≡ true
       from h =
-          let full : length (men_on p (column_up bottom size)) ≡ size = length_told (men_on p (column_up bottom size)) size size (length_within p size bottom) (omega arith)
+          let full : length (men_on p (column_up bottom size)) ≡ size = length_known (men_on p (column_up bottom size)) size size (length_within p size bottom) (omega arith)
           (λ i less. (pair_man i, each i less)) (λ i more within. absurd (omega arith)) in
           and_from _ _ (eq-eqb (length (men_on p (column_up bottom size))) size full)
           (reads_topped (men_on p (column_up bottom size)) (ap (λ n. n % 2) full ∙ odd) (λ i less. each i (omega (arith, full))))
@@ -234,10 +234,10 @@ module _ (p : Position) (bottom : Square) (size : ℕ) (low : 1 ≤ bottom.1) wh
   shifted_column = (to, from)
     where
       to : is_shifted (men_on p (column_up bottom size)) ≡ true → IsShiftedColumn p bottom size
-      to h = told (shifted_reads (men_on p (column_up bottom size)) h) (length_within p size bottom)
+      to h = by_case (shifted_reads (men_on p (column_up bottom size)) h) (length_within p size bottom)
         where
-          told : (pairs : ℕ) × (turned : ℕ) × Shifted (men_on p (column_up bottom size)) pairs turned → length (men_on p (column_up bottom size)) ≤ size → IsShiftedColumn p bottom size
-          told (pairs, turned, reads) short = record {
+          by_case : (pairs : ℕ) × (turned : ℕ) × Shifted (men_on p (column_up bottom size)) pairs turned → length (men_on p (column_up bottom size)) ≤ size → IsShiftedColumn p bottom size
+          by_case (pairs, turned, reads) short = record {
             pairs = pairs;
             turned = turned;
             within = omega (arith, reads.size);
@@ -251,7 +251,7 @@ module _ (p : Position) (bottom : Square) (size : ℕ) (low : 1 ≤ bottom.1) wh
       from h =
           let upto = h.within in
           reads_shifted (men_on p (column_up bottom size)) h.pairs h.turned (record {
-            size = length_told (men_on p (column_up bottom size)) size (2 * h.pairs + 1 + 2 * h.turned) (length_within p size bottom) h.within each
+            size = length_known (men_on p (column_up bottom size)) size (2 * h.pairs + 1 + 2 * h.turned) (length_within p size bottom) h.within each
                 (λ i more within. at i within ∙ h.free i more within);
             filled = λ i less. at i (omega arith) ∙ h.filled i less;
             black = at (2 * h.pairs) (omega arith) ∙ h.black;

@@ -7,9 +7,9 @@ use Rattle.game_rules.specs.Board.{Square}
 use Rattle.game_rules.specs.Position.{Position, man_at}
 use Rattle.game_rules.specs.declared.Side.{Side}
 use Rattle.plan_rules.specs.Squares.{is_even, span, put_first, word_at, men_on}
-use Rattle.plan_rules.specs.Rules.{Written, claimeven, baseinverse, lowinverse, highinverse, baseclaim, vertical, aftereven, before, specialbefore, zone_of}
+use Rattle.plan_rules.specs.Rules.{RuleInstance, claimeven, baseinverse, lowinverse, highinverse, baseclaim, vertical, aftereven, before, specialbefore, zone_of}
 use Rattle.plan_rules.specs.Calm.{Word, is_one_of, even_words, inverse_words, claim_words, high_words, is_calm}
-use Rattle.plan_rules.proofs.Words.{told_of}
+use Rattle.plan_rules.proofs.Words.{one_of_all}
 use Rattle.plan_rules.proofs.Columns.{men_on_append}
 use Rattle.plan_rules.proofs.Pairs.{paired_even, shifted_odd, topped_length}
 use Rattle.plan_rules.proofs.Lowinverse.{CalmLow, both_paired, left_capped, right_capped, calm_gives}
@@ -25,14 +25,14 @@ men_of_word q (u ∷ us) = ap (λ men. put_first (man_at q u) men) (men_of_word 
 
 -- each word of the list has an even number of men
 word_even : (q : Position) (words : List Word) (us : List Square) → list_all (λ word. is_even (length (men_of word))) words ≡ true → is_one_of words (word_at q us) ≡ true → is_even (length (men_on q us)) ≡ true
-word_even q words us all calm = ap (λ men. is_even (length men)) (sym (men_of_word q us)) ∙ told_of (λ word. is_even (length (men_of word))) words (word_at q us) calm all
+word_even q words us all calm = ap (λ men. is_even (length men)) (sym (men_of_word q us)) ∙ one_of_all (λ word. is_even (length (men_of word))) words (word_at q us) calm all
 
 low_even : (n m : ℕ) (us vs : List Side) → CalmLow n m us vs → (length us + length vs) % 2 ≡ 0
 low_even n m us vs (both_paired left right) = omega (arith, paired_even us left, paired_even vs right)
 low_even n m us vs (left_capped size topped shifted) = omega (arith, topped_length us topped, shifted_odd vs shifted)
 low_even n m us vs (right_capped shifted size topped) = omega (arith, topped_length vs topped, shifted_odd us shifted)
 
-pub calm_even : (w : Written) (q : Position) → is_calm w q ≡ true → is_even (length (men_on q (zone_of w))) ≡ true
+pub calm_even : (w : RuleInstance) (q : Position) → is_calm w q ≡ true → is_even (length (men_on q (zone_of w))) ≡ true
 calm_even (claimeven x) q calm = word_even q even_words (zone_of (claimeven x)) refl calm
 calm_even (baseinverse s t) q calm = word_even q inverse_words (zone_of (baseinverse s t)) refl calm
 calm_even (lowinverse x x_top y y_top) q calm =

@@ -12,7 +12,7 @@ use Rattle.game_rules.proofs.Ends.{on_board_parts}
 use Rattle.game_rules.proofs.Lists.{Among}
 use Rattle.game_rules.proofs.Squares.{has_gives, has_from}
 use Rattle.plan_rules.specs.Squares.{above, under, column_up, span, men_on}
-use Rattle.plan_rules.specs.Rules.{Written, claimeven, baseinverse, lowinverse, highinverse, baseclaim, vertical, aftereven, before, specialbefore, zone_of, is_standing, has_shape, is_shaped, is_grounded, fits_besides, fits, rests_on, stands_over, together}
+use Rattle.plan_rules.specs.Rules.{RuleInstance, claimeven, baseinverse, lowinverse, highinverse, baseclaim, vertical, aftereven, before, specialbefore, zone_of, owns_no_zone, has_shape, is_shaped, is_grounded, fits_besides, fits, rests_on, stands_over, together}
 use Rattle.plan_rules.specs.Calm.{is_one_of, inverse_words, is_calm}
 use Rattle.plan_rules.specs.Laws.{IsFounded}
 use Rattle.plan_rules.specs.Plan.{IsMember, SomeMember, IsPlan, bottoms_of, HasFloors}
@@ -21,16 +21,16 @@ use Rattle.plan_rules.proofs.Turns.{playable_parts, playable_empty, playable_on_
 use Rattle.plan_rules.proofs.Columns.{none_on, men_on_append}
 use Rattle.plan_rules.proofs.Table.{RestsOn, together_sym, floor_owner}
 
-pub fits_shape : (w : Written) (p : Position) → fits w p ≡ true → has_shape w (board_of p) ≡ true
+pub fits_shape : (w : RuleInstance) (p : Position) → fits w p ≡ true → has_shape w (board_of p) ≡ true
 fits_shape w p h = (and_parts (list_all (on_board (board_of p)) (zone_of w)) (has_shape w (board_of p)) (and_parts (is_shaped w (board_of p)) _ (and_parts _ (fits_besides w p) h).0).0).1
 
-pub fits_on_board : (w : Written) (p : Position) → fits w p ≡ true → list_all (on_board (board_of p)) (zone_of w) ≡ true
+pub fits_on_board : (w : RuleInstance) (p : Position) → fits w p ≡ true → list_all (on_board (board_of p)) (zone_of w) ≡ true
 fits_on_board w p h = (and_parts (list_all (on_board (board_of p)) (zone_of w)) (has_shape w (board_of p)) (and_parts (is_shaped w (board_of p)) _ (and_parts _ (fits_besides w p) h).0).0).0
 
-pub fits_empty : (w : Written) (p : Position) → fits w p ≡ true → list_all (is_empty p) (zone_of w) ≡ true
+pub fits_empty : (w : RuleInstance) (p : Position) → fits w p ≡ true → list_all (is_empty p) (zone_of w) ≡ true
 fits_empty w p h = (and_parts (is_shaped w (board_of p)) (list_all (is_empty p) (zone_of w)) (and_parts _ (fits_besides w p) h).0).1
 
-pub fits_more : (w : Written) (p : Position) → fits w p ≡ true → fits_besides w p ≡ true
+pub fits_more : (w : RuleInstance) (p : Position) → fits w p ≡ true → fits_besides w p ≡ true
 fits_more w p h = (and_parts _ (fits_besides w p) h).1
 
 -- ---- founded zones
@@ -43,10 +43,10 @@ pub record Foot (zone : List Square) (q : Position) (u : Square) : Type 0 where
   pub low : foot.1 ≤ height q foot.0 + 1
 
 pub founded_by : (zone : List Square) (q : Position) → ((u : Square) → has_square zone u ≡ true → Foot zone q u) → IsFounded zone q
-founded_by zone q feet u owned lowest = told (feet u owned)
+founded_by zone q feet u owned lowest = by_case (feet u owned)
   where
-    told : Foot zone q u → u.1 ≤ height q u.0 + 1
-    told f = elim (cases_lt f.foot.1 u.1) [
+    by_case : Foot zone q u → u.1 ≤ height q u.0 + 1
+    by_case f = elim (cases_lt f.foot.1 u.1) [
       | inl lower ↦ absurd (both_ways (has_square zone (u.0, f.foot.1)) (lowest f.foot.1 lower) (subst (λ c. has_square zone (c, f.foot.1) ≡ true) f.same_column f.in_zone))
       | inr high ↦ let low : f.foot.1 ≤ height q f.foot.0 + 1 = f.low in omega (arith, ap (height q) f.same_column)
     ]
@@ -120,27 +120,27 @@ filled (Some side) h = (side, refl)
 some_pair : (a b : Square × Square) → Some a ≡ Some b → a ≡ b
 some_pair a b h = cc
 
-module _ (p q : Position) (ws : List Written) (plan : IsPlan p ws)
+module _ (p q : Position) (ws : List RuleInstance) (plan : IsPlan p ws)
     (stay : (u : Square) (m : Side) → man_at p u ≡ Some m → man_at q u ≡ Some m)
-    (calms : (i : ℕ) (w : Written) → IsMember ws i w → is_calm w q ≡ true) where
+    (calms : (i : ℕ) (w : RuleInstance) → IsMember ws i w → is_calm w q ≡ true) where
   -- a square that was playable stands on its column still
   still_low : (u : Square) → is_playable p u ≡ true → u.1 ≤ height q u.0 + 1
   still_low u h = omega (arith, (playable_parts p u h).1, height_stays p q stay u.0)
 
   -- two members, by their places
-  pub members_together : (i j : ℕ) (v w : Written) → i ≢ j → IsMember ws i v → IsMember ws j w → together v w ≡ true
+  pub members_together : (i j : ℕ) (v w : RuleInstance) → i ≢ j → IsMember ws i v → IsMember ws j w → together v w ≡ true
   members_together i j v w apart left right = elim (cases_order i j) [
     | inl same ↦ absurd (apart same)
     | inr order ↦ elim order [
-      | inl first ↦ plan.standing i j v w first left right
-      | inr second ↦ together_sym w v (plan.standing j i w v second right left)
+      | inl first ↦ plan.compatible i j v w first left right
+      | inr second ↦ together_sym w v (plan.compatible j i w v second right left)
     ]
   ]
 
   -- the floors of an inverse that isn't playable itself: the column of White's square is filled below it, and so is the other
-  module _ (i : ℕ) (w : Written) (x y : Square) (member : IsMember ws i w) (moving : is_standing w ≡ false) (none : (a b : Square) → rests_on a b w ≡ false)
-      (over : (v : Written) → stands_over w v ≡ true → rests_on x y v ≡ true) (two : TwoColumns (zone_of w) x y) where
-    inverse_owner : (v : Written) (j : ℕ) → IsMember ws j v → is_playable p (under x) ≡ true → has_square (zone_of v) (under x) ≡ true → RestsOn x y v
+  module _ (i : ℕ) (w : RuleInstance) (x y : Square) (member : IsMember ws i w) (moving : owns_no_zone w ≡ false) (none : (a b : Square) → rests_on a b w ≡ false)
+      (over : (v : RuleInstance) → stands_over w v ≡ true → rests_on x y v ≡ true) (two : TwoColumns (zone_of w) x y) where
+    inverse_owner : (v : RuleInstance) (j : ℕ) → IsMember ws j v → is_playable p (under x) ≡ true → has_square (zone_of v) (under x) ≡ true → RestsOn x y v
     inverse_owner v j member_v floor owned =
         let on = on_board_parts (board_of p) (under x).0 (under x).1 (playable_on_board p (under x) floor) in
         floor_owner x y x w v moving none (over v) two.has_x (omega (arith, on.1)) (members_together j i v w (λ same. not_own same on.1) member_v member) owned
@@ -158,10 +158,10 @@ module _ (p q : Position) (ws : List Written) (plan : IsPlan p ws)
 
     -- both floors are filled, or neither
     floors_alike : is_playable p (under x) ≡ true → is_none (man_at q (under x)) ≡ is_none (man_at q (under y))
-    floors_alike floor = told (plan.covered (under x) (playable_empty p (under x) floor))
+    floors_alike floor = by_case (plan.covered (under x) (playable_empty p (under x) floor))
       where
-        told : SomeMember ws (λ v. has_square (zone_of v) (under x) ≡ true) → is_none (man_at q (under x)) ≡ is_none (man_at q (under y))
-        told some =
+        by_case : SomeMember ws (λ v. has_square (zone_of v) (under x) ≡ true) → is_none (man_at q (under x)) ≡ is_none (man_at q (under y))
+        by_case some =
             let rest = inverse_owner some.member some.place some.is_member floor some.has_it in
             let calm : is_calm (baseinverse rest.s rest.t) q ≡ true = subst (λ v. is_calm v q ≡ true) rest.is_inverse (calms some.place some.member some.is_member) in
             ap (λ u. is_none (man_at q (under u))) (sym rest.below_x)
@@ -195,8 +195,8 @@ module _ (p q : Position) (ws : List Written) (plan : IsPlan p ws)
     ]
 
   -- an inverse has both floors, or neither and no man
-  two_floors : (i : ℕ) (w : Written) (x y : Square) → IsMember ws i w → is_standing w ≡ false → ((a b : Square) → rests_on a b w ≡ false)
-      → ((v : Written) → stands_over w v ≡ true → rests_on x y v ≡ true) → TwoColumns (zone_of w) x y → is_grounded p x y ≡ true
+  two_floors : (i : ℕ) (w : RuleInstance) (x y : Square) → IsMember ws i w → owns_no_zone w ≡ false → ((a b : Square) → rests_on a b w ≡ false)
+      → ((v : RuleInstance) → stands_over w v ≡ true → rests_on x y v ≡ true) → TwoColumns (zone_of w) x y → is_grounded p x y ≡ true
       → (height q x.0 < x.1 → height q y.0 < y.1 → men_on q (zone_of w) ≡ []) → HasFloors q (zone_of w) (x, y)
   two_floors i w x y member moving none over two grounded empty = elim (or_cases _ _ grounded) [
     | inl bottoms ↦ let both = and_parts _ _ bottoms in inl (still_low x both.0, still_low y both.1)
@@ -204,23 +204,23 @@ module _ (p q : Position) (ws : List Written) (plan : IsPlan p ws)
         let both = and_parts _ _ floors in
         let at_x = on_board_parts (board_of p) (under x).0 (under x).1 (playable_on_board p (under x) both.0) in
         let at_y = on_board_parts (board_of p) (under y).0 (under y).1 (playable_on_board p (under y) both.1) in
-        told at_x.1 at_y.1 (man_at q (under x)) refl (man_at q (under y)) refl (floors_alike i w x y member moving none over two both.0)
+        by_case at_x.1 at_y.1 (man_at q (under x)) refl (man_at q (under y)) refl (floors_alike i w x y member moving none over two both.0)
   ]
     where
-      told : 1 ≤ x.1 - 1 → 1 ≤ y.1 - 1 → (a : Option Side) → man_at q (under x) ≡ a → (b : Option Side) → man_at q (under y) ≡ b
+      by_case : 1 ≤ x.1 - 1 → 1 ≤ y.1 - 1 → (a : Option Side) → man_at q (under x) ≡ a → (b : Option Side) → man_at q (under y) ≡ b
           → is_none (man_at q (under x)) ≡ is_none (man_at q (under y)) → HasFloors q (zone_of w) (x, y)
-      told low_x low_y None at_x None at_y alike =
+      by_case low_x low_y None at_x None at_y alike =
           let past_x : height q x.0 < x.1 - 1 = empty_height q (under x) at_x low_x in
           let past_y : height q y.0 < y.1 - 1 = empty_height q (under y) at_y low_y in
           inr (omega arith, omega arith, empty (omega arith) (omega arith))
-      told low_x low_y None at_x (Some b) at_y alike = absurd (cc (alike, at_x, at_y))
-      told low_x low_y (Some a) at_x None at_y alike = absurd (cc (alike, at_x, at_y))
-      told low_x low_y (Some a) at_x (Some b) at_y alike =
+      by_case low_x low_y None at_x (Some b) at_y alike = absurd (cc (alike, at_x, at_y))
+      by_case low_x low_y (Some a) at_x None at_y alike = absurd (cc (alike, at_x, at_y))
+      by_case low_x low_y (Some a) at_x (Some b) at_y alike =
           let up_x = (filled_height q (under x) a at_x).1 in
           let up_y = (filled_height q (under y) b at_y).1 in
           inl (omega arith, omega arith)
 
-  pub has_floors : (i : ℕ) (w : Written) (bottoms : Square × Square) → IsMember ws i w → bottoms_of w ≡ Some bottoms → HasFloors q (zone_of w) bottoms
+  pub has_floors : (i : ℕ) (w : RuleInstance) (bottoms : Square × Square) → IsMember ws i w → bottoms_of w ≡ Some bottoms → HasFloors q (zone_of w) bottoms
   has_floors i (claimeven x) bottoms member is = absurd (cc is)
   has_floors i (baseinverse s t) bottoms member is = absurd (cc is)
   has_floors i (lowinverse x x_top y y_top) bottoms member is =
@@ -241,7 +241,7 @@ module _ (p q : Position) (ws : List Written) (plan : IsPlan p ws)
   has_floors i (before g) bottoms member is = absurd (cc is)
   has_floors i (specialbefore g f e0) bottoms member is = absurd (cc is)
 
-  pub founded : (i : ℕ) (w : Written) → IsMember ws i w → (s : Square) → is_playable q s ≡ true → has_square (zone_of w) s ≡ true → IsFounded (zone_of w) q
+  pub founded : (i : ℕ) (w : RuleInstance) → IsMember ws i w → (s : Square) → is_playable q s ≡ true → has_square (zone_of w) s ≡ true → IsFounded (zone_of w) q
   founded i (claimeven x) member s playable owned = founded_by (x ∷ above x ∷ []) q (λ u among. elim (has_gives (x ∷ above x ∷ []) u among) [
     | inl here ↦ record { foot = x; same_column = ap (λ (s : Square). s.0) here; in_zone = has_from (x ∷ above x ∷ []) x (inl refl); low = low }
     | inr later ↦ elim later [

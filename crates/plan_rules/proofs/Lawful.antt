@@ -1,9 +1,9 @@
 -- The laws of one instance, together.
-use Rattle.plan_rules.specs.Rules.{Written, zone_of, line_of, fits, reply_to, upper_of, pair_of, twin_of, barred, is_supported}
+use Rattle.plan_rules.specs.Rules.{RuleInstance, zone_of, line_of, fits, reply_to, upper_of, pair_of, twin_of, barred, is_supported}
 use Rattle.plan_rules.specs.Calm.{is_calm}
 use Rattle.plan_rules.specs.Laws.{StartLaw, LocalLaw, StepLaw, FactLaw, BarLaw}
 
-pub record Lawful (w : Written) : Type 0 where
+pub record Lawful (w : RuleInstance) : Type 0 where
   pub starts : StartLaw (fits w) (is_calm w) (line_of w)
   pub is_local : LocalLaw (zone_of w) (is_calm w)
   pub steps : StepLaw (zone_of w) (fits w) (is_calm w) (reply_to w)

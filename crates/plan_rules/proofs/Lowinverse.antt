@@ -96,7 +96,7 @@ module _ (u v : Square) (n m : ℕ) (odd_n : n % 2 ≡ 1) (odd_m : m % 2 ≡ 1) 
   -- below the top: the square above
   inner : (i : ℕ) → i + 1 < n → is_playable q (u.0, u.1 + i) ≡ true → is_playable (after_move q u.0) (above (u.0, u.1 + i)) ≡ true
       → CalmLow n m (men_on (after_move (after_move q u.0) u.0) (column_up u n)) (men_on (after_move (after_move q u.0) u.0) (column_up v m))
-  inner i within playable answer = told calm
+  inner i within playable answer = by_case calm
     where
       us_next : men_on (after_move (after_move q u.0) u.0) (column_up u n) ≡ (men_on q (column_up u n) ++ White ∷ []) ++ Black ∷ []
       us_next =
@@ -106,11 +106,11 @@ module _ (u v : Square) (n m : ℕ) (odd_n : n % 2 ≡ 1) (odd_m : m % 2 ≡ 1) 
       vs_next : men_on (after_move (after_move q u.0) u.0) (column_up v m) ≡ men_on q (column_up v m)
       vs_next = beside_on (after_move q u.0) (above (u.0, u.1 + i)) m v answer (λ same. apart (sym same)) ∙ beside_on q (u.0, u.1 + i) m v playable (λ same. apart (sym same))
 
-      told : CalmLow n m (men_on q (column_up u n)) (men_on q (column_up v m))
+      by_case : CalmLow n m (men_on q (column_up u n)) (men_on q (column_up v m))
           → CalmLow n m (men_on (after_move (after_move q u.0) u.0) (column_up u n)) (men_on (after_move (after_move q u.0) u.0) (column_up v m))
-      told (both_paired left right) = both_paired (ap is_paired us_next ∙ paired_more (men_on q (column_up u n)) left) (ap is_paired vs_next ∙ right)
-      told (left_capped size topped shifted) = absurd (omega (arith, reach i (omega arith) playable))
-      told (right_capped shifted size topped) =
+      by_case (both_paired left right) = both_paired (ap is_paired us_next ∙ paired_more (men_on q (column_up u n)) left) (ap is_paired vs_next ∙ right)
+      by_case (left_capped size topped shifted) = absurd (omega (arith, reach i (omega arith) playable))
+      by_case (right_capped shifted size topped) =
           right_capped (ap is_shifted us_next ∙ shifted_more (men_on q (column_up u n)) shifted) (ap length vs_next ∙ size) (ap is_topped vs_next ∙ topped)
 
   -- the top: the playable square of the other column
@@ -122,7 +122,7 @@ module _ (u v : Square) (n m : ℕ) (odd_n : n % 2 ≡ 1) (odd_m : m % 2 ≡ 1) 
     calm_after : CalmLow n m (men_on (after_move (after_move q u.0) v.0) (column_up u n)) (men_on (after_move (after_move q u.0) v.0) (column_up v m))
 
   top : (i : ℕ) → i + 1 ≡ n → is_playable q (u.0, u.1 + i) ≡ true → TopAnswer i
-  top i at_top playable = told calm
+  top i at_top playable = by_case calm
     where
       room_reply : (j : ℕ) → has_room (after_move q u.0) v.0 ≡ true → height (after_move q u.0) v.0 + 1 ≡ v.1 + j → lowest_empty (after_move q u.0) v.0 ≡ Some (v.0, v.1 + j)
       room_reply j room row = cond-true {A = Option Square} (has_room (after_move q u.0) v.0) (Some (v.0, height (after_move q u.0) v.0 + 1)) None room ∙ ap (λ r. some_square (v.0, r)) row
@@ -148,10 +148,10 @@ module _ (u v : Square) (n m : ℕ) (odd_n : n % 2 ≡ 1) (odd_m : m % 2 ≡ 1) 
         | inr over ↦ absurd (omega (arith, length_full q m v low_v over, free right))
       ]
 
-      told : CalmLow n m (men_on q (column_up u n)) (men_on q (column_up v m)) → TopAnswer i
-      told (left_capped size topped shifted) = absurd (omega (arith, reach i (omega arith) playable))
-      told (right_capped shifted size topped) = absurd (omega (arith, reach i (omega arith) playable, shifted_odd (men_on q (column_up u n)) shifted))
-      told (both_paired left right) = answer (length (men_on q (column_up v m))) (free right) (row_before right)
+      by_case : CalmLow n m (men_on q (column_up u n)) (men_on q (column_up v m)) → TopAnswer i
+      by_case (left_capped size topped shifted) = absurd (omega (arith, reach i (omega arith) playable))
+      by_case (right_capped shifted size topped) = absurd (omega (arith, reach i (omega arith) playable, shifted_odd (men_on q (column_up u n)) shifted))
+      by_case (both_paired left right) = answer (length (men_on q (column_up v m))) (free right) (row_before right)
         where
           answer : (j : ℕ) → j < m → height q v.0 + 1 ≡ v.1 + j → TopAnswer i
           answer j within row =

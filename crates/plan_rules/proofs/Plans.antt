@@ -13,28 +13,28 @@ use Rattle.game_rules.proofs.Moves.{same_side_is}
 use Rattle.game_rules.proofs.Ends.{on_board_parts, Among-ways}
 use Rattle.game_rules.proofs.Squares.{has_gives, has_from}
 use Rattle.game_rules.proofs.Groups.{anchor_on}
-use Rattle.plan_rules.specs.Rules.{Written, zone_of, fits, facts_of, barred, is_supported, together}
+use Rattle.plan_rules.specs.Rules.{RuleInstance, zone_of, fits, facts_of, barred, is_supported, together}
 use Rattle.plan_rules.specs.Plan.{each_two, every_square, every_line, has_owner, empty_part, is_barred, is_plan, IsMember, SomeMember, IsPlan}
 use Rattle.plan_rules.proofs.Squares.{Among-get, get-Among}
 use Rattle.plan_rules.proofs.Turns.{empty_parts}
 
 -- ---- members
 
-member_of : (test : Written → Bool) (ws : List Written) → list_any test ws ≡ true → SomeMember ws (λ w. test w ≡ true)
+member_of : (test : RuleInstance → Bool) (ws : List RuleInstance) → list_any test ws ≡ true → SomeMember ws (λ w. test w ≡ true)
 member_of test ws h =
     let found = any_gives test ws h in let at = Among-get ws found.0 found.1 in
     record { place = at.0; member = found.0; is_member = at.1; has_it = found.2 }
 
-pub any_member : (test : Written → Bool) (ws : List Written) → SomeMember ws (λ w. test w ≡ true) → list_any test ws ≡ true
+pub any_member : (test : RuleInstance → Bool) (ws : List RuleInstance) → SomeMember ws (λ w. test w ≡ true) → list_any test ws ≡ true
 any_member test ws some = any_from test ws some.member (get-Among ws some.place some.member some.is_member) some.has_it
 
-each_member : (test : Written → Bool) (ws : List Written) → list_all test ws ≡ true → (i : ℕ) (w : Written) → IsMember ws i w → test w ≡ true
+each_member : (test : RuleInstance → Bool) (ws : List RuleInstance) → list_all test ws ≡ true → (i : ℕ) (w : RuleInstance) → IsMember ws i w → test w ≡ true
 each_member test ws h i w member = all_gives test ws w h (get-Among ws i w member)
 
-all_members : (test : Written → Bool) (ws : List Written) → ((i : ℕ) (w : Written) → IsMember ws i w → test w ≡ true) → list_all test ws ≡ true
+all_members : (test : RuleInstance → Bool) (ws : List RuleInstance) → ((i : ℕ) (w : RuleInstance) → IsMember ws i w → test w ≡ true) → list_all test ws ≡ true
 all_members test ws each = all_from test ws (λ w among. let at = Among-get ws w among in each at.0 w at.1)
 
-two_give : (test : Written → Written → Bool) (ws : List Written) → each_two test ws ≡ true → (i j : ℕ) (v w : Written) → i < j → IsMember ws i v → IsMember ws j w → test v w ≡ true
+two_give : (test : RuleInstance → RuleInstance → Bool) (ws : List RuleInstance) → each_two test ws ≡ true → (i j : ℕ) (v w : RuleInstance) → i < j → IsMember ws i v → IsMember ws j w → test v w ≡ true
 two_give test [] h i j v w order left right = absurd (cc left)
 two_give test (x ∷ ws) h i zero v w order left right = absurd (omega arith)
 two_give test (x ∷ ws) h zero (suc j) v w order left right =
@@ -42,7 +42,7 @@ two_give test (x ∷ ws) h zero (suc j) v w order left right =
     subst (λ x. test x w ≡ true) same (each_member (test x) ws (and_parts _ _ h).0 j w right)
 two_give test (x ∷ ws) h (suc i) (suc j) v w order left right = two_give test ws (and_parts _ _ h).1 i j v w (omega arith) left right
 
-two_from : (test : Written → Written → Bool) (ws : List Written) → ((i j : ℕ) (v w : Written) → i < j → IsMember ws i v → IsMember ws j w → test v w ≡ true) → each_two test ws ≡ true
+two_from : (test : RuleInstance → RuleInstance → Bool) (ws : List RuleInstance) → ((i j : ℕ) (v w : RuleInstance) → i < j → IsMember ws i v → IsMember ws j w → test v w ≡ true) → each_two test ws ≡ true
 two_from test [] each = refl
 two_from test (x ∷ ws) each = and_from _ _ (all_members (test x) ws (λ j w member. each 0 (suc j) x w (omega arith) refl member))
     (two_from test ws (λ i j v w order left right. each (suc i) (suc j) v w (omega arith) left right))
@@ -81,15 +81,15 @@ none_end : (e : Option End) → is_none e ≡ true → e ≡ None
 none_end None h = refl
 none_end (Some e) h = cc
 
-pub plan_gives : (p : Position) (ws : List Written) → is_plan p ws ≡ true → IsPlan p ws
+pub plan_gives : (p : Position) (ws : List RuleInstance) → is_plan p ws ≡ true → IsPlan p ws
 plan_gives p ws h =
     let answered = and_parts _ _ h in let supported = and_parts _ _ answered.0 in let covered = and_parts _ _ supported.0 in
-    let standing = and_parts _ _ covered.0 in let fitting = and_parts _ _ standing.0 in let going = and_parts _ _ fitting.0 in
+    let compatible = and_parts _ _ covered.0 in let fitting = and_parts _ _ compatible.0 in let going = and_parts _ _ fitting.0 in
     record {
       white = sym (same_side_is White (side_to_move p) going.0);
       going = none_end (end_of p) going.1;
       fitting = each_member (λ w. fits w p) ws fitting.1;
-      standing = two_give together ws standing.1;
+      compatible = two_give together ws compatible.1;
       covered = λ u empty. elim (or_cases _ _ (every_square_gives (board_of p) (λ u. not (is_empty p u) || has_owner ws u) covered.1 u (empty_parts p u empty).0)) [
         | inl filled ↦ absurd (both_ways (is_empty p u) (not-true _ filled) empty)
         | inr owned ↦ member_of (λ w. has_square (zone_of w) u) ws owned
@@ -102,13 +102,13 @@ plan_gives p ws h =
       ];
     }
 
-pub plan_from : (p : Position) (ws : List Written) → IsPlan p ws → is_plan p ws ≡ true
+pub plan_from : (p : Position) (ws : List RuleInstance) → IsPlan p ws → is_plan p ws ≡ true
 plan_from p ws plan =
     and_from _ _ (and_from _ _ (and_from _ _ (and_from _ _ (and_from _ _ (and_from _ _
     (ap (same_side White) plan.white)
     (ap is_none plan.going))
     (all_members (λ w. fits w p) ws plan.fitting))
-    (two_from together ws plan.standing))
+    (two_from together ws plan.compatible))
     (every_square_from (board_of p) (λ u. not (is_empty p u) || has_owner ws u) (λ u. elim (cases_Bool (is_empty p u)) [
       | inl empty ↦ or_right _ _ (any_member (λ w. has_square (zone_of w) u) ws (plan.covered u empty))
       | inr filled ↦ or_left _ _ (not_from_false _ filled)

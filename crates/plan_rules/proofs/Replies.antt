@@ -8,15 +8,15 @@ use Rattle.game_rules.specs.Squares.{same_square, has_square, is_empty}
 use Rattle.game_rules.proofs.Lists.{Among, Among-append_left, Among-append_right}
 use Rattle.game_rules.proofs.Squares.{same_square_is, has_from}
 use Rattle.plan_rules.specs.Squares.{above, span, column_up}
-use Rattle.plan_rules.specs.Rules.{Written, claimeven, baseinverse, lowinverse, highinverse, baseclaim, vertical, aftereven, before, specialbefore, zone_of, is_low_column, has_shape, is_shaped, high_reply, reply_to, has_no_answer}
+use Rattle.plan_rules.specs.Rules.{RuleInstance, claimeven, baseinverse, lowinverse, highinverse, baseclaim, vertical, aftereven, before, specialbefore, zone_of, is_low_column, has_shape, is_shaped, high_reply, reply_to, has_no_answer}
 use Rattle.plan_rules.proofs.Squares.{other_column, other_row, column_from}
 
-shape : (w : Written) (now : Position) → is_shaped w (board_of now) ≡ true → has_shape w (board_of now) ≡ true
+shape : (w : RuleInstance) (now : Position) → is_shaped w (board_of now) ≡ true → has_shape w (board_of now) ≡ true
 shape w now h = (and_parts (list_all (on_board (board_of now)) (zone_of w)) (has_shape w (board_of now)) h).1
 
 -- what the rule says of each square
-abbrev Told : Written → Position → Square → Type 0
-Told w now last = is_none (reply_to w now last) ≡ (not (has_square (zone_of w) last) || has_no_answer w now last)
+abbrev IsNamed : RuleInstance → Position → Square → Type 0
+IsNamed w now last = is_none (reply_to w now last) ≡ (not (has_square (zone_of w) last) || has_no_answer w now last)
 
 -- two squares apart are not both the same as a third
 not_both : (u v last : Square) → same_square u v ≡ false → same_square last u ≡ true → same_square last v ≡ false
@@ -24,8 +24,8 @@ not_both u v last apart same = subst (λ s. same_square s v ≡ false) (sym (sam
 
 -- ---- rule by rule
 
-claimeven_told : (x : Square) (now : Position) (last : Square) → Told (claimeven x) now last
-claimeven_told x now last = at (same_square last x) (same_square last (above x)) (not_both x (above x) last (other_row x (above x) (omega arith)))
+claimeven_named : (x : Square) (now : Position) (last : Square) → IsNamed (claimeven x) now last
+claimeven_named x now last = at (same_square last x) (same_square last (above x)) (not_both x (above x) last (other_row x (above x) (omega arith)))
   where
     at : (a b : Bool) → (a ≡ true → b ≡ false) → is_none (cond {A = Option Square} a (Some (above x)) None) ≡ (not (a || (b || false)) || b)
     at true true apart = absurd (cc (apart refl))
@@ -33,16 +33,16 @@ claimeven_told x now last = at (same_square last x) (same_square last (above x))
     at false true apart = refl
     at false false apart = refl
 
-baseinverse_told : (s t : Square) (now : Position) (last : Square) → Told (baseinverse s t) now last
-baseinverse_told s t now last = at (same_square last s) (same_square last t)
+baseinverse_named : (s t : Square) (now : Position) (last : Square) → IsNamed (baseinverse s t) now last
+baseinverse_named s t now last = at (same_square last s) (same_square last t)
   where
     at : (a b : Bool) → is_none (cond {A = Option Square} a (Some t) (cond b (Some s) None)) ≡ (not (a || (b || false)) || false)
     at true b = refl
     at false true = refl
     at false false = refl
 
-baseclaim_told : (a b e : Square) (now : Position) (last : Square) → Told (baseclaim a b e) now last
-baseclaim_told a b e now last = at (same_square last a) (same_square last b) (same_square last e) (same_square last (above b)) (is_empty now e)
+baseclaim_named : (a b e : Square) (now : Position) (last : Square) → IsNamed (baseclaim a b e) now last
+baseclaim_named a b e now last = at (same_square last a) (same_square last b) (same_square last e) (same_square last (above b)) (is_empty now e)
   where
     at : (i j k l free : Bool)
         → is_none (cond {A = Option Square} i (cond free (Some e) (Some (above b))) (cond j (cond free (Some e) (Some (above b))) (cond k (Some b) (cond l (Some a) None))))
@@ -56,8 +56,8 @@ baseclaim_told a b e now last = at (same_square last a) (same_square last b) (sa
     at false false false false free = refl
 
 -- in the column of u, whatever else is asked
-high_told : (u v : Square) (now : Position) (last : Square) → is_none (high_reply u v now last) ≡ not (has_square (column_up u 3) last)
-high_told u v now last = at (same_square last u) (same_square last (above u)) (same_square last (above (above u))) (is_empty now v)
+high_named : (u v : Square) (now : Position) (last : Square) → is_none (high_reply u v now last) ≡ not (has_square (column_up u 3) last)
+high_named u v now last = at (same_square last u) (same_square last (above u)) (same_square last (above (above u))) (is_empty now v)
   where
     at : (i j k free : Bool)
         → is_none (cond {A = Option Square} i (cond free (Some (above u)) (Some (above (above v)))) (cond j (Some (above (above u))) (cond k (Some v) None)))
@@ -76,9 +76,9 @@ or_none : (b : Bool) → (b || false) ≡ b
 or_none true = refl
 or_none false = refl
 
-highinverse_told : (x y : Square) (now : Position) (last : Square) → x.0 < y.0 → Told (highinverse x y) now last
-highinverse_told x y now last order =
-    at (last.0 == x.0) _ _ _ _ _ _ (high_reply x y now last) (high_reply y x now last) (high_told x y now last) (high_told y x now last)
+highinverse_named : (x y : Square) (now : Position) (last : Square) → x.0 < y.0 → IsNamed (highinverse x y) now last
+highinverse_named x y now last order =
+    at (last.0 == x.0) _ _ _ _ _ _ (high_reply x y now last) (high_reply y x now last) (high_named x y now last) (high_named y x now last)
     (λ here. let column = eqb-true last.0 x.0 here in beside y last (λ there. omega arith))
     (λ apart. beside x last (λ here. both_ways (last.0 == x.0) apart (eq-eqb last.0 x.0 here)))
   where
@@ -108,9 +108,9 @@ top_in bottom top low =
     same : (b t : Square) → b.0 ≡ t.0 → b.1 + (t.1 - b.1) ≡ t.1 → (b.0, b.1 + (t.1 - b.1)) ≡ t
     same (a, r) (c, q) column row = rw (column, row) refl
 
-lowinverse_told : (x x_top y y_top : Square) (now : Position) (last : Square) → x.0 < y.0 → is_low_column x x_top ≡ true → is_low_column y y_top ≡ true
-    → Told (lowinverse x x_top y y_top) now last
-lowinverse_told x x_top y y_top now last order low_x low_y =
+lowinverse_named : (x x_top y y_top : Square) (now : Position) (last : Square) → x.0 < y.0 → is_low_column x x_top ≡ true → is_low_column y y_top ≡ true
+    → IsNamed (lowinverse x x_top y y_top) now last
+lowinverse_named x x_top y y_top now last order low_x low_y =
     at (same_square last x_top) (same_square last y_top) (has_square zone last) _ _ (lowest_empty now y.0) (lowest_empty now x.0) (lowest_none now y.0) (lowest_none now x.0)
     (λ here. (owned x_top here (Among-append_left x_top (span x x_top) (span y y_top) (top_in x x_top low_x)), not_both x_top y_top last apart here))
     (λ here. owned y_top here (Among-append_right y_top (span x x_top) (span y y_top) (top_in y y_top low_y)))
@@ -136,17 +136,17 @@ lowinverse_told x x_top y y_top now last order low_x low_y =
 
 -- ---- all nine
 
-pub reply_told : (w : Written) (now : Position) (last : Square) → is_shaped w (board_of now) ≡ true → Told w now last
-reply_told (claimeven x) now last h = claimeven_told x now last
-reply_told (baseinverse s t) now last h = baseinverse_told s t now last
-reply_told (lowinverse x x_top y y_top) now last h =
+pub reply_named : (w : RuleInstance) (now : Position) (last : Square) → is_shaped w (board_of now) ≡ true → IsNamed w now last
+reply_named (claimeven x) now last h = claimeven_named x now last
+reply_named (baseinverse s t) now last h = baseinverse_named s t now last
+reply_named (lowinverse x x_top y y_top) now last h =
     let parts = and_parts _ _ (shape (lowinverse x x_top y y_top) now h) in let first = and_parts _ _ parts.0 in
-    lowinverse_told x x_top y y_top now last (ltb-true x.0 y.0 first.0) first.1 parts.1
-reply_told (highinverse x y) now last h =
+    lowinverse_named x x_top y y_top now last (ltb-true x.0 y.0 first.0) first.1 parts.1
+reply_named (highinverse x y) now last h =
     let parts = and_parts _ _ (shape (highinverse x y) now h) in
-    highinverse_told x y now last (ltb-true x.0 y.0 (and_parts _ _ parts.0).0)
-reply_told (baseclaim a b e) now last h = baseclaim_told a b e now last
-reply_told (vertical e) now last h = refl
-reply_told (aftereven g) now last h = refl
-reply_told (before g) now last h = refl
-reply_told (specialbefore g f e0) now last h = refl
+    highinverse_named x y now last (ltb-true x.0 y.0 (and_parts _ _ parts.0).0)
+reply_named (baseclaim a b e) now last h = baseclaim_named a b e now last
+reply_named (vertical e) now last h = refl
+reply_named (aftereven g) now last h = refl
+reply_named (before g) now last h = refl
+reply_named (specialbefore g f e0) now last h = refl

@@ -16,10 +16,10 @@ use Rattle.game_rules.specs.declared.End.TheVariants as ends
 use Rattle.game_rules.proofs.Lists.{Among, any_gives, any_from, all_gives, all_from, Among-below, Among-flat_map_gives, Among-filter, Among-filter_gives, Among-map, chosen}
 use Rattle.game_rules.proofs.Moves.{man_past, board_moved, room_column, room_height, empty_count_moved, side_moved}
 use Rattle.game_rules.proofs.Values.{wins_own, wins_other, value_at_end}
-use Rattle.game_rules.proofs.Ends.{on_board_from, line_from_four, four_from_line, four_same, each_step, from_steps, ended_told, legal_parts, none_for_other, other_kept, disjoint, white_end}
+use Rattle.game_rules.proofs.Ends.{on_board_from, line_from_four, four_from_line, four_same, each_step, from_steps, ended_parts, legal_parts, none_for_other, other_kept, disjoint, white_end}
 use Rattle.game_rules.proofs.Squares.{has_gives, has_from, same_square_is}
 use Rattle.plan_rules.specs.Squares.{above}
-use Rattle.plan_rules.specs.Rules.{Written, zone_of, line_of, reply_to, upper_of, pair_of, twin_of, as_list, facts_of, barred}
+use Rattle.plan_rules.specs.Rules.{RuleInstance, zone_of, line_of, reply_to, upper_of, pair_of, twin_of, as_list, facts_of, barred}
 use Rattle.plan_rules.specs.Calm.{is_calm}
 use Rattle.plan_rules.specs.Laws.{IsLineOf, Answers, AreTrue, Owns, IsHeld}
 use Rattle.plan_rules.specs.Plan.{empty_part, IsMember, IsPlan, plan_reply, after_turn, after_turns, duel, is_playable_list, is_nil, IsKept, IsAnswered, IsTurn}
@@ -69,9 +69,9 @@ four_squares q side g lies owns = four_from_line q side (record {
   owned = each_step (has_man q side) g.1 g.0 (all_from (has_man q side) (squares_of g) (λ u among. owns u (has_from (squares_of g) u among)));
 })
 
-module _ (laws : (w : Written) → Lawful w) (p : Position) (ws : List Written) (plan : IsPlan p ws) where
+module _ (laws : (w : RuleInstance) → Lawful w) (p : Position) (ws : List RuleInstance) (plan : IsPlan p ws) where
   -- what members promise of White's men is true wherever all are calm
-  facts_true : (q : Position) → ((i : ℕ) (w : Written) → IsMember ws i w → is_calm w q ≡ true) → AreTrue (facts_of p ws).upper (facts_of p ws).pair (facts_of p ws).twin q
+  facts_true : (q : Position) → ((i : ℕ) (w : RuleInstance) → IsMember ws i w → is_calm w q ≡ true) → AreTrue (facts_of p ws).upper (facts_of p ws).pair (facts_of p ws).twin q
   facts_true q calms = record {
     uppers = λ u h.
         let found = Among-flat_map_gives upper_of ws u (has_gives (flat_map upper_of ws) u h) in
@@ -85,7 +85,7 @@ module _ (laws : (w : Written) → Lawful w) (p : Position) (ws : List Written) 
         (own found.0 found.1).twins at.0 u v at.1 white;
   }
     where
-      own : (w : Written) → Among w ws → AreTrue (has_square (upper_of w)) (has_square (pair_of w)) (as_list (twin_of w)) q
+      own : (w : RuleInstance) → Among w ws → AreTrue (has_square (upper_of w)) (has_square (pair_of w)) (as_list (twin_of w)) q
       own w among = let at = Among-get ws w among in (laws w).keeps p q (plan.fitting at.0 w at.1) (calms at.0 w at.1)
 
   pub first_kept : IsKept p ws p
@@ -97,10 +97,10 @@ module _ (laws : (w : Written) → Lawful w) (p : Position) (ws : List Written) 
     even = λ i w member. calm_even w p (calm i w member);
     floors = has_floors p p ws plan (λ u m h. h) calm;
     facts = facts_true p calm;
-    no_four = (ended_told p plan.going).0;
+    no_four = (ended_parts p plan.going).0;
   }
     where
-      calm : (i : ℕ) (w : Written) → IsMember ws i w → is_calm w p ≡ true
+      calm : (i : ℕ) (w : RuleInstance) → IsMember ws i w → is_calm w p ≡ true
       calm i w member = ((laws w).starts p (plan.fitting i w member)).calm_now
 
   -- ---- one turn
@@ -118,14 +118,14 @@ module _ (laws : (w : Written) → Lawful w) (p : Position) (ws : List Written) 
     to : Square
     is_reply : plan_reply ws (after_move q s.0) s ≡ Some to
     playable : is_playable (after_move q s.0) to ≡ true
-    calms : (i : ℕ) (w : Written) → IsMember ws i w → is_calm w (after_move (after_move q s.0) to.0) ≡ true
+    calms : (i : ℕ) (w : RuleInstance) → IsMember ws i w → is_calm w (after_move (after_move q s.0) to.0) ≡ true
 
   reply : (q : Position) → IsKept p ws q → (s : Square) → is_playable q s ≡ true → Reply q s
   reply q kept s playable =
       let owner = find_one (λ w. has_square (zone_of w) s) ws (any_member (λ w. has_square (zone_of w) s) ws (plan.covered s (last_empty q kept s playable))) in
       from owner.0 owner.1 owner.2 owner.3 owner.4
     where
-      from : (i : ℕ) (w : Written) → IsMember ws i w → has_square (zone_of w) s ≡ true → find (λ w. has_square (zone_of w) s) ws ≡ Some w → Reply q s
+      from : (i : ℕ) (w : RuleInstance) → IsMember ws i w → has_square (zone_of w) s ≡ true → find (λ w. has_square (zone_of w) s) ws ≡ Some w → Reply q s
       from i w member owned found = record {
         to = answer.to;
         is_reply = ap (option_and_then (λ w. reply_to w (after_move q s.0) s)) found ∙ answer.is_reply;
@@ -141,15 +141,15 @@ module _ (laws : (w : Written) → Lawful w) (p : Position) (ws : List Written) 
           turned = turn q s answer.to kept.white playable answer.playable
 
           -- the squares of another zone are neither White's nor Black's
-          other_zone : (j : ℕ) (v : Written) → IsMember ws j v → j ≢ i → (t u : Square) → has_square (zone_of w) t ≡ true → has_square (zone_of v) u ≡ true → same_square u t ≡ false
+          other_zone : (j : ℕ) (v : RuleInstance) → IsMember ws j v → j ≢ i → (t u : Square) → has_square (zone_of w) t ≡ true → has_square (zone_of v) u ≡ true → same_square u t ≡ false
           other_zone j v other beside t u in_w in_v = false_from_ne_true _ (λ same.
               zones_apart v w t (members_together p q ws plan kept.stay kept.calms j i v w beside other member)
               (subst (λ u. has_square (zone_of v) u ≡ true) (same_square_is u t same) in_v) in_w)
 
-          one_member : (j : ℕ) (v : Written) → IsMember ws j v → j ≡ i → w ≡ v
+          one_member : (j : ℕ) (v : RuleInstance) → IsMember ws j v → j ≡ i → w ≡ v
           one_member j v other same = let both : Some w ≡ Some v = sym member ∙ ap (slice_get ws) (sym same) ∙ other in cc
 
-          calm : (j : ℕ) (v : Written) → IsMember ws j v → (j ≡ i) ⊎ (j ≢ i) → is_calm v (after_move (after_move q s.0) answer.to.0) ≡ true
+          calm : (j : ℕ) (v : RuleInstance) → IsMember ws j v → (j ≡ i) ⊎ (j ≢ i) → is_calm v (after_move (after_move q s.0) answer.to.0) ≡ true
           calm j v other (inl same) = subst (λ w. is_calm w (after_move (after_move q s.0) answer.to.0) ≡ true) (one_member j v other same) answer.calm_after
           calm j v other (inr beside) =
               (laws v).is_local q (after_move (after_move q s.0) answer.to.0)
@@ -191,7 +191,7 @@ module _ (laws : (w : Written) → Lawful w) (p : Position) (ws : List Written) 
       facts_next = facts_true (after_move (after_move q s.0) answer.to.0) answer.calms
 
       -- the member that bars the line's empty squares
-      barring : (g : Group) → Owns White (after_move q s.0) (has_square (squares_of g)) → (i : ℕ) (w : Written) → IsMember ws i w
+      barring : (g : Group) → Owns White (after_move q s.0) (has_square (squares_of g)) → (i : ℕ) (w : RuleInstance) → IsMember ws i w
           → barred w (facts_of p ws) (empty_part p g) ≡ true → (line : Option Group) → line_of w ≡ line → ⊥
       barring g owns i w member is_barred None line =
           subst (λ line. IsHeld line (after_move (after_move q s.0) answer.to.0)) line
@@ -204,7 +204,7 @@ module _ (laws : (w : Written) → Lawful w) (p : Position) (ws : List Written) 
           (always_calm w h line (after_move q s.0)) (facts_same _ _ _ (after_move (after_move q s.0) answer.to.0) (after_move q s.0) white_same facts_next) stay_now is_barred
           (λ u in_part. owns u (and_parts (is_empty p u) (has_square (squares_of g) u) in_part).1)) in
           let lies : lies_on (board_of p) h ≡ true = subst (λ line. IsLineOf line p) line ((laws w).starts p (plan.fitting i w member)).line_on_board in
-          both_ways (has_four q Black) (ended_told q going).1
+          both_ways (has_four q Black) (ended_parts q going).1
           (four_squares q Black h (subst (λ board. lies_on board h ≡ true) kept.board lies) (λ u in_line. sym (black_same u) ∙ held u in_line))
 
       against : (g : Group) → lies_on (board_of (after_move q s.0)) g ≡ true → Owns White (after_move q s.0) (has_square (squares_of g)) → ⊥
@@ -276,7 +276,7 @@ module _ (laws : (w : Written) → Lawful w) (p : Position) (ws : List Written) 
           playable = answer.playable;
         };
         next = after_move (after_move q column) answer.to.0;
-        is_next = after_told (end_of (after_move q column)) going_now (plan_reply ws (after_move q column) (column, height q column + 1)) answer.is_reply;
+        is_next = after_known (end_of (after_move q column)) going_now (plan_reply ws (after_move q column) (column, height q column + 1)) answer.is_reply;
         room = playable_room (after_move q column) answer.to answer.playable;
         next_is = refl;
         is_kept = kept_after q kept going (column, height q column + 1) playable answer;
@@ -288,9 +288,9 @@ module _ (laws : (w : Written) → Lawful w) (p : Position) (ws : List Written) 
           going_now : end_of (after_move q column) ≡ None
           going_now = going_after q kept going (column, height q column + 1) playable answer
 
-          after_told : (e : Option End) → e ≡ None → (t : Option Square) → t ≡ Some answer.to
+          after_known : (e : Option End) → e ≡ None → (t : Option Square) → t ≡ Some answer.to
               → cond (is_none e) (option_map (λ (to : Square). after_move (after_move q column) to.0) t) None ≡ Some (after_move (after_move q column) answer.to.0)
-          after_told e none t some = rw (none, some) refl
+          after_known e none t some = rw (none, some) refl
 
   -- ---- the whole play
 

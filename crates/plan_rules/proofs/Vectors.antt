@@ -8,15 +8,15 @@ use Rattle.game_rules.specs.Squares.{has_square}
 use Rattle.game_rules.specs.declared.End.{End}
 use Rattle.game_rules.specs.declared.End.TheVariants as ends
 use Rattle.game_rules.specs.declared.Way.TheVariants.{H, U}
-use Rattle.plan_rules.specs.Rules.{Written, claimeven, baseinverse, lowinverse, highinverse, baseclaim, vertical, aftereven, before, specialbefore, is_shaped, facts_of, barred, together}
+use Rattle.plan_rules.specs.Rules.{RuleInstance, claimeven, baseinverse, lowinverse, highinverse, baseclaim, vertical, aftereven, before, specialbefore, is_shaped, facts_of, barred, together}
 use Rattle.plan_rules.specs.Plan.{is_plan, plan_reply, after_turn, duel, is_playable_list}
 
 -- whether a list is a plan after some moves on a board
-abbrev planned : ℕ → ℕ → List ℕ → List Written → Option Bool
+abbrev planned : ℕ → ℕ → List ℕ → List RuleInstance → Option Bool
 planned cols rows moves ws = option_map (λ p. is_plan p ws) (played (empty_position (record { cols = cols; rows = rows })) moves)
 
 -- White's squares and Black's replies, and how the game stands at the end
-abbrev replies : List Written → Position → List ℕ → List (Square × Option Square) × Option End
+abbrev replies : List RuleInstance → Position → List ℕ → List (Square × Option Square) × Option End
 replies ws q [] = ([], end_of q)
 replies ws q (column ∷ columns) =
     let now = after_move q column in
@@ -24,14 +24,14 @@ replies ws q (column ∷ columns) =
     let rest : List (Square × Option Square) × Option End = option_map_or (λ next. replies ws next columns) (after_turn ws q column) ([], end_of now) in
     ((last, plan_reply ws now last) ∷ rest.0, rest.1)
 
-abbrev answered : ℕ → ℕ → List ℕ → List Written → List ℕ → Option (List (Square × Option Square) × Option End)
+abbrev answered : ℕ → ℕ → List ℕ → List RuleInstance → List ℕ → Option (List (Square × Option Square) × Option End)
 answered cols rows moves ws columns = option_map (λ p. replies ws p columns) (played (empty_position (record { cols = cols; rows = rows })) moves)
 
-abbrev columns_a_b : List Written
+abbrev columns_a_b : List RuleInstance
 columns_a_b = claimeven (0, 1) ∷ claimeven (0, 3) ∷ claimeven (1, 1) ∷ claimeven (1, 3) ∷ []
 
 -- six zones on the empty 4 by 4 board
-abbrev six_zones : List Written
+abbrev six_zones : List RuleInstance
 six_zones = claimeven (0, 1) ∷ claimeven (0, 3) ∷ claimeven (1, 1) ∷ claimeven (1, 3) ∷ baseinverse (2, 1) (3, 1) ∷ lowinverse (2, 2) (2, 4) (3, 2) (3, 4) ∷ []
 
 six_zone_plan : planned 4 4 ([]) (six_zones) ≡ Some true
@@ -56,7 +56,7 @@ with_highinverse : planned 4 4 ([]) (columns_a_b ++ baseinverse (2, 1) (3, 1) �
 with_highinverse = refl
 
 -- two Baseinverses side by side and two Lowinverses across them cover the board, and aren't a plan
-abbrev crossed : List Written
+abbrev crossed : List RuleInstance
 crossed = baseinverse (0, 1) (2, 1) ∷ baseinverse (1, 1) (3, 1) ∷ lowinverse (0, 2) (0, 4) (1, 2) (1, 4) ∷ lowinverse (2, 2) (2, 4) (3, 2) (3, 4) ∷ []
 
 clashing_zones : planned 4 4 ([]) (crossed) ≡ Some false
@@ -65,7 +65,7 @@ clashing_zones = refl
 the_clash : (together (baseinverse (0, 1) (2, 1)) (baseinverse (1, 1) (3, 1)) ≡ true) × (together (baseinverse (0, 1) (2, 1)) (lowinverse (0, 2) (0, 4) (1, 2) (1, 4)) ≡ false) × (together (claimeven (0, 1)) (highinverse (0, 2) (1, 2)) ≡ false)
 the_clash = (refl, refl, refl)
 
-abbrev six_by_six : List Written
+abbrev six_by_six : List RuleInstance
 six_by_six = claimeven (0, 1) ∷ claimeven (0, 3) ∷ claimeven (0, 5) ∷ claimeven (1, 1) ∷ claimeven (1, 3) ∷ claimeven (1, 5) ∷ claimeven (4, 1) ∷ claimeven (4, 3) ∷ claimeven (4, 5) ∷ claimeven (5, 1) ∷ claimeven (5, 3) ∷ claimeven (5, 5) ∷ baseinverse (2, 1) (3, 1) ∷ lowinverse (2, 2) (2, 6) (3, 2) (3, 6) ∷ []
 
 six_by_six_plan : planned 6 6 ([]) (six_by_six) ≡ Some true
@@ -74,7 +74,7 @@ six_by_six_plan = refl
 six_by_six_with_verticals : planned 6 6 ([]) (six_by_six ++ vertical (2, 2) ∷ vertical (2, 4) ∷ vertical (3, 2) ∷ vertical (3, 4) ∷ []) ≡ Some true
 six_by_six_with_verticals = refl
 
-abbrev narrow : List Written
+abbrev narrow : List RuleInstance
 narrow = claimeven (0, 1) ∷ claimeven (0, 3) ∷ claimeven (0, 5) ∷ claimeven (1, 1) ∷ claimeven (1, 3) ∷ claimeven (1, 5) ∷ lowinverse (2, 4) (2, 6) (3, 4) (3, 6) ∷ []
 
 with_vertical : planned 4 6 (3 ∷ 2 ∷ 2 ∷ 3 ∷ 2 ∷ 3 ∷ []) (narrow ++ vertical (2, 4) ∷ []) ≡ Some true
@@ -83,7 +83,7 @@ with_vertical = refl
 without_vertical : planned 4 6 (3 ∷ 2 ∷ 2 ∷ 3 ∷ 2 ∷ 3 ∷ []) (narrow) ≡ Some false
 without_vertical = refl
 
-abbrev even_line : List Written
+abbrev even_line : List RuleInstance
 even_line = claimeven (0, 1) ∷ claimeven (0, 3) ∷ claimeven (1, 1) ∷ claimeven (1, 3) ∷ claimeven (3, 3) ∷ []
 
 play_aftereven : planned 4 4 (2 ∷ 2 ∷ 2 ∷ 3 ∷ 2 ∷ 3 ∷ []) (even_line ++ aftereven ((0, 2), H) ∷ []) ≡ Some true
@@ -95,7 +95,7 @@ without_aftereven = refl
 aftereven_replies : answered 4 4 (2 ∷ 2 ∷ 2 ∷ 3 ∷ 2 ∷ 3 ∷ []) (even_line ++ aftereven ((0, 2), H) ∷ []) (0 ∷ 1 ∷ []) ≡ Some (((0, 1), Some (0, 2)) ∷ ((1, 1), Some (1, 2)) ∷ [], Some ends.Black)
 aftereven_replies = refl
 
-abbrev claim : List Written
+abbrev claim : List RuleInstance
 claim = baseclaim (0, 2) (1, 1) (2, 2) ∷ claimeven (0, 3) ∷ claimeven (1, 3) ∷ claimeven (2, 3) ∷ []
 
 play_baseclaim : planned 4 4 (3 ∷ 0 ∷ 3 ∷ 3 ∷ 2 ∷ 3 ∷ []) (claim) ≡ Some true
@@ -119,7 +119,7 @@ lowinverse_replies = refl
 shifted_replies : answered 4 4 ([]) (six_zones) (2 ∷ 2 ∷ 2 ∷ 3 ∷ []) ≡ Some (((2, 1), Some (3, 1)) ∷ ((2, 2), Some (2, 3)) ∷ ((2, 4), Some (3, 2)) ∷ ((3, 3), Some (3, 4)) ∷ [], None)
 shifted_replies = refl
 
-abbrev diagonal : List Written
+abbrev diagonal : List RuleInstance
 diagonal = baseinverse (2, 2) (3, 4) ∷ claimeven (2, 3) ∷ []
 
 play_specialbefore : planned 5 4 (0 ∷ 1 ∷ 1 ∷ 0 ∷ 0 ∷ 1 ∷ 1 ∷ 0 ∷ 3 ∷ 3 ∷ 2 ∷ 4 ∷ 4 ∷ 3 ∷ 4 ∷ 4 ∷ []) (diagonal ++ specialbefore ((1, 1), U) (3, 4) (2, 2) ∷ []) ≡ Some true
@@ -139,7 +139,7 @@ bottom_and_middle : (p : Position) → barred (highinverse (2, 2) (3, 2)) (facts
 bottom_and_middle p = refl
 
 -- whether a list of White's columns is playable, and how many positions the duel over it has
-abbrev dueled : List Written → List ℕ → Option (Bool × ℕ)
+abbrev dueled : List RuleInstance → List ℕ → Option (Bool × ℕ)
 dueled ws columns = option_map (λ p. (is_playable_list ws p columns, length (duel ws p columns))) (played (empty_position (record { cols = 4; rows = 4 })) [])
 
 -- eight turns fill the board; a ninth column isn't legal, nor is one that is full
@@ -153,7 +153,7 @@ full_column : dueled six_zones (2 ∷ 2 ∷ 2 ∷ 3 ∷ 2 ∷ []) ≡ Some (fals
 full_column = refl
 
 -- whether a Specialbefore has the shape on a board
-abbrev special_shape : ℕ → ℕ → Written → Bool
+abbrev special_shape : ℕ → ℕ → RuleInstance → Bool
 special_shape cols rows w = is_shaped w (record { cols = cols; rows = rows })
 
 whole_on_the_board : special_shape 5 4 (specialbefore ((1, 1), U) (3, 4) (2, 2)) ≡ true

@@ -11,7 +11,7 @@ use Rattle.game_rules.proofs.Lists.{Among, any_gives, all_gives}
 use Rattle.game_rules.proofs.Moves.{same_side_is, board_moved}
 use Rattle.game_rules.proofs.Squares.{has_from}
 use Rattle.plan_rules.specs.Squares.{above, word_at}
-use Rattle.plan_rules.specs.Rules.{Written, zone_of, fits}
+use Rattle.plan_rules.specs.Rules.{RuleInstance, zone_of, fits}
 use Rattle.plan_rules.specs.Calm.{Word, same_man, same_word, is_one_of}
 use Rattle.plan_rules.specs.Laws.{LocalLaw, IsFounded, AreTrue}
 use Rattle.plan_rules.proofs.Turns.{empty_parts, playable_man, playable_parts, filled_under, beside, stays}
@@ -80,10 +80,10 @@ words_local words zone p q same calm = subst (λ word. is_one_of words word ≡ 
 
 -- ---- zones
 
-pub zone_on_board : (w : Written) (p q : Position) → fits w p ≡ true → board_of p ≡ board_of q → (u : Square) → Among u (zone_of w) → on_board (board_of q) u ≡ true
+pub zone_on_board : (w : RuleInstance) (p q : Position) → fits w p ≡ true → board_of p ≡ board_of q → (u : Square) → Among u (zone_of w) → on_board (board_of q) u ≡ true
 zone_on_board w p q fitted board u among = subst (λ b. on_board b u ≡ true) board (all_gives (on_board (board_of p)) (zone_of w) u (fits_on_board w p fitted) among)
 
-pub zone_none : (w : Written) (p : Position) → fits w p ≡ true → (u : Square) → Among u (zone_of w) → man_at p u ≡ None
+pub zone_none : (w : RuleInstance) (p : Position) → fits w p ≡ true → (u : Square) → Among u (zone_of w) → man_at p u ≡ None
 zone_none w p fitted u among = (empty_parts p u (all_gives (is_empty p) (zone_of w) u (fits_empty w p fitted) among)).1
 
 -- the lowest square of a zone in its column stands on the column
@@ -114,11 +114,11 @@ pub filled_now : (q : Position) (s u : Square) (m : Side) → is_playable q s �
 filled_now q s u m playable man = and_right _ _ (ap is_none (stays q s u m playable man))
 
 -- what is so of each word of a list
-pub told_of : (test : Word → Bool) (words : List Word) (word : Word) → is_one_of words word ≡ true → list_all test words ≡ true → test word ≡ true
-told_of test words word one all =
+pub one_of_all : (test : Word → Bool) (words : List Word) (word : Word) → is_one_of words word ≡ true → list_all test words ≡ true → test word ≡ true
+one_of_all test words word one all =
     let found = any_gives (same_word word) words one in
     ap test (same_word_is word found.0 found.2) ∙ all_gives test words found.0 all found.1
 
 -- words of one list, changed each in the same way, are words of another
 pub mapped : (change : Word → Word) (words targets : List Word) (word : Word) → is_one_of words word ≡ true → list_all (λ v. is_one_of targets (change v)) words ≡ true → is_one_of targets (change word) ≡ true
-mapped change words targets word one all = told_of (λ v. is_one_of targets (change v)) words word one all
+mapped change words targets word one all = one_of_all (λ v. is_one_of targets (change v)) words word one all

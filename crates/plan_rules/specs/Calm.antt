@@ -7,7 +7,7 @@ use Rattle.game_rules.specs.Position.{Position, same_side}
 use Rattle.game_rules.specs.declared.Side.{Side}
 use Rattle.game_rules.specs.declared.Side.TheVariants.{White, Black}
 use Rattle.plan_rules.specs.Squares.{span, word_at, men_on}
-use Rattle.plan_rules.specs.Rules.{Written, claimeven, baseinverse, lowinverse, highinverse, baseclaim, vertical, aftereven, before, specialbefore, zone_of}
+use Rattle.plan_rules.specs.Rules.{RuleInstance, claimeven, baseinverse, lowinverse, highinverse, baseclaim, vertical, aftereven, before, specialbefore, zone_of}
 
 -- what stands on some squares, in their order
 abbrev pub Word : Type 0
@@ -100,7 +100,7 @@ is_calm_low p us vs =
     || (is_shifted (men_on p us) && is_capped (length vs) (men_on p vs))
 
 -- the cases of each rule; a standing rule is always calm
-abbrev pub is_calm : Written → Position → Bool
+abbrev pub is_calm : RuleInstance → Position → Bool
 is_calm (claimeven x) p = is_one_of even_words (word_at p (zone_of (claimeven x)))
 is_calm (baseinverse s t) p = is_one_of inverse_words (word_at p (zone_of (baseinverse s t)))
 is_calm (lowinverse x x_top y y_top) p = is_calm_low p (span x x_top) (span y y_top)

@@ -13,19 +13,19 @@ use Rattle.plan_rules.specs.declared.Kind.{Kind}
 use Rattle.plan_rules.specs.declared.Kind.TheVariants as kinds
 
 -- An instance of a rule, as it is written. The letters are those of the comments below.
-pub data Written : Type 0 where
-  claimeven : Square → Written  -- lower
-  baseinverse : Square → Square → Written  -- s, t
-  lowinverse : Square → Square → Square → Square → Written  -- x, its top, y, its top
-  highinverse : Square → Square → Written  -- x, y
-  baseclaim : Square → Square → Square → Written  -- a, b, e
-  vertical : Square → Written  -- e
-  aftereven : Group → Written  -- G
-  before : Group → Written  -- G
-  specialbefore : Group → Square → Square → Written  -- G, f, e0
+pub data RuleInstance : Type 0 where
+  claimeven : Square → RuleInstance  -- lower
+  baseinverse : Square → Square → RuleInstance  -- s, t
+  lowinverse : Square → Square → Square → Square → RuleInstance  -- x, its top, y, its top
+  highinverse : Square → Square → RuleInstance  -- x, y
+  baseclaim : Square → Square → Square → RuleInstance  -- a, b, e
+  vertical : Square → RuleInstance  -- e
+  aftereven : Group → RuleInstance  -- G
+  before : Group → RuleInstance  -- G
+  specialbefore : Group → Square → Square → RuleInstance  -- G, f, e0
 
 -- which rule it is an instance of
-abbrev pub kind_of : Written → Kind
+abbrev pub kind_of : RuleInstance → Kind
 kind_of (claimeven x) = kinds.Claimeven
 kind_of (baseinverse s t) = kinds.Baseinverse
 kind_of (lowinverse x x_top y y_top) = kinds.Lowinverse
@@ -37,19 +37,19 @@ kind_of (before g) = kinds.Before
 kind_of (specialbefore g f e0) = kinds.Specialbefore
 
 -- standing rules own no square
-abbrev pub is_standing : Written → Bool
-is_standing (claimeven x) = false
-is_standing (baseinverse s t) = false
-is_standing (lowinverse x x_top y y_top) = false
-is_standing (highinverse x y) = false
-is_standing (baseclaim a b e) = false
-is_standing (vertical e) = true
-is_standing (aftereven g) = true
-is_standing (before g) = true
-is_standing (specialbefore g f e0) = true
+abbrev pub owns_no_zone : RuleInstance → Bool
+owns_no_zone (claimeven x) = false
+owns_no_zone (baseinverse s t) = false
+owns_no_zone (lowinverse x x_top y y_top) = false
+owns_no_zone (highinverse x y) = false
+owns_no_zone (baseclaim a b e) = false
+owns_no_zone (vertical e) = true
+owns_no_zone (aftereven g) = true
+owns_no_zone (before g) = true
+owns_no_zone (specialbefore g f e0) = true
 
 -- the squares that an instance owns
-abbrev pub zone_of : Written → List Square
+abbrev pub zone_of : RuleInstance → List Square
 zone_of (claimeven x) = x ∷ above x ∷ []
 zone_of (baseinverse s t) = s ∷ t ∷ []
 zone_of (lowinverse x x_top y y_top) = span x x_top ++ span y y_top
@@ -61,7 +61,7 @@ zone_of (before g) = []
 zone_of (specialbefore g f e0) = []
 
 -- the line of Black's that a rule rests on
-abbrev pub line_of : Written → Option Group
+abbrev pub line_of : RuleInstance → Option Group
 line_of (claimeven x) = None
 line_of (baseinverse s t) = None
 line_of (lowinverse x x_top y y_top) = None
@@ -79,7 +79,7 @@ abbrev pub is_low_column : Square → Square → Bool
 is_low_column bottom top = (bottom.0 == top.0) && is_even bottom.1 && is_even top.1 && nat_le (bottom.1 + 2) top.1
 
 -- the shape needs only the board; of Aftereven and Before it asks nothing
-abbrev pub has_shape : Written → Board → Bool
+abbrev pub has_shape : RuleInstance → Board → Bool
 has_shape (claimeven x) board = is_odd x.1
 has_shape (baseinverse s t) board = nat_lt s.0 t.0
 has_shape (lowinverse x x_top y y_top) board = nat_lt x.0 y.0 && is_low_column x x_top && is_low_column y y_top
@@ -92,7 +92,7 @@ has_shape (specialbefore g f e0) board = lies_on board g && on_board board f && 
 
 -- With the whole zone on the board. A standing rule owns no square: Vertical and Specialbefore ask above for a board that
 -- has their squares and their line; Aftereven and Before ask for it where they fit.
-abbrev pub is_shaped : Written → Board → Bool
+abbrev pub is_shaped : RuleInstance → Board → Bool
 is_shaped w board = list_all (on_board board) (zone_of w) && has_shape w board
 
 -- both bottoms are playable, or both squares just below the bottoms are
@@ -108,7 +108,7 @@ abbrev pub is_low_line : Position → Group → Bool
 is_low_line p g = is_open_line p g && each_of (is_empty p) (λ u. nat_lt u.1 p.rows) (squares_of g)
 
 -- what the position has to offer besides an empty zone
-abbrev pub fits_besides : Written → Position → Bool
+abbrev pub fits_besides : RuleInstance → Position → Bool
 fits_besides (claimeven x) p = true
 fits_besides (baseinverse s t) p = is_playable p s && is_playable p t
 fits_besides (lowinverse x x_top y y_top) p = is_grounded p x y
@@ -120,7 +120,7 @@ fits_besides (before g) p = is_low_line p g
 fits_besides (specialbefore g f e0) p = is_low_line p g && is_playable p f && is_playable p e0
 
 -- the shape, an empty zone, and what the rule asks besides
-abbrev pub fits : Written → Position → Bool
+abbrev pub fits : RuleInstance → Position → Bool
 fits w p = is_shaped w (board_of p) && list_all (is_empty p) (zone_of w) && fits_besides w p
 
 -- ---- Black's reply to White's move `last`, at the position after it
@@ -136,7 +136,7 @@ high_reply u v now last =
 -- Claimeven: the lower square by the upper. Baseinverse: each by the other. Lowinverse: a top by the playable square of
 -- the other column, each other square by the one above it. Highinverse: as above, in the column of White's square.
 -- Baseclaim: a and b by e while e is empty, else by the square above b; e by b; the square above b by a.
-abbrev pub reply_to : Written → Position → Square → Option Square
+abbrev pub reply_to : RuleInstance → Position → Square → Option Square
 reply_to (claimeven x) now last = if same_square last x then Some (above x) else None
 reply_to (baseinverse s t) now last = if same_square last s then Some t else (if same_square last t then Some s else None)
 reply_to (lowinverse x x_top y y_top) now last =
@@ -156,7 +156,7 @@ reply_to (specialbefore g f e0) now last = None
 
 -- the squares of its zone to which a rule names no answer: a Claimeven's upper square, and a Lowinverse's top while the
 -- other column is full
-abbrev pub has_no_answer : Written → Position → Square → Bool
+abbrev pub has_no_answer : RuleInstance → Position → Square → Bool
 has_no_answer (claimeven x) now last = same_square last (above x)
 has_no_answer (baseinverse s t) now last = false
 has_no_answer (lowinverse x x_top y y_top) now last = (same_square last x_top && not (has_room now y.0)) || (same_square last y_top && not (has_room now x.0))
@@ -179,7 +179,7 @@ pub record Facts : Type 0 where
   pub twin : List (Square × Square)
 
 -- what an instance itself gives: the upper square of a Claimeven
-abbrev pub upper_of : Written → List Square
+abbrev pub upper_of : RuleInstance → List Square
 upper_of (claimeven x) = above x ∷ []
 upper_of (baseinverse s t) = []
 upper_of (lowinverse x x_top y y_top) = []
@@ -191,7 +191,7 @@ upper_of (before g) = []
 upper_of (specialbefore g f e0) = []
 
 -- a Lowinverse gives all its squares but the two tops, a Highinverse its two middles
-abbrev pub pair_of : Written → List Square
+abbrev pub pair_of : RuleInstance → List Square
 pair_of (claimeven x) = []
 pair_of (baseinverse s t) = []
 pair_of (lowinverse x x_top y y_top) = span x (under x_top) ++ span y (under y_top)
@@ -203,7 +203,7 @@ pair_of (before g) = []
 pair_of (specialbefore g f e0) = []
 
 -- a Baseinverse gives its two squares as twins
-abbrev pub twin_of : Written → Option (Square × Square)
+abbrev pub twin_of : RuleInstance → Option (Square × Square)
 twin_of (claimeven x) = None
 twin_of (baseinverse s t) = Some (s, t)
 twin_of (lowinverse x x_top y y_top) = None
@@ -219,7 +219,7 @@ as_list None = []
 as_list (Some twin) = twin ∷ []
 
 -- the facts of a list of instances at a position
-abbrev pub facts_of : Position → List Written → Facts
+abbrev pub facts_of : Position → List RuleInstance → Facts
 facts_of p ws = record {
   empty = is_empty p;
   upper = has_square (flat_map upper_of ws);
@@ -234,7 +234,7 @@ abbrev pub some_above : (Square → Bool) → Square → Bool
 some_above set u = list_any (λ i. set (u.0, u.1 + 1 + i)) (below 10)
 
 -- an instance promises that White never owns the whole set, where it holds one of these sets whole
-abbrev pub barred : Written → Facts → (Square → Bool) → Bool
+abbrev pub barred : RuleInstance → Facts → (Square → Bool) → Bool
 barred (claimeven x) facts set = set (above x)
 barred (baseinverse s t) facts set = set s && set t
 barred (lowinverse x x_top y y_top) facts set =
@@ -256,7 +256,7 @@ abbrev pub is_twin : List (Square × Square) → Square → Square → Bool
 is_twin twins u v = list_any (λ twin. (same_square u twin.0 && same_square v twin.1) || (same_square u twin.1 && same_square v twin.0)) twins
 
 -- what a standing rule rests on; a zone rule rests on nothing
-abbrev pub is_supported : Written → Facts → Bool
+abbrev pub is_supported : RuleInstance → Facts → Bool
 is_supported (claimeven x) facts = true
 is_supported (baseinverse s t) facts = true
 is_supported (lowinverse x x_top y y_top) facts = true
@@ -281,7 +281,7 @@ abbrev pub is_over : Square → List Square → Bool
 is_over x us = list_all (λ u. not (x.0 == u.0) || nat_lt u.1 x.1) us
 
 -- the two squares of a Baseinverse lie directly below the two bottoms
-abbrev pub rests_on : Square → Square → Written → Bool
+abbrev pub rests_on : Square → Square → RuleInstance → Bool
 rests_on x y (claimeven z) = false
 rests_on x y (baseinverse s t) = same_square (above s) x && same_square (above t) y
 rests_on x y (lowinverse u u_top v v_top) = false
@@ -294,7 +294,7 @@ rests_on x y (specialbefore g f e0) = false
 
 -- Two zone instances that share a column and no square may stand together only so: a Claimeven above the other zone
 -- in each shared column, or an inverse directly on a Baseinverse of its two columns.
-abbrev pub stands_over : Written → Written → Bool
+abbrev pub stands_over : RuleInstance → RuleInstance → Bool
 stands_over (claimeven x) w = is_over x (zone_of w)
 stands_over (baseinverse s t) w = false
 stands_over (lowinverse x x_top y y_top) w = rests_on x y w
@@ -306,7 +306,7 @@ stands_over (before g) w = false
 stands_over (specialbefore g f e0) w = false
 
 -- one of the two is standing; or they share no square, and either no column or as said above
-abbrev pub together : Written → Written → Bool
+abbrev pub together : RuleInstance → RuleInstance → Bool
 together v w =
-    is_standing v || is_standing w
+    owns_no_zone v || owns_no_zone w
     || (no_shared_square (zone_of v) (zone_of w) && (no_shared_column (zone_of v) (zone_of w) || stands_over v w || stands_over w v))

@@ -5,7 +5,7 @@ use Rattle.std.proofs.lemmas.Bool.{and_parts, and_from, leb-true, le-leb}
 use Rattle.game_rules.specs.Position.{Position, played}
 use Rattle.proof_text.specs.Lemma.{Lemma, Line, ALemma, ARemark, AVerdict}
 use Rattle.proof_text.specs.Right.{Shown, AreRight, IsVerdict}
-use Rattle.proof_text.specs.Checked.{unless, Standing, line_refusal, shown_of, with_line}
+use Rattle.proof_text.specs.Checked.{unless, CheckerState, line_refusal, shown_of, with_line}
 use Rattle.proof_text.specs.Spelling.{lemma_text, verdict_text, VerdictFits, IsLine}
 use Rattle.proof_text.specs.Reading.{read_line}
 use Rattle.proof_text.specs.Texts.{most_lines, longest_line, said_refusal, bytes_refusal, CheckAnswer, Accepted, verdict_answer, with_said, with_bytes, line_answer, check_from, Entry, LemmaEntry, RemarkEntry, entry_text, lemmas_among, EntryFits}
@@ -37,7 +37,7 @@ answer_parts None at later v count h = (refl, h)
 answer_parts (Some why) at later v count h = cc
 
 -- nothing follows a verdict
-ended_lines : (s : Standing) (at : ℕ) (lines : List (List ℕ)) (w v : Verdict) (count : ℕ) → s.verdict ≡ Some w → check_from s at lines ≡ Accepted v count → (lines ≡ []) × (w ≡ v) × (count ≡ length s.known)
+ended_lines : (s : CheckerState) (at : ℕ) (lines : List (List ℕ)) (w v : Verdict) (count : ℕ) → s.verdict ≡ Some w → check_from s at lines ≡ Accepted v count → (lines ≡ []) × (w ≡ v) × (count ≡ length s.known)
 ended_lines s at [] w v count ended h =
     let same : verdict_answer at (length s.known) (Some w) ≡ Accepted v count = sym (ap (verdict_answer at (length s.known)) ended) ∙ h in
     (refl, cc, cc)
@@ -55,10 +55,10 @@ bounds_of : (at : ℕ) (bytes : List ℕ) → (nat_le at most_lines && nat_le (l
 bounds_of at bytes h = let both = and_parts (nat_le at most_lines) (nat_le (length bytes) longest_line) h in (leb-true at most_lines both.0, leb-true (length bytes) longest_line both.1)
 
 -- what stands before the verdict
-abbrev pub going : Position → List Shown → Standing
+abbrev pub going : Position → List Shown → CheckerState
 going root known = record { root = root; known = known; verdict = None }
 
--- one more line in front
+-- one more line at the start
 with_first : (root : Position) (known : List Shown) (at : ℕ) (bytes : List ℕ) (lines : List (List ℕ)) (v : Verdict) (count : ℕ) (line : Line)
     → at ≤ most_lines → length bytes ≤ longest_line → IsLine (length root.columns) bytes line → line_refusal (going root known) line ≡ None → check_from (with_line (going root known) line) (at + 1) lines ≡ Accepted v count
     → ((known : List Shown) → check_from (going root known) (at + 1) lines ≡ Accepted v count → AreAccepted root known (at + 1) lines v count) → AreAccepted root known at (bytes ∷ lines) v count
@@ -125,7 +125,7 @@ accepted_lines root known at (bytes ∷ lines) v count h =
 -- ---- what is right is accepted
 
 -- a right line isn't refused
-none_of_bytes : (s : Standing) (at : ℕ) (bytes : List ℕ) (line : Line) → at ≤ most_lines → length bytes ≤ longest_line → read_line (length s.root.columns) bytes ≡ Some line → line_refusal s line ≡ None → bytes_refusal s at bytes ≡ None
+none_of_bytes : (s : CheckerState) (at : ℕ) (bytes : List ℕ) (line : Line) → at ≤ most_lines → length bytes ≤ longest_line → read_line (length s.root.columns) bytes ≡ Some line → line_refusal s line ≡ None → bytes_refusal s at bytes ≡ None
 none_of_bytes s at bytes line within short read none =
     none_or (unless (nat_le at most_lines && nat_le (length bytes) longest_line) BadLine) (said_refusal s (read_line (length s.root.columns) bytes))
     (passed (nat_le at most_lines && nat_le (length bytes) longest_line) (and_from _ _ (le-leb at most_lines within) (le-leb (length bytes) longest_line short)))
@@ -135,7 +135,7 @@ none_of_bytes s at bytes line within short read none =
     passed b e = rw e refl
 
 -- the answer goes on behind a right line
-past_line : (s : Standing) (at : ℕ) (bytes : List ℕ) (lines : List (List ℕ)) (line : Line) → at ≤ most_lines → length bytes ≤ longest_line → read_line (length s.root.columns) bytes ≡ Some line → line_refusal s line ≡ None
+past_line : (s : CheckerState) (at : ℕ) (bytes : List ℕ) (lines : List (List ℕ)) (line : Line) → at ≤ most_lines → length bytes ≤ longest_line → read_line (length s.root.columns) bytes ≡ Some line → line_refusal s line ≡ None
     → check_from s at (bytes ∷ lines) ≡ check_from (with_line s line) (at + 1) lines
 past_line s at bytes lines line within short read none =
     ap (λ r. line_answer r at (check_from (with_bytes s bytes) (at + 1) lines)) (none_of_bytes s at bytes line within short read none)

@@ -2,32 +2,32 @@
 use Rattle.std.proofs.Common.{◌≡◌, ℕ, ◌+◌, List, [], ◌∷◌, ◌++◌, length, Option, Some, None, Result, Ok, refl, sym, ap, ◌∙◌, subst, arith}
 use Rattle.proof_text.specs.Lemma.{Line, ALemma, ARemark, AVerdict}
 use Rattle.proof_text.specs.Right.{AreRight, IsVerdict}
-use Rattle.proof_text.specs.Checked.{Standing, line_refusal, shown_of, with_line, checked_on, checked, lemmas_in, StandsFor}
+use Rattle.proof_text.specs.Checked.{CheckerState, line_refusal, shown_of, with_line, checked_on, checked, lemmas_in, IsStateAfter}
 use Rattle.proof_text.proofs.Refusals.{line_of_none, right_of_none, verdict_of_none}
 use Rattle.proof_text.proofs.Accepted.{shown_along}
 use Rattle.proof_text.specs.declared.Verdict.{Verdict}
 use Rattle.proof_text.specs.declared.Why.{Why}
 
-checked_parts : (r : Option Why) (at : ℕ) (later : Result Standing (ℕ × Why)) (t : Standing) → checked_on r at later ≡ Ok t → (r ≡ None) × (later ≡ Ok t)
+checked_parts : (r : Option Why) (at : ℕ) (later : Result CheckerState (ℕ × Why)) (t : CheckerState) → checked_on r at later ≡ Ok t → (r ≡ None) × (later ≡ Ok t)
 checked_parts None at later t h = (refl, h)
 checked_parts (Some why) at later t h = cc
 
 -- nothing was accepted behind a verdict
-checked_behind : (s : Standing) (at : ℕ) (lines : List Line) (t : Standing) (v : Verdict) → s.verdict ≡ Some v → checked s at lines ≡ Ok t → (lines ≡ []) × (s ≡ t)
+checked_behind : (s : CheckerState) (at : ℕ) (lines : List Line) (t : CheckerState) (v : Verdict) → s.verdict ≡ Some v → checked s at lines ≡ Ok t → (lines ≡ []) × (s ≡ t)
 checked_behind s at [] t v ended h = (refl, cc)
 checked_behind s at (line ∷ lines) t v ended h =
     let parts = checked_parts (line_refusal s line) at (checked (with_line s line) (at + 1) lines) t h in
     let none = (line_of_none s line parts.0).0 in
     cc (none, ended)
 
-pub checked_right : (s : Standing) (at : ℕ) (lines : List Line) (t : Standing) → s.verdict ≡ None → checked s at lines ≡ Ok t → StandsFor s lines t
+pub checked_right : (s : CheckerState) (at : ℕ) (lines : List Line) (t : CheckerState) → s.verdict ≡ None → checked s at lines ≡ Ok t → IsStateAfter s lines t
 checked_right s at [] t going h =
     let same : s ≡ t = cc in
     record {
-      root = ap (λ (s : Standing). s.root) (sym same);
-      right = ap (λ (s : Standing). s.known) (sym same);
-      verdict = ap (λ (s : Standing). s.verdict) (sym same) ∙ going;
-      verdict_right = λ v some. cc (some, going, ap (λ (s : Standing). s.verdict) same);
+      root = ap (λ (s : CheckerState). s.root) (sym same);
+      right = ap (λ (s : CheckerState). s.known) (sym same);
+      verdict = ap (λ (s : CheckerState). s.verdict) (sym same) ∙ going;
+      verdict_right = λ v some. cc (some, going, ap (λ (s : CheckerState). s.verdict) same);
     }
 checked_right s at (ALemma l ∷ lines) t going h =
     let parts = checked_parts (line_refusal s (ALemma l)) at (checked (with_line s (ALemma l)) (at + 1) lines) t h in
@@ -48,16 +48,16 @@ checked_right s at (AVerdict v ∷ lines) t going h =
     let parts = checked_parts (line_refusal s (AVerdict v)) at (checked (with_line s (AVerdict v)) (at + 1) lines) t h in
     let right : IsVerdict s.root s.known v = verdict_of_none s.root s.known v (line_of_none s (AVerdict v) parts.0).1 in
     let end = checked_behind (with_line s (AVerdict v)) (at + 1) lines t v refl parts.1 in
-    let verdict : t.verdict ≡ Some v = ap (λ (s : Standing). s.verdict) (sym end.1) in
+    let verdict : t.verdict ≡ Some v = ap (λ (s : CheckerState). s.verdict) (sym end.1) in
     record {
-      root = ap (λ (s : Standing). s.root) (sym end.1);
-      right = subst (λ lines. AreRight s.root s.known (lemmas_in lines) t.known) (sym end.0) (ap (λ (s : Standing). s.known) (sym end.1));
+      root = ap (λ (s : CheckerState). s.root) (sym end.1);
+      right = subst (λ lines. AreRight s.root s.known (lemmas_in lines) t.known) (sym end.0) (ap (λ (s : CheckerState). s.known) (sym end.1));
       verdict = verdict;
-      verdict_right = λ w some. subst (λ (t : Standing). IsVerdict t.root t.known w) end.1 (let same : v ≡ w = cc (some, verdict) in subst (IsVerdict s.root s.known) same right);
+      verdict_right = λ w some. subst (λ (t : CheckerState). IsVerdict t.root t.known w) end.1 (let same : v ≡ w = cc (some, verdict) in subst (IsVerdict s.root s.known) same right);
     }
 
 -- lines and further lines
-pub checked_append : (s t : Standing) (at : ℕ) (lines more : List Line) → checked s at lines ≡ Ok t → checked s at (lines ++ more) ≡ checked t (at + length lines) more
+pub checked_append : (s t : CheckerState) (at : ℕ) (lines more : List Line) → checked s at lines ≡ Ok t → checked s at (lines ++ more) ≡ checked t (at + length lines) more
 checked_append s t at [] more h = let same : s ≡ t = cc in ap (λ s. checked s at more) same ∙ ap (λ n. checked t n more) (omega arith)
 checked_append s t at (line ∷ lines) more h =
     let parts = checked_parts (line_refusal s line) at (checked (with_line s line) (at + 1) lines) t h in

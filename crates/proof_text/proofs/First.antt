@@ -10,10 +10,10 @@ use Rattle.game_rules.specs.Position.{Position}
 use Rattle.game_rules.specs.Text.{game_at}
 use Rattle.game_rules.proofs.Prefix.{same_prefix}
 use Rattle.game_rules.specs.declared.InputFault.{InputFault}
-use Rattle.proof_text.specs.Checked.{unless, or_then, Standing}
+use Rattle.proof_text.specs.Checked.{unless, or_then, CheckerState}
 use Rattle.proof_text.specs.Spelling.{as_line}
 use Rattle.proof_text.specs.Reading.{read_line}
-use Rattle.proof_text.specs.Texts.{pieces, lines_in, longest_line, most_lines, game_front, first_number, game_of, whole_game_of, behind_game, said_refusal, bytes_refusal, refusal_at, first_or, first_some, standing, NoGame, Refused, verdict_answer, lines_answer, line_answer, with_bytes, check_from, start, answer_of, game_answer, first_line, pieces_answer, check_of}
+use Rattle.proof_text.specs.Texts.{pieces, lines_in, longest_line, most_lines, game_prefix, first_number, game_of, whole_game_of, behind_game, said_refusal, bytes_refusal, refusal_at, first_or, first_some, state_after, NoGame, Refused, verdict_answer, lines_answer, line_answer, with_bytes, check_from, start, answer_of, game_answer, first_line, pieces_answer, check_of}
 use Rattle.proof_text.proofs.Pieces.{IsFeedless, pieces_some, lines_line, lines_last}
 use Rattle.proof_text.proofs.Fold.{answer_by_lines}
 use Rattle.std.proofs.lemmas.Option.{some_pair_parts}
@@ -79,13 +79,13 @@ first_refused root lines k why within here before = ap (lines_answer root lines)
 
 -- where none does, the verdict decides
 pub none_refused : (root : Position) (lines : List (List ℕ)) → ((i : ℕ) → i < length lines → refusal_at root lines i ≡ None)
-    → answer_of root lines ≡ verdict_answer (length lines + first_number) (length (standing root lines).known) (standing root lines).verdict
+    → answer_of root lines ≡ verdict_answer (length lines + first_number) (length (state_after root lines).known) (state_after root lines).verdict
 none_refused root lines each = ap (lines_answer root lines) (first_none (refusal_at root lines) (length lines) 0 (λ i low high. each i (omega arith)))
 
 -- What is refused is the first line that fails, or the end where no line does and there is no verdict.
 pub refused_first : (root : Position) (lines : List (List ℕ)) (at : ℕ) (why : Why) → answer_of root lines ≡ Refused at why
     → ((k : ℕ) × (k < length lines) × (at ≡ k + first_number) × (refusal_at root lines k ≡ Some why) × ((i : ℕ) → i < k → refusal_at root lines i ≡ None))
-    ⊎ ((at ≡ length lines + first_number) × (why ≡ EndedEarly) × ((standing root lines).verdict ≡ None) × ((i : ℕ) → i < length lines → refusal_at root lines i ≡ None))
+    ⊎ ((at ≡ length lines + first_number) × (why ≡ EndedEarly) × ((state_after root lines).verdict ≡ None) × ((i : ℕ) → i < length lines → refusal_at root lines i ≡ None))
 refused_first root lines at why h = of_first (first_some (refusal_at root lines) (below (length lines))) refl h
   where
     ended : (verdict : Option Verdict) (next lemmas : ℕ) → verdict_answer next lemmas verdict ≡ Refused at why → (verdict ≡ None) × (at ≡ next) × (why ≡ EndedEarly)
@@ -94,20 +94,20 @@ refused_first root lines at why h = of_first (first_some (refusal_at root lines)
 
     of_first : (found : Option (ℕ × Why)) → first_some (refusal_at root lines) (below (length lines)) ≡ found → lines_answer root lines found ≡ Refused at why
         → ((k : ℕ) × (k < length lines) × (at ≡ k + first_number) × (refusal_at root lines k ≡ Some why) × ((i : ℕ) → i < k → refusal_at root lines i ≡ None))
-        ⊎ ((at ≡ length lines + first_number) × (why ≡ EndedEarly) × ((standing root lines).verdict ≡ None) × ((i : ℕ) → i < length lines → refusal_at root lines i ≡ None))
+        ⊎ ((at ≡ length lines + first_number) × (why ≡ EndedEarly) × ((state_after root lines).verdict ≡ None) × ((i : ℕ) → i < length lines → refusal_at root lines i ≡ None))
     of_first (Some (k, found)) e h =
         let given = first_given (refusal_at root lines) (length lines) 0 k found e in
         let place : k + first_number ≡ at = cc in
         let name : found ≡ why = cc in
         inl (k, omega (arith, given.1), sym place, given.2 ∙ ap Some name, λ i high. given.3 i (omega arith) high)
     of_first None e h =
-        let end = ended (standing root lines).verdict (length lines + first_number) (length (standing root lines).known) h in
+        let end = ended (state_after root lines).verdict (length lines + first_number) (length (state_after root lines).known) h in
         inr (end.1, end.2, end.0, λ i high. none_given (refusal_at root lines) (length lines) 0 e i (omega arith) (omega arith))
 
 -- ---- line by line
 
 -- a line that is too long or stands too far down is none
-pub out_of_bounds : (s : Standing) (at : ℕ) (bytes : List ℕ) → (most_lines < at) ⊎ (longest_line < length bytes) → bytes_refusal s at bytes ≡ Some BadLine
+pub out_of_bounds : (s : CheckerState) (at : ℕ) (bytes : List ℕ) → (most_lines < at) ⊎ (longest_line < length bytes) → bytes_refusal s at bytes ≡ Some BadLine
 out_of_bounds s at bytes h = failed (nat_le at most_lines && nat_le (length bytes) longest_line) (past h)
   where
     past : (most_lines < at) ⊎ (longest_line < length bytes) → (nat_le at most_lines && nat_le (length bytes) longest_line) ≡ false
@@ -118,7 +118,7 @@ out_of_bounds s at bytes h = failed (nat_le at most_lines && nat_le (length byte
     failed b e = rw e refl
 
 -- what is no line is refused so
-pub unread : (s : Standing) (at : ℕ) (bytes : List ℕ) → read_line (length s.root.columns) bytes ≡ None → bytes_refusal s at bytes ≡ Some BadLine
+pub unread : (s : CheckerState) (at : ℕ) (bytes : List ℕ) → read_line (length s.root.columns) bytes ≡ None → bytes_refusal s at bytes ≡ Some BadLine
 unread s at bytes h = rw h (either (nat_le at most_lines && nat_le (length bytes) longest_line))
   where
     either : (b : Bool) → or_then (unless b BadLine) (Some BadLine) ≡ Some BadLine
@@ -126,65 +126,65 @@ unread s at bytes h = rw h (either (nat_le at most_lines && nat_le (length bytes
     either false = refl
 
 -- a text goes on with its first line
-pub check_line : (s : Standing) (at : ℕ) (line rest : List ℕ) → IsFeedless line
+pub check_line : (s : CheckerState) (at : ℕ) (line rest : List ℕ) → IsFeedless line
     → check_from s at (lines_in (pieces (line ++ 10 ∷ rest))) ≡ line_answer (bytes_refusal s at line) at (check_from (with_bytes s line) (at + 1) (lines_in (pieces rest)))
 check_line s at line rest h = ap (check_from s at) (lines_line line rest h)
 
 -- or ends with it
-pub check_last : (s : Standing) (at : ℕ) (byte : ℕ) (line : List ℕ) → IsFeedless (byte ∷ line)
+pub check_last : (s : CheckerState) (at : ℕ) (byte : ℕ) (line : List ℕ) → IsFeedless (byte ∷ line)
     → check_from s at (lines_in (pieces (byte ∷ line))) ≡ line_answer (bytes_refusal s at (byte ∷ line)) at (check_from (with_bytes s (byte ∷ line)) (at + 1) [])
 check_last s at byte line h = ap (check_from s at) (lines_last byte line h)
 
 -- ---- long lines of a game
 
--- where the first line is long, its front decides
-pub long_board : (board : List ℕ) (more : List (List ℕ)) → game_front ≤ length board → game_at (game_of (board ∷ more)) ≡ game_at (take game_front board)
+-- where the first line is long, its prefix decides
+pub long_board : (board : List ℕ) (more : List (List ℕ)) → game_prefix ≤ length board → game_at (game_of (board ∷ more)) ≡ game_at (take game_prefix board)
 long_board board [] h = refl
-long_board board (moves ∷ []) h = same_prefix (take game_front board) (10 ∷ take game_front moves) (omega (arith, length-take-le game_front board h))
-long_board board (moves ∷ next ∷ more) h = same_prefix (take game_front board) (10 ∷ as_line (take game_front moves)) (omega (arith, length-take-le game_front board h))
+long_board board (moves ∷ []) h = same_prefix (take game_prefix board) (10 ∷ take game_prefix moves) (omega (arith, length-take-le game_prefix board h))
+long_board board (moves ∷ next ∷ more) h = same_prefix (take game_prefix board) (10 ∷ as_line (take game_prefix moves)) (omega (arith, length-take-le game_prefix board h))
 
--- and where the second is, the first and its front
-pub long_moves : (board moves : List ℕ) (more : List (List ℕ)) → game_front ≤ length moves → game_at (game_of (board ∷ moves ∷ more)) ≡ game_at (take game_front board ++ 10 ∷ take game_front moves)
+-- and where the second is, the first and its prefix
+pub long_moves : (board moves : List ℕ) (more : List (List ℕ)) → game_prefix ≤ length moves → game_at (game_of (board ∷ moves ∷ more)) ≡ game_at (take game_prefix board ++ 10 ∷ take game_prefix moves)
 long_moves board moves [] h = refl
 long_moves board moves (next ∷ more) h =
-    ap game_at (sym (append_assoc (take game_front board) (10 ∷ take game_front moves) (10 ∷ [])))
-    ∙ same_prefix (take game_front board ++ 10 ∷ take game_front moves) (10 ∷ []) (omega (arith, length-append (take game_front board) (10 ∷ take game_front moves), length-take-le game_front moves h))
+    ap game_at (sym (append_assoc (take game_prefix board) (10 ∷ take game_prefix moves) (10 ∷ [])))
+    ∙ same_prefix (take game_prefix board ++ 10 ∷ take game_prefix moves) (10 ∷ []) (omega (arith, length-append (take game_prefix board) (10 ∷ take game_prefix moves), length-take-le game_prefix moves h))
 
--- a text whose front is long enough is read as its front
-front_decides : (line rest also : List ℕ) → game_front ≤ length line → game_at (take game_front line ++ rest) ≡ game_at (line ++ also)
-front_decides line rest also h =
-    let long : 120 ≤ length (take game_front line) = omega (arith, length-take-le game_front line h) in
-    same_prefix (take game_front line) rest long
-    ∙ sym (ap (λ whole. game_at (whole ++ also)) (sym (take-append-drop game_front line)) ∙ ap game_at (append_assoc (take game_front line) (drop game_front line) also)
-    ∙ same_prefix (take game_front line) (drop game_front line ++ also) long)
+-- a text whose prefix is long enough is read as its prefix
+prefix_decides : (line rest also : List ℕ) → game_prefix ≤ length line → game_at (take game_prefix line ++ rest) ≡ game_at (line ++ also)
+prefix_decides line rest also h =
+    let long : 120 ≤ length (take game_prefix line) = omega (arith, length-take-le game_prefix line h) in
+    same_prefix (take game_prefix line) rest long
+    ∙ sym (ap (λ whole. game_at (whole ++ also)) (sym (take-append-drop game_prefix line)) ∙ ap game_at (append_assoc (take game_prefix line) (drop game_prefix line) also)
+    ∙ same_prefix (take game_prefix line) (drop game_prefix line ++ also) long)
 
-moves_decide : (board moves rest also : List ℕ) → game_front ≤ length moves → game_at (board ++ 10 ∷ (take game_front moves ++ rest)) ≡ game_at (board ++ 10 ∷ (moves ++ also))
+moves_decide : (board moves rest also : List ℕ) → game_prefix ≤ length moves → game_at (board ++ 10 ∷ (take game_prefix moves ++ rest)) ≡ game_at (board ++ 10 ∷ (moves ++ also))
 moves_decide board moves rest also h =
-    let front = board ++ 10 ∷ take game_front moves in
-    let long : 120 ≤ length front = omega (arith, length-append board (10 ∷ take game_front moves), length-take-le game_front moves h) in
-    ap game_at (sym (append_assoc board (10 ∷ take game_front moves) rest)) ∙ same_prefix front rest long
-    ∙ sym (ap (λ whole. game_at (board ++ 10 ∷ (whole ++ also))) (sym (take-append-drop game_front moves))
-    ∙ ap (λ text. game_at (board ++ 10 ∷ text)) (append_assoc (take game_front moves) (drop game_front moves) also)
-    ∙ ap game_at (sym (append_assoc board (10 ∷ take game_front moves) (drop game_front moves ++ also))) ∙ same_prefix front (drop game_front moves ++ also) long)
+    let prefix = board ++ 10 ∷ take game_prefix moves in
+    let long : 120 ≤ length prefix = omega (arith, length-append board (10 ∷ take game_prefix moves), length-take-le game_prefix moves h) in
+    ap game_at (sym (append_assoc board (10 ∷ take game_prefix moves) rest)) ∙ same_prefix prefix rest long
+    ∙ sym (ap (λ whole. game_at (board ++ 10 ∷ (whole ++ also))) (sym (take-append-drop game_prefix moves))
+    ∙ ap (λ text. game_at (board ++ 10 ∷ text)) (append_assoc (take game_prefix moves) (drop game_prefix moves) also)
+    ∙ ap game_at (sym (append_assoc board (10 ∷ take game_prefix moves) (drop game_prefix moves ++ also))) ∙ same_prefix prefix (drop game_prefix moves ++ also) long)
 
--- Looking at the fronts of the two lines alone changes neither whether they are a game nor their fault.
-pub fronts_decide : (ps : List (List ℕ)) → game_at (game_of ps) ≡ game_at (whole_game_of ps)
-fronts_decide [] = refl
-fronts_decide (board ∷ []) = elim (cases_lt (length board) game_front) [
-  | inl short ↦ ap game_at (take_all game_front board (omega arith))
-  | inr long ↦ ap game_at (sym (append-nil (take game_front board))) ∙ front_decides board [] [] long ∙ ap game_at (append-nil board)
+-- Looking at the prefixes of the two lines alone changes neither whether they are a game nor their fault.
+pub prefixes_decide : (ps : List (List ℕ)) → game_at (game_of ps) ≡ game_at (whole_game_of ps)
+prefixes_decide [] = refl
+prefixes_decide (board ∷ []) = elim (cases_lt (length board) game_prefix) [
+  | inl short ↦ ap game_at (take_all game_prefix board (omega arith))
+  | inr long ↦ ap game_at (sym (append-nil (take game_prefix board))) ∙ prefix_decides board [] [] long ∙ ap game_at (append-nil board)
 ]
-fronts_decide (board ∷ moves ∷ []) = elim (cases_lt (length board) game_front) [
-  | inr long ↦ front_decides board (10 ∷ take game_front moves) (10 ∷ moves) long
-  | inl short ↦ ap (λ board. game_at (board ++ 10 ∷ take game_front moves)) (take_all game_front board (omega arith)) ∙ elim (cases_lt (length moves) game_front) [
-    | inl both ↦ ap (λ moves. game_at (board ++ 10 ∷ moves)) (take_all game_front moves (omega arith))
-    | inr long ↦ ap (λ text. game_at (board ++ 10 ∷ text)) (sym (append-nil (take game_front moves))) ∙ moves_decide board moves [] [] long ∙ ap (λ text. game_at (board ++ 10 ∷ text)) (append-nil moves)
+prefixes_decide (board ∷ moves ∷ []) = elim (cases_lt (length board) game_prefix) [
+  | inr long ↦ prefix_decides board (10 ∷ take game_prefix moves) (10 ∷ moves) long
+  | inl short ↦ ap (λ board. game_at (board ++ 10 ∷ take game_prefix moves)) (take_all game_prefix board (omega arith)) ∙ elim (cases_lt (length moves) game_prefix) [
+    | inl both ↦ ap (λ moves. game_at (board ++ 10 ∷ moves)) (take_all game_prefix moves (omega arith))
+    | inr long ↦ ap (λ text. game_at (board ++ 10 ∷ text)) (sym (append-nil (take game_prefix moves))) ∙ moves_decide board moves [] [] long ∙ ap (λ text. game_at (board ++ 10 ∷ text)) (append-nil moves)
   ]
 ]
-fronts_decide (board ∷ moves ∷ next ∷ more) = elim (cases_lt (length board) game_front) [
-  | inr long ↦ front_decides board (10 ∷ as_line (take game_front moves)) (10 ∷ as_line moves) long
-  | inl short ↦ ap (λ board. game_at (board ++ 10 ∷ as_line (take game_front moves))) (take_all game_front board (omega arith)) ∙ elim (cases_lt (length moves) game_front) [
-    | inl both ↦ ap (λ moves. game_at (board ++ 10 ∷ as_line moves)) (take_all game_front moves (omega arith))
+prefixes_decide (board ∷ moves ∷ next ∷ more) = elim (cases_lt (length board) game_prefix) [
+  | inr long ↦ prefix_decides board (10 ∷ as_line (take game_prefix moves)) (10 ∷ as_line moves) long
+  | inl short ↦ ap (λ board. game_at (board ++ 10 ∷ as_line (take game_prefix moves))) (take_all game_prefix board (omega arith)) ∙ elim (cases_lt (length moves) game_prefix) [
+    | inl both ↦ ap (λ moves. game_at (board ++ 10 ∷ as_line moves)) (take_all game_prefix moves (omega arith))
     | inr long ↦ moves_decide board moves (10 ∷ []) (10 ∷ []) long
   ]
 ]
@@ -219,7 +219,7 @@ only_no_game bytes fault h = let some = pieces_some bytes in of_pieces some.0 so
 
     not_lines : (root : Position) (lines : List (List ℕ)) (found : Option (ℕ × Why)) → lines_answer root lines found ≡ NoGame fault → ⊥
     not_lines root lines (Some (k, why)) h = cc
-    not_lines root lines None h = not_ended (standing root lines).verdict (length lines + first_number) (length (standing root lines).known) h
+    not_lines root lines None h = not_ended (state_after root lines).verdict (length lines + first_number) (length (state_after root lines).known) h
 
     of_game : (r : Result Position InputFault) (lines : List (List ℕ)) → game_answer r lines ≡ NoGame fault → r ≡ Err fault
     of_game (Err other) lines h = let same : other ≡ fault = cc in ap Err same

@@ -130,7 +130,7 @@ right_verdict_fits root known Unknown few h = tt
 
 -- ---- how long a line is
 
--- the bytes of further words, each with a space in front
+-- the bytes of further words, each with a space before it
 abbrev further : List (List ℕ) → ℕ
 further [] = 0
 further (word ∷ words) = 1 + (length word + further words)

@@ -7,9 +7,9 @@ use Rattle.std.proofs.Math.Seq.{take-append_seam}
 use Rattle.game_rules.specs.Position.{Position}
 use Rattle.proof_text.specs.Lemma.{Line, ALemma, ARemark, AVerdict}
 use Rattle.proof_text.specs.Right.{Shown}
-use Rattle.proof_text.specs.Checked.{first_verdict, unless, Standing, line_refusal, shown_of, with_line}
+use Rattle.proof_text.specs.Checked.{first_verdict, unless, CheckerState, line_refusal, shown_of, with_line}
 use Rattle.proof_text.specs.Reading.{read_line}
-use Rattle.proof_text.specs.Texts.{most_lines, longest_line, first_number, shown_by, standing, said_refusal, bytes_refusal, refusal_at, first_or, first_some, verdict_answer, lines_answer, with_said, with_bytes, line_answer, check_from, start, answer_of}
+use Rattle.proof_text.specs.Texts.{most_lines, longest_line, first_number, shown_by, state_after, said_refusal, bytes_refusal, refusal_at, first_or, first_some, verdict_answer, lines_answer, with_said, with_bytes, line_answer, check_from, start, answer_of}
 use Rattle.proof_text.proofs.Refusals.{or_none, line_of_none}
 use Rattle.proof_text.specs.declared.Verdict.{Verdict}
 use Rattle.proof_text.specs.declared.Why.{Why}
@@ -29,7 +29,7 @@ verdict_push (ALemma l ∷ said) line h = verdict_push said line h
 verdict_push (ARemark ∷ said) line h = verdict_push said line h
 verdict_push (AVerdict v ∷ said) line h = cc
 
-abbrev stand : Position → List Shown → Option Verdict → Standing
+abbrev stand : Position → List Shown → Option Verdict → CheckerState
 stand root known verdict = record { root = root; known = known; verdict = verdict }
 
 -- a line that is said, behind no verdict
@@ -45,7 +45,7 @@ said_push root said line h =
     of_line (AVerdict v) = ap (λ known. stand root known (Some v)) (append-nil (shown_by root said))
 
 -- a line that isn't refused is one, within the bounds, and stands behind no verdict
-pub bytes_of_none : (s : Standing) (at : ℕ) (bytes : List ℕ) → bytes_refusal s at bytes ≡ None
+pub bytes_of_none : (s : CheckerState) (at : ℕ) (bytes : List ℕ) → bytes_refusal s at bytes ≡ None
     → (line : Line) × (read_line (length s.root.columns) bytes ≡ Some line) × (line_refusal s line ≡ None) × ((nat_le at most_lines && nat_le (length bytes) longest_line) ≡ true)
 bytes_of_none s at bytes h =
     let both = or_none (unless (nat_le at most_lines && nat_le (length bytes) longest_line) BadLine) (said_refusal s (read_line (length s.root.columns) bytes)) h in
@@ -60,15 +60,15 @@ bytes_of_none s at bytes h =
     said None e h bounds = cc
     said (Some line) e h bounds = (line, e, h, bounds)
 
-standing_push : (root : Position) (before : List (List ℕ)) (at : ℕ) (bytes : List ℕ) → bytes_refusal (standing root before) at bytes ≡ None → standing root (before ++ bytes ∷ []) ≡ with_bytes (standing root before) bytes
-standing_push root before at bytes h =
-    let found = bytes_of_none (standing root before) at bytes h in
+state_after_push : (root : Position) (before : List (List ℕ)) (at : ℕ) (bytes : List ℕ) → bytes_refusal (state_after root before) at bytes ≡ None → state_after root (before ++ bytes ∷ []) ≡ with_bytes (state_after root before) bytes
+state_after_push root before at bytes h =
+    let found = bytes_of_none (state_after root before) at bytes h in
     let cols = length root.columns in
     let said = filter_map (read_line cols) before in
     let more : filter_map (read_line cols) (before ++ bytes ∷ []) ≡ said ++ found.0 ∷ [] = filter_map-append (read_line cols) before (bytes ∷ []) ∙ ap (λ more. said ++ more) (one (read_line cols bytes) found.0 found.1) in
     ap (λ said. stand root (shown_by root said) (first_verdict said)) more
-    ∙ said_push root said found.0 (line_of_none (standing root before) found.0 found.2).0
-    ∙ ap (with_said (standing root before)) (sym found.1)
+    ∙ said_push root said found.0 (line_of_none (state_after root before) found.0 found.2).0
+    ∙ ap (with_said (state_after root before)) (sym found.1)
   where
     one : (read : Option Line) (line : Line) → read ≡ Some line → filter_map (λ (bytes : List ℕ). read) (bytes ∷ []) ≡ line ∷ []
     one read line e = rw e refl
@@ -80,32 +80,32 @@ index_seam [] line rest = refl
 index_seam (first ∷ before) line rest = index_seam before line rest
 
 fold_from : (root : Position) (rest before : List (List ℕ))
-    → lines_answer root (before ++ rest) (first_some (refusal_at root (before ++ rest)) (range_with_len (length before) (length rest))) ≡ check_from (standing root before) (length before + first_number) rest
-fold_from root [] before = ap (λ lines. verdict_answer (length lines + first_number) (length (standing root lines).known) (standing root lines).verdict) (append-nil before)
-fold_from root (line ∷ rest) before = of_refusal (bytes_refusal (standing root before) (length before + first_number) line) refl (fold_from root rest (before ++ line ∷ []))
+    → lines_answer root (before ++ rest) (first_some (refusal_at root (before ++ rest)) (range_with_len (length before) (length rest))) ≡ check_from (state_after root before) (length before + first_number) rest
+fold_from root [] before = ap (λ lines. verdict_answer (length lines + first_number) (length (state_after root lines).known) (state_after root lines).verdict) (append-nil before)
+fold_from root (line ∷ rest) before = of_refusal (bytes_refusal (state_after root before) (length before + first_number) line) refl (fold_from root rest (before ++ line ∷ []))
   where
     whole : List (List ℕ)
     whole = before ++ line ∷ rest
 
-    here : refusal_at root (before ++ line ∷ rest) (length before) ≡ bytes_refusal (standing root before) (length before + first_number) line
-    here = ap (λ front. bytes_refusal (standing root front) (length before + first_number) (slice_index_or (before ++ line ∷ rest) (length before) [])) (take-append_seam before (line ∷ rest))
-        ∙ ap (bytes_refusal (standing root before) (length before + first_number)) (index_seam before line rest)
+    here : refusal_at root (before ++ line ∷ rest) (length before) ≡ bytes_refusal (state_after root before) (length before + first_number) line
+    here = ap (λ prefix. bytes_refusal (state_after root prefix) (length before + first_number) (slice_index_or (before ++ line ∷ rest) (length before) [])) (take-append_seam before (line ∷ rest))
+        ∙ ap (bytes_refusal (state_after root before) (length before + first_number)) (index_seam before line rest)
 
     longer : length (before ++ line ∷ []) ≡ length before + 1
     longer = length-append before (line ∷ [])
 
-    of_refusal : (r : Option Why) → bytes_refusal (standing root before) (length before + first_number) line ≡ r
+    of_refusal : (r : Option Why) → bytes_refusal (state_after root before) (length before + first_number) line ≡ r
         → lines_answer root ((before ++ line ∷ []) ++ rest) (first_some (refusal_at root ((before ++ line ∷ []) ++ rest)) (range_with_len (length (before ++ line ∷ [])) (length rest)))
-        ≡ check_from (standing root (before ++ line ∷ [])) (length (before ++ line ∷ []) + first_number) rest
+        ≡ check_from (state_after root (before ++ line ∷ [])) (length (before ++ line ∷ []) + first_number) rest
         → lines_answer root (before ++ line ∷ rest) (first_or (refusal_at root (before ++ line ∷ rest) (length before)) (length before) (first_some (refusal_at root (before ++ line ∷ rest)) (range_with_len (length before + 1) (length rest))))
-        ≡ line_answer (bytes_refusal (standing root before) (length before + first_number) line) (length before + first_number) (check_from (with_bytes (standing root before) line) (length before + first_number + 1) rest)
+        ≡ line_answer (bytes_refusal (state_after root before) (length before + first_number) line) (length before + first_number) (check_from (with_bytes (state_after root before) line) (length before + first_number + 1) rest)
     of_refusal (Some why) e later = rw (here, e) refl
     of_refusal None e later = rw (here, e) (
         ap (λ lines. lines_answer root lines (first_some (refusal_at root lines) (range_with_len (length before + 1) (length rest)))) (sym (append_assoc before (line ∷ []) rest))
         ∙ ap (λ n. lines_answer root ((before ++ line ∷ []) ++ rest) (first_some (refusal_at root ((before ++ line ∷ []) ++ rest)) (range_with_len n (length rest)))) (sym longer)
         ∙ later
-        ∙ ap (λ s. check_from s (length (before ++ line ∷ []) + first_number) rest) (standing_push root before (length before + first_number) line e)
-        ∙ ap (λ n. check_from (with_bytes (standing root before) line) n rest) (omega (arith, longer)))
+        ∙ ap (λ s. check_from s (length (before ++ line ∷ []) + first_number) rest) (state_after_push root before (length before + first_number) line e)
+        ∙ ap (λ n. check_from (with_bytes (state_after root before) line) n rest) (omega (arith, longer)))
 
 -- the answer to the lines behind a game is that of going through them
 pub answer_by_lines : (root : Position) (lines : List (List ℕ)) → answer_of root lines ≡ check_from (start root) first_number lines

@@ -61,7 +61,7 @@ pieces_some bytes = some (pieces bytes) refl
     some [] e = absurd (none bytes e)
     some (first ∷ more) e = (first, more, e)
 
--- the pieces tell the text
+-- the pieces determine the text
 pub joined : (bytes : List ℕ) → join_with_byte 10 (pieces bytes) ≡ bytes
 joined bytes = join_with_byte-slice_split 10 bytes
 

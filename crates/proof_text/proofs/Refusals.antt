@@ -10,7 +10,7 @@ use Rattle.game_rules.proofs.Moves.{same_position_Decides}
 use Rattle.game_rules.specs.declared.End.{End}
 use Rattle.proof_text.specs.Lemma.{same_claim, claim_of_end, Cite, Reason, ByEnd, ByOne, ByAll, Lemma, Line}
 use Rattle.proof_text.specs.Right.{Shown, lemma_at, goes_by_one, IsCited, HasReason, IsRight, IsVerdict}
-use Rattle.proof_text.specs.Checked.{unless, or_then, end_refusal, shown_refusal, cite_refusal, cites_refusal, move_refusal, reason_refusal, path_refusal, lemma_refusal, is_shown, verdict_stands, Standing, content_refusal, line_refusal}
+use Rattle.proof_text.specs.Checked.{unless, or_then, end_refusal, shown_refusal, cite_refusal, cites_refusal, move_refusal, reason_refusal, path_refusal, lemma_refusal, is_shown, verdict_stands, CheckerState, content_refusal, line_refusal}
 use Rattle.proof_text.specs.declared.Claim.{Claim}
 use Rattle.proof_text.specs.declared.Claim.TheVariants.{WhiteWins, WhiteFails, BlackWins, BlackFails}
 use Rattle.proof_text.specs.declared.Verdict.{Verdict}
@@ -187,10 +187,10 @@ no_verdict None h = refl
 no_verdict (Some v) h = cc
 
 -- a line that isn't refused stands behind no verdict
-pub line_of_none : (s : Standing) (line : Line) → line_refusal s line ≡ None → (s.verdict ≡ None) × (content_refusal s line ≡ None)
+pub line_of_none : (s : CheckerState) (line : Line) → line_refusal s line ≡ None → (s.verdict ≡ None) × (content_refusal s line ≡ None)
 line_of_none s line h =
     let both = or_none (unless (is_none s.verdict) BadLine) (content_refusal s line) h in
     (no_verdict s.verdict (unless_none (is_none s.verdict) BadLine both.0), both.1)
 
-pub none_of_line : (s : Standing) (line : Line) → s.verdict ≡ None → content_refusal s line ≡ None → line_refusal s line ≡ None
+pub none_of_line : (s : CheckerState) (line : Line) → s.verdict ≡ None → content_refusal s line ≡ None → line_refusal s line ≡ None
 none_of_line s line going content = none_or (unless (is_none s.verdict) BadLine) (content_refusal s line) (none_unless (is_none s.verdict) BadLine (rw going refl)) content

@@ -83,7 +83,7 @@ no_space : (word : List ℕ) → IsPlain word → All (λ byte. (byte == 32) ≡
 no_space [] h = All-nil (λ (byte : ℕ). (byte == 32) ≡ false)
 no_space (byte ∷ word) h = All-cons (λ (byte : ℕ). (byte == 32) ≡ false) byte word (ne_eqb byte 32 (λ (e : byte ≡ 32). omega arith)) (no_space word h.1)
 
--- words are told by their row
+-- words are determined by their row
 pub words_of_spaced : (word : List ℕ) (words : List (List ℕ)) → AllByRecursion IsPlain (word ∷ words) → words_of (spaced (word ∷ words)) ≡ word ∷ words
 words_of_spaced word [] h = slice_split_none (λ byte. byte == 32) word (no_space word h.0)
 words_of_spaced word (next ∷ words) h =

@@ -18,7 +18,7 @@ use Rattle.game_rules.specs.declared.InputFault.{InputFault}
 use Rattle.proof_text.specs.Lemma.{Lemma, ALemma, ARemark, AVerdict}
 use Rattle.proof_text.specs.Right.{Shown, AreRight}
 use Rattle.proof_text.specs.Spelling.{lemma_text, verdict_text, as_line, VerdictFits}
-use Rattle.proof_text.specs.Texts.{pieces, last_line, lines_in, game_front, first_number, game_of, behind_game, Refused, Accepted, answer_of, game_answer, first_line, pieces_answer, check_of, Entry, LemmaEntry, RemarkEntry, entry_text, entry_lines, lemmas_among, EntryFits, head_of, IsRightText, start, check_from}
+use Rattle.proof_text.specs.Texts.{pieces, last_line, lines_in, game_prefix, first_number, game_of, behind_game, Refused, Accepted, answer_of, game_answer, first_line, pieces_answer, check_of, Entry, LemmaEntry, RemarkEntry, entry_text, entry_lines, lemmas_among, EntryFits, head_of, IsRightText, start, check_from}
 use Rattle.proof_text.proofs.Append.{all_append, all_each, length_shown}
 use Rattle.proof_text.proofs.Spelled.{plain_decimal, plain_moves, line_bytes}
 use Rattle.proof_text.proofs.Pieces.{IsFeedless, feedless_high, pieces_line, pieces_last, pieces_feedless, pieces_some, joined, cut_lines, lines_append, joined_lines}
@@ -73,16 +73,16 @@ feedless_moves columns =
     (all_each (λ byte. 43 ≤ byte) (λ byte. 32 ≤ byte) (move_list columns) (λ byte low. omega arith) (plain_moves columns)))
 
 -- the two lines that a game was read from are its lines, whole
-lines_of_game : (first second : List ℕ) (root : Position) → IsFeedless first → IsFeedless second → game_at (take game_front first ++ 10 ∷ as_line (take game_front second)) ≡ Ok root
+lines_of_game : (first second : List ℕ) (root : Position) → IsFeedless first → IsFeedless second → game_at (take game_prefix first ++ 10 ∷ as_line (take game_prefix second)) ≡ Ok root
     → (board : Board) × (columns : List ℕ) × (is_board board ≡ true) × (played (empty_position board) columns ≡ Some root) × (first ≡ board_line board) × (second ≡ moves_line columns)
 lines_of_game first second root one two h =
-    let text = take game_front first ++ 10 ∷ as_line (take game_front second) in
+    let text = take game_prefix first ++ 10 ∷ as_line (take game_prefix second) in
     let short : length text ≤ 119 = game_short text root h in
-    let size : length text ≡ length (take game_front first) + length (10 ∷ as_line (take game_front second)) = length-append (take game_front first) (10 ∷ as_line (take game_front second)) in
-    let more : length (as_line (take game_front second)) ≡ length (take game_front second) + 1 = length-append (take game_front second) (10 ∷ []) in
-    let first_short : length first ≤ game_front = omega (arith, length-take game_front first) in
-    let second_short : length second ≤ game_front = omega (arith, length-take game_front second) in
-    let whole : text ≡ first ++ 10 ∷ as_line second = ap (λ bytes. bytes ++ 10 ∷ as_line (take game_front second)) (take_all game_front first first_short) ∙ ap (λ bytes. first ++ 10 ∷ as_line bytes) (take_all game_front second second_short) in
+    let size : length text ≡ length (take game_prefix first) + length (10 ∷ as_line (take game_prefix second)) = length-append (take game_prefix first) (10 ∷ as_line (take game_prefix second)) in
+    let more : length (as_line (take game_prefix second)) ≡ length (take game_prefix second) + 1 = length-append (take game_prefix second) (10 ∷ []) in
+    let first_short : length first ≤ game_prefix = omega (arith, length-take game_prefix first) in
+    let second_short : length second ≤ game_prefix = omega (arith, length-take game_prefix second) in
+    let whole : text ≡ first ++ 10 ∷ as_line second = ap (λ bytes. bytes ++ 10 ∷ as_line (take game_prefix second)) (take_all game_prefix first first_short) ∙ ap (λ bytes. first ++ 10 ∷ as_line bytes) (take_all game_prefix second second_short) in
     let game = read_in_grammar text root h in
     let spelled : first ++ 10 ∷ as_line second ≡ game_text game.board game.columns game.ended = sym whole ∙ game.spelled in
     let cut : pieces (first ++ 10 ∷ as_line second) ≡ first ∷ second ∷ [] ∷ [] = pieces_line first (as_line second) one ∙ ap (λ more. first ∷ more) (pieces_line second [] two) in
@@ -107,9 +107,9 @@ game_of_lines board columns root next more has_board has_moves =
     let short : length text ≤ 119 = game_short text root read in
     let size : length text ≡ length (board_line board) + suc (length (moves_line columns ++ 10 ∷ [])) = length-append (board_line board) (10 ∷ (moves_line columns ++ 10 ∷ [])) in
     let rest : length (moves_line columns ++ 10 ∷ []) ≡ length (moves_line columns) + 1 = length-append (moves_line columns) (10 ∷ []) in
-    let first : take game_front (board_line board) ≡ board_line board = take_all game_front (board_line board) (omega arith) in
-    let second : take game_front (moves_line columns) ≡ moves_line columns = take_all game_front (moves_line columns) (omega arith) in
-    ap game_at (ap (λ bytes. bytes ++ 10 ∷ as_line (take game_front (moves_line columns))) first ∙ ap (λ bytes. board_line board ++ 10 ∷ as_line bytes) second) ∙ read
+    let first : take game_prefix (board_line board) ≡ board_line board = take_all game_prefix (board_line board) (omega arith) in
+    let second : take game_prefix (moves_line columns) ≡ moves_line columns = take_all game_prefix (moves_line columns) (omega arith) in
+    ap game_at (ap (λ bytes. bytes ++ 10 ∷ as_line (take game_prefix (moves_line columns))) first ∙ ap (λ bytes. board_line board ++ 10 ∷ as_line bytes) second) ∙ read
 
 pub cols_of_root : (board : Board) (columns : List ℕ) (root : Position) → played (empty_position board) columns ≡ Some root → length root.columns ≡ board.cols
 cols_of_root board columns root h = ap (λ (b : Board). b.cols) (board_along columns (empty_position board) root h) ∙ length-replicate board.cols []
@@ -169,7 +169,7 @@ whole_accepted bytes v count h =
           few = lines.few;
           spelled = sym (joined bytes) ∙ ap (join_with_byte 10) cut
               ∙ whole (board_line read.0) (moves_line read.1) (join_with_byte 10 (next ∷ more)) (entry_lines lines.entries ++ (verdict_text v ++ last_feed text.0)) read.4 read.5
-              (text.1 ∙ ap (λ front. front ++ (verdict_text v ++ last_feed text.0)) (entry_lines_map lines.entries));
+              (text.1 ∙ ap (λ prefix. prefix ++ (verdict_text v ++ last_feed text.0)) (entry_lines_map lines.entries));
         }
       where
         whole : (board moves rest text : List ℕ) → first ≡ board → second ≡ moves → rest ≡ text
@@ -197,7 +197,7 @@ feedless_entries cols (RemarkEntry bytes ∷ entries) h = (feedless_high bytes (
 lines_behind : (cols : ℕ) (entries : List Entry) (v : Verdict) (ended : Bool) → AllByRecursion (EntryFits cols) entries → VerdictFits v
     → lines_in (pieces (entry_lines entries ++ (verdict_text v ++ last_feed ended))) ≡ map entry_text entries ++ verdict_text v ∷ []
 lines_behind cols entries v ended fit verdict_fits =
-    ap (λ front. lines_in (pieces (front ++ (verdict_text v ++ last_feed ended)))) (sym (entry_lines_map entries))
+    ap (λ prefix. lines_in (pieces (prefix ++ (verdict_text v ++ last_feed ended)))) (sym (entry_lines_map entries))
     ∙ ap lines_in (cut_lines (map entry_text entries) (verdict_text v ++ last_feed ended) (feedless_entries cols entries fit)) ∙ of_feed ended
   where
     feedless : IsFeedless (verdict_text v)

@@ -69,18 +69,18 @@ verdict_stands root known (Draw n m) = is_shown root WhiteFails (lemma_at known 
 verdict_stands root known Unknown = true
 
 -- what stands after some lines: what their lemmas show, and the verdict if there was one
-pub record Standing : Type 0 where
+pub record CheckerState : Type 0 where
   pub root : Position
   pub known : List Shown
   pub verdict : Option Verdict
 
 -- nothing may follow a verdict
-abbrev pub content_refusal : Standing → Line → Option Why
+abbrev pub content_refusal : CheckerState → Line → Option Why
 content_refusal s (ALemma l) = lemma_refusal s.root s.known l
 content_refusal s ARemark = None
 content_refusal s (AVerdict v) = unless (verdict_stands s.root s.known v) BadVerdict
 
-abbrev pub line_refusal : Standing → Line → Option Why
+abbrev pub line_refusal : CheckerState → Line → Option Why
 line_refusal s line = or_then (unless (is_none s.verdict) BadLine) (content_refusal s line)
 
 -- what a lemma shows, where its path leads somewhere
@@ -92,19 +92,19 @@ abbrev pub shown_of : Position → Lemma → List Shown
 shown_of root l = shown_at l.claim (played root l.path)
 
 -- what stands after one more line
-abbrev pub with_line : Standing → Line → Standing
+abbrev pub with_line : CheckerState → Line → CheckerState
 with_line s (ALemma l) = record s { known = s.known ++ shown_of s.root l }
 with_line s ARemark = s
 with_line s (AVerdict v) = record s { verdict = Some v }
 
 -- ---- lists of lines
 
-abbrev pub checked_on : Option Why → ℕ → Result Standing (ℕ × Why) → Result Standing (ℕ × Why)
+abbrev pub checked_on : Option Why → ℕ → Result CheckerState (ℕ × Why) → Result CheckerState (ℕ × Why)
 checked_on None at later = later
 checked_on (Some why) at later = Err (at, why)
 
 -- what stands after further lines, the first of which has this number; or the first that is refused
-abbrev pub checked : Standing → ℕ → List Line → Result Standing (ℕ × Why)
+abbrev pub checked : CheckerState → ℕ → List Line → Result CheckerState (ℕ × Why)
 checked s at [] = Ok s
 checked s at (line ∷ lines) = checked_on (line_refusal s line) at (checked (with_line s line) (at + 1) lines)
 
@@ -122,7 +122,7 @@ first_verdict (ARemark ∷ lines) = first_verdict lines
 first_verdict (AVerdict v ∷ lines) = Some v
 
 -- After the lines stands what their lemmas show, which are right, and their verdict, which is right too.
-pub record StandsFor (s : Standing) (lines : List Line) (t : Standing) : Type 0 where
+pub record IsStateAfter (s : CheckerState) (lines : List Line) (t : CheckerState) : Type 0 where
   pub root : t.root ≡ s.root
   pub right : AreRight s.root s.known (lemmas_in lines) t.known
   pub verdict : t.verdict ≡ first_verdict lines

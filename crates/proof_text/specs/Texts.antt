@@ -8,7 +8,7 @@ use Rattle.game_rules.specs.Grammar.{game_text, last_feed}
 use Rattle.game_rules.specs.declared.InputFault.{InputFault}
 use Rattle.proof_text.specs.Lemma.{Lemma, Line, ALemma, ARemark, AVerdict}
 use Rattle.proof_text.specs.Right.{Shown, AreRight, IsVerdict}
-use Rattle.proof_text.specs.Checked.{unless, or_then, Standing, line_refusal, shown_of, with_line, first_verdict}
+use Rattle.proof_text.specs.Checked.{unless, or_then, CheckerState, line_refusal, shown_of, with_line, first_verdict}
 use Rattle.proof_text.specs.Spelling.{lemma_text, verdict_text, as_line, is_remark, Fits, VerdictFits}
 use Rattle.proof_text.specs.Reading.{read_line}
 use Rattle.proof_text.specs.declared.Verdict.{Verdict}
@@ -38,8 +38,8 @@ lines_in (piece ∷ next ∷ more) = piece ∷ lines_in (next ∷ more)
 abbrev pub longest_line : ℕ
 longest_line = 8192
 
-abbrev pub game_front : ℕ
-game_front = 256
+abbrev pub game_prefix : ℕ
+game_prefix = 256
 
 abbrev pub most_lines : ℕ
 most_lines = 20000000
@@ -50,12 +50,12 @@ first_number = 4
 
 -- ---- the game
 
--- the two lines of the game, of each its front, with their line feeds where they stand in the text
+-- the two lines of the game, of each its prefix, with their line feeds where they stand in the text
 abbrev pub game_of : List (List ℕ) → List ℕ
 game_of [] = []
-game_of (board ∷ []) = take game_front board
-game_of (board ∷ moves ∷ []) = take game_front board ++ 10 ∷ take game_front moves
-game_of (board ∷ moves ∷ next ∷ more) = take game_front board ++ 10 ∷ as_line (take game_front moves)
+game_of (board ∷ []) = take game_prefix board
+game_of (board ∷ moves ∷ []) = take game_prefix board ++ 10 ∷ take game_prefix moves
+game_of (board ∷ moves ∷ next ∷ more) = take game_prefix board ++ 10 ∷ as_line (take game_prefix moves)
 
 -- the same with the lines whole
 abbrev pub whole_game_of : List (List ℕ) → List ℕ
@@ -80,23 +80,23 @@ shown_by root (ARemark ∷ lines) = shown_by root lines
 shown_by root (AVerdict v ∷ lines) = shown_by root lines
 
 -- what stands after the lines, each of them given by its bytes
-abbrev pub standing : Position → List (List ℕ) → Standing
-standing root lines =
+abbrev pub state_after : Position → List (List ℕ) → CheckerState
+state_after root lines =
     let said = filter_map (read_line (length root.columns)) lines in
     record { root = root; known = shown_by root said; verdict = first_verdict said }
 
-abbrev pub said_refusal : Standing → Option Line → Option Why
+abbrev pub said_refusal : CheckerState → Option Line → Option Why
 said_refusal s None = Some BadLine
 said_refusal s (Some line) = line_refusal s line
 
 -- the name of what is wrong with a line, which has this number and stands behind what stands
-abbrev pub bytes_refusal : Standing → ℕ → List ℕ → Option Why
+abbrev pub bytes_refusal : CheckerState → ℕ → List ℕ → Option Why
 bytes_refusal s at bytes =
     or_then (unless (nat_le at most_lines && nat_le (length bytes) longest_line) BadLine) (said_refusal s (read_line (length s.root.columns) bytes))
 
--- what is wrong with the line at a place, the lines before it standing
+-- what is wrong with the line at a place, the lines before it accepted
 abbrev pub refusal_at : Position → List (List ℕ) → ℕ → Option Why
-refusal_at root lines k = bytes_refusal (standing root (take k lines)) (k + first_number) (slice_index_or lines k [])
+refusal_at root lines k = bytes_refusal (state_after root (take k lines)) (k + first_number) (slice_index_or lines k [])
 
 -- the first place of a list at which there is something, and what it is
 abbrev pub first_or : {X : Type 0} → Option X → ℕ → Option (ℕ × X) → Option (ℕ × X)
@@ -123,16 +123,16 @@ verdict_answer next lemmas (Some v) = Accepted v lemmas
 
 abbrev pub lines_answer : Position → List (List ℕ) → Option (ℕ × Why) → CheckAnswer
 lines_answer root lines (Some (k, why)) = Refused (k + first_number) why
-lines_answer root lines None = verdict_answer (length lines + first_number) (length (standing root lines).known) (standing root lines).verdict
+lines_answer root lines None = verdict_answer (length lines + first_number) (length (state_after root lines).known) (state_after root lines).verdict
 
 -- ---- line by line
 
 -- what stands after one more line, given by its bytes
-abbrev pub with_said : Standing → Option Line → Standing
+abbrev pub with_said : CheckerState → Option Line → CheckerState
 with_said s None = s
 with_said s (Some line) = with_line s line
 
-abbrev pub with_bytes : Standing → List ℕ → Standing
+abbrev pub with_bytes : CheckerState → List ℕ → CheckerState
 with_bytes s bytes = with_said s (read_line (length s.root.columns) bytes)
 
 abbrev pub line_answer : Option Why → ℕ → CheckAnswer → CheckAnswer
@@ -140,12 +140,12 @@ line_answer None at later = later
 line_answer (Some why) at later = Refused at why
 
 -- the answer to further lines, the first of which has this number, behind what stands
-abbrev pub check_from : Standing → ℕ → List (List ℕ) → CheckAnswer
+abbrev pub check_from : CheckerState → ℕ → List (List ℕ) → CheckAnswer
 check_from s at [] = verdict_answer at (length s.known) s.verdict
 check_from s at (line ∷ lines) = line_answer (bytes_refusal s at line) at (check_from (with_bytes s line) (at + 1) lines)
 
 -- what stands before the first line
-abbrev pub start : Position → Standing
+abbrev pub start : Position → CheckerState
 start root = record { root = root; known = []; verdict = None }
 
 -- ---- whole texts

@@ -10,10 +10,10 @@ ghost use Rattle.game_rules.specs.declared.InputFault.{InputFault};
 ghost use Rattle.game_rules.specs.declared.End.TheVariants as ends;
 ghost use Rattle.proof_text.specs.Lemma.{claim_holds, Lemma, Line};
 ghost use Rattle.proof_text.specs.Right.{Shown, IsRight, AreRight, IsVerdict, AreTrue, IsTrueVerdict};
-ghost use Rattle.proof_text.specs.Checked.{Standing, lemma_refusal, verdict_stands, checked, StandsFor};
+ghost use Rattle.proof_text.specs.Checked.{CheckerState, lemma_refusal, verdict_stands, checked, IsStateAfter};
 ghost use Rattle.proof_text.specs.Spelling.{lemma_text, verdict_text, as_line, greatest_number, Fits, VerdictFits, IsLine};
 ghost use Rattle.proof_text.specs.Reading.{read_line};
-ghost use Rattle.proof_text.specs.Texts.{is_feed, pieces, lines_in, first_number, game_of, whole_game_of, behind_game, standing, refusal_at, CheckAnswer, NoGame, Refused, Accepted, verdict_answer, check_from, start, answer_of, first_line, check_of, head_of, IsRightText};
+ghost use Rattle.proof_text.specs.Texts.{is_feed, pieces, lines_in, first_number, game_of, whole_game_of, behind_game, state_after, refusal_at, CheckAnswer, NoGame, Refused, Accepted, verdict_answer, check_from, start, answer_of, first_line, check_of, head_of, IsRightText};
 ghost use Rattle.proof_text.specs.Written.{IsProof};
 ghost use Rattle.proof_text.specs.declared.Verdict.{Verdict};
 ghost use Rattle.proof_text.specs.declared.Claim.TheVariants as claims;
@@ -42,7 +42,7 @@ pub fn what_is_right_is_not_refused()
 
 /// After lines that were all accepted stands what their right lemmas show, and their verdict.
 pub fn accepted_lines_are_stood_for()
-    ensures { (s t : Standing) (at : ℕ) (lines : List Line) → s.verdict ≡ None → checked s at lines ≡ Ok t → StandsFor s lines t }
+    ensures { (s t : CheckerState) (at : ℕ) (lines : List Line) → s.verdict ≡ None → checked s at lines ≡ Ok t → IsStateAfter s lines t }
 {}
 
 /// A line is read exactly where it is in the grammar, and as what the grammar says; bytes are a line in one way.
@@ -87,22 +87,22 @@ pub fn the_first_line_that_fails_is_refused()
     ensures first { (root : Position) (lines : List (List ℕ)) (k : ℕ) (why : Why) → k < length lines → refusal_at root lines k ≡ Some why
         → ((i : ℕ) → i < k → refusal_at root lines i ≡ None) → answer_of root lines ≡ Refused (k + first_number) why }
     ensures none { (root : Position) (lines : List (List ℕ)) → ((i : ℕ) → i < length lines → refusal_at root lines i ≡ None)
-        → answer_of root lines ≡ verdict_answer (length lines + first_number) (length (standing root lines).known) (standing root lines).verdict }
+        → answer_of root lines ≡ verdict_answer (length lines + first_number) (length (state_after root lines).known) (state_after root lines).verdict }
     ensures only { (root : Position) (lines : List (List ℕ)) (at : ℕ) (why : Why) → answer_of root lines ≡ Refused at why
         → ((k : ℕ) × (k < length lines) × (at ≡ k + first_number) × (refusal_at root lines k ≡ Some why) × ((i : ℕ) → i < k → refusal_at root lines i ≡ None))
-        ⊎ ((at ≡ length lines + first_number) × (why ≡ whys.EndedEarly) × ((standing root lines).verdict ≡ None) × ((i : ℕ) → i < length lines → refusal_at root lines i ≡ None)) }
+        ⊎ ((at ≡ length lines + first_number) × (why ≡ whys.EndedEarly) × ((state_after root lines).verdict ≡ None) × ((i : ℕ) → i < length lines → refusal_at root lines i ≡ None)) }
     ensures one_by_one { (root : Position) (lines : List (List ℕ)) → answer_of root lines ≡ check_from (start root) first_number lines }
 {}
 
 /// A text that doesn't begin with its first line is refused there. Behind it stands a game, or the fault of the game's
-/// text is the answer; and each of the two lines of the game may be cut to its front without a change.
+/// text is the answer; and each of the two lines of the game may be cut to its prefix without a change.
 pub fn a_text_has_a_head_and_a_game()
     ensures head { (bytes : List ℕ) (first : List ℕ) (more : List (List ℕ)) → pieces bytes ≡ first ∷ more → first ≢ first_line → check_of bytes ≡ Refused 1 whys.BadLine }
     ensures fault { (bytes : List ℕ) (more : List (List ℕ)) (fault : InputFault) → pieces bytes ≡ first_line ∷ more → game_at (game_of more) ≡ Err fault → check_of bytes ≡ NoGame fault }
     ensures only_fault { (bytes : List ℕ) (fault : InputFault) → check_of bytes ≡ NoGame fault → (more : List (List ℕ)) × (pieces bytes ≡ first_line ∷ more) × (game_at (game_of more) ≡ Err fault) }
     ensures game { (bytes : List ℕ) (more : List (List ℕ)) (root : Position) → pieces bytes ≡ first_line ∷ more → game_at (game_of more) ≡ Ok root
         → check_of bytes ≡ check_from (start root) first_number (behind_game more) }
-    ensures front { (more : List (List ℕ)) → game_at (game_of more) ≡ game_at (whole_game_of more) }
+    ensures prefix { (more : List (List ℕ)) → game_at (game_of more) ≡ game_at (whole_game_of more) }
 {}
 
 /// A whole text is accepted exactly where it is right, with its verdict and the number of its lemmas.

@@ -7,7 +7,7 @@ use std::process::ExitCode;
 use std::{env, io};
 use victor_run::run;
 
-/// The status where memory for the words is wanting.
+/// The status where memory for the arguments runs out.
 const OUT_OF_MEMORY: u8 = 8;
 
 /// The status where the system doesn't give the words, or they are no text.

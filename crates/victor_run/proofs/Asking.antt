@@ -2,8 +2,8 @@
 use Rattle.std.proofs.Common.{◌≡◌, ◌≢◌, ℕ, ◌+◌, ◌≤◌, true, false, List, [], ◌++◌, Option, Result, Ok, Err, refl, sym, ap, ◌∙◌, subst, inl, inr, arith, append-nil}
 use Rattle.std.specs.Io.KnownBytes.{Appends}
 use Rattle.std.proofs.lemmas.Bool.{cases_Bool}
-use Rattle.device_rules.specs.Devices.{Stands}
-use Rattle.device_rules.proofs.DeviceLaws.{Stands_more}
+use Rattle.device_rules.specs.Devices.{AppendsPrefix}
+use Rattle.device_rules.proofs.DeviceLaws.{AppendsPrefix_more}
 use Rattle.game_rules.specs.Position.{Position, same_side, side_to_move, other}
 use Rattle.game_rules.proofs.Moves.{same_side_is, other_side, other_other}
 use Rattle.game_rules.specs.declared.Side.{Side}
@@ -36,7 +36,7 @@ won_known winner to_move n h = elim (cases_Bool (same_side winner to_move)) [
 ]
 
 -- a text that stops stands as its search does
-stopped_text : (stop : SearchStop) (old new : Option (List ℕ)) (text : List ℕ) → Stands (is_whole (Err stop)) old new text → Stands (is_whole_verdict (Err stop)) old new text
+stopped_text : (stop : SearchStop) (old new : Option (List ℕ)) (text : List ℕ) → AppendsPrefix (is_whole (Err stop)) old new text → AppendsPrefix (is_whole_verdict (Err stop)) old new text
 stopped_text Spent old new text h = h
 stopped_text WriteFault old new text h = h
 
@@ -48,7 +48,7 @@ module _ (root : Position) (nodes : ℕ) (old new : Option (List ℕ)) (count : 
     mid = white.after;
     black = [];
     after = white.after;
-    text = stopped_text stop old new (lines_of white.more ++ []) (subst (Stands (is_whole (Err stop)) old new) (sym (append-nil (lines_of white.more))) white.text);
+    text = stopped_text stop old new (lines_of white.more ++ []) (subst (AppendsPrefix (is_whole (Err stop)) old new) (sym (append-nil (lines_of white.more))) white.text);
     white_right = white.right;
     black_right = refl;
     white_sided = white.sided;
@@ -90,7 +90,7 @@ module _ (root : Position) (nodes : ℕ) (old held new : Option (List ℕ)) (cou
     mid = white.after;
     black = black.more;
     after = black.after;
-    text = stopped_text stop old new (lines_of white.more ++ lines_of black.more) (Stands_more (is_whole (Err stop)) old held new (lines_of white.more) (lines_of black.more) white.text black.text);
+    text = stopped_text stop old new (lines_of white.more ++ lines_of black.more) (AppendsPrefix_more (is_whole (Err stop)) old held new (lines_of white.more) (lines_of black.more) white.text black.text);
     white_right = white.right;
     black_right = black.right;
     white_sided = white.sided;
@@ -108,7 +108,7 @@ module _ (root : Position) (nodes : ℕ) (old held new : Option (List ℕ)) (cou
       mid = white.after;
       black = black.more;
       after = black.after;
-      text = Stands_more true old held new (lines_of white.more) (lines_of black.more) white.text black.text;
+      text = AppendsPrefix_more true old held new (lines_of white.more) (lines_of black.more) white.text black.text;
       white_right = white.right;
       black_right = black.right;
       white_sided = white.sided;
@@ -130,7 +130,7 @@ module _ (root : Position) (nodes : ℕ) (old held new : Option (List ℕ)) (cou
           mid = white.after;
           black = black.more;
           after = black.after;
-          text = Stands_more true old held new (lines_of white.more) (lines_of black.more) white.text black.text;
+          text = AppendsPrefix_more true old held new (lines_of white.more) (lines_of black.more) white.text black.text;
           white_right = white.right;
           black_right = black.right;
           white_sided = white.sided;

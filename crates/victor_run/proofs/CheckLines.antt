@@ -1,4 +1,4 @@
--- The lines that are got one after the other are those of the text: the answer to the bytes before a line is told by
+-- The lines that are got one after the other are those of the text: the answer to the bytes before a line is determined by
 -- the line and by the answer to the bytes behind it.
 use Rattle.std.proofs.Common.{◌≡◌, ◌⊎◌, ℕ, ◌+◌, ◌<◌, ◌≤◌, ◌≢◌, Bool, true, false, List, [], ◌∷◌, ◌++◌, length, take, drop, get_or, Ok, Err, Some, None, refl, sym, ap, ◌∙◌, subst, append_assoc, append-nil, inl, inr, arith}
 use Rattle.std.specs.List.{All, join_with_byte}
@@ -13,8 +13,8 @@ use Rattle.game_rules.specs.Position.{Position}
 use Rattle.game_rules.specs.Text.{game_at}
 use Rattle.game_rules.specs.declared.InputFault.{InputFault}
 use Rattle.game_rules.proofs.Prefix.{same_prefix, game_short}
-use Rattle.proof_text.specs.Checked.{Standing}
-use Rattle.proof_text.specs.Texts.{pieces, lines_in, longest_line, game_front, first_number, game_of, behind_game, bytes_refusal, NoGame, Refused, verdict_answer, line_answer, with_bytes, check_from, start, game_answer, first_line, check_of}
+use Rattle.proof_text.specs.Checked.{CheckerState}
+use Rattle.proof_text.specs.Texts.{pieces, lines_in, longest_line, game_prefix, first_number, game_of, behind_game, bytes_refusal, NoGame, Refused, verdict_answer, line_answer, with_bytes, check_from, start, game_answer, first_line, check_of}
 use Rattle.proof_text.proofs.Pieces.{IsFeedless, pieces_line, pieces_last, pieces_some, joined}
 use Rattle.proof_text.proofs.Fold.{answer_by_lines}
 use Rattle.proof_text.proofs.First.{out_of_bounds, check_line, check_last, no_head, with_head, long_board, long_moves}
@@ -48,21 +48,21 @@ at_seam [] ys y = refl
 at_seam (x ∷ xs) ys y = at_seam xs ys y
 
 -- the first piece is longer than a line where that is what was got
-pub long_pieces : (bytes text rest : List ℕ) → IsLong bytes text rest → (first : List ℕ) × (more : List (List ℕ)) × (pieces bytes ≡ first ∷ more) × (longest_line < length first) × (take game_front text ≡ take game_front first)
+pub long_pieces : (bytes text rest : List ℕ) → IsLong bytes text rest → (first : List ℕ) × (more : List (List ℕ)) × (pieces bytes ≡ first ∷ more) × (longest_line < length first) × (take game_prefix text ≡ take game_prefix first)
 long_pieces bytes text rest long =
     let some = pieces_some bytes in
     let behind = behind_first some.0 some.1 in
     let whole : bytes ≡ some.0 ++ behind.0 = sym (joined bytes) ∙ ap (join_with_byte 10) some.2 ∙ behind.1 in
     elim (cases_lt longest_line (length some.0)) [
-      | inl longer ↦ (some.0, some.1, some.2, longer, front some.0 behind.0 longer whole)
+      | inl longer ↦ (some.0, some.1, some.2, longer, prefix some.0 behind.0 longer whole)
       | inr short ↦ absurd (never some.0 behind.0 short whole behind.2)
     ]
   where
-    front : (first behind : List ℕ) → longest_line < length first → bytes ≡ first ++ behind → take game_front text ≡ take game_front first
-    front first behind longer whole =
-        let cut : text ≡ take longest_line first = long.front ∙ ap (take longest_line) whole ∙ take-append-le longest_line first behind (omega arith) in
-        let within : game_front ≤ length (take longest_line first) = omega (arith, length-take-le longest_line first (omega arith)) in
-        ap (take game_front) cut ∙ sym (ap (take game_front) (sym (take-append-drop longest_line first)) ∙ take-append-le game_front (take longest_line first) (drop longest_line first) within)
+    prefix : (first behind : List ℕ) → longest_line < length first → bytes ≡ first ++ behind → take game_prefix text ≡ take game_prefix first
+    prefix first behind longer whole =
+        let cut : text ≡ take longest_line first = long.prefix ∙ ap (take longest_line) whole ∙ take-append-le longest_line first behind (omega arith) in
+        let within : game_prefix ≤ length (take longest_line first) = omega (arith, length-take-le longest_line first (omega arith)) in
+        ap (take game_prefix) cut ∙ sym (ap (take game_prefix) (sym (take-append-drop longest_line first)) ∙ take-append-le game_prefix (take longest_line first) (drop longest_line first) within)
 
     never : (first behind : List ℕ) → length first ≤ longest_line → bytes ≡ first ++ behind → ((behind ≡ []) ⊎ ((tail : List ℕ) × (behind ≡ 10 ∷ tail))) → ⊥
     never first behind short whole (inl none) = omega (arith, long.long, ap length (whole ∙ ap (λ behind. first ++ behind) none ∙ append-nil first))
@@ -88,11 +88,11 @@ long_is_cut bytes line is got = let P : LineGot → Type 0 = λ got. IsCut bytes
 none_is_cut : (bytes : List ℕ) (line : Cut) → line ≡ next_line bytes → line.got ≡ Done → (bytes ≡ []) × (line.text ≡ []) × (line.rest ≡ [])
 none_is_cut bytes line is got = let P : LineGot → Type 0 = λ got. IsCut bytes got line.text line.fed line.rest in subst P got (is_cut bytes line is)
 
--- A line that a line feed ended; a last one, which may have no byte; or the front of one that is too long.
+-- A line that a line feed ended; a last one, which may have no byte; or the prefix of one that is too long.
 by_piece : (bytes : List ℕ) (line : Cut) (P : Type 0) → line ≡ next_line bytes
     → (line.fed ≡ true → pieces bytes ≡ line.text ∷ pieces line.rest → P)
     → (line.fed ≡ false → line.rest ≡ [] → pieces bytes ≡ line.text ∷ [] → P)
-    → ((first : List ℕ) (more : List (List ℕ)) → pieces bytes ≡ first ∷ more → longest_line < length first → length line.text ≡ longest_line → take game_front line.text ≡ take game_front first → P)
+    → ((first : List ℕ) (more : List (List ℕ)) → pieces bytes ≡ first ∷ more → longest_line < length first → length line.text ≡ longest_line → take game_prefix line.text ≡ take game_prefix first → P)
     → P
 by_piece bytes line P is fed last long = of_got line.got refl
   where
@@ -105,7 +105,7 @@ by_piece bytes line P is fed last long = of_got line.got refl
     of_got Long e =
         let cut = long_is_cut bytes line is e in
         let some = long_pieces bytes line.text line.rest cut in
-        long some.0 some.1 some.2 some.3 (ap length cut.front ∙ length-take-le longest_line bytes (omega (arith, cut.long))) some.4
+        long some.0 some.1 some.2 some.3 (ap length cut.prefix ∙ length-take-le longest_line bytes (omega (arith, cut.long))) some.4
     of_got Done e =
         let cut = none_is_cut bytes line is e in
         let none : line ≡ next_line [] = is ∙ ap next_line cut.0 in
@@ -117,7 +117,7 @@ by_piece bytes line P is fed last long = of_got line.got refl
 -- ---- a line among further lines
 
 -- the answer to the bytes before a line is that to the line, and then that to the bytes behind it
-pub line_got : (s : Standing) (at : ℕ) (bytes : List ℕ) (line : Cut) → line ≡ next_line bytes → line.got ≡ Line
+pub line_got : (s : CheckerState) (at : ℕ) (bytes : List ℕ) (line : Cut) → line ≡ next_line bytes → line.got ≡ Line
     → lines_from s at bytes ≡ line_answer (bytes_refusal s at line.text) at (lines_from (with_bytes s line.text) (at + 1) line.rest)
 unfolding lines_from
 line_got s at bytes line is got = of_fed line.text line.rest line.fed (line_is_cut bytes line is got)
@@ -138,11 +138,11 @@ line_got s at bytes line is got = of_fed line.text line.rest line.fed (line_is_c
         let whole : bytes ≡ text = cut.whole ∙ ap (λ rest. (text ++ []) ++ rest) last.1 ∙ append-nil (text ++ []) ∙ append-nil text in
         ap (λ bytes. check_from s at (lines_in (pieces bytes))) whole ∙ of_text text rest last (feedless text cut.no_feed)
 
-pub line_refused : (s : Standing) (at : ℕ) (bytes : List ℕ) (line : Cut) (why : Why) → line ≡ next_line bytes → line.got ≡ Line → bytes_refusal s at line.text ≡ Some why
+pub line_refused : (s : CheckerState) (at : ℕ) (bytes : List ℕ) (line : Cut) (why : Why) → line ≡ next_line bytes → line.got ≡ Line → bytes_refusal s at line.text ≡ Some why
     → lines_from s at bytes ≡ Refused at why
 line_refused s at bytes line why is got refused = line_got s at bytes line is got ∙ ap (λ r. line_answer r at (lines_from (with_bytes s line.text) (at + 1) line.rest)) refused
 
-pub line_stands : (s : Standing) (at : ℕ) (bytes : List ℕ) (line : Cut) → line ≡ next_line bytes → line.got ≡ Line → bytes_refusal s at line.text ≡ None
+pub line_stands : (s : CheckerState) (at : ℕ) (bytes : List ℕ) (line : Cut) → line ≡ next_line bytes → line.got ≡ Line → bytes_refusal s at line.text ≡ None
     → lines_from s at bytes ≡ lines_from (with_bytes s line.text) (at + 1) line.rest
 line_stands s at bytes line is got stands = line_got s at bytes line is got ∙ ap (λ r. line_answer r at (lines_from (with_bytes s line.text) (at + 1) line.rest)) stands
 
@@ -153,7 +153,7 @@ first_of_lines (byte ∷ first) [] some = ([], refl)
 first_of_lines (byte ∷ first) (next ∷ more) some = (lines_in (next ∷ more), refl)
 
 -- a line that is too long is refused
-pub long_got : (s : Standing) (at : ℕ) (bytes : List ℕ) (line : Cut) → line ≡ next_line bytes → line.got ≡ Long → lines_from s at bytes ≡ Refused at BadLine
+pub long_got : (s : CheckerState) (at : ℕ) (bytes : List ℕ) (line : Cut) → line ≡ next_line bytes → line.got ≡ Long → lines_from s at bytes ≡ Refused at BadLine
 unfolding lines_from
 long_got s at bytes line is got =
     let some = long_pieces bytes line.text line.rest (long_is_cut bytes line is got) in
@@ -162,7 +162,7 @@ long_got s at bytes line is got =
     ∙ ap (λ r. line_answer r at (check_from (with_bytes s some.0) (at + 1) lines.0)) (out_of_bounds s at some.0 (inr some.3))
 
 -- where no line is left, the verdict decides
-pub none_got : (s : Standing) (at : ℕ) (bytes : List ℕ) (line : Cut) → line ≡ next_line bytes → line.got ≡ Done → (lines_from s at bytes ≡ verdict_answer at (length s.known) s.verdict) × (line.rest ≡ [])
+pub none_got : (s : CheckerState) (at : ℕ) (bytes : List ℕ) (line : Cut) → line ≡ next_line bytes → line.got ≡ Done → (lines_from s at bytes ≡ verdict_answer at (length s.known) s.verdict) × (line.rest ≡ [])
 unfolding lines_from
 none_got s at bytes line is got = let cut = none_is_cut bytes line is got in (ap (λ bytes. check_from s at (lines_in (pieces bytes))) cut.0, cut.2)
 
@@ -174,59 +174,59 @@ head_named bytes line is named =
     by_piece bytes line (check_of bytes ≡ game_answer (game_at (game_of (pieces line.rest))) (behind_game (pieces line.rest))) is
     (λ fed cut. with_head bytes (pieces line.rest) (cut ∙ ap (λ text. text ∷ pieces line.rest) named))
     (λ fed none cut. with_head bytes [] (cut ∙ ap (λ text. text ∷ []) named) ∙ ap (λ rest. game_answer (game_at (game_of (pieces rest))) (behind_game (pieces rest))) (sym none))
-    (λ first more cut longer size front. absurd (omega (arith, size, ap length named)))
+    (λ first more cut longer size prefix. absurd (omega (arith, size, ap length named)))
 
 pub head_other : (bytes : List ℕ) (line : Cut) → line ≡ next_line bytes → (line.text ≡ first_line → ⊥) → check_of bytes ≡ Refused 1 BadLine
 head_other bytes line is other =
     by_piece bytes line (check_of bytes ≡ Refused 1 BadLine) is
     (λ fed cut. no_head bytes line.text (pieces line.rest) cut other)
     (λ fed none cut. no_head bytes line.text [] cut other)
-    (λ first more cut longer size front. no_head bytes first more cut (λ (named : first ≡ first_line). omega (arith, longer, ap length named)))
+    (λ first more cut longer size prefix. no_head bytes first more cut (λ (named : first ≡ first_line). omega (arith, longer, ap length named)))
 
 -- ---- the game
 
-kept_fed : (line : Cut) → line.fed ≡ true → kept_of line ≡ take game_front line.text ++ 10 ∷ []
-kept_fed line fed = ap (λ fed. take game_front line.text ++ feed fed) fed
+kept_fed : (line : Cut) → line.fed ≡ true → kept_of line ≡ take game_prefix line.text ++ 10 ∷ []
+kept_fed line fed = ap (λ fed. take game_prefix line.text ++ feed fed) fed
 
-kept_last : (line : Cut) → line.fed ≡ false → kept_of line ≡ take game_front line.text
-kept_last line fed = ap (λ fed. take game_front line.text ++ feed fed) fed ∙ append-nil (take game_front line.text)
+kept_last : (line : Cut) → line.fed ≡ false → kept_of line ≡ take game_prefix line.text
+kept_last line fed = ap (λ fed. take game_prefix line.text ++ feed fed) fed ∙ append-nil (take game_prefix line.text)
 
--- of a long line the front alone decides, whatever is kept behind it
-kept_long : (front : List ℕ) (line : Cut) (rest : List ℕ) → length line.text ≡ longest_line → game_at (front ++ (kept_of line ++ rest)) ≡ game_at (front ++ take game_front line.text)
-kept_long front line rest size =
-    let kept = take game_front line.text in
-    let whole : front ++ (kept_of line ++ rest) ≡ (front ++ kept) ++ (feed line.fed ++ rest) =
-    ap (λ text. front ++ text) (append_assoc kept (feed line.fed) rest) ∙ sym (append_assoc front kept (feed line.fed ++ rest)) in
-    let within : game_front ≤ length line.text = omega (arith, size) in
-    ap game_at whole ∙ same_prefix (front ++ kept) (feed line.fed ++ rest) (omega (arith, length-append front kept, length-take-le game_front line.text within))
+-- of a long line the prefix alone decides, whatever is kept behind it
+kept_long : (prefix : List ℕ) (line : Cut) (rest : List ℕ) → length line.text ≡ longest_line → game_at (prefix ++ (kept_of line ++ rest)) ≡ game_at (prefix ++ take game_prefix line.text)
+kept_long prefix line rest size =
+    let kept = take game_prefix line.text in
+    let whole : prefix ++ (kept_of line ++ rest) ≡ (prefix ++ kept) ++ (feed line.fed ++ rest) =
+    ap (λ text. prefix ++ text) (append_assoc kept (feed line.fed) rest) ∙ sym (append_assoc prefix kept (feed line.fed ++ rest)) in
+    let within : game_prefix ≤ length line.text = omega (arith, size) in
+    ap game_at whole ∙ same_prefix (prefix ++ kept) (feed line.fed ++ rest) (omega (arith, length-append prefix kept, length-take-le game_prefix line.text within))
 
 -- so a text of which that much is kept is no game
-long_no_game : (front : List ℕ) (line : Cut) (rest : List ℕ) (root : Position) → length line.text ≡ longest_line → game_at (front ++ (kept_of line ++ rest)) ≡ Ok root → ⊥
-long_no_game front line rest root size game =
-    let kept = take game_front line.text in
-    let within : game_front ≤ length line.text = omega (arith, size) in
-    omega (arith, game_short (front ++ kept) root (sym (kept_long front line rest size) ∙ game), length-append front kept, length-take-le game_front line.text within)
+long_no_game : (prefix : List ℕ) (line : Cut) (rest : List ℕ) (root : Position) → length line.text ≡ longest_line → game_at (prefix ++ (kept_of line ++ rest)) ≡ Ok root → ⊥
+long_no_game prefix line rest root size game =
+    let kept = take game_prefix line.text in
+    let within : game_prefix ≤ length line.text = omega (arith, size) in
+    omega (arith, game_short (prefix ++ kept) root (sym (kept_long prefix line rest size) ∙ game), length-append prefix kept, length-take-le game_prefix line.text within)
 
 -- what is kept of the two lines is read as the text of the game
 pub game_kept : (bytes : List ℕ) (board moves : Cut) → board ≡ next_line bytes → moves ≡ next_line board.rest → game_at (kept_of board ++ kept_of moves) ≡ game_at (game_of (pieces bytes))
 game_kept bytes board moves first second =
     by_piece bytes board (game_at (kept_of board ++ kept_of moves) ≡ game_at (game_of (pieces bytes))) first
-    (λ fed cut. ap (λ kept. game_at (kept ++ kept_of moves)) (kept_fed board fed) ∙ ap game_at (append_assoc (take game_front board.text) (10 ∷ []) (kept_of moves)) ∙ both cut)
-    (λ fed none cut. ap (λ kept. game_at (kept ++ kept_of moves)) (kept_last board fed) ∙ ap (λ kept. game_at (take game_front board.text ++ kept)) (ap kept_of (second ∙ ap next_line none))
-    ∙ ap game_at (append-nil (take game_front board.text)) ∙ ap (λ ps. game_at (game_of ps)) (sym cut))
-    (λ first more cut longer size front. kept_long [] board (kept_of moves) size ∙ ap game_at front ∙ sym (ap (λ ps. game_at (game_of ps)) cut ∙ long_board first more (omega (arith, longer))))
+    (λ fed cut. ap (λ kept. game_at (kept ++ kept_of moves)) (kept_fed board fed) ∙ ap game_at (append_assoc (take game_prefix board.text) (10 ∷ []) (kept_of moves)) ∙ both cut)
+    (λ fed none cut. ap (λ kept. game_at (kept ++ kept_of moves)) (kept_last board fed) ∙ ap (λ kept. game_at (take game_prefix board.text ++ kept)) (ap kept_of (second ∙ ap next_line none))
+    ∙ ap game_at (append-nil (take game_prefix board.text)) ∙ ap (λ ps. game_at (game_of ps)) (sym cut))
+    (λ first more cut longer size prefix. kept_long [] board (kept_of moves) size ∙ ap game_at prefix ∙ sym (ap (λ ps. game_at (game_of ps)) cut ∙ long_board first more (omega (arith, longer))))
   where
-    both : pieces bytes ≡ board.text ∷ pieces board.rest → game_at (take game_front board.text ++ 10 ∷ kept_of moves) ≡ game_at (game_of (pieces bytes))
+    both : pieces bytes ≡ board.text ∷ pieces board.rest → game_at (take game_prefix board.text ++ 10 ∷ kept_of moves) ≡ game_at (game_of (pieces bytes))
     both cut =
-        by_piece board.rest moves (game_at (take game_front board.text ++ 10 ∷ kept_of moves) ≡ game_at (game_of (pieces bytes))) second
+        by_piece board.rest moves (game_at (take game_prefix board.text ++ 10 ∷ kept_of moves) ≡ game_at (game_of (pieces bytes))) second
         (λ fed also. let some = pieces_some moves.rest in
-        ap (λ kept. game_at (take game_front board.text ++ 10 ∷ kept)) (kept_fed moves fed)
+        ap (λ kept. game_at (take game_prefix board.text ++ 10 ∷ kept)) (kept_fed moves fed)
         ∙ ap (λ ps. game_at (game_of ps)) (sym (cut ∙ ap (λ ps. board.text ∷ ps) also ∙ ap (λ ps. board.text ∷ moves.text ∷ ps) some.2)))
-        (λ fed none also. ap (λ kept. game_at (take game_front board.text ++ 10 ∷ kept)) (kept_last moves fed) ∙ ap (λ ps. game_at (game_of ps)) (sym (cut ∙ ap (λ ps. board.text ∷ ps) also)))
-        (λ first more also longer size front. let head = take game_front board.text ++ 10 ∷ [] in
-        ap game_at (sym (append_assoc (take game_front board.text) (10 ∷ []) (kept_of moves)) ∙ ap (λ kept. head ++ kept) (sym (append-nil (kept_of moves))))
-        ∙ kept_long head moves [] size ∙ ap game_at (append_assoc (take game_front board.text) (10 ∷ []) (take game_front moves.text))
-        ∙ ap (λ kept. game_at (take game_front board.text ++ 10 ∷ kept)) front
+        (λ fed none also. ap (λ kept. game_at (take game_prefix board.text ++ 10 ∷ kept)) (kept_last moves fed) ∙ ap (λ ps. game_at (game_of ps)) (sym (cut ∙ ap (λ ps. board.text ∷ ps) also)))
+        (λ first more also longer size prefix. let head = take game_prefix board.text ++ 10 ∷ [] in
+        ap game_at (sym (append_assoc (take game_prefix board.text) (10 ∷ []) (kept_of moves)) ∙ ap (λ kept. head ++ kept) (sym (append-nil (kept_of moves))))
+        ∙ kept_long head moves [] size ∙ ap game_at (append_assoc (take game_prefix board.text) (10 ∷ []) (take game_prefix moves.text))
+        ∙ ap (λ kept. game_at (take game_prefix board.text ++ 10 ∷ kept)) prefix
         ∙ sym (ap (λ ps. game_at (game_of ps)) (cut ∙ ap (λ ps. board.text ∷ ps) also) ∙ long_moves board.text first more (omega (arith, longer))))
 
 -- and where it is a game, the lines behind it are those of what is left
@@ -237,9 +237,9 @@ game_left bytes board moves root first second game =
     (λ fed cut. by_piece board.rest moves (behind_game (pieces bytes) ≡ lines_in (pieces moves.rest)) second
     (λ fed also. ap behind_game (cut ∙ ap (λ ps. board.text ∷ ps) also))
     (λ fed none also. ap behind_game (cut ∙ ap (λ ps. board.text ∷ ps) also) ∙ ap (λ rest. lines_in (pieces rest)) (sym none))
-    (λ first more also longer size front. absurd (long_no_game (kept_of board) moves [] root size (ap (λ kept. game_at (kept_of board ++ kept)) (append-nil (kept_of moves)) ∙ game))))
+    (λ first more also longer size prefix. absurd (long_no_game (kept_of board) moves [] root size (ap (λ kept. game_at (kept_of board ++ kept)) (append-nil (kept_of moves)) ∙ game))))
     (λ fed none cut. ap behind_game cut ∙ ap (λ (line : Cut). lines_in (pieces line.rest)) (sym (second ∙ ap next_line none)))
-    (λ first more cut longer size front. absurd (long_no_game [] board (kept_of moves) root size game))
+    (λ first more cut longer size prefix. absurd (long_no_game [] board (kept_of moves) root size game))
 
 pub game_fault : (bytes : List ℕ) (board moves : Cut) (fault : InputFault) → board ≡ next_line bytes → moves ≡ next_line board.rest → game_at (kept_of board ++ kept_of moves) ≡ Err fault → game_from bytes ≡ NoGame fault
 unfolding game_from

@@ -1,4 +1,4 @@
--- What an input that was read to its end, or to 256 bytes, tells of the whole, and how `prove` ends on it.
+-- What an input that was read to its end, or to 256 bytes, says of the whole, and how `prove` ends on it.
 use Rattle.std.proofs.Common.{◌≡◌, ◌≢◌, ℕ, ◌<◌, ◌≤◌, List, Option, Some, None, Result, Ok, Err, IfSome, length, refl, ap, ◌∙◌, inl, inr, arith}
 use Rattle.std.specs.Io.KnownBytes.{Consumes, IsAtEnd}
 use Rattle.std.proofs.KnownBytes.{Consumes-whole}
@@ -13,7 +13,7 @@ use Rattle.io_ports.specs.declared.ports.Failed.{Failed}
 use Rattle.victor_run.specs.Proof.{Writes}
 use Rattle.victor_run.specs.Outcome.{HasProved, Proves, Streams, ending_of}
 
--- the bytes that were read tell the game of the whole input
+-- the bytes that were read determine the game of the whole input
 module _ (old new : Option (List ℕ)) (heard : List ℕ) (taken : Consumes old new heard) where
   pub same_game : (length heard < 256 → IsAtEnd new) → IfSome old (λ bytes. game_at bytes ≡ game_at heard)
   same_game ended = elim (cases_lt (length heard) 120) [

@@ -4,5 +4,5 @@ pub mod Proving
 pub mod Asking
 pub mod Writing
 pub mod CheckLines
-pub mod CheckTold
+pub mod CheckKnown
 pub mod Passing

@@ -48,14 +48,14 @@ module _ (most : ℕ) (fresh lines : Cutting) (old new b : Option (List ℕ)) (i
 -- ---- the bytes that were passed
 
 -- a line with its line feed has at most 8,193 bytes
-record IsFront (most : ℕ) (bytes rest : List ℕ) : Type 0 where
-  front : List ℕ
-  short : length front ≤ most
-  whole : bytes ≡ front ++ rest
+record HasPrefix (most : ℕ) (bytes rest : List ℕ) : Type 0 where
+  prefix : List ℕ
+  short : length prefix ≤ most
+  whole : bytes ≡ prefix ++ rest
 
-line_front : (bytes text : List ℕ) (got : LineGot) (fed : Bool) (rest : List ℕ) → IsCut bytes got text fed rest → IsFront 8193 bytes rest
-line_front bytes text Line fed rest cut = record {
-  front = text ++ feed fed;
+line_prefix : (bytes text : List ℕ) (got : LineGot) (fed : Bool) (rest : List ℕ) → IsCut bytes got text fed rest → HasPrefix 8193 bytes rest
+line_prefix bytes text Line fed rest cut = record {
+  prefix = text ++ feed fed;
   short = omega (arith, length-append text (feed fed), cut.short, feed_short fed);
   whole = cut.whole;
 }
@@ -63,28 +63,28 @@ line_front bytes text Line fed rest cut = record {
     feed_short : (fed : Bool) → length (feed fed) ≤ 1
     feed_short true = omega arith
     feed_short false = omega arith
-line_front bytes text Long fed rest cut = record { front = []; short = omega arith; whole = sym cut.stays }
-line_front bytes text Done fed rest cut = record { front = []; short = omega arith; whole = cut.0 ∙ sym cut.2 }
-line_front bytes text Failed fed rest cut = absurd cut
+line_prefix bytes text Long fed rest cut = record { prefix = []; short = omega arith; whole = sym cut.stays }
+line_prefix bytes text Done fed rest cut = record { prefix = []; short = omega arith; whole = cut.0 ∙ sym cut.2 }
+line_prefix bytes text Failed fed rest cut = absurd cut
 
-lines_front : (n : ℕ) (bytes : List ℕ) → IsFront (n * 8193) bytes (behind_lines n bytes)
-lines_front zero bytes = record { front = []; short = omega arith; whole = refl }
-lines_front (suc n) bytes =
+lines_prefix : (n : ℕ) (bytes : List ℕ) → HasPrefix (n * 8193) bytes (behind_lines n bytes)
+lines_prefix zero bytes = record { prefix = []; short = omega arith; whole = refl }
+lines_prefix (suc n) bytes =
     let cut = next_line bytes in
-    let first = line_front bytes cut.text cut.got cut.fed cut.rest (each_text_is_cut bytes) in
-    let more = lines_front n cut.rest in
+    let first = line_prefix bytes cut.text cut.got cut.fed cut.rest (each_text_is_cut bytes) in
+    let more = lines_prefix n cut.rest in
     record {
-      front = first.front ++ more.front;
-      short = omega (arith, length-append first.front more.front, first.short, more.short);
-      whole = first.whole ∙ ap (λ l. first.front ++ l) more.whole ∙ sym (append_assoc first.front more.front (behind_lines n cut.rest));
+      prefix = first.prefix ++ more.prefix;
+      short = omega (arith, length-append first.prefix more.prefix, first.short, more.short);
+      whole = first.whole ∙ ap (λ l. first.prefix ++ l) more.whole ∙ sym (append_assoc first.prefix more.prefix (behind_lines n cut.rest));
     }
 
 pub takes_bytes : (most : ℕ) (old new : Option (List ℕ)) → TakesLines most old new → TakesAtMost (most * 8193 + most_held) old new
 takes_bytes most None new takes = ([], omega arith, tt)
 takes_bytes most (Some x) None takes = absurd takes.2
 takes_bytes most (Some x) (Some y) takes =
-    let passed = lines_front takes.2.0 x in (
-      passed.front ++ takes.0,
-      omega (arith, length-append passed.front takes.0, passed.short, takes.1, takes.2.1),
-      passed.whole ∙ ap (λ l. passed.front ++ l) (sym takes.2.2) ∙ sym (append_assoc passed.front takes.0 y),
+    let passed = lines_prefix takes.2.0 x in (
+      passed.prefix ++ takes.0,
+      omega (arith, length-append passed.prefix takes.0, passed.short, takes.1, takes.2.1),
+      passed.whole ∙ ap (λ l. passed.prefix ++ l) (sym takes.2.2) ∙ sym (append_assoc passed.prefix takes.0 y),
     )

@@ -8,8 +8,8 @@ use Rattle.std.proofs.lemmas.List.{get_or-set_same, get_or-set_other, map-id, ma
 use Rattle.std.proofs.lemmas.List.Elements.{filter-append}
 use Rattle.std.proofs.lemmas.List.FromFn.{map-range_with_len_more}
 use Rattle.std.proofs.lemmas.List.Concat.{flat_map-append}
-use Rattle.device_rules.specs.Devices.{Stands}
-use Rattle.device_rules.proofs.DeviceLaws.{Stands_more}
+use Rattle.device_rules.specs.Devices.{AppendsPrefix}
+use Rattle.device_rules.proofs.DeviceLaws.{AppendsPrefix_more}
 use Rattle.game_rules.specs.Board.{below}
 use Rattle.game_rules.specs.Position.{Position, has_room, after_move, played, is_legal, end_of, same_side, side_to_move, open_columns}
 use Rattle.game_rules.specs.Value.{same_end, win_of}
@@ -45,18 +45,18 @@ abbrev pub lemma_next : ℕ → List ℕ → Side → Bool → Reason → Lemma
 lemma_next count path side won reason = record { number = count + 1; path = path; claim = claim_for side won; reason = reason }
 
 -- the answer names the next lemma
-abbrev pub IsTold : Bool → ℕ → Result Answer SearchStop → Type 0
-IsTold won count result = IfOk result (λ answer. (answer.lemma ≡ count + 1) × (answer.yes ≡ won))
+abbrev pub IsDetermined : Bool → ℕ → Result Answer SearchStop → Type 0
+IsDetermined won count result = IfOk result (λ answer. (answer.lemma ≡ count + 1) × (answer.yes ≡ won))
 
 -- a lemma that is right behind what is known
 pub told : (root p : Position) (side : Side) (won : Bool) (said : Claim) (known : List Shown) (path : List ℕ) (reason : Reason) (old new : Option (List ℕ)) (count counted : ℕ) (result : Result Answer SearchStop)
     → said ≡ claim_for side won → played root path ≡ Some p → length known ≡ count → HasReason known p (claim_for side won) reason
-    → Stands (is_whole result) old new (lemma_line (record { number = count + 1; path = path; claim = said; reason = reason })) → counted + uncounted result ≡ count + 1 → IsTold won count result
+    → AppendsPrefix (is_whole result) old new (lemma_line (record { number = count + 1; path = path; claim = said; reason = reason })) → counted + uncounted result ≡ count + 1 → IsDetermined won count result
     → Solves root p side known old new counted result
 told root p side won said known path reason old new count counted result is_said along many right stands number answer = record {
   more = lemma_next count path side won reason ∷ [];
   after = known ++ (p, claim_for side won) ∷ [];
-  text = subst (Stands (is_whole result) old new)
+  text = subst (AppendsPrefix (is_whole result) old new)
       (ap (λ claim. lemma_line (record { number = count + 1; path = path; claim = claim; reason = reason })) is_said ∙ sym (append-nil (lemma_line (lemma_next count path side won reason)))) stands;
   right = (p, record { next = ap (λ n. n + 1) (sym many); along = along; reason = right }, refl);
   counted = omega (arith, length-append known ((p, claim_for side won) ∷ []), number, many);
@@ -64,7 +64,7 @@ told root p side won said known path reason old new count counted result is_said
   shown = named result answer;
 }
   where
-    named : (result : Result Answer SearchStop) → IsTold won count result → IfOk result (λ answer. Shows (known ++ (p, claim_for side won) ∷ []) answer.lemma p (claim_for side answer.yes))
+    named : (result : Result Answer SearchStop) → IsDetermined won count result → IfOk result (λ answer. Shows (known ++ (p, claim_for side won) ∷ []) answer.lemma p (claim_for side answer.yes))
     named (Err stop) answer = tt
     named (Ok answer) (number, yes') = rw (number, yes', ← many) (Shows_last known p (claim_for side won))
 
@@ -75,7 +75,7 @@ module _ (root : Position) (side : Side) (known mid : List Shown) (old held new 
   then_solves p count result rest = record {
     more = ls ++ rest.more;
     after = rest.after;
-    text = subst (Stands (is_whole result) old new) (sym (lines_append ls rest.more)) (Stands_more (is_whole result) old held new (lines_of ls) (lines_of rest.more) text rest.text);
+    text = subst (AppendsPrefix (is_whole result) old new) (sym (lines_append ls rest.more)) (AppendsPrefix_more (is_whole result) old held new (lines_of ls) (lines_of rest.more) text rest.text);
     right = AreRight_append root known mid rest.after ls rest.more right rest.right;
     counted = rest.counted;
     sided = all_append (λ l. claim_side l.claim ≡ side) ls rest.more sided rest.sided;

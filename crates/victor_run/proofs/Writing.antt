@@ -3,8 +3,8 @@ use Rattle.std.proofs.Common.{◌≡◌, ◌≢◌, ℕ, ◌+◌, ◌-◌, ◌�
 use Rattle.std.specs.Io.KnownBytes.{Appends}
 use Rattle.std.proofs.lemmas.Bool.{eq-eqb, ne_eqb}
 use Rattle.std.proofs.lemmas.List.{get_or-append_right, get_or-map, length-map}
-use Rattle.device_rules.specs.Devices.{Stands}
-use Rattle.device_rules.proofs.DeviceLaws.{Stands_more}
+use Rattle.device_rules.specs.Devices.{AppendsPrefix}
+use Rattle.device_rules.proofs.DeviceLaws.{AppendsPrefix_more}
 use Rattle.game_rules.specs.Position.{Position}
 use Rattle.game_rules.specs.Grammar.{IsGameText, game_text, board_line, moves_line, move_list, letter_of}
 use Rattle.proof_text.specs.Right.{IsVerdict}
@@ -56,22 +56,22 @@ head_is bytes p game = at game.ended refl
         ∙ append_assoc first_line (10 ∷ []) bytes ∙ sym (head_of_fed bytes p game ended)
     at false bare =
         let some = move_list_some game.columns in
-        let front = board_line game.board ++ (10 ∷ codes "moves ") in
-        let spelled : bytes ≡ front ++ (some.0 ∷ some.1) =
+        let prefix = board_line game.board ++ (10 ∷ codes "moves ") in
+        let spelled : bytes ≡ prefix ++ (some.0 ∷ some.1) =
         game.spelled ∙ ap (game_text game.board game.columns) bare ∙ ap (λ xs. board_line game.board ++ (10 ∷ xs)) (append-nil (moves_line game.columns))
-        ∙ sym (append_assoc (board_line game.board) (10 ∷ codes "moves ") (move_list game.columns)) ∙ ap (λ xs. front ++ xs) some.2 in
-        let unfed : last_byte bytes ≢ 10 = λ h. moves_last game.columns (ap last_byte some.2 ∙ sym (ap last_byte spelled ∙ last_append front some.0 some.1) ∙ h) in
+        ∙ sym (append_assoc (board_line game.board) (10 ∷ codes "moves ") (move_list game.columns)) ∙ ap (λ xs. prefix ++ xs) some.2 in
+        let unfed : last_byte bytes ≢ 10 = λ h. moves_last game.columns (ap last_byte some.2 ∙ sym (ap last_byte spelled ∙ last_append prefix some.0 some.1) ∙ h) in
         ap (λ xs. as_line first_line ++ xs) (rw (ne_eqb (last_byte bytes) 10 unfed) refl)
         ∙ append_assoc first_line (10 ∷ []) (as_line bytes) ∙ sym (head_of_bare bytes p game bare)
 
 -- ---- the whole
 
--- the head, the lemmas of both questions, and the last line, of which a front may be missing
-stands_all : (b : Bool) (old mid held new : Option (List ℕ)) (head white black last : List ℕ) → Appends old mid head → Appends mid held (white ++ black) → Stands b held new last
-    → Stands b old new (head ++ (white ++ (black ++ last)))
+-- the head, the lemmas of both questions, and the last line, of which a prefix may be missing
+stands_all : (b : Bool) (old mid held new : Option (List ℕ)) (head white black last : List ℕ) → Appends old mid head → Appends mid held (white ++ black) → AppendsPrefix b held new last
+    → AppendsPrefix b old new (head ++ (white ++ (black ++ last)))
 stands_all b old mid held new head white black last first both rest =
-    Stands_more b old mid new head (white ++ (black ++ last)) first
-    (subst (Stands b mid new) (append_assoc white black last) (Stands_more b mid held new (white ++ black) last both rest))
+    AppendsPrefix_more b old mid new head (white ++ (black ++ last)) first
+    (subst (AppendsPrefix b mid new) (append_assoc white black last) (AppendsPrefix_more b mid held new (white ++ black) last both rest))
 
 module _ (nodes : ℕ) (bytes : List ℕ) (p : Position) (game : IsGameText bytes p) (small : nodes ≤ 10000000) where
   abbrev the_head : List ℕ
@@ -100,7 +100,7 @@ module _ (nodes : ℕ) (bytes : List ℕ) (p : Position) (game : IsGameText byte
     }
 
     pub writes_verdict : (old new : Option (List ℕ)) (result : Result Verdict Failed) → Appends old mid (head_for bytes) → Appends mid held (lines_of asks.white ++ lines_of asks.black)
-        → IfOk result (λ told. told ≡ v) → Stands (is_ok result) held new (verdict_line v) → Writes nodes bytes p old new result
+        → IfOk result (λ told. told ≡ v) → AppendsPrefix (is_ok result) held new (verdict_line v) → Writes nodes bytes p old new result
     writes_verdict old new (Ok told) head lemmas same stands = (
       proof_text,
       subst (IsProofOf nodes bytes p proof_text) (sym same) proof_of,
@@ -113,13 +113,13 @@ module _ (nodes : ℕ) (bytes : List ℕ) (p : Position) (game : IsGameText byte
     )
 
   -- the head was cut
-  pub writes_head : (old new : Option (List ℕ)) (failed : Failed) → Stands false old new (head_for bytes) → Writes nodes bytes p old new (Err failed)
-  writes_head old new failed stands = (the_head, record { game = game; stands = head_stands p the_head; plain = (refl, refl); few = omega arith }, subst (Stands false old new) (head_is bytes p game) stands)
+  pub writes_head : (old new : Option (List ℕ)) (failed : Failed) → AppendsPrefix false old new (head_for bytes) → Writes nodes bytes p old new (Err failed)
+  writes_head old new failed stands = (the_head, record { game = game; stands = head_stands p the_head; plain = (refl, refl); few = omega arith }, subst (AppendsPrefix false old new) (head_is bytes p game) stands)
 
   -- a lemma was cut
   pub writes_lemmas : (old mid new : Option (List ℕ)) (failed : Failed) (asks : Asks p nodes mid new (Err WriteFault)) → Appends old mid (head_for bytes) → Writes nodes bytes p old new (Err failed)
   writes_lemmas old mid new failed asks head = (
     the_head ++ (lines_of asks.white ++ lines_of asks.black),
     record { game = game; stands = lemmas_stand p the_head (the_head ++ (lines_of asks.white ++ lines_of asks.black)) None asks.white asks.mid None asks.black asks.after asks.white_right asks.black_right asks.white_sided asks.black_sided asks.asked tt tt refl; plain = (refl, refl); few = asks.few },
-    Stands_more false old mid new the_head (lines_of asks.white ++ lines_of asks.black) (subst (Appends old mid) (head_is bytes p game) head) asks.text,
+    AppendsPrefix_more false old mid new the_head (lines_of asks.white ++ lines_of asks.black) (subst (Appends old mid) (head_is bytes p game) head) asks.text,
   )

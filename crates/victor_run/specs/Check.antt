@@ -2,7 +2,7 @@
 -- source and a sink that tell theirs.
 use Rattle.std.specs.Prelude.{◌≡◌, ◌+◌, ◌≤◌, ℕ, false, List, [], ◌∷◌, ◌++◌, Option, IfSome, ⊤, codes, decimal, length}
 use Rattle.std.specs.Io.KnownBytes.{Keeps, Appends, IsAtEnd, prepend_known}
-use Rattle.device_rules.specs.Devices.{Stands}
+use Rattle.device_rules.specs.Devices.{AppendsPrefix}
 use Rattle.io_ports.specs.Lines.{PassesLines, most_held}
 use Rattle.proof_text.specs.Right.{AreTrue, IsTrueVerdict}
 use Rattle.proof_text.specs.Texts.{most_lines, check_of, CheckAnswer, NoGame, Refused, Accepted, IsRightText}
@@ -53,7 +53,7 @@ most_lines_read = most_lines + 1
 -- was taken than the lines up to it, and where the game is none, than the first three; and behind them what was held.
 abbrev pub Checks : Option (List ℕ) → Option (List ℕ) → Option (List ℕ) → Option (List ℕ) → Ending → Type 0
 Checks input left old new endings.Done = (v : Verdict) × (count : ℕ) × IsRightInput input left v count × Appends old new (accepted_line v count)
-Checks input left old new endings.Write = (v : Verdict) × (count : ℕ) × IsRightInput input left v count × Stands false old new (accepted_line v count)
+Checks input left old new endings.Write = (v : Verdict) × (count : ℕ) × IsRightInput input left v count × AppendsPrefix false old new (accepted_line v count)
 Checks input left old new (endings.Input fault) = IsAnswer input (NoGame fault) × Keeps old new × TakesLines 3 input left
 Checks input left old new (endings.Refused r) = IsAnswer input (Refused r.at r.why) × Keeps old new × TakesLines r.at input left
 Checks input left old new endings.Read = Keeps old new

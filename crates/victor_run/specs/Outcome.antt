@@ -2,7 +2,7 @@
 -- sink that tell theirs.
 use Rattle.std.specs.Prelude.{◌≡◌, ◌≢◌, ℕ, ◌+◌, ◌*◌, ◌<◌, ◌≤◌, Bool, false, List, Option, Some, None, Result, Ok, Err, IfSome, length}
 use Rattle.std.specs.Io.KnownBytes.{Keeps, Appends, Consumes, IsAtEnd}
-use Rattle.device_rules.specs.Devices.{Rose, Stands}
+use Rattle.device_rules.specs.Devices.{Rose, AppendsPrefix}
 use Rattle.game_rules.specs.Position.{Position}
 use Rattle.game_rules.specs.Cost.{cost, none_closed}
 use Rattle.game_rules.specs.Text.{game_at}
@@ -56,13 +56,13 @@ pub record LeavesUnknown (nodes : ℕ) (bytes : List ℕ) (old new : Option (Lis
   pub proof : IsProofOf nodes bytes position text verdicts.Unknown
   pub written : Appends old new text
 
--- The bytes are a game, and of a text that may stand while a proof is written a front was.
+-- The bytes are a game, and of a text that may stand while a proof is written a prefix was.
 pub record WasCut (nodes : ℕ) (bytes : List ℕ) (old new : Option (List ℕ)) : Type 0 where
   pub position : Position
   pub game : game_at bytes ≡ Ok position
   pub text : List ℕ
   pub stands : MayStandFor nodes bytes position text
-  pub written : Stands false old new text
+  pub written : AppendsPrefix false old new text
 
 -- what the source has left, and what the sink held, before and after a run
 pub record Streams : Type 0 where
@@ -89,9 +89,9 @@ Outcome (Some (Prove nodes)) s ending = Proves nodes s ending
 Outcome (Some Check) s ending = Checks s.input s.left s.old s.new ending
 
 -- a text was written to the error stream, all of it unless that stream's count rose
-pub record Tells (before after : ℕ) (old new : Option (List ℕ)) (text : List ℕ) : Type 0 where
+pub record Reports (before after : ℕ) (old new : Option (List ℕ)) (text : List ℕ) : Type 0 where
   pub whole : Bool
-  pub written : Stands whole old new text
+  pub written : AppendsPrefix whole old new text
   pub cut : whole ≡ false → Rose before after
 
 -- at most so many bytes were taken from the source

@@ -1,7 +1,7 @@
--- What `prove` writes: the text of a proof, whole, or a front of one.
+-- What `prove` writes: the text of a proof, whole, or a prefix of one.
 use Rattle.std.specs.Prelude.{◌≡◌, ◌≤◌, ◌-◌, ℕ, false, ◌==◌, if◌then◌else◌, List, ◌++◌, Option, None, Result, Ok, Err, length, slice_index}
 use Rattle.std.specs.Io.KnownBytes.{Appends}
-use Rattle.device_rules.specs.Devices.{Stands}
+use Rattle.device_rules.specs.Devices.{AppendsPrefix}
 use Rattle.game_rules.specs.Position.{Position}
 use Rattle.game_rules.specs.Grammar.{IsGameText}
 use Rattle.proof_text.specs.Right.{Shown, IsTrueVerdict}
@@ -40,7 +40,7 @@ pub record MayStandFor (nodes : ℕ) (bytes : List ℕ) (p : Position) (text : L
   pub plain : IsPlain stands.written
   pub few : length stands.after ≤ nodes
 
--- Behind the bytes that were there stands a proof with the verdict; after a failure, a front of what may stand.
+-- Behind the bytes that were there stands a proof with the verdict; after a failure, a prefix of what may stand.
 abbrev pub Writes : ℕ → List ℕ → Position → Option (List ℕ) → Option (List ℕ) → Result Verdict Failed → Type 0
 Writes nodes bytes p old new (Ok v) = (text : List ℕ) × IsProofOf nodes bytes p text v × Appends old new text
-Writes nodes bytes p old new (Err failed) = (text : List ℕ) × MayStandFor nodes bytes p text × Stands false old new text
+Writes nodes bytes p old new (Err failed) = (text : List ℕ) × MayStandFor nodes bytes p text × AppendsPrefix false old new text

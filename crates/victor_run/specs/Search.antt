@@ -1,6 +1,6 @@
 -- What a search with lemmas does, at any moment at which it may end.
 use Rattle.std.specs.Prelude.{◌≡◌, ◌≢◌, ◌≤◌, ℕ, ◌+◌, map, slice_index, if◌then◌else◌, Bool, true, false, List, [], ◌++◌, Option, Result, Ok, Err, IfOk, length}
-use Rattle.device_rules.specs.Devices.{Stands}
+use Rattle.device_rules.specs.Devices.{AppendsPrefix}
 use Rattle.game_rules.specs.Position.{Position, same_side}
 use Rattle.game_rules.specs.declared.Side.{Side}
 use Rattle.game_rules.specs.declared.Side.TheVariants.{White, Black}
@@ -35,7 +35,7 @@ cites_from numbers columns = map (λ c. record { column = c; lemma = slice_index
 pub record Solves (root p : Position) (side : Side) (known : List Shown) (old new : Option (List ℕ)) (count : ℕ) (result : Result Answer SearchStop) : Type 0 where
   pub more : List Lemma
   pub after : List Shown
-  pub text : Stands (is_whole result) old new (lines_of more)
+  pub text : AppendsPrefix (is_whole result) old new (lines_of more)
   pub right : AreRight root known more after
   pub counted : length after ≡ count + uncounted result
   pub sided : AreSided side more
@@ -58,7 +58,7 @@ pub record Asks (root : Position) (nodes : ℕ) (old new : Option (List ℕ)) (r
   pub mid : List Shown
   pub black : List Lemma
   pub after : List Shown
-  pub text : Stands (is_whole_verdict result) old new (lines_of white ++ lines_of black)
+  pub text : AppendsPrefix (is_whole_verdict result) old new (lines_of white ++ lines_of black)
   pub white_right : AreRight root [] white mid
   pub black_right : AreRight root mid black after
   pub white_sided : AreSided White white

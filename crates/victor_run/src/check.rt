@@ -2,7 +2,7 @@
 //! show is kept. Reading stops at the first line that is refused. Nothing is written before the end of the input was
 //! reached: then one line says that the proof is accepted, with its verdict and the number of its lemmas.
 ghost use Rattle.std.specs.Prelude.{◌≡◌, ◌+◌, ◌-◌, ◌≤◌, true, [], length, is_ok, MatchResult, IfOk, IfErr, OnOk};
-ghost use Rattle.device_rules.specs.Devices.{Rose, HasCause, Stands};
+ghost use Rattle.device_rules.specs.Devices.{Rose, HasCause, AppendsPrefix};
 ghost use Rattle.arrayvec.specs.ArrayVec.{array_vec_len};
 ghost use Rattle.proof_text.specs.Texts.{first_number, bytes_refusal, with_bytes, start, verdict_answer, check_of};
 ghost use Rattle.io_ports.specs.Lines.{PassesLines, most_held};
@@ -23,10 +23,10 @@ use proof_text::{Verdict, Why};
 use std::alloc::Global;
 
 /// How much of a line of the game is kept. The lines of a game are shorter.
-const GAME_FRONT: usize = 256;
+const GAME_PREFIX: usize = 256;
 
 /// The most that is kept of the two lines of the game, with their line feeds.
-const MOST_KEPT: usize = 2 * (GAME_FRONT + 1);
+const MOST_KEPT: usize = 2 * (GAME_PREFIX + 1);
 
 /// The number of the first line behind the game.
 const FIRST_NUMBER: u64 = 4;
@@ -44,7 +44,7 @@ enum Stop {
 }
 
 /// Reads a proof, and writes one line where it is right. It ends as the definitions answer the text, unless a stream
-/// failed, which comes only where its count of faults rose, or memory was wanted.
+/// failed, which comes only where its count of faults rose, or memory ran out.
 pub(crate) fn check<S: Source, O: Sink>(alloc: Global, source: &mut S, out: &mut O) -> Ending
     ensures outcome { Checks (S.left source.old) (S.left source.new) (O.written out.old) (O.written out.new) result }
     ensures complete { Serves (S.left source.old) result }
@@ -122,17 +122,17 @@ fn read_root<S: Source>(lines: &mut Lines, source: &mut S) -> Result<Position, S
     }
 }
 
-/// Puts the front of the next line behind the text, and the line feed that ended it.
+/// Puts the prefix of the next line behind the text, and the line feed that ended it.
 fn keep_line<S: Source>(
     text: &mut ArrayVec<u8, MOST_KEPT>,
     lines: &mut Lines,
     source: &mut S,
 ) -> Result<(), Stop>
-    requires { array_vec_len text.old + GAME_FRONT + 1 ≤ MOST_KEPT }
+    requires { array_vec_len text.old + GAME_PREFIX + 1 ≤ MOST_KEPT }
     ensures kept { MatchResult result
         (λ _. KeepsLine (pending lines.old (S.left source.old)) (pending lines.new (S.left source.new)) text.old.items text.new.items)
         (λ stop. (stop ≡ stops.Read) × Rose (S.faults source.old) (S.faults source.new)) }
-    ensures bound { array_vec_len text.new ≤ array_vec_len text.old + GAME_FRONT + 1 }
+    ensures bound { array_vec_len text.new ≤ array_vec_len text.old + GAME_PREFIX + 1 }
     ensures passes { PassesLines 1 (pending lines.old (S.left source.old)) (pending lines.new (S.left source.new)) }
     ensures held { length lines.new.ahead ≤ most_held }
     ensures later { S.faults source.old ≤ S.faults source.new }
@@ -141,7 +141,7 @@ fn keep_line<S: Source>(
         return Err(Stop::Read);
     }
     let line = lines.text();
-    push_text(text, &line[..line.len().min(GAME_FRONT)]);
+    push_text(text, &line[..line.len().min(GAME_PREFIX)]);
     if lines.fed() {
         text.push(b'\n');
     }
@@ -237,7 +237,7 @@ fn bad_line(at: u64) -> Stop
 
 /// Writes that a proof is accepted.
 fn put_accepted<O: Sink>(out: &mut O, accepted: Accepted) -> Result<(), Failed>
-    ensures written { Stands (is_ok result) (O.written out.old) (O.written out.new) (accepted_line accepted.verdict accepted.lemmas) }
+    ensures written { AppendsPrefix (is_ok result) (O.written out.old) (O.written out.new) (accepted_line accepted.verdict accepted.lemmas) }
     ensures cause { HasCause (O.faults out.old) (O.faults out.new) result }
 {
     put_line(out, accepted_line(accepted).as_slice())

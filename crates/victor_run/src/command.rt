@@ -9,14 +9,14 @@ ghost use Rattle.proof_text.specs.declared.Verdict.{Verdict};
 ghost use Rattle.victor_run.specs.Check.{Serves, TakesLines, most_lines_read};
 ghost use Rattle.victor_run.specs.Words.{form_of};
 ghost use Rattle.victor_run.specs.Output.{fault_text};
-ghost use Rattle.victor_run.specs.Outcome.{status_of, Outcome, Tells, TakesAtMost, most_taken};
+ghost use Rattle.victor_run.specs.Outcome.{status_of, Outcome, Reports, TakesAtMost, most_taken};
 ghost use Rattle.victor_run.specs.declared.words.Form.TheVariants as forms;
 ghost use Rattle.victor_run.specs.declared.ending.Ending.{Ending};
 ghost use Rattle.victor_run.specs.declared.ending.Ending.TheVariants as endings;
 
 use crate::check::check;
 use crate::ending::Ending;
-use crate::output::tell;
+use crate::output::report;
 use crate::prove::prove;
 use crate::words::{Form, read_words};
 use io_ports::{Sink, Source};
@@ -41,12 +41,12 @@ pub fn run<S: Source, O: Sink, E: Sink>(
     // Every status has its cause here: the words, the game and its proof, the cost, or a count of faults.
     ensures outcome { (ending : Ending) × (result ≡ status_of ending) × Outcome (form_of (map string_bytes words.now))
         (record { input = S.left source.old; left = S.left source.new; old = O.written out.old; new = O.written out.new }) ending
-        × Tells (E.faults err.old) (E.faults err.new) (E.written err.old) (E.written err.new) (fault_text ending) }
+        × Reports (E.faults err.old) (E.faults err.new) (E.written err.old) (E.written err.new) (fault_text ending) }
     ensures read_fault { result ≡ 6 → Rose (S.faults source.old) (S.faults source.new) }
     ensures write_fault { result ≡ 7 → Rose (O.faults out.old) (O.faults out.new) }
 
     // Where no stream failed and the budget suffices, the value is written with its proof; and a proof that is right is
-    // accepted, unless memory is wanting.
+    // accepted, unless memory runs out.
     ensures complete { (nodes : ℕ) → form_of (map string_bytes words.now) ≡ Some (forms.Prove nodes)
         → (Rose (S.faults source.old) (S.faults source.new) → ⊥) → (Rose (O.faults out.old) (O.faults out.new) → ⊥)
         → IfSome (S.left source.old) (λ bytes. (p : Position) → game_at bytes ≡ Ok p → cost none_closed p ≤ nodes → result ≡ 0) }
@@ -59,7 +59,7 @@ pub fn run<S: Source, O: Sink, E: Sink>(
     ensures lines { form_of (map string_bytes words.now) ≡ Some forms.Check → TakesLines most_lines_read (S.left source.old) (S.left source.new) }
 {
     let ending = run_words(alloc, words, source, out);
-    tell(err, ending);
+    report(err, ending);
     ending.status()
 }
 

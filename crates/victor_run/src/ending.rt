@@ -22,7 +22,7 @@ pub(crate) enum Ending {
     Read,
     /// The sink failed: status 7.
     Write,
-    /// Memory was wanting, and nothing was written: status 8.
+    /// Memory ran out, and nothing was written: status 8.
     Memory,
 }
 

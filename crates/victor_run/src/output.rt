@@ -1,10 +1,10 @@
 //! The texts for the error stream.
 ghost use Rattle.std.specs.Prelude.{◌≡◌, ◌≤◌, ◌++◌, codes, decimal, length, is_ok};
 ghost use Rattle.arrayvec.specs.ArrayVec.{array_vec_len};
-ghost use Rattle.device_rules.specs.Devices.{HasCause, Stands};
+ghost use Rattle.device_rules.specs.Devices.{HasCause, AppendsPrefix};
 ghost use Rattle.proof_text.specs.Spelling.{as_line};
 ghost use Rattle.victor_run.specs.Output.{fault_text, fault_line, kind_word, refusal_line, why_word};
-ghost use Rattle.victor_run.specs.Outcome.{Tells};
+ghost use Rattle.victor_run.specs.Outcome.{Reports};
 
 use crate::ending::Ending;
 use board_bits::{InputFault, InputKind};
@@ -18,8 +18,8 @@ const USAGE: &[u8] =
     b"usage: victor prove [--nodes N] [--reach K] [--front F] [--table T] | check | play | explain [--reach K] | drill COLS ROWS MOVES SEED GAMES [--nodes N] [--reach K]\n";
 
 /// Writes the text of an ending to the error stream, where there is one. Its failure changes nothing.
-pub(crate) fn tell<E: Sink>(err: &mut E, ending: Ending)
-    ensures { Tells (E.faults err.old) (E.faults err.new) (E.written err.old) (E.written err.new) (fault_text ending) }
+pub(crate) fn report<E: Sink>(err: &mut E, ending: Ending)
+    ensures { Reports (E.faults err.old) (E.faults err.new) (E.written err.old) (E.written err.new) (fault_text ending) }
 {
     let text = fault_text(ending);
     if !text.is_empty() {
@@ -101,7 +101,7 @@ fn why_word(why: Why) -> &'static [u8]
 
 /// Writes a line, and hands on what was written.
 pub(crate) fn put_line<O: Sink>(out: &mut O, line: &[u8]) -> Result<(), Failed>
-    ensures written { Stands (is_ok result) (O.written out.old) (O.written out.new) line.now }
+    ensures written { AppendsPrefix (is_ok result) (O.written out.old) (O.written out.new) line.now }
     ensures cause { HasCause (O.faults out.old) (O.faults out.new) result }
 {
     put_all(out, line)?;

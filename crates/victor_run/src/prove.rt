@@ -1,6 +1,6 @@
 //! `prove`: a game is read, and a proof of its value is written, each line as soon as it is known. It takes no memory.
 ghost use Rattle.std.specs.Prelude.{◌≡◌, ◌≤◌, ◌<◌, Ok, length, is_ok, IfOk};
-ghost use Rattle.device_rules.specs.Devices.{HasCause, Rose, Stands};
+ghost use Rattle.device_rules.specs.Devices.{HasCause, Rose, AppendsPrefix};
 ghost use Rattle.game_rules.specs.Cost.{cost, none_closed};
 ghost use Rattle.game_rules.specs.Text.{game_at};
 ghost use Rattle.proof_text.specs.Spelling.{verdict_line};
@@ -89,7 +89,7 @@ fn head_for(text: &[u8]) -> LineText
 /// Writes the line of the verdict, and hands on what was written.
 fn write_verdict<O: Sink>(verdict: Verdict, out: &mut O) -> Result<Verdict, Failed>
     ensures verdict { IfOk result (λ v. v ≡ verdict) }
-    ensures written { Stands (is_ok result) (O.written out.old) (O.written out.new) (verdict_line verdict) }
+    ensures written { AppendsPrefix (is_ok result) (O.written out.old) (O.written out.new) (verdict_line verdict) }
     ensures cause { HasCause (O.faults out.old) (O.faults out.new) result }
 {
     print_line(&Line::Verdict(verdict), out)?;

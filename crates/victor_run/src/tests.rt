@@ -241,7 +241,7 @@ fn a_right_proof_is_accepted(rt: HostRuntime) -> Result<(), Fail> {
     Ok(())
 }
 
-/// A proof, a part of it and what stands in its place, the status and what is told.
+/// A proof, a part of it and what stands in its place, the status and what is reported.
 type Changed = (&'static str, &'static str, &'static str, u8, &'static str);
 
 const CHANGES: [Changed; 21] = [
@@ -396,20 +396,20 @@ const CHANGES: [Changed; 21] = [
 
 #[test]
 fn a_changed_proof_is_refused_at_its_line(rt: HostRuntime) -> Result<(), Fail> {
-    for (proof, from, to, status, told) in CHANGES {
+    for (proof, from, to, status, reported) in CHANGES {
         let changed = proof.replace(rt.alloc(), from, to)?;
         for piece in [1, 4, 256] {
             let devices = Devices { piece, ..SOUND };
             let got = run_over(rt.alloc(), CHECK, changed.as_bytes(), devices)?;
             assert_eq!(rt; got.status, status, "{changed}");
             assert_eq!(rt; got.out.len(), 0, "{changed}");
-            assert_eq!(rt; got.err.as_slice(), told.as_bytes(), "{changed}");
+            assert_eq!(rt; got.err.as_slice(), reported.as_bytes(), "{changed}");
         }
     }
     Ok(())
 }
 
-/// The front of a proof whose last line is too long, the status and what is told.
+/// The prefix of a proof whose last line is too long, the status and what is reported.
 const LONG_LINES: [(&str, u8, &str); 3] = [
     ("", 4, "refused line 1: BadLine\n"),
     (
@@ -426,15 +426,15 @@ const LONG_LINES: [(&str, u8, &str); 3] = [
 
 #[test]
 fn a_line_that_is_too_long_is_refused(rt: HostRuntime) -> Result<(), Fail> {
-    for (front, status, told) in LONG_LINES {
-        let mut proof = Vec::from_slice(rt.alloc(), front.as_bytes())?;
+    for (prefix, status, reported) in LONG_LINES {
+        let mut proof = Vec::from_slice(rt.alloc(), prefix.as_bytes())?;
         for _ in 0..5000 {
             proof.extend_from_slice(b"ab")?;
         }
         let got = run_over(rt.alloc(), CHECK, proof.as_slice(), SOUND)?;
-        assert_eq!(rt; got.status, status, "{front}");
-        assert_eq!(rt; got.out.len(), 0, "{front}");
-        assert_eq!(rt; got.err.as_slice(), told.as_bytes(), "{front}");
+        assert_eq!(rt; got.status, status, "{prefix}");
+        assert_eq!(rt; got.out.len(), 0, "{prefix}");
+        assert_eq!(rt; got.err.as_slice(), reported.as_bytes(), "{prefix}");
     }
     Ok(())
 }
@@ -471,7 +471,7 @@ fn other_words_are_no_command(rt: HostRuntime) -> Result<(), Fail> {
     Ok(())
 }
 
-/// The devices of a run on the two squares that are left, its status, how much of the proof it writes, and what it tells.
+/// The devices of a run on the two squares that are left, its status, how much of the proof it writes, and what it reports.
 type Streamed = (Devices<'static>, u8, usize, &'static str);
 
 const STREAMS: [Streamed; 7] = [
@@ -527,18 +527,18 @@ const STREAMS: [Streamed; 7] = [
 ];
 
 #[test]
-fn a_failing_stream_has_its_status_and_leaves_a_front(rt: HostRuntime) -> Result<(), Fail> {
-    for (devices, status, length, told) in STREAMS {
+fn a_failing_stream_has_its_status_and_leaves_a_prefix(rt: HostRuntime) -> Result<(), Fail> {
+    for (devices, status, length, reported) in STREAMS {
         let got = run_over(rt.alloc(), PROVE, TWO_SQUARES_LEFT.as_bytes(), devices)?;
-        let front = TWO_SQUARES_PROOF.as_bytes().get(..length);
+        let prefix = TWO_SQUARES_PROOF.as_bytes().get(..length);
         assert_eq!(rt; got.status, status);
-        assert_eq!(rt; Some(got.out.as_slice()), front);
-        assert_eq!(rt; got.err.as_slice(), told.as_bytes());
+        assert_eq!(rt; Some(got.out.as_slice()), prefix);
+        assert_eq!(rt; got.err.as_slice(), reported.as_bytes());
     }
     Ok(())
 }
 
-/// The devices of a check of the same proof, its status, and what it writes and tells.
+/// The devices of a check of the same proof, its status, and what it writes and reports.
 const CHECK_STREAMS: [(Devices<'static>, u8, &str, &str); 4] = [
     (
         Devices {
@@ -579,11 +579,11 @@ const CHECK_STREAMS: [(Devices<'static>, u8, &str, &str); 4] = [
 
 #[test]
 fn a_failing_stream_ends_a_check(rt: HostRuntime) -> Result<(), Fail> {
-    for (devices, status, out, told) in CHECK_STREAMS {
+    for (devices, status, out, reported) in CHECK_STREAMS {
         let got = run_over(rt.alloc(), CHECK, TWO_SQUARES_PROOF.as_bytes(), devices)?;
         assert_eq!(rt; got.status, status);
         assert_eq!(rt; got.out.as_slice(), out.as_bytes());
-        assert_eq!(rt; got.err.as_slice(), told.as_bytes());
+        assert_eq!(rt; got.err.as_slice(), reported.as_bytes());
     }
     Ok(())
 }
@@ -603,12 +603,12 @@ fn readers_and_writers_of_std_carry_a_run(rt: HostRuntime) -> Result<(), Fail> {
     let words = words_of(rt.alloc(), PROVE)?;
     let mut source = StdSource::new(TWO_SQUARES_LEFT.as_bytes());
     let mut written = Vec::new(rt.alloc());
-    let mut told = Vec::new(rt.alloc());
+    let mut reported = Vec::new(rt.alloc());
     let mut out = StdSink::new(&mut written);
-    let mut err = StdSink::new(&mut told);
+    let mut err = StdSink::new(&mut reported);
     let status = run(rt.alloc(), &words, &mut source, &mut out, &mut err);
     assert_eq!(rt; status, 0);
     assert_eq!(rt; written.as_slice(), TWO_SQUARES_PROOF.as_bytes());
-    assert_eq!(rt; told.len(), 0);
+    assert_eq!(rt; reported.len(), 0);
     Ok(())
 }

@@ -1,5 +1,5 @@
 use Rattle.std.proofs.Common.{ap, length, arith}
-use Rattle.io_ports.proofs.Fronts.{Appends_more}
+use Rattle.io_ports.proofs.Prefixes.{Appends_more}
 use Rattle.io_ports.proofs.transfers.put_all.Goals as goal
 
 -- one more write goes on where the last one stopped

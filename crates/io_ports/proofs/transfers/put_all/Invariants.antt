@@ -2,7 +2,7 @@ use Rattle.std.proofs.Common.{length, take, ◌-◌, ◌≡◌, [], ◌≤◌}
 use Rattle.std.specs.Io.KnownBytes.{Appends}
 use Rattle.io_ports.proofs.transfers.put_all.Given as goal
 
--- the front of the piece was appended, the count hasn't fallen, and an empty piece made no call
+-- the prefix of the piece was appended, the count hasn't fallen, and an empty piece made no call
 abbrev pub invariant-loop-done : goal.invariant-loop-done
 invariant-loop-done g l =
     (l.done ≤ length l.piece)

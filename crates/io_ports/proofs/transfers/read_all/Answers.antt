@@ -1,5 +1,5 @@
 use Rattle.std.proofs.Common.{arith}
-use Rattle.io_ports.proofs.Fronts.{Consumes_more, put_mid_long}
+use Rattle.io_ports.proofs.Prefixes.{Consumes_more, put_mid_long}
 use Rattle.io_ports.proofs.transfers.read_all.Goals as goal
 
 -- one more read goes on where the last one stopped

@@ -2,7 +2,7 @@ use Rattle.std.proofs.Common.{length, take, ◌-◌, ◌≤◌}
 use Rattle.std.specs.Io.KnownBytes.{Consumes}
 use Rattle.io_ports.proofs.transfers.read_all.Given as goal
 
--- the front of the buffer was consumed, and the count hasn't fallen
+-- the prefix of the buffer was consumed, and the count hasn't fallen
 abbrev pub invariant-loop-filled : goal.invariant-loop-filled
 invariant-loop-filled g l =
     (l.filled ≤ length l.buf)

@@ -2,7 +2,7 @@ use Rattle.std.proofs.Common.{◌+◌, ◌-◌, Bool, Ok, ap, ◌∙◌, subst, 
 use Rattle.victor_run.proofs.Passing.{passes_then, passes_most}
 use Rattle.std.proofs.lemmas.Result.{err_from_is_err_and}
 use Rattle.victor_run.specs.CheckSteps.{pending, Adds, lines_read_until}
-use Rattle.victor_run.proofs.CheckTold.{Both_then}
+use Rattle.victor_run.proofs.CheckKnown.{Both_then}
 use Rattle.victor_run.proofs.check.add_lines.Goals as goal
 
 pub returns-in_err-add_next-clause-read : goal.returns-in_err-add_next-clause-read

@@ -3,7 +3,7 @@ use Rattle.std.proofs.lemmas.Result.{err_from_is_err_and}
 use Rattle.io_ports.specs.Lines.{Gives}
 use Rattle.io_ports.specs.declared.line_reader.LineGot.TheVariants.{Line}
 use Rattle.victor_run.specs.CheckSteps.{pending}
-use Rattle.victor_run.proofs.CheckTold.{line_told, line_stops, long_stops, none_told, with_bytes_root}
+use Rattle.victor_run.proofs.CheckKnown.{line_known, line_stops, long_stops, none_known, with_bytes_root}
 use Rattle.victor_run.proofs.check.add_next.Goals as goal
 
 pub returns-in_err-add_line-in-Line-clause-answer : goal.returns-in_err-add_line-in-Line-clause-answer
@@ -23,7 +23,7 @@ returns-in_ok-add_line-in-Line-clause-answer g c =
     let b = pending c.next.new.self (g.S.Source.left c.next.new.source) in
     let P : List ℕ → Type 0 = λ text. Gives a b Line text c.next.new.self.fed in
     let added = c.in_ok-add_line-in-Line.ensures.answer in
-    line_told a b c.text.result.now c.next.new.self.fed c.args.checker.now c.args.at (subst P (sym c.text.ensures) c.in-Line.ensures.gives) added.0 c.add_line.new.checker added.1
+    line_known a b c.text.result.now c.next.new.self.fed c.args.checker.now c.args.at (subst P (sym c.text.ensures) c.in-Line.ensures.gives) added.0 c.add_line.new.checker added.1
 
 pub returns-in_ok-add_line-in-Line-clause-root : goal.returns-in_ok-add_line-in-Line-clause-root
 returns-in_ok-add_line-in-Line-clause-root g c = ap (λ s. s.root) c.in_ok-add_line-in-Line.ensures.answer.1 ∙ with_bytes_root c.args.checker.now c.text.result.now
@@ -32,4 +32,4 @@ pub returns-in-Long-clause-answer : goal.returns-in-Long-clause-answer
 returns-in-Long-clause-answer g c = rw c.bad_line.ensures (long_stops _ _ c.next.new.self.text c.next.new.self.fed c.args.checker.now c.args.at c.in-Long.ensures.gives)
 
 pub returns-in-Done-clause-answer : goal.returns-in-Done-clause-answer
-returns-in-Done-clause-answer g c = none_told _ _ c.next.new.self.text c.next.new.self.fed c.args.checker.now c.args.at c.in-Done.ensures.gives
+returns-in-Done-clause-answer g c = none_known _ _ c.next.new.self.text c.next.new.self.fed c.args.checker.now c.args.at c.in-Done.ensures.gives

@@ -1,12 +1,12 @@
 use Rattle.std.proofs.Common.{◌≡◌, true, sym, ◌∙◌}
 use Rattle.std.proofs.lemmas.Slice.Eq.{bytes_eq-Decides}
 use Rattle.proof_text.specs.Texts.{first_line}
-use Rattle.victor_run.proofs.CheckTold.{head_told, head_stops}
+use Rattle.victor_run.proofs.CheckKnown.{head_known, head_stops}
 use Rattle.victor_run.proofs.check.read_head.Goals as goal
 
 pub returns-then-eq-clause-answer : goal.returns-then-eq-clause-answer
 returns-then-eq-clause-answer g c =
-    head_told _ _ c.next.result c.next.new.self.text c.next.new.self.fed c.next.ensures.gives c.in_default.not-Failed
+    head_known _ _ c.next.result c.next.new.self.text c.next.new.self.fed c.next.ensures.gives c.in_default.not-Failed
     (sym c.text.ensures ∙ (bytes_eq-Decides c.text.result.now first_line).0 (sym c.eq.ensures ∙ c.if-eq.true))
 
 pub returns-else-eq-clause-answer : goal.returns-else-eq-clause-answer

@@ -1,7 +1,7 @@
 use Rattle.std.proofs.Common.{◌≡◌, false, Ok, Err, ◌∙◌, subst}
 use Rattle.std.specs.Io.KnownBytes.{Appends}
 use Rattle.std.proofs.lemmas.Result.{err_from_is_err_and}
-use Rattle.device_rules.specs.Devices.{Stands}
+use Rattle.device_rules.specs.Devices.{AppendsPrefix}
 use Rattle.game_rules.proofs.Prefix.{game_short}
 use Rattle.game_rules.proofs.Grammar.{read_in_grammar, game_empty}
 use Rattle.proof_text.specs.declared.Verdict.TheVariants.{Unknown}
@@ -22,7 +22,7 @@ returns-in_err-put_all-clause-written g c =
     let same = err_from_is_err_and c.from_residual.result c.from_residual.ensures.1 in
     let head : c.as_slice.result.now ≡ head_for c.args.text.now = c.as_slice.ensures.value ∙ c.head_for.ensures in
     rw same.1 (writes_head c.args.nodes c.args.text.now c.args.position.now (read_in_grammar c.args.text.now c.args.position.now c.requires.game) c.requires.nodes _ _ same.0
-    (subst (Stands false (g.O.Sink.written c.args.out.now) (g.O.Sink.written c.put_all.new.out)) head c.in_err-put_all.ensures.bytes))
+    (subst (AppendsPrefix false (g.O.Sink.written c.args.out.now) (g.O.Sink.written c.put_all.new.out)) head c.in_err-put_all.ensures.bytes))
 
 pub returns-in-Ok-clause-written : goal.returns-in-Ok-clause-written
 returns-in-Ok-clause-written g c =

@@ -1,6 +1,6 @@
 use Rattle.std.proofs.Common.{◌≡◌, ◌||◌, false, get_or, length-set, sym, ap, ◌∙◌, arith}
 use Rattle.std.proofs.lemmas.List.{get_or-set_other}
-use Rattle.board_bits.specs.MaskFields.{told_from}
+use Rattle.board_bits.specs.MaskFields.{determined_from}
 use Rattle.board_bits.proofs.Masks.{union_set, joined_more}
 use Rattle.board_bits.proofs.mask.Mask.union.Goals as goal
 use Rattle.board_bits.proofs.mask.Mask.union.Goals.{then-places-place, else-places-place}
@@ -20,7 +20,7 @@ loop-place-preserved c =
     }
 
 pub invariant_of-result : goal.invariant_of-result
-invariant_of-result c = told_from _ c.loop-place.invariant.size
+invariant_of-result c = determined_from _ c.loop-place.invariant.size
 
 pub returns : goal.returns
 returns c = rw (← c.self.view_is, ← c.other.view_is)

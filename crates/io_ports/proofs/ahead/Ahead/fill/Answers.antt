@@ -16,8 +16,8 @@ returns-in_err-count-clause-refused g c =
     let same = unmoved s.buffer c.read.new.buf s.start s.end (16384 - s.end) c.self.invariant.1 (omega (arith, c.self.told)) ∙ c.self.view_is in
     OnErr-from c.from_residual.result _ same
 
-pub returns-clause-front : goal.returns-clause-front
-returns-clause-front g c =
+pub returns-clause-prefix : goal.returns-clause-prefix
+returns-clause-prefix g c =
     let s = c.self.inside in
     let n = c.in_ok-count.count in
     let got = c.read.new.buf in

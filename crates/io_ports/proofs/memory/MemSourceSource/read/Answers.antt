@@ -1,9 +1,9 @@
 use Rattle.std.proofs.Common.{◌≡◌, ◌-◌, ◌≤◌, length, take, drop, arith, ap, sym, ◌∙◌}
 use Rattle.std.proofs.lemmas.List.{take_rest}
-use Rattle.io_ports.proofs.Fronts.{given_and_left, none_left}
+use Rattle.io_ports.proofs.Prefixes.{given_and_left, none_left}
 use Rattle.io_ports.proofs.memory.MemSourceSource.read.Goals as goal
 
--- what was copied is the front of what was left
+-- what was copied is the prefix of what was left
 pub returns-clause-bytes : goal.returns-clause-bytes
 returns-clause-bytes c =
     let bytes = c.self.inside.bytes.items in

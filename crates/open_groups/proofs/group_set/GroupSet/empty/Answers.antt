@@ -1,9 +1,9 @@
 use Rattle.std.proofs.Common.{false, refl}
-use Rattle.open_groups.proofs.Anchors.{anchored_set, told_from, each_empty}
+use Rattle.open_groups.proofs.Anchors.{anchored_set, determined_from, each_empty}
 use Rattle.open_groups.proofs.group_set.GroupSet.empty.Goals as goal
 
 pub invariant_of-result : goal.invariant_of-result
-invariant_of-result c = told_from _ refl (λ _. false) (λ g h. cc) (each_empty c.empty.result c.empty.ensures)
+invariant_of-result c = determined_from _ refl (λ _. false) (λ g h. cc) (each_empty c.empty.result c.empty.ensures)
 
 pub returns : goal.returns
 returns c = anchored_set _ refl (λ _. false) (λ g h. cc) (each_empty c.empty.result c.empty.ensures)

@@ -4,7 +4,7 @@ use Rattle.game_rules.specs.Groups.{rank}
 use Rattle.game_rules.specs.declared.Way.{Way}
 use Rattle.open_groups.specs.AnchorFields.{anchors_along, anchors_of, groups_anchored}
 use Rattle.open_groups.specs.declared.group_set.GroupSet.TheInside.{Inside}
-use Rattle.open_groups.proofs.Anchors.{anchored_set, told_from, size_told, with_group, with_within, each_with}
+use Rattle.open_groups.proofs.Anchors.{anchored_set, determined_from, size_determined, with_group, with_within, each_with}
 use Rattle.open_groups.proofs.group_set.GroupSet.with.Goals as goal
 use Rattle.open_groups.proofs.group_set.GroupSet.with.Goals.{After-index-anchors-place-2}
 
@@ -15,7 +15,7 @@ told : (c : After-index-anchors-place-2) → anchors_of (groups_anchored c.self.
 told c = ap (λ (a : Inside). a.anchors) c.self.invariant
 
 size : (c : After-index-anchors-place-2) → length c.self.inside.anchors ≡ 4
-size c = size_told c.self.inside c.self.invariant
+size c = size_determined c.self.inside c.self.invariant
 
 size_after : (c : After-index-anchors-place-2) → length (set c.self.inside.anchors (rank c.args.g.1) c.with.result) ≡ 4
 size_after c = length-set c.self.inside.anchors (rank c.args.g.1) c.with.result ∙ size c
@@ -27,7 +27,7 @@ each c = each_with c.self.inside.anchors (size c) (told c) c.args.g c.index-anch
     (subst (λ anchor. IsSetOf (λ u. same_square u anchor || has_square (get_or c.self.inside.anchors c.place_of-place.result c.index-anchors-place.result) u) c.with.result) c.group_anchor.ensures.value c.with.ensures))
 
 pub invariant_of-result : goal.invariant_of-result
-invariant_of-result c = rw (place_is c) (told_from _ (size_after c) (with_group c.self.inside.anchors (size c) (told c) c.args.g)
+invariant_of-result c = rw (place_is c) (determined_from _ (size_after c) (with_group c.self.inside.anchors (size c) (told c) c.args.g)
     (with_within c.self.inside.anchors (size c) (told c) c.args.g c.group_anchor.ensures.lies) (each c))
 
 pub returns : goal.returns

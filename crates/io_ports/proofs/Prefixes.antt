@@ -1,4 +1,4 @@
--- What one more read or write adds to the front of a text or of a buffer.
+-- What one more read or write adds to the prefix of a text or of a buffer that is there already.
 use Rattle.std.proofs.Common.{◌≡◌, ℕ, ◌+◌, ◌-◌, ◌≤◌, List, [], ◌++◌, length, take, drop, Option, sym, ap, ◌∙◌, subst, arith}
 use Rattle.std.specs.Io.KnownBytes.{Appends, Consumes}
 use Rattle.std.proofs.KnownBytes.{Appends-trans, Consumes-trans}
@@ -13,15 +13,15 @@ Appends_more a b c text d n first next =
     let more : Appends b c (take n (drop d text)) = subst (λ (l : List ℕ). Appends b c (take n l)) (take_rest text d) next in
     subst (Appends a c) (sym (take-add d n text)) (Appends-trans a b c (take d text) (take n (drop d text)) first more)
 
--- the front of a buffer after a read into what was left of it
+-- the prefix of a buffer after a read into what was left of it
 pub take-put_mid_more : (buf got : List ℕ) (d k n : ℕ) → d ≤ length buf → n ≤ length got
     → take (d + n) (put_mid d k buf got) ≡ take d buf ++ take n got
 take-put_mid_more buf got d k n within count =
-    let front = take d buf in
+    let prefix = take d buf in
     let rest = post_of d k buf in
-    let at : take (length front + n) (front ++ (got ++ rest)) ≡ front ++ take n (got ++ rest) = take-append-add front (got ++ rest) n in
-    let here : length front ≡ d = length-take-le d buf within in
-    sym (ap (λ m. take (m + n) (front ++ (got ++ rest))) here) ∙ at ∙ ap (λ l. front ++ l) (take-append-le n got rest count)
+    let at : take (length prefix + n) (prefix ++ (got ++ rest)) ≡ prefix ++ take n (got ++ rest) = take-append-add prefix (got ++ rest) n in
+    let here : length prefix ≡ d = length-take-le d buf within in
+    sym (ap (λ m. take (m + n) (prefix ++ (got ++ rest))) here) ∙ at ∙ ap (λ l. prefix ++ l) (take-append-le n got rest count)
 
 -- which lies within the buffer
 pub put_mid_long : (buf got : List ℕ) (d k n : ℕ) → d ≤ length buf → n ≤ length got → d + n ≤ length (put_mid d k buf got)
@@ -35,7 +35,7 @@ pub Consumes_more : (a b c : Option (List ℕ)) (buf got : List ℕ) (d k n : �
 Consumes_more a b c buf got d k n within count first next =
     subst (Consumes a c) (sym (take-put_mid_more buf got d k n within count)) (Consumes-trans a b c (take d buf) (take n got) first next)
 
--- a read from memory: n bytes of those from a place on, put into the front of a buffer
+-- a read from memory: n bytes of those from a place on, put at the start of a buffer
 pub given_and_left : (bytes left got rest : List ℕ) (at n : ℕ) → left ≡ drop at bytes → n ≤ length left → got ≡ take n left
     → drop at bytes ≡ take n (got ++ rest) ++ drop (at + n) bytes
 given_and_left bytes left got rest at n here within is =

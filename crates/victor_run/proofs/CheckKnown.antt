@@ -1,4 +1,4 @@
--- What each step of `check` tells of the bytes, where those are known: that the answer goes on, or what it is.
+-- What each step of `check` says of the bytes, where those are known: that the answer goes on, or what it is.
 use Rattle.std.proofs.Common.{◌≡◌, ℕ, ◌+◌, Bool, List, [], ◌∷◌, ◌++◌, length, take, min, append_assoc, Ok, Err, Option, Some, None, IfSome, refl, sym, ap, ◌∙◌, arith}
 use Rattle.std.specs.Io.KnownBytes.{IsAtEnd, prepend_known}
 use Rattle.std.proofs.lemmas.List.{take_min}
@@ -8,8 +8,8 @@ use Rattle.io_ports.specs.declared.line_reader.LineGot.TheVariants.{Line, Long, 
 use Rattle.game_rules.specs.Position.{Position}
 use Rattle.game_rules.specs.Text.{game_at}
 use Rattle.game_rules.specs.declared.InputFault.{InputFault}
-use Rattle.proof_text.specs.Checked.{Standing}
-use Rattle.proof_text.specs.Texts.{game_front, first_number, start, first_line, check_of, NoGame, Refused, Accepted, bytes_refusal, with_bytes, with_said, verdict_answer}
+use Rattle.proof_text.specs.Checked.{CheckerState}
+use Rattle.proof_text.specs.Texts.{game_prefix, first_number, start, first_line, check_of, NoGame, Refused, Accepted, bytes_refusal, with_bytes, with_said, verdict_answer}
 use Rattle.proof_text.proofs.Sound.{true_text}
 use Rattle.proof_text.proofs.Whole.{whole_accepted}
 use Rattle.proof_text.specs.declared.Verdict.{Verdict}
@@ -54,23 +54,23 @@ Both_then (Some bytes) (Some mid) (Some rest) P Q R h k more = more bytes mid re
 
 -- ---- the head
 
--- the front of a line, and its line feed
-pub front_put : (before mid after text given : List ℕ) (n : ℕ) (fed : Bool) → given ≡ text → n ≡ min (length given) game_front → mid ≡ before ++ take n given → after ≡ mid ++ feed fed
-    → after ≡ before ++ (take game_front text ++ feed fed)
-front_put before mid after text given n fed same size put more =
-    let least : n ≡ min game_front (length given) = omega arith in
-    let front : take n given ≡ take game_front text = ap (λ n. take n given) least ∙ take_min game_front given ∙ ap (take game_front) same in
-    more ∙ ap (λ mid. mid ++ feed fed) (put ∙ ap (λ front. before ++ front) front) ∙ append_assoc before (take game_front text) (feed fed)
+-- the prefix of a line, and its line feed
+pub prefix_put : (before mid after text given : List ℕ) (n : ℕ) (fed : Bool) → given ≡ text → n ≡ min (length given) game_prefix → mid ≡ before ++ take n given → after ≡ mid ++ feed fed
+    → after ≡ before ++ (take game_prefix text ++ feed fed)
+prefix_put before mid after text given n fed same size put more =
+    let least : n ≡ min game_prefix (length given) = omega arith in
+    let prefix : take n given ≡ take game_prefix text = ap (λ n. take n given) least ∙ take_min game_prefix given ∙ ap (take game_prefix) same in
+    more ∙ ap (λ mid. mid ++ feed fed) (put ∙ ap (λ prefix. before ++ prefix) prefix) ∙ append_assoc before (take game_prefix text) (feed fed)
 
 module _ (a b : Option (List ℕ)) (got : LineGot) (text : List ℕ) (fed : Bool) (gives : Gives a b got text fed) (other : got ≡ Failed → ⊥) where
-  pub head_told : text ≡ first_line → GoesOn a b check_of game_from
-  head_told named = Both_more a b _ _ (given a b got text fed gives other) (λ bytes rest is. head_named bytes (record { got = got; text = text; fed = fed; rest = rest }) is named)
+  pub head_known : text ≡ first_line → GoesOn a b check_of game_from
+  head_known named = Both_more a b _ _ (given a b got text fed gives other) (λ bytes rest is. head_named bytes (record { got = got; text = text; fed = fed; rest = rest }) is named)
 
   pub head_stops : (text ≡ first_line → ⊥) → IfSome a (λ bytes. check_of bytes ≡ Refused 1 BadLine)
   head_stops unnamed = Both_first a b _ _ (given a b got text fed gives other) (λ bytes rest is. head_other bytes (record { got = got; text = text; fed = fed; rest = rest }) is unnamed)
 
-  pub kept_told : (before after : List ℕ) → after ≡ before ++ (take game_front text ++ feed fed) → KeepsLine a b before after
-  kept_told before after put = Both_more a b _ _ (given a b got text fed gives other) (λ bytes rest is. (put ∙ ap (λ line. before ++ kept_of line) is, ap (λ line. line.rest) is))
+  pub kept_known : (before after : List ℕ) → after ≡ before ++ (take game_prefix text ++ feed fed) → KeepsLine a b before after
+  kept_known before after put = Both_more a b _ _ (given a b got text fed gives other) (λ bytes rest is. (put ∙ ap (λ line. before ++ kept_of line) is, ap (λ line. line.rest) is))
 
 -- ---- the game
 
@@ -78,8 +78,8 @@ module _ (a b c : Option (List ℕ)) (one two : List ℕ) (first : KeepsLine a b
   both : (bytes mid : List ℕ) → one ≡ [] ++ kept_of (next_line bytes) → mid ≡ (next_line bytes).rest → two ≡ one ++ kept_of (next_line mid) → two ≡ kept_of (next_line bytes) ++ kept_of (next_line mid)
   both bytes mid put after more = more ∙ ap (λ text. text ++ kept_of (next_line mid)) put
 
-  pub root_told : (root : Position) → game_at two ≡ Ok root → GoesOn a c game_from (lines_from (start root) first_number)
-  root_told root game =
+  pub root_known : (root : Position) → game_at two ≡ Ok root → GoesOn a c game_from (lines_from (start root) first_number)
+  root_known root game =
       Both_then a b c _ _ _ first second (λ bytes mid rest p q.
       game_read bytes (next_line bytes) (next_line mid) root refl (ap next_line p.1) (sym (ap game_at (both bytes mid p.0 p.1 q.0)) ∙ game) ∙ ap (lines_from (start root) first_number) (sym q.1))
 
@@ -91,9 +91,9 @@ module _ (a b c : Option (List ℕ)) (one two : List ℕ) (first : KeepsLine a b
 
 -- ---- the lines
 
-module _ (a b : Option (List ℕ)) (text : List ℕ) (fed : Bool) (s : Standing) (at : ℕ) where
-  pub line_told : Gives a b Line text fed → bytes_refusal s at text ≡ None → (t : Standing) → t ≡ with_bytes s text → GoesOn a b (lines_from s at) (lines_from t (at + 1))
-  line_told gives stands t next =
+module _ (a b : Option (List ℕ)) (text : List ℕ) (fed : Bool) (s : CheckerState) (at : ℕ) where
+  pub line_known : Gives a b Line text fed → bytes_refusal s at text ≡ None → (t : CheckerState) → t ≡ with_bytes s text → GoesOn a b (lines_from s at) (lines_from t (at + 1))
+  line_known gives stands t next =
       Both_more a b _ _ (given a b Line text fed gives (λ never. cc))
       (λ bytes rest is. line_stands s at bytes (record { got = Line; text = text; fed = fed; rest = rest }) is refl stands ∙ ap (λ t. lines_from t (at + 1) rest) (sym next))
 
@@ -112,11 +112,11 @@ module _ (a b : Option (List ℕ)) (text : List ℕ) (fed : Bool) (s : Standing)
   long_stops gives =
       Both_first a b _ _ (given a b Long text fed gives (λ never. cc)) (λ bytes rest is. long_got s at bytes (record { got = Long; text = text; fed = fed; rest = rest }) is refl)
 
-  pub none_told : Gives a b Done text fed → Both a b (λ bytes rest. (lines_from s at bytes ≡ verdict_answer at (length s.known) s.verdict) × (rest ≡ []))
-  none_told gives =
+  pub none_known : Gives a b Done text fed → Both a b (λ bytes rest. (lines_from s at bytes ≡ verdict_answer at (length s.known) s.verdict) × (rest ≡ []))
+  none_known gives =
       Both_more a b _ _ (given a b Done text fed gives (λ never. cc)) (λ bytes rest is. none_got s at bytes (record { got = Done; text = text; fed = fed; rest = rest }) is refl)
 
-pub with_bytes_root : (s : Standing) (bytes : List ℕ) → (with_bytes s bytes).root ≡ s.root
+pub with_bytes_root : (s : CheckerState) (bytes : List ℕ) → (with_bytes s bytes).root ≡ s.root
 with_bytes_root s bytes = of_line (read_line (length s.root.columns) bytes)
   where
     of_line : (line : Option Said) → (with_said s line).root ≡ s.root
@@ -134,11 +134,11 @@ source_ended [] (Some rest) h = h
 source_ended (byte ∷ held) (Some rest) h = cc
 
 -- every step went on, and the verdict that stands at the end decides
-pub all_told : (a b c : Option (List ℕ)) (held : List ℕ) (left : Option (List ℕ)) (root : Position) (s t : Standing) (end : ℕ) (v : Verdict) (count : ℕ)
+pub all_known : (a b c : Option (List ℕ)) (held : List ℕ) (left : Option (List ℕ)) (root : Position) (s t : CheckerState) (end : ℕ) (v : Verdict) (count : ℕ)
     → GoesOn a b check_of game_from → GoesOn b c game_from (lines_from (start root) first_number) → s ≡ start root
     → Both c (prepend_known held left) (λ bytes rest. (lines_from s first_number bytes ≡ verdict_answer end (length t.known) t.verdict) × (rest ≡ []))
     → t.verdict ≡ Some v → count ≡ length t.known → IfSome a (λ bytes. (check_of bytes ≡ Accepted v count) × IsAtEnd left)
-all_told a b c held left root s t end v count head game began lines verdict counted =
+all_known a b c held left root s t end v count head game began lines verdict counted =
     let d = prepend_known held left in
     let P : List ℕ → List ℕ → Type 0 = λ bytes rest. (check_of bytes ≡ Accepted v count) × (rest ≡ []) in
     let Q : List ℕ → List ℕ → Type 0 = λ bytes rest. check_of bytes ≡ lines_from (start root) first_number rest in
