@@ -3,11 +3,11 @@ use Rattle.std.proofs.Common.{◌≡◌, ◌≢◌, ℕ, ◌+◌, ◌-◌, ◌<�
 use Rattle.std.proofs.lemmas.List.{append-nil, take_all, take-append-le, drop-append-le, take-append-drop, drop_more, drop_all, length-take-le, length-append, length-drop, get_or-take, take_rest}
 use Rattle.std.proofs.lemmas.List.Folds.{prefix_len-append}
 use Rattle.std.proofs.lemmas.List.Sums.{prefix_len-le-length, fails_before_first, passes_at_first}
-use Rattle.std.proofs.lemmas.Bool.{eqb-true, eq-eqb, lt-ltb, le-ltb, cases_lt}
-use Rattle.std.specs.Io.KnownBytes.{Keeps, IsAtEnd, prepend_known}
+use Rattle.std.proofs.lemmas.Bool.{eqb-true, eq-eqb, lt-ltb, le-ltb, ltb-false, cases_lt}
+use Rattle.std.specs.Io.KnownBytes.{IsAtEnd}
 use Rattle.bstr.specs.Find.{IsFirstByte, is_byte}
 use Rattle.io_ports.proofs.FirstByte.{first_none, first_found}
-use Rattle.io_ports.specs.Lines.{Cut, line_len, next_line, IsCut, EachTextIsCut, Gives, PassesLines}
+use Rattle.io_ports.specs.Lines.{Cut, line_len, next_line, IsCut, EachTextIsCut, Gives, Takes, Moves, is_end}
 use Rattle.io_ports.specs.declared.line_reader.LineGot.{LineGot}
 use Rattle.io_ports.specs.declared.line_reader.LineGot.TheVariants.{Line, Long, Done, Failed}
 
@@ -129,86 +129,97 @@ line_len-prefix xs ys =
           omega (arith, line_len-append_none xs ys whole)
     ]
 
-pub Gives-long : (a b : Option (List ℕ)) (held : List ℕ) → Keeps a (prepend_known held b) → 8192 < line_len held
-    → Gives a (prepend_known held b) Long (take 8192 held) false
-Gives-long None b held kept long = tt
-Gives-long (Some x) None held kept long = absurd kept
-Gives-long (Some x) (Some y) held kept long =
-    let bytes = held ++ y in
-    let P : List ℕ → Type 0 = λ l. record { got = Long; text = take 8192 held; fed = false; rest = bytes } ≡ next_line l in
-    let prefix : take 8192 bytes ≡ take 8192 held = take-append-le 8192 held y (omega (arith, line_len-le held)) in
-    subst P kept
-    (ap (λ t. record { got = Long; text = t; fed = false; rest = bytes }) (sym prefix)
-    ∙ sym (next_line-long bytes (omega (arith, line_len-prefix held y))))
+-- the bytes are those that are held, and then those that come later
 
-Gives-fed : (a b : Option (List ℕ)) (held : List ℕ) (n : ℕ) → Keeps a (prepend_known held b) → n ≡ line_len held → n ≤ 8192 → n < length held
-    → Gives a (prepend_known (drop (n + 1) held) b) Line (take n held) true
-Gives-fed None b held n kept is short found = tt
-Gives-fed (Some x) None held n kept is short found = absurd kept
-Gives-fed (Some x) (Some y) held n kept is short found =
-    let bytes = held ++ y in
-    let P : List ℕ → Type 0 = λ l. record { got = Line; text = take n held; fed = true; rest = drop (n + 1) held ++ y } ≡ next_line l in
-    let prefix : take n bytes ≡ take n held = take-append-le n held y (omega arith) in
-    let after : drop (n + 1) bytes ≡ drop (n + 1) held ++ y = drop-append-le (n + 1) held y (omega arith) in
-    let ends : n ≡ line_len bytes = is ∙ sym (line_len-append_found held y (omega (arith, is))) in
-    subst P kept
-    (ap (λ t. record { got = Line; text = t; fed = true; rest = drop (n + 1) held ++ y }) (sym prefix)
-    ∙ ap (λ r. record { got = Line; text = take n bytes; fed = true; rest = r }) (sym after)
-    ∙ sym (next_line-fed_at bytes n ends short (omega (arith, length-append held y))))
-
-Gives-unfed : (a b : Option (List ℕ)) (held : List ℕ) (n : ℕ) → Keeps a (prepend_known held b) → n ≡ line_len held → n ≤ 8192 → n ≡ length held → 0 < length held → IsAtEnd b
-    → Gives a (prepend_known (drop n held) b) Line (take n held) false
-Gives-unfed None b held n kept is short all some end = tt
-Gives-unfed (Some x) None held n kept is short all some end = absurd kept
-Gives-unfed (Some x) (Some y) held n kept is short all some end =
-    let P : List ℕ → Type 0 = λ l. record { got = Line; text = take n held; fed = false; rest = drop n held ++ y } ≡ next_line l in
-    let prefix : take n held ≡ held = take_all n held (omega (arith, all)) in
-    let after : drop n held ++ y ≡ [] = ap (λ l. l ++ y) (drop_all n held (omega (arith, all))) ∙ end in
-    let whole : held ≡ x = sym (append-nil held) ∙ ap (λ l. held ++ l) (sym end) ∙ kept in
+Gives-long : (bytes held later : List ℕ) → held ++ later ≡ bytes → 8192 < line_len held → Gives bytes (held ++ later) Long (take 8192 held) false
+Gives-long bytes held later whole long =
+    let P : List ℕ → Type 0 = λ l. record { got = Long; text = take 8192 held; fed = false; rest = held ++ later } ≡ next_line l in
+    let prefix : take 8192 (held ++ later) ≡ take 8192 held = take-append-le 8192 held later (omega (arith, line_len-le held)) in
     subst P whole
-    (ap (λ t. record { got = Line; text = t; fed = false; rest = drop n held ++ y }) prefix
+    (ap (λ t. record { got = Long; text = t; fed = false; rest = held ++ later }) (sym prefix)
+    ∙ sym (next_line-long (held ++ later) (omega (arith, line_len-prefix held later))))
+
+Gives-fed : (bytes held later : List ℕ) (n : ℕ) → held ++ later ≡ bytes → n ≡ line_len held → n ≤ 8192 → n < length held
+    → Gives bytes (drop (n + 1) held ++ later) Line (take n held) true
+Gives-fed bytes held later n whole is short found =
+    let all = held ++ later in
+    let P : List ℕ → Type 0 = λ l. record { got = Line; text = take n held; fed = true; rest = drop (n + 1) held ++ later } ≡ next_line l in
+    let prefix : take n all ≡ take n held = take-append-le n held later (omega arith) in
+    let after : drop (n + 1) all ≡ drop (n + 1) held ++ later = drop-append-le (n + 1) held later (omega arith) in
+    let ends : n ≡ line_len all = is ∙ sym (line_len-append_found held later (omega (arith, is))) in
+    subst P whole
+    (ap (λ t. record { got = Line; text = t; fed = true; rest = drop (n + 1) held ++ later }) (sym prefix)
+    ∙ ap (λ r. record { got = Line; text = take n all; fed = true; rest = r }) (sym after)
+    ∙ sym (next_line-fed_at all n ends short (omega (arith, length-append held later))))
+
+Gives-unfed : (bytes held later : List ℕ) (n : ℕ) → held ++ later ≡ bytes → n ≡ line_len held → n ≤ 8192 → n ≡ length held → 0 < length held → later ≡ []
+    → Gives bytes (drop n held ++ later) Line (take n held) false
+Gives-unfed bytes held later n whole is short all some none =
+    let P : List ℕ → Type 0 = λ l. record { got = Line; text = take n held; fed = false; rest = drop n held ++ later } ≡ next_line l in
+    let prefix : take n held ≡ held = take_all n held (omega (arith, all)) in
+    let after : drop n held ++ later ≡ [] = ap (λ l. l ++ later) (drop_all n held (omega (arith, all))) ∙ none in
+    let same : held ≡ bytes = sym (append-nil held) ∙ ap (λ l. held ++ l) (sym none) ∙ whole in
+    subst P same
+    (ap (λ t. record { got = Line; text = t; fed = false; rest = drop n held ++ later }) prefix
     ∙ ap (λ r. record { got = Line; text = held; fed = false; rest = r }) after
     ∙ sym (next_line-unfed held (omega (arith, is)) (sym is ∙ all) some))
 
 -- a line, which a line feed ended where it is not all that is held
-pub Gives-line : (a b : Option (List ℕ)) (held : List ℕ) (n m : ℕ) (fed : Bool) → Keeps a (prepend_known held b) → n ≡ line_len held → n ≤ 8192 → 0 < length held
-    → (n ≡ length held → n ≤ 8192 → IsAtEnd b) → fed ≡ ltb n (length held) → m ≡ min (length held) (n + 1)
-    → Gives a (prepend_known (drop m held) b) Line (take n held) fed
-Gives-line a b held n m fed kept is short some whole fed_is m_is =
-    let G : ℕ → Bool → Type 0 = λ k f. Gives a (prepend_known (drop k held) b) Line (take n held) f in
+Gives-line : (bytes held later : List ℕ) (n m : ℕ) (fed : Bool) → held ++ later ≡ bytes → n ≡ line_len held → n ≤ 8192 → 0 < length held
+    → (not fed ≡ true → later ≡ []) → fed ≡ ltb n (length held) → m ≡ min (length held) (n + 1)
+    → Gives bytes (drop m held ++ later) Line (take n held) fed
+Gives-line bytes held later n m fed whole is short some none fed_is m_is =
+    let G : ℕ → Bool → Type 0 = λ k f. Gives bytes (drop k held ++ later) Line (take n held) f in
     elim (cases_lt n (length held)) [
       | inl found ↦
           let taken : n + 1 ≡ m = omega (arith, m_is) in
           let ended : true ≡ fed = sym (fed_is ∙ lt-ltb n (length held) found) in
-          subst (λ k. G k fed) taken (subst (G (n + 1)) ended (Gives-fed a b held n kept is short found))
+          subst (λ k. G k fed) taken (subst (G (n + 1)) ended (Gives-fed bytes held later n whole is short found))
       | inr past ↦
           let all : n ≡ length held = omega (arith, is, line_len-le held) in
           let taken : n ≡ m = omega (arith, m_is) in
-          let open_end : false ≡ fed = sym (fed_is ∙ le-ltb n (length held) past) in
-          subst (λ k. G k fed) taken (subst (G n) open_end (Gives-unfed a b held n kept is short all some (whole all short)))
+          let open_end : fed ≡ false = fed_is ∙ le-ltb n (length held) past in
+          subst (λ k. G k fed) taken (subst (G n) (sym open_end) (Gives-unfed bytes held later n whole is short all some (none (ap not open_end))))
     ]
 
-pub Gives-done : (a b : Option (List ℕ)) (held : List ℕ) → Keeps a (prepend_known held b) → held ≡ [] → IsAtEnd b → Gives a (prepend_known held b) Done [] false
-Gives-done None b held kept none end = tt
-Gives-done (Some x) None held kept none end = absurd kept
-Gives-done (Some x) (Some y) held kept none end =
-    let P : List ℕ → Type 0 = λ l. record { got = Done; text = []; fed = false; rest = held ++ y } ≡ next_line l in
-    let empty : held ++ y ≡ [] = ap (λ l. l ++ y) none ∙ end in
-    subst P kept (ap (λ r. record { got = Done; text = []; fed = false; rest = r }) empty ∙ ap next_line (sym empty))
+-- ---- what a call takes, where what was held before it and what it took are what is held
 
-pub Gives-failed : (a b : Option (List ℕ)) (held : List ℕ) → Keeps a (prepend_known held b) → Gives a (prepend_known held b) Failed [] false
-Gives-failed None b held kept = tt
-Gives-failed (Some x) None held kept = absurd kept
-Gives-failed (Some x) (Some y) held kept = kept
+module _ (old new : Option (List ℕ)) (before held : List ℕ) (moves : Moves old new before held) where
+  joined_later : (later : List ℕ) → held ++ later ≡ before ++ (moves.taken ++ later)
+  joined_later later = ap (λ l. l ++ later) moves.grown ∙ append_assoc before moves.taken later
 
--- whatever was got, at most one line was passed
-pub Gives-passes : (a b : Option (List ℕ)) (got : LineGot) (text : List ℕ) (fed : Bool) → Gives a b got text fed → PassesLines 1 a b
-Gives-passes None b got text fed gives = tt
-Gives-passes (Some x) None got text fed gives = absurd gives
-Gives-passes (Some x) (Some y) Failed text fed gives = (0, omega arith, gives)
-Gives-passes (Some x) (Some y) Line text fed gives = (1, omega arith, ap (λ cut. cut.rest) gives)
-Gives-passes (Some x) (Some y) Long text fed gives = (1, omega arith, ap (λ cut. cut.rest) gives)
-Gives-passes (Some x) (Some y) Done text fed gives = (1, omega arith, ap (λ cut. cut.rest) gives)
+  pub Takes-long : 8192 < line_len held → Takes (is_end Long false) old new (λ bytes rest. Gives (before ++ bytes) (held ++ rest) Long (take 8192 held) false)
+  Takes-long long = record { taken = moves.taken; gave = moves.gave; last = λ never. cc; fact = λ later none. Gives-long _ held later (joined_later later) long }
+
+  pub Takes-line : (n m : ℕ) (fed : Bool) → n ≡ line_len held → n ≤ 8192 → 0 < length held → (n ≡ length held → n ≤ 8192 → IsAtEnd new)
+      → fed ≡ ltb n (length held) → m ≡ min (length held) (n + 1)
+      → Takes (is_end Line fed) old new (λ bytes rest. Gives (before ++ bytes) (drop m held ++ rest) Line (take n held) fed)
+  Takes-line n m fed is short some whole fed_is m_is = record {
+    taken = moves.taken;
+    gave = moves.gave;
+    last = λ ended.
+        let here : ltb n (length held) ≡ false = sym fed_is ∙ unfed fed ended in
+        whole (omega (arith, is, line_len-le held, ltb-false n (length held) here)) short;
+    fact = λ later none. Gives-line _ held later n m fed (joined_later later) is short some none fed_is m_is;
+  }
+    where
+      unfed : (b : Bool) → not b ≡ true → b ≡ false
+      unfed true h = sym h
+      unfed false h = refl
+
+  pub Takes-done : (n : ℕ) → held ≡ [] → n ≡ line_len held → (n ≡ length held → n ≤ 8192 → IsAtEnd new)
+      → Takes (is_end Done false) old new (λ bytes rest. Gives (before ++ bytes) (held ++ rest) Done [] false)
+  Takes-done n none is whole = record {
+    taken = moves.taken;
+    gave = moves.gave;
+    last = λ ended. whole (is ∙ ap (λ l. line_len l) none ∙ sym (ap length none)) (omega (arith, is ∙ ap (λ l. line_len l) none));
+    fact = λ later end.
+        let empty : held ++ later ≡ [] = ap (λ l. l ++ later) none ∙ end refl in
+        ap (λ r. record { got = Done; text = []; fed = false; rest = r }) empty ∙ ap next_line (sym empty ∙ joined_later later);
+  }
+
+  pub Takes-failed : Takes (is_end Failed false) old new (λ bytes rest. Gives (before ++ bytes) (held ++ rest) Failed [] false)
+  Takes-failed = record { taken = moves.taken; gave = moves.gave; last = λ never. cc; fact = λ later none. joined_later later }
 
 -- ---- a search that goes on behind what was searched
 

@@ -1,9 +1,11 @@
 -- The bytes of a buffer between two places, after a read past them, a step of their start, or a move to the start.
-use Rattle.std.proofs.Common.{◌≡◌, ℕ, ◌+◌, ◌-◌, ◌≤◌, List, ◌++◌, length, take, drop, slice_range, Result, OnErr, Ok, Err, Option, Some, None, sym, ap, ◌∙◌, arith, append_assoc}
+use Rattle.std.proofs.Common.{◌≡◌, ℕ, ◌+◌, ◌-◌, ◌≤◌, List, [], ◌++◌, length, take, drop, slice_range, Result, OnErr, Ok, Err, Option, Some, None, sym, ap, ◌∙◌, arith, append_assoc}
 use Rattle.std.proofs.lemmas.List.{append-nil, take_at, take-append-le, drop-append-le, drop-take, drop-drop, length-take-le, length-drop}
-use Rattle.std.proofs.Math.Seq.{take-append-add}
+use Rattle.std.proofs.Math.Seq.{take-append-add, take-append_seam}
 use Rattle.std.specs.List.{copy_within}
-use Rattle.std.specs.Io.KnownBytes.{Keeps, Consumes, prepend_known}
+use Rattle.std.specs.Io.KnownBytes.{Keeps, Consumes}
+use Rattle.std.proofs.KnownBytes.{Consumes-nil, Consumes-kept, Consumes-trans}
+use Rattle.io_ports.specs.Lines.{Moves}
 use borrow.Rule.Slice.PartMut.{put_mid, post_of}
 
 -- n bytes were read past the end
@@ -43,16 +45,21 @@ moved xs start end ordered within =
     let all : end - start - 0 ≡ end - start = omega arith in
     ap (λ j. take j (held ++ rest)) all ∙ take_at held rest (end - start) long
 
--- bytes that moved from the source to the end of what is held are still to come
-pub prepend_known-moved : (a b : Option (List ℕ)) (old new got : List ℕ) → Consumes a b got → new ≡ old ++ got → Keeps (prepend_known old a) (prepend_known new b)
-prepend_known-moved None b old new got taken grew = tt
-prepend_known-moved (Some x) None old new got taken grew = absurd taken
-prepend_known-moved (Some x) (Some y) old new got taken grew = ap (λ l. l ++ y) grew ∙ append_assoc old got y ∙ ap (λ l. old ++ l) (sym taken)
+-- bytes went from the source behind those that are held
 
-pub prepend_known-kept : (a b : Option (List ℕ)) (old new : List ℕ) → Keeps a b → new ≡ old → Keeps (prepend_known old a) (prepend_known new b)
-prepend_known-kept None b old new kept same = tt
-prepend_known-kept (Some x) None old new kept same = absurd kept
-prepend_known-kept (Some x) (Some y) old new kept same = ap (λ l. l ++ y) same ∙ ap (λ l. old ++ l) kept
+pub Moves-none : (a b : Option (List ℕ)) (old new : List ℕ) → Keeps a b → new ≡ old → Moves a b old new
+Moves-none a b old new kept same = record { taken = []; gave = Consumes-kept a a b [] (Consumes-nil a) kept; grown = same ∙ sym (append-nil old) }
+
+pub Moves-then : (a b c : Option (List ℕ)) (old mid new : List ℕ) → Moves a b old mid → Moves b c mid new → Moves a c old new
+Moves-then a b c old mid new first next = record {
+  taken = first.taken ++ next.taken;
+  gave = Consumes-trans a b c first.taken next.taken first.gave next.gave;
+  grown = next.grown ∙ ap (λ l. l ++ next.taken) first.grown ∙ append_assoc old first.taken next.taken;
+}
+
+-- what was held stands first
+pub Moves-prefix : (a b : Option (List ℕ)) (old new : List ℕ) → Moves a b old new → take (length old) new ≡ old
+Moves-prefix a b old new moves = ap (take (length old)) moves.grown ∙ take-append_seam old moves.taken
 
 -- what holds anyhow holds of an error
 pub OnErr-from : {T E : Type 0} (r : Result T E) (P : Type 0) → P → OnErr r P

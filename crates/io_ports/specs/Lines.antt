@@ -1,5 +1,6 @@
 -- The lines of an input: what the next one is, as a function of the bytes that were not given yet.
-use Rattle.std.specs.Prelude.{◌≡◌, ◌≢◌, ℕ, zero, suc, ◌+◌, ◌<◌, ◌≤◌, ◌==◌, ◌++◌, Bool, true, false, if◌then◌else◌, nat_lt, List, [], ◌∷◌, length, take, drop, Option, None, Some, ⊤, All}
+use Rattle.std.specs.Prelude.{◌≡◌, ◌≢◌, ℕ, zero, suc, ◌+◌, ◌<◌, ◌≤◌, ◌==◌, ◌++◌, Bool, true, false, not, if◌then◌else◌, nat_lt, List, [], ◌∷◌, length, take, drop, Option, All}
+use Rattle.std.specs.Io.KnownBytes.{Consumes, IsAtEnd}
 use Rattle.std.specs.List.{position_or_len}
 use Rattle.io_ports.specs.declared.line_reader.LineGot.{LineGot}
 use Rattle.io_ports.specs.declared.line_reader.LineGot.TheVariants.{Line, Long, Done, Failed}
@@ -54,24 +55,36 @@ IsCut bytes Failed text fed rest = ⊥
 abbrev pub EachTextIsCut : Type 0
 EachTextIsCut = (bytes : List ℕ) → let cut = next_line bytes in IsCut bytes cut.got cut.text cut.fed cut.rest
 
--- A call went from the first bytes not given to the second, where they are known: to those after the next line, or,
--- where the source failed, to the same.
-abbrev pub Gives : Option (List ℕ) → Option (List ℕ) → LineGot → List ℕ → Bool → Type 0
-Gives None new got text fed = ⊤
-Gives (Some bytes) None got text fed = ⊥
-Gives (Some bytes) (Some rest) Failed text fed = rest ≡ bytes
-Gives (Some bytes) (Some rest) got text fed = record { got = got; text = text; fed = fed; rest = rest } ≡ next_line bytes
+-- A call went from the first bytes to the second: to those behind the next line, or, where the source failed, to the same.
+abbrev pub Gives : List ℕ → List ℕ → LineGot → List ℕ → Bool → Type 0
+Gives bytes rest Failed text fed = rest ≡ bytes
+Gives bytes rest got text fed = record { got = got; text = text; fed = fed; rest = rest } ≡ next_line bytes
+
+-- Whether a call came to the end of the input: no line was left, or a last one that no line feed ended.
+abbrev pub is_end : LineGot → Bool → Bool
+is_end Line fed = not fed
+is_end Long fed = false
+is_end Done fed = true
+is_end Failed fed = false
+
+-- What a call took from the source, and a fact of the bytes from the first of these on and of those behind them. It holds
+-- whatever the source may give later; at the end of the input nothing more comes.
+pub record Takes (ended : Bool) (old new : Option (List ℕ)) (Fact : List ℕ → List ℕ → Type 0) : Type 0 where
+  pub taken : List ℕ
+  pub gave : Consumes old new taken
+  pub last : ended ≡ true → IsAtEnd new
+  pub fact : (later : List ℕ) → (ended ≡ true → later ≡ []) → Fact (taken ++ later) later
 
 -- The bytes behind so many lines. None is passed at the end of the bytes, nor where the next line is too long.
 abbrev pub behind_lines : ℕ → List ℕ → List ℕ
 behind_lines zero bytes = bytes
 behind_lines (suc n) bytes = behind_lines n (next_line bytes).rest
 
--- from the first bytes to the second, which stand behind at most so many lines of them, where they are known
-abbrev pub PassesLines : ℕ → Option (List ℕ) → Option (List ℕ) → Type 0
-PassesLines most None new = ⊤
-PassesLines most (Some bytes) None = ⊥
-PassesLines most (Some bytes) (Some rest) = (n : ℕ) × (n ≤ most) × (rest ≡ behind_lines n bytes)
+-- bytes went from the source behind those that are held
+pub record Moves (old new : Option (List ℕ)) (held longer : List ℕ) : Type 0 where
+  pub taken : List ℕ
+  pub gave : Consumes old new taken
+  pub grown : longer ≡ held ++ taken
 
 -- how many bytes a reader of lines holds at most
 abbrev pub most_held : ℕ

@@ -1,7 +1,8 @@
 //! The bytes that a reader of lines took from its source and hasn't given up, in a buffer of fixed size. They are moved
 //! to its start once half of it was given up, so no more bytes are ever moved than were given up before.
-ghost use Rattle.std.specs.Prelude.{◌≡◌, [], ◌+◌, ◌<◌, ◌≤◌, length, take, drop, IfOk, OnErr};
-ghost use Rattle.std.specs.Io.KnownBytes.{Keeps, IsAtEnd, prepend_known};
+ghost use Rattle.std.specs.Prelude.{◌≡◌, [], ◌+◌, ◌<◌, ◌≤◌, length, drop, IfOk, OnErr};
+ghost use Rattle.std.specs.Io.KnownBytes.{IsAtEnd};
+ghost use Rattle.io_ports.specs.Lines.{Moves};
 ghost use Rattle.device_rules.specs.Devices.{HasCause};
 
 use crate::{Failed, Source};
@@ -65,10 +66,8 @@ impl Ahead {
     /// Takes more bytes from the source behind those held, and answers how many: none at the end of the input.
     pub(crate) fn fill<S: Source>(&mut self, source: &mut S) -> Result<usize, Failed>
         requires { length self.old ≤ LONGEST }
-        ensures prefix { take (length self.old) self.new ≡ self.old }
+        ensures moves { Moves (S.left source.old) (S.left source.new) self.old self.new }
         ensures count { IfOk result (λ n. length self.new ≡ length self.old + n) }
-        ensures bytes { Keeps (prepend_known self.old (S.left source.old))
-            (prepend_known self.new (S.left source.new)) }
         ensures end { IfOk result (λ n. n ≡ 0 → IsAtEnd (S.left source.new)) }
         ensures refused { OnErr result (self.new ≡ self.old) }
         ensures held { length self.new ≤ CAPACITY }

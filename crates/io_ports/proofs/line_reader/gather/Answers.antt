@@ -1,5 +1,5 @@
 use Rattle.std.proofs.Common.{◌≡◌, sym, ap, ◌∙◌, length, take, arith}
-use Rattle.std.proofs.KnownBytes.{Keeps-trans}
+use Rattle.io_ports.proofs.Windows.{Moves-prefix, Moves-then}
 use Rattle.std.proofs.lemmas.List.{take_all}
 use Rattle.io_ports.specs.Lines.{line_len}
 use Rattle.io_ports.proofs.LineLemmas.{search-found, search-none}
@@ -23,7 +23,7 @@ returns-then-branch-eq0-clause-len g c =
     let old = c.loop-at.ahead in
     let none = search-none c.bytes-held.result.now old c.loop-at.searched c.bytes-held.ensures.bytes before.0 before.1 c.in_default.ensures in
     let same : old ≡ c.fill.new.self =
-    sym c.fill.ensures.prefix ∙ take_all (length old) c.fill.new.self (omega (arith, c.in_ok-fill.ensures.count)) in
+    sym (Moves-prefix _ _ _ _ c.fill.ensures.moves) ∙ take_all (length old) c.fill.new.self (omega (arith, c.in_ok-fill.ensures.count)) in
     ap length c.bytes-held.ensures.bytes ∙ sym none ∙ ap line_len same
 
 pub loop-at-preserved : goal.loop-at-preserved
@@ -33,7 +33,7 @@ loop-at-preserved g c =
     let none = search-none c.bytes-held.result.now c.loop-at.ahead c.loop-at.searched c.bytes-held.ensures.bytes before.0 before.1 c.in_default.ensures in
     let long = ap length c.bytes-held.ensures.bytes in (
       omega (arith, long, c.in_ok-fill.ensures.count),
-      ap (λ m. line_len (take m new)) long ∙ ap line_len c.fill.ensures.prefix ∙ none ∙ sym long,
-      Keeps-trans _ _ _ before.2 c.fill.ensures.bytes,
+      ap (λ m. line_len (take m new)) long ∙ ap line_len (Moves-prefix _ _ _ _ c.fill.ensures.moves) ∙ none ∙ sym long,
+      Moves-then _ _ _ _ _ _ before.2 c.fill.ensures.moves,
       omega (arith, c.fill.ensures.cause.later),
     )

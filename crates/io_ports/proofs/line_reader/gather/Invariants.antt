@@ -1,6 +1,5 @@
 use Rattle.std.proofs.Common.{◌≡◌, ◌-◌, ◌≤◌, length, take}
-use Rattle.std.specs.Io.KnownBytes.{Keeps, prepend_known}
-use Rattle.io_ports.specs.Lines.{line_len}
+use Rattle.io_ports.specs.Lines.{line_len, Moves}
 use Rattle.io_ports.proofs.line_reader.gather.Given as goal
 
 -- what was searched has no line feed, no byte was lost, and the count hasn't fallen
@@ -8,7 +7,7 @@ abbrev pub invariant-loop-at : goal.invariant-loop-at
 invariant-loop-at g l =
     (l.searched ≤ length l.ahead)
     × (line_len (take l.searched l.ahead) ≡ l.searched)
-    × Keeps (prepend_known l.fn.ahead (g.S.Source.left l.fn.source)) (prepend_known l.ahead (g.S.Source.left l.source))
+    × Moves (g.S.Source.left l.fn.source) (g.S.Source.left l.source) l.fn.ahead l.ahead
     × (g.S.Source.faults l.fn.source ≤ g.S.Source.faults l.source)
 
 -- one more byte at each turn, and no more than a line may have before the last
