@@ -79,13 +79,13 @@ long_pieces bytes text rest long =
 is_cut : (bytes : List ℕ) (line : Cut) → line ≡ next_line bytes → IsCut bytes line.got line.text line.fed line.rest
 is_cut bytes line is = let P : Cut → Type 0 = λ cut. IsCut bytes cut.got cut.text cut.fed cut.rest in subst P (sym is) (each_text_is_cut bytes)
 
-line_is_cut : (bytes : List ℕ) (line : Cut) → line ≡ next_line bytes → line.got ≡ Line → IsLine bytes line.text line.fed line.rest
+pub line_is_cut : (bytes : List ℕ) (line : Cut) → line ≡ next_line bytes → line.got ≡ Line → IsLine bytes line.text line.fed line.rest
 line_is_cut bytes line is got = let P : LineGot → Type 0 = λ got. IsCut bytes got line.text line.fed line.rest in subst P got (is_cut bytes line is)
 
 long_is_cut : (bytes : List ℕ) (line : Cut) → line ≡ next_line bytes → line.got ≡ Long → IsLong bytes line.text line.rest
 long_is_cut bytes line is got = let P : LineGot → Type 0 = λ got. IsCut bytes got line.text line.fed line.rest in subst P got (is_cut bytes line is)
 
-none_is_cut : (bytes : List ℕ) (line : Cut) → line ≡ next_line bytes → line.got ≡ Done → (bytes ≡ []) × (line.text ≡ []) × (line.rest ≡ [])
+pub none_is_cut : (bytes : List ℕ) (line : Cut) → line ≡ next_line bytes → line.got ≡ Done → (bytes ≡ []) × (line.text ≡ []) × (line.rest ≡ [])
 none_is_cut bytes line is got = let P : LineGot → Type 0 = λ got. IsCut bytes got line.text line.fed line.rest in subst P got (is_cut bytes line is)
 
 -- A line that a line feed ended; a last one, which may have no byte; or the prefix of one that is too long.

@@ -1,5 +1,5 @@
 -- What an input that was read to its end, or to 256 bytes, says of the whole, and how `prove` ends on it.
-use Rattle.std.proofs.Common.{◌≡◌, ◌≢◌, ℕ, ◌<◌, ◌≤◌, List, Option, Some, None, Result, Ok, Err, IfSome, length, refl, ap, ◌∙◌, inl, inr, arith}
+use Rattle.std.proofs.Common.{◌≡◌, ℕ, ◌<◌, ◌≤◌, List, Option, Some, None, Result, Ok, Err, IfSome, length, refl, ap, ◌∙◌, inl, inr, arith}
 use Rattle.std.specs.Io.KnownBytes.{Consumes, IsAtEnd}
 use Rattle.std.proofs.KnownBytes.{Consumes-whole}
 use Rattle.std.proofs.lemmas.Bool.{cases_lt}
@@ -11,7 +11,8 @@ use Rattle.proof_text.specs.declared.Verdict.{Verdict}
 use Rattle.proof_text.specs.declared.Verdict.TheVariants as verdicts
 use Rattle.io_ports.specs.declared.ports.Failed.{Failed}
 use Rattle.victor_run.specs.Proof.{Writes}
-use Rattle.victor_run.specs.Outcome.{HasProved, Proves, Streams, ending_of}
+use Rattle.victor_run.specs.Streams.{Streams}
+use Rattle.victor_run.specs.Outcome.{Proves, ending_of}
 
 -- the bytes that were read determine the game of the whole input
 module _ (old new : Option (List ℕ)) (heard : List ℕ) (taken : Consumes old new heard) where
@@ -35,16 +36,10 @@ IfSome_more None P Q h more = tt
 IfSome_more (Some bytes) P Q h more = more bytes h
 
 -- what was written for the game is what `prove` promises
-module _ (nodes : ℕ) (s : Streams) (p : Position) (heard : List ℕ) (taken : Consumes s.input s.left heard) (ended : IsAtEnd s.left) (game : game_at heard ≡ Ok p) where
-  proved : (v : Verdict) → v ≢ verdicts.Unknown → Writes nodes heard p s.old s.new (Ok v) → IfSome s.input (λ bytes. HasProved nodes bytes s.old s.new)
-  proved v known h = Consumes-whole s.input s.left heard (λ bytes. HasProved nodes bytes s.old s.new) taken ended
-      (record { position = p; game = game; verdict = v; known = known; text = h.0; proof = h.1; written = h.2 })
-
-  pub proves_game : (r : Result Verdict Failed) → Writes nodes heard p s.old s.new r → (r ≡ Ok verdicts.Unknown → nodes < cost none_closed p) → Proves nodes s (ending_of r)
-  proves_game (Ok (verdicts.Win lemma)) h short = (proved (verdicts.Win lemma) (λ e. cc) h, ended)
-  proves_game (Ok (verdicts.Loss lemma)) h short = (proved (verdicts.Loss lemma) (λ e. cc) h, ended)
-  proves_game (Ok (verdicts.Draw white black)) h short = (proved (verdicts.Draw white black) (λ e. cc) h, ended)
-  proves_game (Ok verdicts.Unknown) h short =
-      (Consumes-whole s.input s.left heard _ taken ended (record { position = p; game = game; short = short refl; text = h.0; proof = h.1; written = h.2 }), ended)
-  proves_game (Err failed) h short =
-      (Consumes-whole s.input s.left heard _ taken ended (record { position = p; game = game; text = h.0; stands = h.1; written = h.2 }), ended)
+pub proves_game : (nodes : ℕ) (s : Streams) (p : Position) (heard : List ℕ) → IsAtEnd s.left → game_at heard ≡ Ok p → (r : Result Verdict Failed) → Writes nodes heard p s.old s.new r
+    → (r ≡ Ok verdicts.Unknown → nodes < cost none_closed p) → Proves nodes heard s (ending_of r)
+proves_game nodes s p heard ended game (Ok (verdicts.Win lemma)) h short = (record { position = p; game = game; verdict = verdicts.Win lemma; known = λ e. cc; text = h.0; proof = h.1; written = h.2 }, ended)
+proves_game nodes s p heard ended game (Ok (verdicts.Loss lemma)) h short = (record { position = p; game = game; verdict = verdicts.Loss lemma; known = λ e. cc; text = h.0; proof = h.1; written = h.2 }, ended)
+proves_game nodes s p heard ended game (Ok (verdicts.Draw white black)) h short = (record { position = p; game = game; verdict = verdicts.Draw white black; known = λ e. cc; text = h.0; proof = h.1; written = h.2 }, ended)
+proves_game nodes s p heard ended game (Ok verdicts.Unknown) h short = (record { position = p; game = game; short = short refl; text = h.0; proof = h.1; written = h.2 }, ended)
+proves_game nodes s p heard ended game (Err failed) h short = (record { position = p; game = game; text = h.0; stands = h.1; written = h.2 }, ended)

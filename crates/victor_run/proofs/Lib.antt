@@ -6,3 +6,5 @@ pub mod Writing
 pub mod CheckLines
 pub mod CheckKnown
 pub mod Passing
+pub mod Reading
+pub mod Judging

@@ -1,13 +1,14 @@
--- What `check` writes, and what it promises of its source and its sink, by its end. What is said of bytes is said of a
--- source and a sink that tell theirs.
-use Rattle.std.specs.Prelude.{◌≡◌, ◌+◌, ◌≤◌, ℕ, false, List, [], ◌∷◌, ◌++◌, Option, IfSome, ⊤, codes, decimal, length}
-use Rattle.std.specs.Io.KnownBytes.{Keeps, Appends, IsAtEnd, prepend_known}
+-- What `check` writes, and what it promises of the bytes that it took and of its sink, by its end. What is said of what a
+-- sink holds is said of a sink that tells it.
+use Rattle.std.specs.Prelude.{◌≡◌, ◌+◌, ◌≤◌, ℕ, false, List, [], ◌∷◌, ◌++◌, Option, IfSome, codes, decimal, length}
+use Rattle.std.specs.Io.KnownBytes.{Keeps, Appends, IsAtEnd}
 use Rattle.device_rules.specs.Devices.{AppendsPrefix}
-use Rattle.io_ports.specs.Lines.{PassesLines, most_held}
+use Rattle.io_ports.specs.Lines.{behind_lines}
 use Rattle.proof_text.specs.Right.{AreTrue, IsTrueVerdict}
 use Rattle.proof_text.specs.Texts.{most_lines, check_of, CheckAnswer, NoGame, Refused, Accepted, IsRightText}
 use Rattle.proof_text.specs.declared.Verdict.{Verdict}
 use Rattle.proof_text.specs.declared.Verdict.TheVariants as verdicts
+use Rattle.victor_run.specs.Streams.{Streams}
 use Rattle.victor_run.specs.declared.ending.Ending.{Ending}
 use Rattle.victor_run.specs.declared.ending.Ending.TheVariants as endings
 
@@ -22,13 +23,9 @@ word_of verdicts.Unknown = codes "unknown"
 abbrev pub accepted_line : Verdict → ℕ → List ℕ
 accepted_line v count = codes "accepted " ++ word_of v ++ 32 ∷ decimal count ++ 10 ∷ []
 
--- the definitions give this answer to the input
-abbrev pub IsAnswer : Option (List ℕ) → CheckAnswer → Type 0
-IsAnswer input answer = IfSome input (λ bytes. check_of bytes ≡ answer)
-
--- the input was read to its end, and is accepted with this verdict and so many lemmas
-abbrev pub IsAccepted : Option (List ℕ) → Option (List ℕ) → Verdict → ℕ → Type 0
-IsAccepted input left v count = IfSome input (λ bytes. (check_of bytes ≡ Accepted v count) × IsAtEnd left)
+-- The definitions give this answer to the bytes that were taken; and to all of the input, where the source tells it.
+abbrev pub IsAnswer : List ℕ → Option (List ℕ) → CheckAnswer → Type 0
+IsAnswer taken input answer = (check_of taken ≡ answer) × IfSome input (λ bytes. check_of bytes ≡ answer)
 
 -- The text is right by the definitions, each of its lemmas claims what is true by the value, and a win, a loss or a draw is
 -- the value of its game's position.
@@ -37,41 +34,32 @@ pub record SaysTruth (bytes : List ℕ) (v : Verdict) (count : ℕ) : Type 0 whe
   pub lemmas : AreTrue text.after
   pub verdict : IsTrueVerdict text.root v
 
--- the input is accepted, and says what is true
-abbrev pub IsRightInput : Option (List ℕ) → Option (List ℕ) → Verdict → ℕ → Type 0
-IsRightInput input left v count = IsAccepted input left v count × IfSome input (λ bytes. SaysTruth bytes v count)
+-- The bytes that were taken are all of the input; they are accepted, and say what is true.
+pub record IsRightInput (taken : List ℕ) (left : Option (List ℕ)) (v : Verdict) (count : ℕ) : Type 0 where
+  pub accepted : check_of taken ≡ Accepted v count
+  pub says : SaysTruth taken v count
+  pub whole : IsAtEnd left
 
--- No more was taken from the source than at most so many lines, and behind them at most the bytes that a reader holds.
-abbrev pub TakesLines : ℕ → Option (List ℕ) → Option (List ℕ) → Type 0
-TakesLines most old new = (ahead : List ℕ) × (length ahead ≤ most_held) × PassesLines most old (prepend_known ahead new)
+-- how many bytes may be taken behind the last line that is read: a source gives what it has, and not a line
+abbrev pub most_ahead : ℕ
+most_ahead = 16384
+
+-- behind at most so many lines of the bytes that were taken, there are no more than those
+abbrev pub TakesLines : ℕ → List ℕ → Type 0
+TakesLines most taken = (n : ℕ) × (n ≤ most) × (length (behind_lines n taken) ≤ most_ahead)
 
 -- the number of the first line that no proof may have; none behind it is read
 abbrev pub most_lines_read : ℕ
 most_lines_read = most_lines + 1
 
--- `check`, from what the source has left and what the sink holds before and after it. Where a line is refused, no more
--- was taken than the lines up to it, and where the game is none, than the first three; and behind them what was held.
-abbrev pub Checks : Option (List ℕ) → Option (List ℕ) → Option (List ℕ) → Option (List ℕ) → Ending → Type 0
-Checks input left old new endings.Done = (v : Verdict) × (count : ℕ) × IsRightInput input left v count × Appends old new (accepted_line v count)
-Checks input left old new endings.Write = (v : Verdict) × (count : ℕ) × IsRightInput input left v count × AppendsPrefix false old new (accepted_line v count)
-Checks input left old new (endings.Input fault) = IsAnswer input (NoGame fault) × Keeps old new × TakesLines 3 input left
-Checks input left old new (endings.Refused r) = IsAnswer input (Refused r.at r.why) × Keeps old new × TakesLines r.at input left
-Checks input left old new endings.Read = Keeps old new
-Checks input left old new endings.Memory = Keeps old new
-Checks input left old new endings.Usage = ⊥
-Checks input left old new endings.Unknown = ⊥
-
--- the input isn't at fault
-abbrev pub IsNoRefusal : Ending → Type 0
-IsNoRefusal (endings.Input fault) = ⊥
-IsNoRefusal (endings.Refused r) = ⊥
-IsNoRefusal endings.Done = ⊤
-IsNoRefusal endings.Read = ⊤
-IsNoRefusal endings.Write = ⊤
-IsNoRefusal endings.Memory = ⊤
-IsNoRefusal endings.Usage = ⊥
-IsNoRefusal endings.Unknown = ⊥
-
--- a proof that the definitions accept is refused by no end
-abbrev pub Serves : Option (List ℕ) → Ending → Type 0
-Serves input end = IfSome input (λ bytes. (v : Verdict) (count : ℕ) → check_of bytes ≡ Accepted v count → IsNoRefusal end)
+-- `check`, from the bytes that it took, by its end. Where a line is refused, no more was taken than the lines up to it, and
+-- where the game is none, than the first three; and behind them what came with them.
+abbrev pub Checks : List ℕ → Streams → Ending → Type 0
+Checks taken s endings.Done = (v : Verdict) × (count : ℕ) × IsRightInput taken s.left v count × Appends s.old s.new (accepted_line v count)
+Checks taken s endings.Write = (v : Verdict) × (count : ℕ) × IsRightInput taken s.left v count × AppendsPrefix false s.old s.new (accepted_line v count)
+Checks taken s (endings.Input fault) = IsAnswer taken s.input (NoGame fault) × Keeps s.old s.new × TakesLines 3 taken
+Checks taken s (endings.Refused r) = IsAnswer taken s.input (Refused r.at r.why) × Keeps s.old s.new × TakesLines r.at taken
+Checks taken s endings.Read = Keeps s.old s.new
+Checks taken s endings.Memory = Keeps s.old s.new
+Checks taken s endings.Usage = ⊥
+Checks taken s endings.Unknown = ⊥

@@ -1,14 +1,18 @@
 -- How `check` goes through a text: at each step the answer to the bytes that were not given yet is that to those that
 -- are not given after it, or the step ends the reading with an answer.
-use Rattle.std.specs.Prelude.{◌≡◌, ℕ, ◌+◌, Bool, true, false, List, [], ◌++◌, length, take, Option, Some, None, ⊤, IfSome}
-use Rattle.std.specs.Io.KnownBytes.{prepend_known}
+use Rattle.std.specs.Prelude.{◌≡◌, ◌≤◌, ℕ, ◌+◌, Bool, true, false, List, [], ◌++◌, length, take, Option, Some, ⊤, IfSome, Result, MatchResult}
+use Rattle.std.specs.Io.KnownBytes.{Consumes, IsAtEnd}
 use Rattle.device_rules.specs.Devices.{Rose}
-use Rattle.io_ports.specs.Lines.{Cut, Cutting, next_line, feed}
+use Rattle.io_ports.specs.Lines.{Cut, next_line, feed, behind_lines}
 use Rattle.game_rules.specs.Text.{game_at}
 use Rattle.proof_text.specs.Checked.{CheckerState}
-use Rattle.proof_text.specs.Texts.{pieces, lines_in, game_prefix, game_of, behind_game, CheckAnswer, NoGame, Refused, game_answer, verdict_answer, check_from}
+use Rattle.proof_text.specs.Texts.{pieces, lines_in, game_prefix, game_of, behind_game, CheckAnswer, NoGame, Refused, game_answer, verdict_answer, check_from, check_of}
 use Rattle.proof_text.specs.declared.Why.{Why}
-use Rattle.victor_run.specs.Check.{most_lines_read}
+use Rattle.cert_checker.specs.declared.stops.Accepted.{Accepted}
+use Rattle.victor_run.specs.Check.{IsRightInput, TakesLines, most_lines_read}
+use Rattle.victor_run.specs.InputState.{InputState}
+use Rattle.victor_run.specs.declared.ending.Ending.{Ending}
+use Rattle.victor_run.specs.declared.ending.Ending.TheVariants as endings
 use Rattle.victor_run.specs.declared.check.Stop.{Stop}
 use Rattle.victor_run.specs.declared.check.Stop.TheVariants as stops
 
@@ -24,35 +28,44 @@ lines_from s at bytes = check_from s at (lines_in (pieces bytes))
 abbrev pub kept_of : Cut → List ℕ
 kept_of line = take game_prefix line.text ++ feed line.fed
 
--- the bytes that a reader of lines hasn't given: those that it holds, and those that its source has left
-abbrev pub pending : Cutting → Option (List ℕ) → Option (List ℕ)
-pending lines left = prepend_known lines.ahead left
+-- What is left of an input: whether its end was reached, the bytes that a reader of its lines holds, and those that the
+-- source has left.
+pub record Pending : Type 0 where
+  pub ended : Bool
+  pub ahead : List ℕ
+  pub left : Option (List ℕ)
 
--- a fact of the bytes before a step and after it, where they are known
-abbrev pub Both : Option (List ℕ) → Option (List ℕ) → (List ℕ → List ℕ → Type 0) → Type 0
-Both None new P = ⊤
-Both (Some bytes) None P = ⊥
-Both (Some bytes) (Some rest) P = P bytes rest
+abbrev pub pending : InputState → Option (List ℕ) → Pending
+pending lines left = record { ended = lines.ended; ahead = lines.ahead; left = left }
 
--- the answer before a step is the answer after it
-abbrev pub GoesOn : Option (List ℕ) → Option (List ℕ) → (List ℕ → CheckAnswer) → (List ℕ → CheckAnswer) → Type 0
-GoesOn old new before after = Both old new (λ bytes rest. before bytes ≡ after rest)
+-- What a step took from the source, and a fact of the bytes that were pending before it and of those that are after it,
+-- whatever the source may give later. Behind the end of the input nothing is taken.
+pub record Reads (old new : Pending) (Fact : List ℕ → List ℕ → Type 0) : Type 0 where
+  pub taken : List ℕ
+  pub gave : Consumes old.left new.left taken
+  pub stays : old.ended ≡ true → (taken ≡ []) × (new.ended ≡ true)
+  pub last : (old.ended ≡ true → IsAtEnd old.left) → new.ended ≡ true → IsAtEnd new.left
+  pub fact : (later : List ℕ) → (new.ended ≡ true → later ≡ []) → Fact (old.ahead ++ (taken ++ later)) (new.ahead ++ later)
+
+-- the second bytes stand behind at most so many lines of the first
+abbrev pub PassesLines : ℕ → List ℕ → List ℕ → Type 0
+PassesLines most bytes rest = (n : ℕ) × (n ≤ most) × (rest ≡ behind_lines n bytes)
 
 -- The prefix of the next line, and the line feed that ended it, were put behind the text.
-abbrev pub KeepsLine : Option (List ℕ) → Option (List ℕ) → List ℕ → List ℕ → Type 0
-KeepsLine old new text longer = Both old new (λ bytes rest. (longer ≡ text ++ kept_of (next_line bytes)) × (rest ≡ (next_line bytes).rest))
+abbrev pub KeepsLine : List ℕ → List ℕ → List ℕ → List ℕ → Type 0
+KeepsLine text longer bytes rest = (longer ≡ text ++ kept_of (next_line bytes)) × (rest ≡ (next_line bytes).rest)
 
 -- A line was added, or there was none, and the verdict decides.
-abbrev pub Adds : Option (List ℕ) → Option (List ℕ) → CheckerState → CheckerState → ℕ → Bool → Type 0
-Adds old new s t at true = GoesOn old new (lines_from s at) (lines_from t (at + 1))
-Adds old new s t at false = Both old new (λ bytes rest. (lines_from s at bytes ≡ verdict_answer at (length t.known) t.verdict) × (rest ≡ []))
+abbrev pub Adds : CheckerState → CheckerState → ℕ → Bool → List ℕ → List ℕ → Type 0
+Adds s t at true bytes rest = lines_from s at bytes ≡ lines_from t (at + 1) rest
+Adds s t at false bytes rest = lines_from s at bytes ≡ verdict_answer at (length t.known) t.verdict
 
--- the answer to the bytes is that of what stopped the reading; a fault only where the source's count rose
-abbrev pub StopsBy : Option (List ℕ) → (List ℕ → CheckAnswer) → ℕ → ℕ → Stop → Type 0
-StopsBy old answer before after (stops.Input fault) = IfSome old (λ bytes. answer bytes ≡ NoGame fault)
-StopsBy old answer before after (stops.Refused r) = IfSome old (λ bytes. answer bytes ≡ Refused r.at r.why)
-StopsBy old answer before after stops.Read = Rose before after
-StopsBy old answer before after stops.Memory = ⊤
+-- the answer is that of what stopped the reading; a fault only where the source's count rose
+abbrev pub StopsBy : CheckAnswer → ℕ → ℕ → Stop → Type 0
+StopsBy answer before after (stops.Input fault) = answer ≡ NoGame fault
+StopsBy answer before after (stops.Refused r) = answer ≡ Refused r.at r.why
+StopsBy answer before after stops.Read = Rose before after
+StopsBy answer before after stops.Memory = ⊤
 
 -- a line at a number is refused by this name, or memory runs out
 abbrev pub IsRefused : ℕ → Option Why → Stop → Type 0
@@ -67,3 +80,19 @@ lines_read_until (stops.Refused r) = r.at
 lines_read_until (stops.Input fault) = 3
 lines_read_until stops.Read = most_lines_read
 lines_read_until stops.Memory = most_lines_read
+
+-- how the run ends by what stops the reading
+abbrev pub ending_of : Stop → Ending
+ending_of (stops.Input fault) = endings.Input fault
+ending_of (stops.Refused r) = endings.Refused r
+ending_of stops.Read = endings.Read
+ending_of stops.Memory = endings.Memory
+
+-- What was read of a proof, to its end or to what stopped the reading: the bytes that were taken are right, or they stopped
+-- it; and so did all of the input, where the source tells it.
+pub record Judges (input left : Option (List ℕ)) (before after : ℕ) (result : Result Accepted Stop) : Type 0 where
+  pub taken : List ℕ
+  pub gave : Consumes input left taken
+  pub answer : MatchResult result (λ accepted. IsRightInput taken left accepted.verdict accepted.lemmas)
+      (λ stop. StopsBy (check_of taken) before after stop × IfSome input (λ bytes. StopsBy (check_of bytes) before after stop) × TakesLines (lines_read_until stop) taken)
+  pub lines : TakesLines most_lines_read taken

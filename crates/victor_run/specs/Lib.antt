@@ -1,7 +1,9 @@
 pub mod Words
 pub mod Output
 pub mod Outcome
+pub mod Streams
 pub mod Search
 pub mod Proof
 pub mod Check
 pub mod CheckSteps
+pub mod InputState

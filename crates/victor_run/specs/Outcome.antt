@@ -1,7 +1,7 @@
--- What a run promises of its source and its sinks, by the way it ended. What is said of bytes is said of a source and a
--- sink that tell theirs.
-use Rattle.std.specs.Prelude.{◌≡◌, ◌≢◌, ℕ, ◌+◌, ◌*◌, ◌<◌, ◌≤◌, Bool, false, List, Option, Some, None, Result, Ok, Err, IfSome, length}
-use Rattle.std.specs.Io.KnownBytes.{Keeps, Appends, Consumes, IsAtEnd}
+-- What a run promises of the bytes that it took and of its sinks, by the way it ended. What is said of what a sink holds is
+-- said of a sink that tells it.
+use Rattle.std.specs.Prelude.{◌≡◌, ◌≢◌, ℕ, ◌+◌, ◌*◌, ◌<◌, Bool, false, List, Option, Some, None, Result, Ok, Err, IfSome}
+use Rattle.std.specs.Io.KnownBytes.{Keeps, Appends, IsAtEnd}
 use Rattle.device_rules.specs.Devices.{Rose, AppendsPrefix}
 use Rattle.game_rules.specs.Position.{Position}
 use Rattle.game_rules.specs.Cost.{cost, none_closed}
@@ -9,10 +9,10 @@ use Rattle.game_rules.specs.Text.{game_at}
 use Rattle.proof_text.specs.declared.Verdict.{Verdict}
 use Rattle.proof_text.specs.declared.Verdict.TheVariants as verdicts
 use Rattle.proof_text.specs.Texts.{longest_line}
-use Rattle.io_ports.specs.Lines.{most_held}
 use Rattle.io_ports.specs.declared.ports.Failed.{Failed}
-use Rattle.victor_run.specs.Check.{Checks, most_lines_read}
+use Rattle.victor_run.specs.Check.{Checks, TakesLines, most_ahead, most_lines_read}
 use Rattle.victor_run.specs.Proof.{IsProofOf, MayStandFor}
+use Rattle.victor_run.specs.Streams.{Streams, Took}
 use Rattle.victor_run.specs.declared.words.Form.{Form}
 use Rattle.victor_run.specs.declared.words.Form.TheVariants.{Prove, Check}
 use Rattle.victor_run.specs.declared.ending.Ending.{Ending}
@@ -64,43 +64,37 @@ pub record WasCut (nodes : ℕ) (bytes : List ℕ) (old new : Option (List ℕ))
   pub stands : MayStandFor nodes bytes position text
   pub written : AppendsPrefix false old new text
 
--- what the source has left, and what the sink held, before and after a run
-pub record Streams : Type 0 where
-  pub input : Option (List ℕ)
-  pub left : Option (List ℕ)
-  pub old : Option (List ℕ)
-  pub new : Option (List ℕ)
+-- `prove` with so many nodes, from the bytes that it took, by its ending. A proof is of the game that they are, and all of the
+-- input was read then; a fault is theirs, and that of all of the input, where the source tells it.
+abbrev pub Proves : ℕ → List ℕ → Streams → Ending → Type 0
+Proves nodes taken s Done = HasProved nodes taken s.old s.new × IsAtEnd s.left
+Proves nodes taken s Unknown = LeavesUnknown nodes taken s.old s.new × IsAtEnd s.left
+Proves nodes taken s Write = WasCut nodes taken s.old s.new × IsAtEnd s.left
+Proves nodes taken s (Input fault) = (game_at taken ≡ Err fault) × IfSome s.input (λ bytes. game_at bytes ≡ Err fault) × Keeps s.old s.new
+Proves nodes taken s Read = Keeps s.old s.new
+Proves nodes taken s Usage = ⊥
+Proves nodes taken s (Refused refusal) = ⊥
+Proves nodes taken s Memory = ⊥
 
--- `prove` with so many nodes, by its ending
-abbrev pub Proves : ℕ → Streams → Ending → Type 0
-Proves nodes s Done = IfSome s.input (λ bytes. HasProved nodes bytes s.old s.new) × IsAtEnd s.left
-Proves nodes s Unknown = IfSome s.input (λ bytes. LeavesUnknown nodes bytes s.old s.new) × IsAtEnd s.left
-Proves nodes s Write = IfSome s.input (λ bytes. WasCut nodes bytes s.old s.new) × IsAtEnd s.left
-Proves nodes s (Input fault) = IfSome s.input (λ bytes. game_at bytes ≡ Err fault) × Keeps s.old s.new
-Proves nodes s Read = Keeps s.old s.new
-Proves nodes s Usage = ⊥
-Proves nodes s (Refused refusal) = ⊥
-Proves nodes s Memory = ⊥
+-- How many bytes a run of the words that have this form takes at most: `check` takes lines with their line feeds, and
+-- what comes with the last of them.
+abbrev pub most_taken : Option Form → ℕ
+most_taken None = 0
+most_taken (Some (Prove nodes)) = 256
+most_taken (Some Check) = most_lines_read * (longest_line + 1) + most_ahead
 
--- a run of the words that have this form
+-- what a run of the words that have this form promises, from the bytes that it took
+abbrev pub Promise : Option Form → Streams → Ending → List ℕ → Type 0
+Promise None s ending taken = (ending ≡ Usage) × Keeps s.old s.new
+Promise (Some (Prove nodes)) s ending taken = Proves nodes taken s ending
+Promise (Some Check) s ending taken = Checks taken s ending × TakesLines most_lines_read taken
+
+-- a run of the words that have this form: it took some bytes of its source, and keeps its promise of them
 abbrev pub Outcome : Option Form → Streams → Ending → Type 0
-Outcome None s ending = (ending ≡ Usage) × Keeps s.old s.new × Keeps s.input s.left
-Outcome (Some (Prove nodes)) s ending = Proves nodes s ending
-Outcome (Some Check) s ending = Checks s.input s.left s.old s.new ending
+Outcome form s ending = Took s (most_taken form) (Promise form s ending)
 
 -- a text was written to the error stream, all of it unless that stream's count rose
 pub record Reports (before after : ℕ) (old new : Option (List ℕ)) (text : List ℕ) : Type 0 where
   pub whole : Bool
   pub written : AppendsPrefix whole old new text
   pub cut : whole ≡ false → Rose before after
-
--- at most so many bytes were taken from the source
-abbrev pub TakesAtMost : ℕ → Option (List ℕ) → Option (List ℕ) → Type 0
-TakesAtMost most old new = (bytes : List ℕ) × (length bytes ≤ most) × Consumes old new bytes
-
--- How many bytes a run of the words that have this form takes at most: `check` takes lines with their line feeds, and
--- what its reader holds.
-abbrev pub most_taken : Option Form → ℕ
-most_taken None = 0
-most_taken (Some (Prove nodes)) = 256
-most_taken (Some Check) = most_lines_read * (longest_line + 1) + most_held

@@ -1,24 +1,27 @@
 //! The command `check`: a proof is read line by line, and each line is judged as it comes, so that only what its lemmas
 //! show is kept. Reading stops at the first line that is refused. Nothing is written before the end of the input was
 //! reached: then one line says that the proof is accepted, with its verdict and the number of its lemmas.
-ghost use Rattle.std.specs.Prelude.{◌≡◌, ◌+◌, ◌-◌, ◌≤◌, true, [], length, is_ok, MatchResult, IfOk, IfErr, OnOk};
+ghost use Rattle.std.specs.Prelude.{◌≡◌, ◌+◌, ◌-◌, ◌≤◌, true, false, [], length, is_ok, Ok, Some, MatchResult, IfOk, IfErr, OnOk};
 ghost use Rattle.device_rules.specs.Devices.{Rose, HasCause, AppendsPrefix};
 ghost use Rattle.arrayvec.specs.ArrayVec.{array_vec_len};
 ghost use Rattle.proof_text.specs.Texts.{first_number, bytes_refusal, with_bytes, start, verdict_answer, check_of};
-ghost use Rattle.io_ports.specs.Lines.{PassesLines, most_held};
-ghost use Rattle.victor_run.specs.Check.{word_of, accepted_line, IsRightInput, Checks, Serves, TakesLines, most_lines_read};
-ghost use Rattle.victor_run.specs.CheckSteps.{game_from, lines_from, pending, Both, GoesOn, KeepsLine, Adds, StopsBy, IsRefused, lines_read_until};
+ghost use Rattle.io_ports.specs.Lines.{most_held};
+ghost use Rattle.victor_run.specs.Check.{word_of, accepted_line, most_lines_read};
+ghost use Rattle.victor_run.specs.CheckSteps.{game_from, lines_from, pending, Reads, PassesLines, KeepsLine, Adds, StopsBy, IsRefused, lines_read_until, ending_of, Judges};
+ghost use Rattle.victor_run.specs.Outcome.{Outcome};
+ghost use Rattle.victor_run.specs.declared.words.Form.TheVariants as forms;
 ghost use Rattle.victor_run.specs.declared.ending.Ending.TheVariants as endings;
 ghost use Rattle.victor_run.specs.declared.check.Stop.TheVariants as stops;
 ghost use Rattle.proof_text.specs.declared.Why.TheVariants as whys;
 
 use crate::ending::Ending;
+use crate::input_lines::InputLines;
 use crate::output::put_line;
 use arrayvec::ArrayVec;
 use board_bits::{InputFault, Position, Size, read_game};
 use cert_checker::{Accepted, AddStop, Checker, Refusal};
 use cert_format::{FIRST_LINE, LineText, push_number, push_text, read_line};
-use io_ports::{Failed, LineGot, Lines, Sink, Source};
+use io_ports::{Failed, LineGot, Sink, Source};
 use proof_text::{Verdict, Why};
 use std::alloc::Global;
 
@@ -43,12 +46,25 @@ enum Stop {
     Memory,
 }
 
+impl Stop {
+    /// How the run ends then.
+    fn ending(self) -> Ending
+        ensures { result ≡ ending_of self }
+    {
+        match self {
+            Stop::Input(fault) => Ending::Input(fault),
+            Stop::Refused(refusal) => Ending::Refused(refusal),
+            Stop::Read => Ending::Read,
+            Stop::Memory => Ending::Memory,
+        }
+    }
+}
+
 /// Reads a proof, and writes one line where it is right. It ends as the definitions answer the text, unless a stream
 /// failed, which comes only where its count of faults rose, or memory ran out.
 pub(crate) fn check<S: Source, O: Sink>(alloc: Global, source: &mut S, out: &mut O) -> Ending
-    ensures outcome { Checks (S.left source.old) (S.left source.new) (O.written out.old) (O.written out.new) result }
-    ensures complete { Serves (S.left source.old) result }
-    ensures lines { TakesLines most_lines_read (S.left source.old) (S.left source.new) }
+    ensures outcome { Outcome (Some forms.Check)
+        (record { input = S.left source.old; left = S.left source.new; old = O.written out.old; new = O.written out.new }) result }
     ensures read_fault { result ≡ endings.Read → Rose (S.faults source.old) (S.faults source.new) }
     ensures write_fault { result ≡ endings.Write → Rose (O.faults out.old) (O.faults out.new) }
 {
@@ -57,21 +73,15 @@ pub(crate) fn check<S: Source, O: Sink>(alloc: Global, source: &mut S, out: &mut
             Ok(()) => Ending::Done,
             Err(Failed) => Ending::Write,
         },
-        Err(Stop::Input(fault)) => Ending::Input(fault),
-        Err(Stop::Refused(refusal)) => Ending::Refused(refusal),
-        Err(Stop::Read) => Ending::Read,
-        Err(Stop::Memory) => Ending::Memory,
+        Err(stop) => stop.ending(),
     }
 }
 
 /// Reads a proof to its end, or to what stops the reading.
 fn judge<S: Source>(alloc: Global, source: &mut S) -> Result<Accepted, Stop>
-    ensures answer { MatchResult result (λ accepted. IsRightInput (S.left source.old) (S.left source.new) accepted.verdict accepted.lemmas)
-        (StopsBy (S.left source.old) check_of (S.faults source.old) (S.faults source.new)) }
-    ensures lines { TakesLines most_lines_read (S.left source.old) (S.left source.new) }
-    ensures stops { IfErr result (λ stop. TakesLines (lines_read_until stop) (S.left source.old) (S.left source.new)) }
+    ensures { Judges (S.left source.old) (S.left source.new) (S.faults source.old) (S.faults source.new) result }
 {
-    let mut lines = Lines::new();
+    let mut lines = InputLines::new();
     read_head(&mut lines, source)?;
     let root = read_root(&mut lines, source)?;
     let size = root.size();
@@ -84,11 +94,10 @@ fn judge<S: Source>(alloc: Global, source: &mut S) -> Result<Accepted, Stop>
 }
 
 /// Reads the line that names the format.
-fn read_head<S: Source>(lines: &mut Lines, source: &mut S) -> Result<(), Stop>
-    ensures answer { MatchResult result
-        (λ _. GoesOn (pending lines.old (S.left source.old)) (pending lines.new (S.left source.new)) check_of game_from)
-        (StopsBy (pending lines.old (S.left source.old)) check_of (S.faults source.old) (S.faults source.new)) }
-    ensures passes { PassesLines 1 (pending lines.old (S.left source.old)) (pending lines.new (S.left source.new)) }
+fn read_head<S: Source>(lines: &mut InputLines, source: &mut S) -> Result<(), Stop>
+    ensures answer { Reads (pending lines.old (S.left source.old)) (pending lines.new (S.left source.new))
+        (λ bytes rest. PassesLines 1 bytes rest × MatchResult result (λ _. check_of bytes ≡ game_from rest)
+            (StopsBy (check_of bytes) (S.faults source.old) (S.faults source.new))) }
     ensures held { length lines.new.ahead ≤ most_held }
     ensures stops { IfErr result (λ stop. 1 ≤ lines_read_until stop) }
     ensures later { S.faults source.old ≤ S.faults source.new }
@@ -104,11 +113,10 @@ fn read_head<S: Source>(lines: &mut Lines, source: &mut S) -> Result<(), Stop>
 }
 
 /// Reads the two lines of the game, and answers its position.
-fn read_root<S: Source>(lines: &mut Lines, source: &mut S) -> Result<Position, Stop>
-    ensures answer { MatchResult result
-        (λ root. GoesOn (pending lines.old (S.left source.old)) (pending lines.new (S.left source.new)) game_from (lines_from (start root) first_number))
-        (StopsBy (pending lines.old (S.left source.old)) game_from (S.faults source.old) (S.faults source.new)) }
-    ensures passes { PassesLines 2 (pending lines.old (S.left source.old)) (pending lines.new (S.left source.new)) }
+fn read_root<S: Source>(lines: &mut InputLines, source: &mut S) -> Result<Position, Stop>
+    ensures answer { Reads (pending lines.old (S.left source.old)) (pending lines.new (S.left source.new))
+        (λ bytes rest. PassesLines 2 bytes rest × MatchResult result (λ root. game_from bytes ≡ lines_from (start root) first_number rest)
+            (StopsBy (game_from bytes) (S.faults source.old) (S.faults source.new))) }
     ensures held { length lines.new.ahead ≤ most_held }
     ensures stops { IfErr result (λ stop. 3 ≤ lines_read_until stop) }
     ensures later { S.faults source.old ≤ S.faults source.new }
@@ -125,15 +133,14 @@ fn read_root<S: Source>(lines: &mut Lines, source: &mut S) -> Result<Position, S
 /// Puts the prefix of the next line behind the text, and the line feed that ended it.
 fn keep_line<S: Source>(
     text: &mut ArrayVec<u8, MOST_KEPT>,
-    lines: &mut Lines,
+    lines: &mut InputLines,
     source: &mut S,
 ) -> Result<(), Stop>
     requires { array_vec_len text.old + GAME_PREFIX + 1 ≤ MOST_KEPT }
-    ensures kept { MatchResult result
-        (λ _. KeepsLine (pending lines.old (S.left source.old)) (pending lines.new (S.left source.new)) text.old.items text.new.items)
-        (λ stop. (stop ≡ stops.Read) × Rose (S.faults source.old) (S.faults source.new)) }
+    ensures kept { Reads (pending lines.old (S.left source.old)) (pending lines.new (S.left source.new))
+        (λ bytes rest. PassesLines 1 bytes rest × IfOk result (λ _. KeepsLine text.old.items text.new.items bytes rest)) }
+    ensures failed { IfErr result (λ stop. (stop ≡ stops.Read) × Rose (S.faults source.old) (S.faults source.new)) }
     ensures bound { array_vec_len text.new ≤ array_vec_len text.old + GAME_PREFIX + 1 }
-    ensures passes { PassesLines 1 (pending lines.old (S.left source.old)) (pending lines.new (S.left source.new)) }
     ensures held { length lines.new.ahead ≤ most_held }
     ensures later { S.faults source.old ≤ S.faults source.new }
 {
@@ -152,17 +159,16 @@ fn keep_line<S: Source>(
 fn add_lines<S: Source>(
     checker: &mut Checker,
     size: Size,
-    lines: &mut Lines,
+    lines: &mut InputLines,
     source: &mut S,
 ) -> Result<u64, Stop>
     requires { length checker.old.root.columns ≡ size.cols }
-    ensures answer { MatchResult result
-        (λ end. Both (pending lines.old (S.left source.old)) (pending lines.new (S.left source.new))
-        (λ bytes rest. (lines_from checker.old first_number bytes ≡ verdict_answer end (length checker.new.known) checker.new.verdict) × (rest ≡ [])))
-        (StopsBy (pending lines.old (S.left source.old)) (lines_from checker.old first_number) (S.faults source.old) (S.faults source.new)) }
-    ensures few { IfOk result (λ end. (FIRST_NUMBER ≤ end) × (end ≤ most_lines_read)) }
-    ensures read { MatchResult result (λ end. PassesLines (end - 3) (pending lines.old (S.left source.old)) (pending lines.new (S.left source.new)))
-        (λ stop. PassesLines (lines_read_until stop - 3) (pending lines.old (S.left source.old)) (pending lines.new (S.left source.new)) × (3 ≤ lines_read_until stop) × (lines_read_until stop ≤ most_lines_read)) }
+    ensures answer { Reads (pending lines.old (S.left source.old)) (pending lines.new (S.left source.new))
+        (λ bytes rest. MatchResult result
+            (λ end. PassesLines (end - 3) bytes rest × (lines_from checker.old first_number bytes ≡ verdict_answer end (length checker.new.known) checker.new.verdict))
+            (λ stop. PassesLines (lines_read_until stop - 3) bytes rest × StopsBy (lines_from checker.old first_number bytes) (S.faults source.old) (S.faults source.new) stop)) }
+    ensures few { MatchResult result (λ end. (FIRST_NUMBER ≤ end) × (end ≤ most_lines_read)) (λ stop. (3 ≤ lines_read_until stop) × (lines_read_until stop ≤ most_lines_read)) }
+    ensures ended { OnOk result (lines.new.ended ≡ true) }
     ensures held { length lines.new.ahead ≤ most_held }
     ensures later { S.faults source.old ≤ S.faults source.new }
 {
@@ -178,16 +184,16 @@ fn add_next<S: Source>(
     checker: &mut Checker,
     size: Size,
     at: u64,
-    lines: &mut Lines,
+    lines: &mut InputLines,
     source: &mut S,
 ) -> Result<bool, Stop>
     requires { length checker.old.root.columns ≡ size.cols }
-    ensures answer { MatchResult result
-        (Adds (pending lines.old (S.left source.old)) (pending lines.new (S.left source.new)) checker.old checker.new at)
-        (StopsBy (pending lines.old (S.left source.old)) (lines_from checker.old at) (S.faults source.old) (S.faults source.new)) }
+    ensures answer { Reads (pending lines.old (S.left source.old)) (pending lines.new (S.left source.new))
+        (λ bytes rest. PassesLines 1 bytes rest × MatchResult result (λ more. Adds checker.old checker.new at more bytes rest)
+            (StopsBy (lines_from checker.old at bytes) (S.faults source.old) (S.faults source.new))) }
     ensures few { result ≡ Ok true → at ≤ MOST_LINES }
     ensures root { OnOk result (checker.new.root ≡ checker.old.root) }
-    ensures passes { PassesLines 1 (pending lines.old (S.left source.old)) (pending lines.new (S.left source.new)) }
+    ensures ended { result ≡ Ok false → lines.new.ended ≡ true }
     ensures held { length lines.new.ahead ≤ most_held }
     ensures stops { at ≤ most_lines_read → IfErr result (λ stop. (at ≤ lines_read_until stop) × (lines_read_until stop ≤ most_lines_read)) }
     ensures later { S.faults source.old ≤ S.faults source.new }

@@ -6,10 +6,9 @@ ghost use Rattle.game_rules.specs.Cost.{cost, none_closed};
 ghost use Rattle.game_rules.specs.Text.{game_at};
 ghost use Rattle.proof_text.specs.Texts.{check_of, Accepted};
 ghost use Rattle.proof_text.specs.declared.Verdict.{Verdict};
-ghost use Rattle.victor_run.specs.Check.{Serves, TakesLines, most_lines_read};
 ghost use Rattle.victor_run.specs.Words.{form_of};
 ghost use Rattle.victor_run.specs.Output.{fault_text};
-ghost use Rattle.victor_run.specs.Outcome.{status_of, Outcome, Reports, TakesAtMost, most_taken};
+ghost use Rattle.victor_run.specs.Outcome.{status_of, Outcome, Reports};
 ghost use Rattle.victor_run.specs.declared.words.Form.TheVariants as forms;
 ghost use Rattle.victor_run.specs.declared.ending.Ending.{Ending};
 ghost use Rattle.victor_run.specs.declared.ending.Ending.TheVariants as endings;
@@ -38,7 +37,8 @@ pub fn run<S: Source, O: Sink, E: Sink>(
     out: &mut O,
     err: &mut E,
 ) -> u8
-    // Every status has its cause here: the words, the game and its proof, the cost, or a count of faults.
+    // Every status has its cause here: the arguments, the bytes that were taken of the source, the cost, or a count of faults.
+    // These bytes are those that the source gave, and few; one that tells its bytes determines them.
     ensures outcome { (ending : Ending) × (result ≡ status_of ending) × Outcome (form_of (map string_bytes words.now))
         (record { input = S.left source.old; left = S.left source.new; old = O.written out.old; new = O.written out.new }) ending
         × Reports (E.faults err.old) (E.faults err.new) (E.written err.old) (E.written err.new) (fault_text ending) }
@@ -53,10 +53,6 @@ pub fn run<S: Source, O: Sink, E: Sink>(
     ensures check_complete { form_of (map string_bytes words.now) ≡ Some forms.Check
         → (Rose (S.faults source.old) (S.faults source.new) → ⊥) → (Rose (O.faults out.old) (O.faults out.new) → ⊥)
         → IfSome (S.left source.old) (λ bytes. (v : Verdict) (count : ℕ) → check_of bytes ≡ Accepted v count → (result ≡ 0) ⊎ (result ≡ 8)) }
-
-    // No run reads more than a bound that its words decide.
-    ensures taken { TakesAtMost (most_taken (form_of (map string_bytes words.now))) (S.left source.old) (S.left source.new) }
-    ensures lines { form_of (map string_bytes words.now) ≡ Some forms.Check → TakesLines most_lines_read (S.left source.old) (S.left source.new) }
 {
     let ending = run_words(alloc, words, source, out);
     report(err, ending);
@@ -73,9 +69,6 @@ fn run_words<S: Source, O: Sink>(
         (record { input = S.left source.old; left = S.left source.new; old = O.written out.old; new = O.written out.new }) result }
     ensures read_fault { result ≡ endings.Read → Rose (S.faults source.old) (S.faults source.new) }
     ensures write_fault { result ≡ endings.Write → Rose (O.faults out.old) (O.faults out.new) }
-    ensures serves { form_of (map string_bytes words.now) ≡ Some forms.Check → Serves (S.left source.old) result }
-    ensures taken { TakesAtMost (most_taken (form_of (map string_bytes words.now))) (S.left source.old) (S.left source.new) }
-    ensures lines { form_of (map string_bytes words.now) ≡ Some forms.Check → TakesLines most_lines_read (S.left source.old) (S.left source.new) }
 {
     match read_words(words) {
         Some(Form::Prove(nodes)) => prove(nodes, source, out),

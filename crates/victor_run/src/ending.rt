@@ -5,30 +5,31 @@ ghost use Rattle.victor_run.specs.Outcome.{status_of};
 use board_bits::InputFault;
 use cert_checker::Refusal;
 
-/// How a run ends.
+/// How a run ends: what decides its exit status and its text on the error stream. The clauses of [`crate::run`] have, for
+/// each form and each ending, what was written and why it ended so.
 #[derive(Clone, Copy, Debug, PartialEq, Eq)]
-pub(crate) enum Ending {
+pub enum Ending {
     /// All was done: status 0.
     Done,
-    /// The budget is below the cost, and that was written: status 5.
+    /// The budget is below the cost of the position, and the proof that was written says so: status 5.
     Unknown,
-    /// The words are no written form: status 2.
+    /// The arguments are no written form: status 2.
     Usage,
     /// The input, or the game of a proof, isn't the text of a game: status 3.
     Input(InputFault),
-    /// A line of a proof is refused: status 4.
+    /// A line of a proof is refused, the first that fails by the first name that holds there: status 4.
     Refused(Refusal),
-    /// The source failed: status 6.
+    /// The source failed, which comes only where its count of faults rose: status 6.
     Read,
-    /// The sink failed: status 7.
+    /// The sink of the output failed, which comes only where its count of faults rose: status 7.
     Write,
     /// Memory ran out, and nothing was written: status 8.
     Memory,
 }
 
 impl Ending {
-    /// The exit status.
-    pub(crate) fn status(self) -> u8
+    /// The exit status: 0, or 2 to 8.
+    pub fn status(self) -> u8
         ensures { result ≡ status_of self }
     {
         match self {

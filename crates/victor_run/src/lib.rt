@@ -5,12 +5,15 @@
 mod check;
 mod command;
 mod ending;
+mod input_lines;
 mod output;
 mod prove;
 mod search;
 mod words;
 
 pub use command::run;
+pub use ending::Ending;
+pub use words::Form;
 
 #[cfg(test)]
 mod tests;

@@ -1,12 +1,13 @@
 //! `prove`: a game is read, and a proof of its value is written, each line as soon as it is known. It takes no memory.
-ghost use Rattle.std.specs.Prelude.{◌≡◌, ◌≤◌, ◌<◌, Ok, length, is_ok, IfOk};
+ghost use Rattle.std.specs.Prelude.{◌≡◌, ◌≤◌, ◌<◌, Ok, Some, length, is_ok, IfOk};
 ghost use Rattle.device_rules.specs.Devices.{HasCause, Rose, AppendsPrefix};
 ghost use Rattle.game_rules.specs.Cost.{cost, none_closed};
 ghost use Rattle.game_rules.specs.Text.{game_at};
 ghost use Rattle.proof_text.specs.Spelling.{verdict_line};
 ghost use Rattle.proof_text.specs.declared.Verdict.TheVariants as verdicts;
-ghost use Rattle.victor_run.specs.Outcome.{Proves, TakesAtMost, ending_of};
+ghost use Rattle.victor_run.specs.Outcome.{Outcome, ending_of};
 ghost use Rattle.victor_run.specs.Proof.{head_for, Writes};
+ghost use Rattle.victor_run.specs.declared.words.Form.TheVariants as forms;
 ghost use Rattle.victor_run.specs.declared.ending.Ending.TheVariants as endings;
 
 use crate::ending::Ending;
@@ -21,11 +22,10 @@ const MOST_INPUT: usize = 256;
 /// Reads a game and writes a proof of its position's value, from a search that may enter `nodes` positions.
 pub(crate) fn prove<S: Source, O: Sink>(nodes: u32, source: &mut S, out: &mut O) -> Ending
     requires nodes { nodes ≤ 10000000 }
-    ensures outcome { Proves nodes
+    ensures outcome { Outcome (Some (forms.Prove nodes))
         (record { input = S.left source.old; left = S.left source.new; old = O.written out.old; new = O.written out.new }) result }
     ensures read_fault { result ≡ endings.Read → Rose (S.faults source.old) (S.faults source.new) }
     ensures write_fault { result ≡ endings.Write → Rose (O.faults out.old) (O.faults out.new) }
-    ensures taken { TakesAtMost 256 (S.left source.old) (S.left source.new) }
 {
     let mut buffer = [0; MOST_INPUT];
     let Ok(length) = read_all(source, &mut buffer) else {

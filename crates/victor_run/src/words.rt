@@ -5,10 +5,10 @@ ghost use Rattle.victor_run.specs.Words.{form_of};
 
 use cert_format::number_between;
 
-/// A command with its options.
+/// What the arguments ask for: a command with its options. The clauses of [`crate::run`] speak of a run by it.
 #[derive(Clone, Copy, Debug, PartialEq, Eq)]
-pub(crate) enum Form {
-    /// Prove the value of a game's position, entering at most so many positions.
+pub enum Form {
+    /// Prove the value of a game's position, entering at most so many positions, from 1 to 10,000,000.
     Prove(u32),
     /// Check a proof.
     Check,

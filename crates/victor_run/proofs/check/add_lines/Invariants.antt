@@ -1,16 +1,15 @@
 use Rattle.std.proofs.Common.{◌≡◌, ◌-◌, ◌≤◌, length}
 use Rattle.proof_text.specs.Texts.{first_number}
-use Rattle.io_ports.specs.Lines.{PassesLines}
 use Rattle.victor_run.specs.Check.{most_lines_read}
-use Rattle.victor_run.specs.CheckSteps.{lines_from, pending, GoesOn}
+use Rattle.victor_run.specs.CheckSteps.{lines_from, pending, Reads, PassesLines}
 use Rattle.victor_run.proofs.check.add_lines.Given as goal
 
--- the answer to all lines is that to those that are left
+-- the answer to all lines is that to those that are left; before the first nothing was read
 abbrev pub invariant-loop-at : goal.invariant-loop-at
 invariant-loop-at g l = record {
-  goes : GoesOn (pending l.fn.lines (g.S.Source.left l.fn.source)) (pending l.lines (g.S.Source.left l.source)) (lines_from l.fn.checker first_number) (lines_from l.checker l.at);
+  goes : Reads (pending l.fn.lines (g.S.Source.left l.fn.source)) (pending l.lines (g.S.Source.left l.source))
+      (λ bytes rest. PassesLines (l.at - 4) bytes rest × (lines_from l.fn.checker first_number bytes ≡ lines_from l.checker l.at rest));
   cols : length l.checker.root.columns ≡ l.size.cols;
-  passes : PassesLines (l.at - 4) (pending l.fn.lines (g.S.Source.left l.fn.source)) (pending l.lines (g.S.Source.left l.source));
   from : 4 ≤ l.at;
   later : g.S.Source.faults l.fn.source ≤ g.S.Source.faults l.source;
   few : l.at ≤ most_lines_read;

@@ -2,7 +2,7 @@ use Rattle.std.proofs.Common.{List, ℕ, sym, ap, ◌∙◌, subst}
 use Rattle.std.proofs.lemmas.Result.{err_from_is_err_and}
 use Rattle.io_ports.specs.Lines.{Gives}
 use Rattle.io_ports.specs.declared.line_reader.LineGot.TheVariants.{Line}
-use Rattle.victor_run.specs.CheckSteps.{pending}
+use Rattle.victor_run.specs.CheckSteps.{pending, Reads}
 use Rattle.victor_run.proofs.CheckKnown.{line_known, line_stops, long_stops, none_known, with_bytes_root}
 use Rattle.victor_run.proofs.check.add_next.Goals as goal
 
@@ -10,7 +10,7 @@ pub returns-in_err-add_line-in-Line-clause-answer : goal.returns-in_err-add_line
 returns-in_err-add_line-in-Line-clause-answer g c =
     let a = pending c.args.lines.now (g.S.Source.left c.args.source.now) in
     let b = pending c.next.new.self (g.S.Source.left c.next.new.source) in
-    let P : List ℕ → Type 0 = λ text. Gives a b Line text c.next.new.self.fed in
+    let P : List ℕ → Type 0 = λ text. Reads a b (λ bytes rest. Gives bytes rest Line text c.next.new.self.fed) in
     let stop = err_from_is_err_and c.from_residual.result c.from_residual.ensures.1 in
     rw (stop.1, stop.2) (
     line_stops a b c.text.result.now c.next.new.self.fed c.args.checker.now c.args.at (subst P (sym c.text.ensures) c.in-Line.ensures.gives)
@@ -21,7 +21,7 @@ pub returns-in_ok-add_line-in-Line-clause-answer : goal.returns-in_ok-add_line-i
 returns-in_ok-add_line-in-Line-clause-answer g c =
     let a = pending c.args.lines.now (g.S.Source.left c.args.source.now) in
     let b = pending c.next.new.self (g.S.Source.left c.next.new.source) in
-    let P : List ℕ → Type 0 = λ text. Gives a b Line text c.next.new.self.fed in
+    let P : List ℕ → Type 0 = λ text. Reads a b (λ bytes rest. Gives bytes rest Line text c.next.new.self.fed) in
     let added = c.in_ok-add_line-in-Line.ensures.answer in
     line_known a b c.text.result.now c.next.new.self.fed c.args.checker.now c.args.at (subst P (sym c.text.ensures) c.in-Line.ensures.gives) added.0 c.add_line.new.checker added.1
 

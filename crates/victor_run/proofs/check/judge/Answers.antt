@@ -1,60 +1,79 @@
-use Rattle.std.proofs.Common.{Option, List, ◌≡◌, ℕ, arith, ap, ◌∙◌, subst}
-use Rattle.std.proofs.KnownBytes.{prepend_known-nil}
+use Rattle.std.proofs.Common.{◌≡◌, List, ℕ, length, sym, ap, ◌∙◌, subst, arith}
 use Rattle.std.proofs.lemmas.Result.{err_from_is_err_and}
-use Rattle.proof_text.specs.Texts.{check_of}
-use Rattle.victor_run.specs.Check.{most_lines_read}
-use Rattle.victor_run.specs.CheckSteps.{game_from, pending, GoesOn, lines_read_until}
-use Rattle.victor_run.proofs.CheckKnown.{all_known, right_input}
-use Rattle.victor_run.proofs.Passing.{takes_game, takes_lines}
+use Rattle.proof_text.specs.Texts.{check_of, verdict_answer, Accepted, Refused}
+use Rattle.proof_text.specs.declared.Why.TheVariants.{EndedEarly}
+use Rattle.victor_run.specs.InputState.{InputState}
+use Rattle.victor_run.specs.CheckSteps.{Pending, pending, Reads, PassesLines, StopsBy, game_from, lines_read_until}
+use Rattle.victor_run.specs.declared.check.Stop.TheVariants as stops
+use Rattle.victor_run.proofs.Judging.{game_known, game_stops, lines_stop, lines_known, judged_stop, judged_right}
 use Rattle.victor_run.proofs.check.judge.Goals as goal
 
-pub returns-in-Ok-clause-answer : goal.returns-in-Ok-clause-answer
-returns-in-Ok-clause-answer g c =
+pub returns-in_err-read_head : goal.returns-in_err-read_head
+returns-in_err-read_head g c =
     let left = g.S.Source.left c.args.source.now in
-    let b = pending c.read_head.new.lines (g.S.Source.left c.read_head.new.source) in
-    let P : Option (List ℕ) → Type 0 = λ a. GoesOn a b check_of game_from in
-    let head : P left = subst P (ap (λ lines. pending lines left) c.new-lines.ensures ∙ prepend_known-nil left) c.in_ok-read_head.ensures.answer in
-    right_input left _ c.in-Ok.accepted.verdict c.in-Ok.accepted.lemmas
-    (all_known left b _ c.add_lines.new.lines.ahead (g.S.Source.left c.add_lines.new.source) c.in_ok-root.root c.new-checker.result c.add_lines.new.checker c.in_ok-end.end
-    c.in-Ok.accepted.verdict c.in-Ok.accepted.lemmas head c.in_ok-root.ensures.answer c.new-checker.ensures c.in_ok-end.ensures.answer c.in-Ok.ensures.0 c.in-Ok.ensures.1)
+    let last = pending c.read_head.new.lines (g.S.Source.left c.read_head.new.source) in
+    let same = err_from_is_err_and c.from_residual.result c.from_residual.ensures.1 in
+    let stop = c.in_err-read_head.field-0.0 in
+    let P : InputState → Type 0 = λ lines. Reads (pending lines left) last (λ bytes rest. PassesLines 1 bytes rest × StopsBy (check_of bytes) (g.S.Source.faults c.args.source.now) (g.S.Source.faults c.read_head.new.source) stop) in
+    rw (same.1, same.2) (judged_stop left last 1 _ _ stop (subst P c.new-lines.ensures c.in_err-read_head.ensures.answer) c.in_err-read_head.ensures.held c.in_err-read_head.ensures.stops (omega arith))
 
--- how many lines were read
-pub returns-in_err-root-clause-lines : goal.returns-in_err-root-clause-lines
-returns-in_err-root-clause-lines g c =
-    takes_game most_lines_read _ c.read_root.new.lines _ _ _ c.new-lines.ensures c.read_root.ensures.held c.read_head.ensures.passes c.read_root.ensures.passes (omega arith)
-
-pub returns-in_err-root-clause-stops : goal.returns-in_err-root-clause-stops
-returns-in_err-root-clause-stops g c =
+pub returns-in_err-root : goal.returns-in_err-root
+returns-in_err-root g c =
+    let left = g.S.Source.left c.args.source.now in
+    let mid = pending c.read_head.new.lines (g.S.Source.left c.read_head.new.source) in
+    let last = pending c.read_root.new.lines (g.S.Source.left c.read_root.new.source) in
     let same = err_from_is_err_and c.from_residual-in_err-root.result c.from_residual-in_err-root.ensures.1 in
-    rw (same.1, same.2) (takes_game (lines_read_until c.in_err-root.field-0.0) _ c.read_root.new.lines _ _ _ c.new-lines.ensures c.read_root.ensures.held c.read_head.ensures.passes c.read_root.ensures.passes c.in_err-root.ensures.stops)
+    let stop = c.in_err-root.field-0.0 in
+    let P : InputState → Type 0 = λ lines. Reads (pending lines left) mid (λ bytes rest. PassesLines 1 bytes rest × (check_of bytes ≡ game_from rest)) in
+    rw (same.1, same.2) (judged_stop left last 3 _ _ stop (game_stops _ mid last (subst P c.new-lines.ensures c.in_ok-read_head.ensures.answer) _ _ _ stop c.in_ok-read_head.ensures.later c.in_err-root.ensures.answer)
+    c.in_err-root.ensures.held c.in_err-root.ensures.stops (omega arith))
 
-pub returns-in_err-end-clause-lines : goal.returns-in_err-end-clause-lines
-returns-in_err-end-clause-lines g c =
-    let read = c.in_err-end.ensures.read in
-    takes_lines most_lines_read _ c.add_lines.new.lines _ _ _ c.new-lines.ensures c.add_lines.ensures.held (lines_read_until c.in_err-end.field-0.0) _ c.read_head.ensures.passes c.read_root.ensures.passes
-    read.0 read.1 read.2
-
-pub returns-in_err-end-clause-stops : goal.returns-in_err-end-clause-stops
-returns-in_err-end-clause-stops g c =
+pub returns-in_err-end : goal.returns-in_err-end
+returns-in_err-end g c =
+    let left = g.S.Source.left c.args.source.now in
+    let mid = pending c.read_head.new.lines (g.S.Source.left c.read_head.new.source) in
+    let next = pending c.read_root.new.lines (g.S.Source.left c.read_root.new.source) in
+    let last = pending c.add_lines.new.lines (g.S.Source.left c.add_lines.new.source) in
     let same = err_from_is_err_and c.from_residual-in_err-end.result c.from_residual-in_err-end.ensures.1 in
-    let read = c.in_err-end.ensures.read in
-    rw (same.1, same.2) (takes_lines (lines_read_until c.in_err-end.field-0.0) _ c.add_lines.new.lines _ _ _ c.new-lines.ensures c.add_lines.ensures.held (lines_read_until c.in_err-end.field-0.0) _ c.read_head.ensures.passes c.read_root.ensures.passes
-    read.0 read.1 (omega arith))
+    let stop = c.in_err-end.field-0.0 in
+    let few = c.in_err-end.ensures.few in
+    let P : InputState → Type 0 = λ lines. Reads (pending lines left) mid (λ bytes rest. PassesLines 1 bytes rest × (check_of bytes ≡ game_from rest)) in
+    let game = game_known _ mid next (subst P c.new-lines.ensures c.in_ok-read_head.ensures.answer) c.in_ok-root.root c.in_ok-root.ensures.answer in
+    rw (same.1, same.2) (judged_stop left last (lines_read_until stop) _ _ stop
+    (lines_stop _ next last c.in_ok-root.root c.new-checker.result c.add_lines.new.checker c.new-checker.ensures game (lines_read_until stop) _ _ _ stop
+    (omega (arith, c.in_ok-read_head.ensures.later, c.in_ok-root.ensures.later)) few.0 c.in_err-end.ensures.answer) c.in_err-end.ensures.held (omega arith) few.1)
 
-pub returns-in-Ok-clause-lines : goal.returns-in-Ok-clause-lines
-returns-in-Ok-clause-lines g c =
+pub returns-in-Ok : goal.returns-in-Ok
+returns-in-Ok g c =
+    let left = g.S.Source.left c.args.source.now in
+    let mid = pending c.read_head.new.lines (g.S.Source.left c.read_head.new.source) in
+    let next = pending c.read_root.new.lines (g.S.Source.left c.read_root.new.source) in
+    let last = pending c.add_lines.new.lines (g.S.Source.left c.add_lines.new.source) in
+    let P : InputState → Type 0 = λ lines. Reads (pending lines left) mid (λ bytes rest. PassesLines 1 bytes rest × (check_of bytes ≡ game_from rest)) in
+    let game = game_known _ mid next (subst P c.new-lines.ensures c.in_ok-read_head.ensures.answer) c.in_ok-root.root c.in_ok-root.ensures.answer in
+    let end = c.in_ok-end.end in
     let few = c.in_ok-end.ensures.few in
-    takes_lines most_lines_read _ c.add_lines.new.lines _ _ _ c.new-lines.ensures c.add_lines.ensures.held c.in_ok-end.end _ c.read_head.ensures.passes c.read_root.ensures.passes
-    c.in_ok-end.ensures.read (omega (arith, few.0)) few.1
+    let t = c.add_lines.new.checker in
+    let v = c.in-Ok.accepted.verdict in
+    let answer = ap (verdict_answer end (length t.known)) c.in-Ok.ensures.0 ∙ ap (Accepted v) (sym c.in-Ok.ensures.1) in
+    judged_right left last end _ _ c.in-Ok.accepted
+    (lines_known _ next last c.in_ok-root.root c.new-checker.result t c.new-checker.ensures game end (omega (arith, few.0)) c.in_ok-end.ensures.answer (Accepted v c.in-Ok.accepted.lemmas) answer)
+    c.in_ok-end.ensures.ended c.in_ok-end.ensures.held few.1
 
-pub returns-clause-lines : goal.returns-clause-lines
-returns-clause-lines g c =
+pub returns : goal.returns
+returns g c =
+    let left = g.S.Source.left c.args.source.now in
+    let mid = pending c.read_head.new.lines (g.S.Source.left c.read_head.new.source) in
+    let next = pending c.read_root.new.lines (g.S.Source.left c.read_root.new.source) in
+    let last = pending c.add_lines.new.lines (g.S.Source.left c.add_lines.new.source) in
+    let P : InputState → Type 0 = λ lines. Reads (pending lines left) mid (λ bytes rest. PassesLines 1 bytes rest × (check_of bytes ≡ game_from rest)) in
+    let game = game_known _ mid next (subst P c.new-lines.ensures c.in_ok-read_head.ensures.answer) c.in_ok-root.root c.in_ok-root.ensures.answer in
+    let end = c.in_ok-end.end in
     let few = c.in_ok-end.ensures.few in
-    takes_lines most_lines_read _ c.add_lines.new.lines _ _ _ c.new-lines.ensures c.add_lines.ensures.held c.in_ok-end.end _ c.read_head.ensures.passes c.read_root.ensures.passes
-    c.in_ok-end.ensures.read (omega (arith, few.0)) few.1
-
-pub returns-clause-stops : goal.returns-clause-stops
-returns-clause-stops g c =
-    let here : c.in-Err.refusal.at ≡ c.in_ok-end.end = ap (λ r. r.at) c.in-Err.ensures.1 in
-    takes_lines c.in-Err.refusal.at _ c.add_lines.new.lines _ _ _ c.new-lines.ensures c.add_lines.ensures.held c.in_ok-end.end _ c.read_head.ensures.passes c.read_root.ensures.passes
-    c.in_ok-end.ensures.read (omega (arith, c.in_ok-end.ensures.few.0)) (omega (arith, here))
+    let t = c.add_lines.new.checker in
+    let refusal = c.in-Err.refusal in
+    let here : refusal.at ≡ end = ap (λ r. r.at) c.in-Err.ensures.1 in
+    let answer = ap (verdict_answer end (length t.known)) c.in-Err.ensures.0 ∙ ap (λ r. Refused r.at r.why) (sym c.in-Err.ensures.1) in
+    judged_stop left last end _ _ (stops.Refused refusal)
+    (lines_known _ next last c.in_ok-root.root c.new-checker.result t c.new-checker.ensures game end (omega (arith, few.0)) c.in_ok-end.ensures.answer (Refused refusal.at refusal.why) answer)
+    c.in_ok-end.ensures.held (omega (arith, here)) few.1

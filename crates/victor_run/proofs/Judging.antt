@@ -1,0 +1,142 @@
+-- All that was read of a proof: from the first step on, what was taken, and how `check` answers it.
+use Rattle.std.proofs.Common.{◌≡◌, ℕ, ◌+◌, ◌-◌, ◌^◌, ◌≤◌, min, Bool, true, false, List, [], ◌++◌, length, Option, Some, None, Result, Ok, Err, IfSome, refl, sym, ap, ◌∙◌, subst, arith}
+use Rattle.std.specs.Io.KnownBytes.{Consumes, IsAtEnd, Keeps, Appends}
+use Rattle.std.proofs.lemmas.List.{append-nil}
+use Rattle.device_rules.specs.Devices.{Rose, AppendsPrefix}
+use Rattle.io_ports.specs.Lines.{behind_lines, most_held}
+use Rattle.game_rules.specs.Position.{Position}
+use Rattle.proof_text.specs.Checked.{CheckerState}
+use Rattle.proof_text.specs.Texts as answers
+use Rattle.proof_text.specs.Texts.{first_number, start, check_of, CheckAnswer, verdict_answer}
+use Rattle.cert_checker.specs.declared.stops.Accepted.{Accepted}
+use Rattle.victor_run.specs.Streams.{Streams}
+use Rattle.victor_run.specs.Check.{TakesLines, accepted_line, most_lines_read}
+use Rattle.victor_run.specs.Outcome.{Outcome}
+use Rattle.victor_run.specs.declared.words.Form.TheVariants.{Check}
+use Rattle.victor_run.specs.declared.ending.Ending.TheVariants as endings
+use Rattle.victor_run.specs.CheckSteps.{Pending, Reads, PassesLines, StopsBy, Judges, game_from, lines_from, lines_read_until, ending_of}
+use Rattle.victor_run.specs.declared.check.Stop.{Stop}
+use Rattle.victor_run.specs.declared.check.Stop.TheVariants as stops
+use Rattle.victor_run.proofs.CheckKnown.{right_input}
+use Rattle.victor_run.proofs.Passing.{takes_bytes}
+use Rattle.victor_run.proofs.Reading.{Reads_more, Reads_then, passes_then, passes_most}
+
+-- nothing was read yet
+abbrev pub fresh : Option (List ℕ) → Pending
+fresh left = record { ended = false; ahead = []; left = left }
+
+-- a fault of a later step is one of all steps
+pub stops_earlier : (answer other : CheckAnswer) (a b c : ℕ) (stop : Stop) → other ≡ answer → a ≤ b → StopsBy answer b c stop → StopsBy other a c stop
+stops_earlier answer other a b c (stops.Input fault) same later h = same ∙ h
+stops_earlier answer other a b c (stops.Refused r) same later h = same ∙ h
+stops_earlier answer other a b c stops.Read same later h = omega (arith, later, h)
+stops_earlier answer other a b c stops.Memory same later h = tt
+
+module _ (old : Option (List ℕ)) (last : Pending) (n most : ℕ) (Holds : List ℕ → Type 0)
+    (reads : Reads (fresh old) last (λ bytes rest. PassesLines n bytes rest × Holds bytes)) where
+  pub of_taken : Holds reads.taken
+  of_taken = subst Holds (append-nil reads.taken) (reads.fact [] (λ _. refl)).1
+
+  pub of_input : IfSome old Holds
+  of_input = by old last.left reads.gave (reads.last (λ never. absurd (cc never))) reads.fact
+    where
+      by : (old left : Option (List ℕ)) → Consumes old left reads.taken → (last.ended ≡ true → IsAtEnd left)
+          → ((later : List ℕ) → (last.ended ≡ true → later ≡ []) → PassesLines n (reads.taken ++ later) (last.ahead ++ later) × Holds (reads.taken ++ later)) → IfSome old Holds
+      by None left gave ended fact = tt
+      by (Some bytes) None gave ended fact = absurd gave
+      by (Some bytes) (Some rest) gave ended fact = subst Holds (sym gave) (fact rest ended).1
+
+  pub of_lines : length last.ahead ≤ most_held → n ≤ most → TakesLines most reads.taken
+  of_lines held few =
+      let passed = (reads.fact [] (λ _. refl)).0 in
+      let behind : behind_lines passed.0 reads.taken ≡ last.ahead = ap (behind_lines passed.0) (sym (append-nil reads.taken)) ∙ sym passed.2 ∙ append-nil last.ahead in
+      (passed.0, omega (arith, passed.1, few), omega (arith, ap length behind, held))
+
+-- the head and the game
+module _ (a b c : Pending) (head : Reads a b (λ bytes rest. PassesLines 1 bytes rest × (check_of bytes ≡ game_from rest))) where
+  pub game_known : (root : Position) → Reads b c (λ bytes rest. PassesLines 2 bytes rest × (game_from bytes ≡ lines_from (start root) first_number rest))
+      → Reads a c (λ bytes rest. PassesLines 3 bytes rest × (check_of bytes ≡ lines_from (start root) first_number rest))
+  game_known root game = Reads_then a b c _ _ _ head game (λ bytes mid rest p q. (passes_then 1 2 bytes mid rest p.0 q.0, p.1 ∙ q.1))
+
+  pub game_stops : (before mid after : ℕ) (stop : Stop) → before ≤ mid → Reads b c (λ bytes rest. PassesLines 2 bytes rest × StopsBy (game_from bytes) mid after stop)
+      → Reads a c (λ bytes rest. PassesLines 3 bytes rest × StopsBy (check_of bytes) before after stop)
+  game_stops before mid after stop later game =
+      Reads_then a b c _ _ _ head game (λ bytes m rest p q. (passes_then 1 2 bytes m rest p.0 q.0, stops_earlier _ _ before mid after stop p.1 later q.1))
+
+-- and the lines behind them
+module _ (a b c : Pending) (root : Position) (s t : CheckerState) (began : s ≡ start root)
+    (game : Reads a b (λ bytes rest. PassesLines 3 bytes rest × (check_of bytes ≡ lines_from (start root) first_number rest))) where
+  pub lines_stop : (n before mid after : ℕ) (stop : Stop) → before ≤ mid → 3 ≤ n
+      → Reads b c (λ bytes rest. PassesLines (n - 3) bytes rest × StopsBy (lines_from s first_number bytes) mid after stop)
+      → Reads a c (λ bytes rest. PassesLines n bytes rest × StopsBy (check_of bytes) before after stop)
+  lines_stop n before mid after stop later from lines =
+      Reads_then a b c _ _ _ game lines (λ bytes m rest p q. (
+        passes_most (3 + (n - 3)) n bytes rest (omega (arith, from)) (passes_then 3 (n - 3) bytes m rest p.0 q.0),
+        stops_earlier _ _ before mid after stop (p.1 ∙ ap (λ s. lines_from s first_number m) (sym began)) later q.1))
+
+  pub lines_known : (end : ℕ) → 3 ≤ end → Reads b c (λ bytes rest. PassesLines (end - 3) bytes rest × (lines_from s first_number bytes ≡ verdict_answer end (length t.known) t.verdict))
+      → (answer : CheckAnswer) → verdict_answer end (length t.known) t.verdict ≡ answer → Reads a c (λ bytes rest. PassesLines end bytes rest × (check_of bytes ≡ answer))
+  lines_known end from lines answer is =
+      Reads_then a b c _ _ _ game lines (λ bytes m rest p q. (
+        passes_most (3 + (end - 3)) end bytes rest (omega (arith, from)) (passes_then 3 (end - 3) bytes m rest p.0 q.0),
+        p.1 ∙ ap (λ s. lines_from s first_number m) (sym began) ∙ q.1 ∙ is))
+
+-- ---- how it was judged
+
+pub judged_stop : (old : Option (List ℕ)) (last : Pending) (n before after : ℕ) (stop : Stop) → Reads (fresh old) last (λ bytes rest. PassesLines n bytes rest × StopsBy (check_of bytes) before after stop)
+    → length last.ahead ≤ most_held → n ≤ lines_read_until stop → n ≤ most_lines_read → Judges old last.left before after (Err stop)
+judged_stop old last n before after stop reads held few all =
+    let Stopped : List ℕ → Type 0 = λ bytes. StopsBy (check_of bytes) before after stop in
+    record {
+      taken = reads.taken;
+      gave = reads.gave;
+      answer = (of_taken old last n most_lines_read Stopped reads, of_input old last n most_lines_read Stopped reads, of_lines old last n (lines_read_until stop) Stopped reads held few);
+      lines = of_lines old last n most_lines_read Stopped reads held all;
+    }
+
+pub judged_right : (old : Option (List ℕ)) (last : Pending) (n before after : ℕ) (accepted : Accepted) → Reads (fresh old) last (λ bytes rest. PassesLines n bytes rest × (check_of bytes ≡ answers.Accepted accepted.verdict accepted.lemmas))
+    → last.ended ≡ true → length last.ahead ≤ most_held → n ≤ most_lines_read → Judges old last.left before after (Ok accepted)
+judged_right old last n before after accepted reads ended held all =
+    let Right : List ℕ → Type 0 = λ bytes. check_of bytes ≡ answers.Accepted accepted.verdict accepted.lemmas in
+    record {
+      taken = reads.taken;
+      gave = reads.gave;
+      answer = right_input reads.taken last.left accepted.verdict accepted.lemmas (of_taken old last n most_lines_read Right reads) (reads.last (λ never. absurd (cc never)) ended);
+      lines = of_lines old last n most_lines_read Right reads held all;
+    }
+
+-- ---- what `check` promises then
+
+module _ (s : Streams) (before after : ℕ) where
+  pub checks_done : (accepted : Accepted) → Judges s.input s.left before after (Ok accepted) → Appends s.old s.new (accepted_line accepted.verdict accepted.lemmas) → Outcome (Some Check) s endings.Done
+  checks_done accepted judged put = record {
+    taken = judged.taken;
+    gave = judged.gave;
+    few = takes_bytes most_lines_read judged.taken judged.lines;
+    holds = ((accepted.verdict, accepted.lemmas, judged.answer, put), judged.lines);
+  }
+
+  pub checks_cut : (accepted : Accepted) → Judges s.input s.left before after (Ok accepted) → AppendsPrefix false s.old s.new (accepted_line accepted.verdict accepted.lemmas)
+      → Outcome (Some Check) s endings.Write
+  checks_cut accepted judged put = record {
+    taken = judged.taken;
+    gave = judged.gave;
+    few = takes_bytes most_lines_read judged.taken judged.lines;
+    holds = ((accepted.verdict, accepted.lemmas, judged.answer, put), judged.lines);
+  }
+
+  pub checks_stop : (stop : Stop) → Judges s.input s.left before after (Err stop) → Keeps s.old s.new → Outcome (Some Check) s (ending_of stop)
+  checks_stop (stops.Input fault) judged kept = record {
+    taken = judged.taken;
+    gave = judged.gave;
+    few = takes_bytes most_lines_read judged.taken judged.lines;
+    holds = (((judged.answer.0, judged.answer.1), kept, judged.answer.2), judged.lines);
+  }
+  checks_stop (stops.Refused r) judged kept = record {
+    taken = judged.taken;
+    gave = judged.gave;
+    few = takes_bytes most_lines_read judged.taken judged.lines;
+    holds = (((judged.answer.0, judged.answer.1), kept, judged.answer.2), judged.lines);
+  }
+  checks_stop stops.Read judged kept = record { taken = judged.taken; gave = judged.gave; few = takes_bytes most_lines_read judged.taken judged.lines; holds = (kept, judged.lines) }
+  checks_stop stops.Memory judged kept = record { taken = judged.taken; gave = judged.gave; few = takes_bytes most_lines_read judged.taken judged.lines; holds = (kept, judged.lines) }

@@ -1,0 +1,16 @@
+-- What the source has left and what the sink held, before and after a run, and the bytes that a run took.
+use Rattle.std.specs.Prelude.{ℕ, ◌≤◌, List, Option, length}
+use Rattle.std.specs.Io.KnownBytes.{Consumes}
+
+pub record Streams : Type 0 where
+  pub input : Option (List ℕ)
+  pub left : Option (List ℕ)
+  pub old : Option (List ℕ)
+  pub new : Option (List ℕ)
+
+-- There are bytes that the source gave, at most so many, of which this holds. A source that tells its bytes determines them.
+pub record Took (s : Streams) (most : ℕ) (Holds : List ℕ → Type 0) : Type 0 where
+  pub taken : List ℕ
+  pub gave : Consumes s.input s.left taken
+  pub few : length taken ≤ most
+  pub holds : Holds taken
