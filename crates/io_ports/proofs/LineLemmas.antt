@@ -8,7 +8,6 @@ use Rattle.std.specs.Io.KnownBytes.{IsAtEnd}
 use Rattle.bstr.specs.Find.{IsFirstByte, is_byte}
 use Rattle.io_ports.proofs.FirstByte.{first_none, first_found}
 use Rattle.io_ports.specs.Lines.{Cut, line_len, next_line, IsCut, EachTextIsCut, Gives, Takes, Moves, is_end}
-use Rattle.io_ports.specs.declared.line_reader.LineGot.{LineGot}
 use Rattle.io_ports.specs.declared.line_reader.LineGot.TheVariants.{Line, Long, Done, Failed}
 
 fails : (b : Bool) → (b ≡ true → ⊥) → b ≡ false

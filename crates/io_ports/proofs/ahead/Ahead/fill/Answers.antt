@@ -1,4 +1,4 @@
-use Rattle.std.proofs.Common.{◌≡◌, ◌+◌, ◌-◌, ◌++◌, ap, ◌∙◌, length, take, slice_range, arith}
+use Rattle.std.proofs.Common.{◌-◌, ◌++◌, ap, ◌∙◌, take, arith}
 use Rattle.io_ports.proofs.Windows.{grown, unmoved, Moves-none, OnErr-from}
 use Rattle.io_ports.proofs.ahead.Ahead.fill.Goals as goal
 

@@ -1,4 +1,4 @@
-use Rattle.std.proofs.Common.{◌≡◌, ◌+◌, ℕ, List, min, ltb, ap, ◌∙◌, subst, length, arith}
+use Rattle.std.proofs.Common.{◌+◌, ℕ, List, min, ltb, ap, ◌∙◌, subst, length, arith}
 use Rattle.std.proofs.lemmas.List.{length-take, nil_from_length}
 use Rattle.io_ports.specs.Lines.{Moves}
 use Rattle.io_ports.proofs.LineLemmas.{Takes-long, Takes-line, Takes-done, Takes-failed, no_feed, line_len-le}

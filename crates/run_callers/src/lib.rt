@@ -1,0 +1,81 @@
+//! What callers may rest on: small functions over [`run`], each with a contract that is proved from that of `run` alone. The
+//! first reads from a source that may tell nothing of its bytes, as a terminal does, and says what then stands in a sink in
+//! memory; the second names how a run ends, where it can't be for want of a budget.
+#![tactic(auto)]
+
+ghost use Rattle.std.specs.Prelude.{◌≡◌, ◌⊎◌, ℕ, ◌≤◌, List, Ok, Some, map, string_bytes};
+ghost use Rattle.device_rules.specs.Devices.{Rose};
+ghost use Rattle.game_rules.specs.Position.{Position};
+ghost use Rattle.game_rules.specs.Cost.{cost, none_closed};
+ghost use Rattle.game_rules.specs.Text.{game_at};
+ghost use Rattle.victor_run.specs.Words.{form_of};
+ghost use Rattle.victor_run.specs.Outcome.{status_of};
+ghost use Rattle.victor_run.specs.declared.words.Form.TheVariants as forms;
+ghost use Rattle.victor_run.specs.declared.ending.Ending.{Ending};
+ghost use Rattle.victor_run.specs.declared.ending.Ending.TheVariants as endings;
+ghost use Rattle.run_callers.specs.Held.{StillHolds, HoldsProof};
+
+use io_ports::{MemSink, NullSink, Sink, Source};
+use std::alloc::Global;
+use victor_run::run;
+
+/// Runs the arguments over any source into a sink in memory. Whatever the source tells, what the sink held stands there
+/// still, and where `prove` ended with 0 or 5, a right proof of some game stands behind it.
+pub fn run_into_memory<S: Source>(
+    alloc: Global,
+    words: &[String],
+    source: &mut S,
+    out: &mut MemSink,
+) -> u8
+    ensures kept { StillHolds out.old.written out.new.written }
+    ensures proved { (nodes : ℕ) → form_of (map string_bytes words.now) ≡ Some (forms.Prove nodes) → (result ≡ 0) ⊎ (result ≡ 5)
+        → HoldsProof nodes out.old.written out.new.written }
+{
+    run(alloc, words, source, out, &mut NullSink::new())
+}
+
+/// Proves a game whose cost is within the budget that the arguments give: where no stream failed, the run ends as one that
+/// did all that was asked.
+pub fn prove_within_budget<S: Source, O: Sink>(
+    alloc: Global,
+    words: &[String],
+    source: &mut S,
+    out: &mut O,
+) -> u8
+    ensures { (nodes : ℕ) (bytes : List ℕ) (p : Position) → form_of (map string_bytes words.now) ≡ Some (forms.Prove nodes)
+        → S.left source.old ≡ Some bytes → game_at bytes ≡ Ok p → cost none_closed p ≤ nodes
+        → (Rose (S.faults source.old) (S.faults source.new) → ⊥) → (Rose (O.faults out.old) (O.faults out.new) → ⊥)
+        → (ending : Ending) × (result ≡ status_of ending) × (ending ≡ endings.Done) }
+{
+    run(alloc, words, source, out, &mut NullSink::new())
+}
+
+#[cfg(test)]
+mod tests {
+    use super::*;
+    use io_ports::{MemSource, StdSource};
+    use std::test::Fail;
+
+    // Two squares are left, which fill the board without a line.
+    const GAME: &[u8] = b"board 4 4\nmoves cdccddcdaaaabb\n";
+
+    #[test]
+    fn a_sink_in_memory_keeps_what_it_held(rt: HostRuntime) -> Result<(), Fail> {
+        let words = vec![in rt.alloc(); String::from_str(rt.alloc(), "prove")?]?;
+        let mut out = MemSink::new(rt.alloc(), 1000, &[])?;
+        let mut source = StdSource::new(GAME);
+        assert_eq!(rt;
+            run_into_memory(rt.alloc(), &words, &mut source, &mut out),
+            0
+        );
+        let first = Vec::from_slice(rt.alloc(), out.bytes())?;
+        let mut source = MemSource::new(rt.alloc(), GAME, 4, &[])?;
+        assert_eq!(rt;
+            prove_within_budget(rt.alloc(), &words, &mut source, &mut out),
+            0
+        );
+        let twice = out.bytes().len() == 2 * first.len();
+        assert!(rt; twice && out.bytes().starts_with(first.as_slice()));
+        Ok(())
+    }
+}
