@@ -1,16 +1,14 @@
 -- Where a rule names no square to reply with.
-use Rattle.std.proofs.Common.{◌≡◌, ◌≢◌, ℕ, ◌+◌, ◌-◌, ◌<◌, ◌≤◌, Bool, true, false, not, ◌&&◌, ◌||◌, ◌==◌, List, ◌++◌, Option, Some, None, is_none, refl, sym, ap, ◌∙◌, subst, arith, cond}
+use Rattle.std.proofs.Common.{◌≡◌, ℕ, ◌+◌, Bool, true, false, not, ◌&&◌, ◌||◌, Option, Some, None, is_none, refl, sym, ap, ◌∙◌, subst, arith, cond}
 use Rattle.std.proofs.lemmas.List.Folds.{list_any-append}
-use Rattle.std.proofs.lemmas.Bool.{both_ways, and_parts, eqb-true, eq-eqb, ltb-true, leb-true}
-use Rattle.game_rules.specs.Board.{Square, on_board}
-use Rattle.game_rules.specs.Position.{Position, board_of, height, has_room, lowest_empty}
+use Rattle.game_rules.specs.Board.{Square}
+use Rattle.game_rules.specs.Position.{Position, height, has_room, lowest_empty}
 use Rattle.game_rules.specs.Squares.{same_square, has_square, is_empty}
-use Rattle.game_rules.proofs.Lists.{Among, Among-append_left, Among-append_right}
 use Rattle.game_rules.proofs.Squares.{same_square_is, same_square_refl}
 use Rattle.plan_rules.specs.Squares.{above, span, column_up}
 use Rattle.plan_rules.specs.Causes.{names_no_reply}
 use Rattle.plan_rules.specs.Rules.{RuleInstance, kind_of, claimeven, baseinverse, lowinverse, highinverse, baseclaim, vertical, aftereven, before, specialbefore, zone_of, high_reply, low_reply, reply_to, has_no_answer}
-use Rattle.plan_rules.proofs.Squares.{other_column, other_row, column_from}
+use Rattle.plan_rules.proofs.Squares.{other_row}
 
 -- what the rule says of each square
 abbrev IsNamed : RuleInstance → Position → Square → Type 0
