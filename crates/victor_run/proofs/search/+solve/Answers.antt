@@ -9,7 +9,7 @@ use Rattle.game_rules.proofs.Values.{value_at_end}
 use Rattle.game_rules.proofs.Costs.{count_closed, count_positive}
 use Rattle.game_rules.proofs.Moves.{empty_count_moved, cols_moved}
 use Rattle.victor_run.specs.Search.{Solves}
-use Rattle.victor_run.proofs.Moves.{side_same, moves_left_room, moves_left_none, moves_left_full, any_after, other_from_apart, decides_yes, decides_no, some_decides, none_decides, left_at, spent_at, spent_after, left_none, same_from_beq, apart_from_beq}
+use Rattle.victor_run.proofs.Moves.{side_same, end_same, moves_left_room, moves_left_none, moves_left_full, any_after, other_from_apart, decides_yes, decides_no, some_decides, none_decides, left_at, spent_at, spent_after, left_none, same_from_beq, apart_from_beq}
 use Rattle.victor_run.proofs.Proving.{ok_more, on_ok, played_more, closed_by_one, closed_by_all, path_back, so_far_start, so_far_full, so_far_more, then_stopped}
 use Rattle.victor_run.proofs.search.+solve.Goals as goal
 use Rattle.victor_run.proofs.search.+solve.Goals.{then-has_room+in_ok-found+else-found-own, else-has_room}
@@ -19,7 +19,7 @@ returns-in_default-clause-spent g t c _ = omega (arith, c.in_default.ensures, co
 
 pub returns-in-Some-ended-clause-answer : goal.returns-in-Some-ended-clause-answer
 returns-in-Some-ended-clause-answer g t c = ok_more c.put_lemma.result _ _ c.put_lemma.ensures.answer (λ answer told.
-    told ∙ c.is_win.ensures ∙ ap (same_end (win_of c.args.side)) (sym (value_at_end c.args.position.now c.in-Some-ended.end (sym c.ended.ensures ∙ c.in-Some-ended.is))))
+    told ∙ c.eq.ensures ∙ end_same c.win.result c.in-Some-ended.end ∙ ap (λ e. same_end e c.in-Some-ended.end) c.win.ensures ∙ ap (same_end (win_of c.args.side)) (sym (value_at_end c.args.position.now c.in-Some-ended.end (sym c.ended.ensures ∙ c.in-Some-ended.is))))
 
 pub returns-in-Some-ended-clause-left : goal.returns-in-Some-ended-clause-left
 returns-in-Some-ended-clause-left g t c =
