@@ -5,7 +5,7 @@ ghost use Rattle.device_rules.specs.Devices.{Rose};
 ghost use Rattle.game_rules.specs.Position.{Position as Men, played, empty_count, open_columns};
 ghost use Rattle.game_rules.specs.Value.{wins};
 ghost use Rattle.game_rules.specs.Cost.{centre_out, count, cost, none_closed};
-ghost use Rattle.proof_text.specs.Lemma.{claim_for, ByAll};
+ghost use Rattle.proof_text.specs.Lemma.{claim_for};
 ghost use Rattle.proof_text.specs.Right.{Shown, HasReason};
 ghost use Rattle.cert_format.specs.Shape.{cite_of, reason_of};
 ghost use Rattle.victor_run.specs.Search.{uncounted, Solves, Asks, cites_from, won_by};
@@ -91,7 +91,8 @@ pub(crate) fn solve<O: Sink>(
             numbers[column.index() as usize] = found.lemma;
         }
     }
-    put_lemma_by_all(position, path, side, !own, &numbers, lemmas, out)
+    let all = Reason::All(cites_from(position, &numbers));
+    put_lemma(path, side, !own, all, lemmas, out)
 }
 
 /// Puts a lemma, and answers with its number.
@@ -118,31 +119,6 @@ fn put_lemma<O: Sink>(
         Ok(lemma) => Ok(Answer { yes, lemma }),
         Err(Failed) => Err(SearchStop::WriteFault),
     }
-}
-
-/// Puts the lemma that every move leads to one that claims the same; their numbers stand at their columns.
-fn put_lemma_by_all<O: Sink>(
-    position: &Position,
-    path: &[Column],
-    side: Side,
-    yes: bool,
-    numbers: &[u32; MOST_COLS],
-    lemmas: &mut LemmaOut,
-    out: &mut O,
-) -> Result<Answer, SearchStop>
-    requires room { lemmas.old < 10000000 }
-    requires deep { length path.now ≤ 100 }
-    ensures answer { IfOk result (λ answer. answer.yes ≡ yes) }
-    ensures spent { result ≡ Err stops.Spent → ⊥ }
-    ensures few { lemmas.new + uncounted result ≤ lemmas.old + 1 }
-    ensures later { O.faults out.old ≤ O.faults out.new }
-    ensures fault { result ≡ Err stops.WriteFault → Rose (O.faults out.old) (O.faults out.new) }
-    ensures wrote { (root : Men) (known : List Shown) → played root path.now ≡ Some position.now → length known ≡ lemmas.old
-        → HasReason known position.now (claim_for side yes) (ByAll (cites_from numbers.now (open_columns position.now)))
-        → Solves root position.now side known (O.written out.old) (O.written out.new) lemmas.new result }
-{
-    let cites = cites_from(position, numbers);
-    put_lemma(path, side, yes, Reason::All(cites), lemmas, out)
 }
 
 /// The playable columns, each with the lemma whose number stands at its place.
