@@ -116,18 +116,25 @@ impl Position {
         }
     }
 
+    /// The squares with a man of the side's.
+    pub fn men(&self, side: Side) -> Mask
+        ensures { IsSetOf (has_man self.now side) result }
+    {
+        self.squares_with(Some(side))
+    }
+
     /// The squares with a man of White's.
     pub fn white(&self) -> Mask
         ensures { IsSetOf (has_man self.now sides.White) result }
     {
-        self.squares_with(Some(Side::White))
+        self.men(Side::White)
     }
 
     /// The squares with a man of Black's.
     pub fn black(&self) -> Mask
         ensures { IsSetOf (has_man self.now sides.Black) result }
     {
-        self.squares_with(Some(Side::Black))
+        self.men(Side::Black)
     }
 
     /// The squares of the board without a man.

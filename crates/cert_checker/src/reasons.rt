@@ -6,7 +6,7 @@ ghost use Rattle.proof_text.specs.Checked.{end_refusal, cites_refusal, move_refu
 ghost use Rattle.cert_format.specs.Shape.{cite_of, reason_of};
 ghost use Rattle.cert_checker.specs.Checking.{shown_of, columns_of, Finds};
 
-use crate::claims::{claim_of_end, goes_by_one, loss_of, win_of};
+use crate::claims::goes_by_one;
 use crate::known::{Known, check_cited, is_shown};
 use crate::moves::cites_all;
 use board_bits::{End, Position};
@@ -33,7 +33,7 @@ fn check_end(claim: Claim, ended: Option<End>) -> Result<(), Why>
     ensures { Finds result (end_refusal claim ended) }
 {
     let end = ended.ok_or(Why::WrongPosition)?;
-    if claim_of_end(claim, end) {
+    if claim.holds_at(end) {
         Ok(())
     } else {
         Err(Why::WrongClaim)
@@ -94,8 +94,10 @@ pub(crate) fn verdict_stands(known: &[Known], root: &Position, verdict: Verdict)
     ensures { result ≡ verdict_stands root.now (map shown_of known.now) verdict }
 {
     match verdict {
-        Verdict::Win(lemma) => is_shown(known, root, win_of(root.to_move()), lemma),
-        Verdict::Loss(lemma) => is_shown(known, root, loss_of(root.to_move()), lemma),
+        Verdict::Win(lemma) => is_shown(known, root, Claim::of(root.to_move(), true), lemma),
+        Verdict::Loss(lemma) => {
+            is_shown(known, root, Claim::of(root.to_move().other(), true), lemma)
+        }
         Verdict::Draw(white, black) => {
             is_shown(known, root, Claim::WhiteFails, white)
                 && is_shown(known, root, Claim::BlackFails, black)

@@ -7,6 +7,9 @@ use proof_text::{Claim, Verdict};
 /// The first line of each proof, which names the format.
 pub const FIRST_LINE: &[u8] = b"victor 1";
 
+/// No line has more bytes, without its line feed.
+pub(crate) const LONGEST_LINE: usize = 8192;
+
 /// No path is longer: a board has at most a hundred squares.
 pub(crate) const LONGEST_PATH: usize = 100;
 

@@ -9,7 +9,7 @@ ghost use Rattle.proof_text.specs.Reading.{words_of, number_of, is_letter, colum
 ghost use Rattle.cert_format.specs.Shape as shape;
 ghost use Rattle.cert_format.specs.Shape.{Reads};
 
-use crate::lines::{Cite, LONGEST_PATH, Lemma, Line, LineFault, MOST_CITES, Reason};
+use crate::lines::{Cite, LONGEST_LINE, LONGEST_PATH, Lemma, Line, LineFault, MOST_CITES, Reason};
 use crate::number::number_between;
 use arrayvec::ArrayVec;
 use board_bits::{Column, Size};
@@ -20,7 +20,7 @@ use proof_text::{Claim, Verdict};
 const GREATEST_NUMBER: u32 = 10_000_000;
 
 /// What the bytes say as a line of a proof on a board of this size, without their line feed. `LineFault` comes exactly
-/// where they are no line: where no lemma, remark or verdict is spelled so.
+/// where they are no line: where no lemma, remark or verdict is spelled so, or they are more than 8,192 bytes.
 pub fn read_line(bytes: &[u8], size: Size) -> Result<Line, LineFault>
     ensures { Reads result (read_line size.cols bytes.now) }
 {
@@ -34,12 +34,14 @@ pub fn read_line(bytes: &[u8], size: Size) -> Result<Line, LineFault>
     Ok(Line::Lemma(lemma_of(bytes, size).ok_or(LineFault)?))
 }
 
-/// Whether the bytes are `#` and printable bytes behind it.
+/// Whether the bytes are `#` and printable bytes behind it, and no more than a line may have.
 fn is_remark(bytes: &[u8]) -> bool
     ensures { result ≡ is_remark bytes.now }
 {
     match bytes {
-        [first, text @ ..] => *first == b'#' && are_printable(text),
+        [first, text @ ..] => {
+            *first == b'#' && are_printable(text) && bytes.len() <= LONGEST_LINE
+        }
         [] => false,
     }
 }

@@ -89,7 +89,7 @@ impl Rule for Claimeven {
 
     ghost reply = { λ x. reply_to (claimeven x) };
 
-    ghost barred = { λ x. barred (claimeven x) };
+    ghost bars = { λ x. barred (claimeven x) };
 
     ghost supported = { λ x. is_supported (claimeven x) };
 
@@ -117,6 +117,7 @@ impl Rule for Claimeven {
         p.is_empty(self.lower()) && p.is_empty(self.upper_square())
     }
 
+    #[tactic(auto, using(plan_rules::proofs::Replies::claimeven_missing))]
     fn reply(&self, _now: &Position, last: Square) -> Option<Square> {
         if last == self.lower() {
             Some(self.upper_square())

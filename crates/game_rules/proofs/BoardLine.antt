@@ -252,7 +252,7 @@ board_gives bytes x h =
 
 -- ---- what is spelled so is read
 
-size_of : (spelled : List ℕ → Option ℕ) (run rest : List ℕ) (n : ℕ) → spelled run ≡ Some n → prefix_len is_digit run ≡ length run → prefix_len is_digit rest ≡ 0
+pub size_of : (spelled : List ℕ → Option ℕ) (run rest : List ℕ) (n : ℕ) → spelled run ≡ Some n → prefix_len is_digit run ≡ length run → prefix_len is_digit rest ≡ 0
     → size_at spelled (run ++ rest) ≡ Ok (n, rest)
 size_of spelled run rest n h digits other =
     let size : prefix_len is_digit (run ++ rest) ≡ length run = prefix_len-append is_digit run rest ∙ at (prefix_len is_digit run == length run) (eq-eqb _ _ digits) in
@@ -265,7 +265,7 @@ size_of spelled run rest n h digits other =
     at b e = rw (e, other) (omega arith)
 
 -- the digits of a number of columns or rows
-cols_spelled : (n : ℕ) → is_cols n ≡ true → (cols_of (decimal n) ≡ Some n) × (prefix_len is_digit (decimal n) ≡ length (decimal n))
+pub cols_spelled : (n : ℕ) → is_cols n ≡ true → (cols_of (decimal n) ≡ Some n) × (prefix_len is_digit (decimal n) ≡ length (decimal n))
 cols_spelled n h =
     let both = and_parts (nat_le 4 n) (nat_le n 10) h in
     elim (cases_lt n 10) [
@@ -279,7 +279,7 @@ cols_spelled n h =
           rw (same, decimal_ten) (refl, refl)
     ]
 
-rows_spelled : (n : ℕ) → is_rows n ≡ true → (rows_of (decimal n) ≡ Some n) × (prefix_len is_digit (decimal n) ≡ length (decimal n))
+pub rows_spelled : (n : ℕ) → is_rows n ≡ true → (rows_of (decimal n) ≡ Some n) × (prefix_len is_digit (decimal n) ≡ length (decimal n))
 rows_spelled n h = elim (or_cases (n == 4 || n == 6 || n == 8) (n == 10) h) [
   | inr ten ↦ rw (eqb-true n 10 ten, decimal_ten) (refl, refl)
   | inl less ↦ elim (or_cases (n == 4 || n == 6) (n == 8) less) [

@@ -19,39 +19,41 @@ at_end_gives : (p q : Position) (bytes : List ℕ) → at_end p bytes ≡ Ok q �
 at_end_gives p q [] h = (cc, refl)
 at_end_gives p q (byte ∷ bytes) h = cc
 
+-- the bytes are letters of moves that are legal one after the other, up to q, and then a line feed or none
+abbrev AreLetters : List ℕ → Position → Position → Type 0
+AreLetters bytes p q = (columns : List ℕ) × (ended : Bool) × (played p columns ≡ Some q) × (bytes ≡ map letter_of columns ++ last_feed ended)
+
+-- a letter and more of them
+one_letter : (byte : ℕ) (bytes : List ℕ) (p q : Position) → (letter_read p byte (length (byte ∷ bytes)) >>= λ next. letters_from next bytes) ≡ Ok q
+    → ((next : Position) → letters_from next bytes ≡ Ok q → AreLetters bytes next q)
+    → (column : ℕ) × (columns : List ℕ) × (ended : Bool) × (played p (column ∷ columns) ≡ Some q) × (byte ∷ bytes ≡ map letter_of (column ∷ columns) ++ last_feed ended)
+one_letter byte bytes p q h later =
+    let read = bind_ok (letter_read p byte (length (byte ∷ bytes))) (λ next. letters_from next bytes) q h in
+    let letter = letter_moves p read.0 byte (length (byte ∷ bytes)) read.1 in
+    let rest = later read.0 read.2 in
+    (letter.0, rest.0, rest.1, one_more letter.0 rest.0 letter.2 (subst (λ next. played next rest.0 ≡ Some q) letter.3 rest.2), ap (λ b. b ∷ bytes) letter.1 ∙ ap (λ more. letter_of letter.0 ∷ more) rest.3)
+  where
+    one_more : (column : ℕ) (columns : List ℕ) → is_legal p column ≡ true → played (after_move p column) columns ≡ Some q → played p (column ∷ columns) ≡ Some q
+    one_more column columns legal h = rw legal h
+
 -- letters that were read are legal moves
-letters_give : (bytes : List ℕ) (p q : Position) → letters_from p bytes ≡ Ok q
-    → (columns : List ℕ) × (ended : Bool) × (played p columns ≡ Some q) × (bytes ≡ map letter_of columns ++ last_feed ended)
+letters_give : (bytes : List ℕ) (p q : Position) → letters_from p bytes ≡ Ok q → AreLetters bytes p q
 letters_give [] p q h = ([], false, cc, refl)
 letters_give (byte ∷ bytes) p q h = elim (chosen (byte == 10) (at_end p bytes) _ (Ok q) h) [
   | inl feed ↦
       let rest = at_end_gives p q bytes feed.1 in
       ([], true, ap Some rest.0, rw (eqb-true byte 10 feed.0, rest.1) refl)
-  | inr other ↦
-      let read = bind_ok (letter_read p byte (length (byte ∷ bytes))) (λ next. letters_from next bytes) q other.1 in
-      let letter = letter_moves p read.0 byte (length (byte ∷ bytes)) read.1 in
-      let rest = letters_give bytes read.0 q read.2 in
-      (letter.0 ∷ rest.0, rest.1, one_more letter.0 rest.0 letter.2 (subst (λ next. played next rest.0 ≡ Some q) letter.3 rest.2), ap (λ b. b ∷ bytes) letter.1 ∙ ap (λ more. letter_of letter.0 ∷ more) rest.3)
+  | inr other ↦ let all = one_letter byte bytes p q other.1 (λ next read. letters_give bytes next q read) in (all.0 ∷ all.1, all.2, all.3, all.4)
 ]
-  where
-    one_more : (column : ℕ) (columns : List ℕ) → is_legal p column ≡ true → played (after_move p column) columns ≡ Some q → played p (column ∷ columns) ≡ Some q
-    one_more column columns legal h = rw legal h
 
 moves_give : (bytes : List ℕ) (p q : Position) → moves_at p bytes ≡ Ok q
     → (columns : List ℕ) × (ended : Bool) × (played p columns ≡ Some q) × (bytes ≡ move_list columns ++ last_feed ended)
 moves_give [] p q h = cc
 moves_give (byte ∷ bytes) p q h = elim (chosen (byte == 45) (after_dash p bytes) _ (Ok q) h) [
   | inl dash ↦ behind_dash bytes dash.1 (eqb-true byte 45 dash.0)
-  | inr other ↦
-      let read = bind_ok (letter_read p byte (length (byte ∷ bytes))) (λ next. letters_from next bytes) q other.1 in
-      let letter = letter_moves p read.0 byte (length (byte ∷ bytes)) read.1 in
-      let rest = letters_give bytes read.0 q read.2 in
-      (letter.0 ∷ rest.0, rest.1, one_more letter.0 rest.0 letter.2 (subst (λ next. played next rest.0 ≡ Some q) letter.3 rest.2), ap (λ b. b ∷ bytes) letter.1 ∙ ap (λ more. letter_of letter.0 ∷ more) rest.3)
+  | inr other ↦ let all = one_letter byte bytes p q other.1 (λ next read. letters_give bytes next q read) in (all.0 ∷ all.1, all.2, all.3, all.4)
 ]
   where
-    one_more : (column : ℕ) (columns : List ℕ) → is_legal p column ≡ true → played (after_move p column) columns ≡ Some q → played p (column ∷ columns) ≡ Some q
-    one_more column columns legal h = rw legal h
-
     behind_dash : (bytes : List ℕ) → after_dash p bytes ≡ Ok q → byte ≡ 45
         → (columns : List ℕ) × (ended : Bool) × (played p columns ≡ Some q) × (byte ∷ bytes ≡ move_list columns ++ last_feed ended)
     behind_dash [] h dash = ([], false, cc, rw dash refl)

@@ -11,5 +11,7 @@ pub mod BoardLine
 pub mod Prefix
 pub mod Grammar
 pub mod Passing
+pub mod FaultReaders
+pub mod Faults
 pub mod Squares
 pub mod Groups

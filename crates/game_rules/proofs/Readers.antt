@@ -216,17 +216,33 @@ letter_more p byte left n = move (column_named p byte)
 abbrev pub nothing : Position → ℕ
 nothing p = 0
 
+-- one letter, and more behind it
+module _ (byte : ℕ) (bytes : List ℕ) (p : Position) where
+  fewer_empty : (q : Position) → letter_read p byte (length (byte ∷ bytes)) ≡ Ok q → empty_count q + 1 ≡ empty_count p
+  fewer_empty q read = let letter = letter_moves p q byte (length (byte ∷ bytes)) read in rw letter.3 (empty_count_moved p letter.0 (legal_parts p letter.0 letter.2).1)
+
+  letter_then_spends : ((q : Position) → Spends nothing (length bytes) (empty_count q + 1) (letters_from q bytes))
+      → Spends nothing (length (byte ∷ bytes)) (empty_count p + 1) (letter_read p byte (length (byte ∷ bytes)) >>= λ q. letters_from q bytes)
+  letter_then_spends later = spends_more nothing (length (byte ∷ bytes)) (1 + empty_count p) (empty_count p + 1) _ (omega arith)
+      (spends_bind (λ q. length bytes) nothing (length (byte ∷ bytes)) 1 (empty_count p) (letter_read p byte (length (byte ∷ bytes))) (λ q. letters_from q bytes)
+      (letter_spends p byte (length bytes))
+      (λ q read. let fewer : empty_count q + 1 ≡ empty_count p = fewer_empty q read in
+      spends_more nothing (length bytes) (empty_count q + 1) (empty_count p) (letters_from q bytes) (omega arith) (later q)))
+
+  letter_then_more : (ys : List ℕ) → ((q : Position) → empty_count q + 1 ≡ empty_count p → letters_from q (bytes ++ ys) ≡ with_more (λ q. q) (length ys) (letters_from q bytes))
+      → (letter_read p byte (length (byte ∷ (bytes ++ ys))) >>= λ q. letters_from q (bytes ++ ys)) ≡ with_more (λ q. q) (length ys) (letter_read p byte (length (byte ∷ bytes)) >>= λ q. letters_from q bytes)
+  letter_then_more ys later =
+      ap (λ left. letter_read p byte left >>= λ q. letters_from q (bytes ++ ys)) (length-append (byte ∷ bytes) ys)
+      ∙ ap (λ r. r >>= λ q. letters_from q (bytes ++ ys)) (letter_more p byte (length (byte ∷ bytes)) (length ys))
+      ∙ more_bind (λ q. q) (λ q. q) (length ys) (letter_read p byte (length (byte ∷ bytes))) (λ q. letters_from q bytes) (λ q. letters_from q (bytes ++ ys))
+      (λ q read. later q (fewer_empty q read))
+
 -- there is a letter for each empty square at most, and a line feed
 pub letters_spend : (bytes : List ℕ) (p : Position) → Spends nothing (length bytes) (empty_count p + 1) (letters_from p bytes)
 letters_spend [] p = (omega arith, omega arith)
 letters_spend (byte ∷ bytes) p = elim (cases_Bool (byte == 10)) [
   | inl feed ↦ rw feed (at_end_spends bytes)
-  | inr other ↦ rw other (spends_more nothing (length (byte ∷ bytes)) (1 + empty_count p) (empty_count p + 1) _ (omega arith)
-      (spends_bind (λ q. length bytes) nothing (length (byte ∷ bytes)) 1 (empty_count p) (letter_read p byte (length (byte ∷ bytes))) (λ q. letters_from q bytes)
-      (letter_spends p byte (length bytes))
-      (λ q read. let letter = letter_moves p q byte (length (byte ∷ bytes)) read in
-      let fewer : empty_count q + 1 ≡ empty_count p = rw letter.3 (empty_count_moved p letter.0 (legal_parts p letter.0 letter.2).1) in
-      spends_more nothing (length bytes) (empty_count q + 1) (empty_count p) (letters_from q bytes) (omega arith) (letters_spend bytes q))))
+  | inr other ↦ rw other (letter_then_spends byte bytes p (λ q. letters_spend bytes q))
 ]
   where
     at_end_spends : (bytes : List ℕ) → Spends nothing (length (byte ∷ bytes)) (empty_count p + 1) (at_end p bytes)
@@ -238,18 +254,9 @@ pub letters_more : (bytes : List ℕ) (p : Position) (ys : List ℕ) → empty_c
 letters_more [] p ys h = absurd (omega arith)
 letters_more (byte ∷ bytes) p ys h = elim (cases_Bool (byte == 10)) [
   | inl feed ↦ rw feed (behind_feed bytes (omega arith))
-  | inr other ↦ rw other (
-      ap (λ left. letter_read p byte left >>= λ q. letters_from q (bytes ++ ys)) size
-      ∙ ap (λ r. r >>= λ q. letters_from q (bytes ++ ys)) (letter_more p byte (length (byte ∷ bytes)) (length ys))
-      ∙ more_bind (λ q. q) (λ q. q) (length ys) (letter_read p byte (length (byte ∷ bytes))) (λ q. letters_from q bytes) (λ q. letters_from q (bytes ++ ys))
-      (λ q read. let letter = letter_moves p q byte (length (byte ∷ bytes)) read in
-      let fewer : empty_count q + 1 ≡ empty_count p = rw letter.3 (empty_count_moved p letter.0 (legal_parts p letter.0 letter.2).1) in
-      letters_more bytes q ys (omega arith)))
+  | inr other ↦ rw other (letter_then_more byte bytes p ys (λ q fewer. letters_more bytes q ys (omega arith)))
 ]
   where
-    size : length ((byte ∷ bytes) ++ ys) ≡ length (byte ∷ bytes) + length ys
-    size = length-append (byte ∷ bytes) ys
-
     behind_feed : (bytes : List ℕ) → 1 ≤ length bytes → at_end p (bytes ++ ys) ≡ with_more (λ q. q) (length ys) (at_end p bytes)
     behind_feed [] h = absurd (omega arith)
     behind_feed (next ∷ bytes) h = ap (stop Trailing) (length-append (next ∷ bytes) ys)
@@ -258,12 +265,7 @@ pub moves_spend : (p : Position) (bytes : List ℕ) → 1 ≤ empty_count p → 
 moves_spend p [] h = (omega arith, omega arith)
 moves_spend p (byte ∷ bytes) h = elim (cases_Bool (byte == 45)) [
   | inl dash ↦ rw dash (dash_spends bytes)
-  | inr other ↦ rw other (spends_more nothing (length (byte ∷ bytes)) (1 + empty_count p) (empty_count p + 1) _ (omega arith)
-      (spends_bind (λ q. length bytes) nothing (length (byte ∷ bytes)) 1 (empty_count p) (letter_read p byte (length (byte ∷ bytes))) (λ q. letters_from q bytes)
-      (letter_spends p byte (length bytes))
-      (λ q read. let letter = letter_moves p q byte (length (byte ∷ bytes)) read in
-      let fewer : empty_count q + 1 ≡ empty_count p = rw letter.3 (empty_count_moved p letter.0 (legal_parts p letter.0 letter.2).1) in
-      spends_more nothing (length bytes) (empty_count q + 1) (empty_count p) (letters_from q bytes) (omega arith) (letters_spend bytes q))))
+  | inr other ↦ rw other (letter_then_spends byte bytes p (λ q. letters_spend bytes q))
 ]
   where
     at_end_spends : (next : ℕ) (bytes : List ℕ) → Spends nothing (length (byte ∷ next ∷ bytes)) (empty_count p + 1) (at_end p bytes)
@@ -281,13 +283,7 @@ pub moves_more : (p : Position) (bytes ys : List ℕ) → 1 ≤ empty_count p �
 moves_more p [] ys some h = absurd (omega arith)
 moves_more p (byte ∷ bytes) ys some h = elim (cases_Bool (byte == 45)) [
   | inl dash ↦ rw dash (behind_dash bytes (omega arith))
-  | inr other ↦ rw other (
-      ap (λ left. letter_read p byte left >>= λ q. letters_from q (bytes ++ ys)) (length-append (byte ∷ bytes) ys)
-      ∙ ap (λ r. r >>= λ q. letters_from q (bytes ++ ys)) (letter_more p byte (length (byte ∷ bytes)) (length ys))
-      ∙ more_bind (λ q. q) (λ q. q) (length ys) (letter_read p byte (length (byte ∷ bytes))) (λ q. letters_from q bytes) (λ q. letters_from q (bytes ++ ys))
-      (λ q read. let letter = letter_moves p q byte (length (byte ∷ bytes)) read in
-      let fewer : empty_count q + 1 ≡ empty_count p = rw letter.3 (empty_count_moved p letter.0 (legal_parts p letter.0 letter.2).1) in
-      letters_more bytes q ys (omega arith)))
+  | inr other ↦ rw other (letter_then_more byte bytes p ys (λ q fewer. letters_more bytes q ys (omega arith)))
 ]
   where
     behind_dash : (bytes : List ℕ) → 2 ≤ length bytes → after_dash p (bytes ++ ys) ≡ with_more (λ q. q) (length ys) (after_dash p bytes)

@@ -4,6 +4,8 @@ pub mod Value
 pub mod Cost
 pub mod Text
 pub mod Grammar
+pub mod Faults
+pub mod Words
 pub mod Laws
 pub mod Squares
 pub mod Groups

@@ -6,6 +6,11 @@
 //! theorem, and its body is empty. Nothing here knows how a position is kept in memory.
 #![tactic(auto)]
 
+ghost use Rattle.std.specs.Prelude.{◌≡◌, ◌≤◌, length};
+ghost use Rattle.game_rules.specs.Position.{other};
+ghost use Rattle.game_rules.specs.Value.{win_of};
+ghost use Rattle.game_rules.specs.Words.{kind_word};
+
 pub mod board_laws;
 pub mod laws;
 pub mod text_laws;
@@ -15,6 +20,28 @@ pub mod text_laws;
 pub enum Side {
     White,
     Black,
+}
+
+impl Side {
+    /// The other player.
+    pub fn other(self) -> Side
+        ensures { result ≡ other self }
+    {
+        match self {
+            Side::White => Side::Black,
+            Side::Black => Side::White,
+        }
+    }
+
+    /// The end of a game that the side has won.
+    pub fn win(self) -> End
+        ensures { result ≡ win_of self }
+    {
+        match self {
+            Side::White => End::White,
+            Side::Black => End::Black,
+        }
+    }
 }
 
 /// How a game ended: with a win of White, a win of Black, or a full board without four in a line.
@@ -60,6 +87,23 @@ pub enum InputKind {
     GameOver,
     /// A byte after the end of the text.
     Trailing,
+}
+
+impl InputKind {
+    /// The name by which a report calls the kind.
+    pub fn word(self) -> &'static [u8]
+        ensures word { result.now ≡ kind_word self }
+        ensures short { length result.now ≤ 10 }
+    {
+        match self {
+            InputKind::BadHeader => b"BadHeader",
+            InputKind::BadSize => b"BadSize",
+            InputKind::BadColumn => b"BadColumn",
+            InputKind::ColumnFull => b"ColumnFull",
+            InputKind::GameOver => b"GameOver",
+            InputKind::Trailing => b"Trailing",
+        }
+    }
 }
 
 /// The first fault of a text from the left: its kind and its byte place, counted from 0.

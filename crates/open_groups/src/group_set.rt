@@ -83,7 +83,7 @@ fn place_of(way: Way) -> usize
 pub fn free_for(p: &Position, side: Side) -> GroupSet
     ensures { IsGroupSetOf (λ g. lies_on (board_of p.now) g && is_free_for side p.now g) result }
 {
-    let others = men_of_other(p, side);
+    let others = p.men(side.other());
     let groups = groups(p.size());
     let mut free = GroupSet::empty();
     for group in groups.as_slice() {
@@ -99,14 +99,4 @@ fn is_clear_of(group: GroupId, others: Mask) -> bool
     ensures { result ≡ not (list_any (has_square others) (squares_of group)) }
 {
     !group_mask(group).meets(others)
-}
-
-/// The squares with a man of the other side.
-fn men_of_other(p: &Position, side: Side) -> Mask
-    ensures { IsSetOf (has_man p.now (other side)) result }
-{
-    match side {
-        Side::White => p.black(),
-        Side::Black => p.white(),
-    }
 }

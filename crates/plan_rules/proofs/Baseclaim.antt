@@ -1,16 +1,17 @@
 -- Baseclaim: White never owns a and the square above b, nor b and e.
-use Rattle.std.proofs.Common.{◌≡◌, ◌≢◌, ◌+◌, ◌≤◌, true, false, ◌==◌, List, Some, None, refl, sym, ap, ◌∙◌, subst, inl, inr, arith}
+use Rattle.std.proofs.Common.{◌≡◌, ◌≢◌, ◌+◌, ◌≤◌, true, false, ◌==◌, List, [], ◌∷◌, Some, None, refl, sym, ap, ◌∙◌, subst, inl, inr, arith}
 use Rattle.std.proofs.lemmas.Bool.{and_parts, and_from, or_cases, both_ways, not-true, eq-eqb}
 use Rattle.game_rules.specs.Board.{Square, on_board}
 use Rattle.game_rules.specs.Position.{Position, board_of, height, man_at, after_move}
 use Rattle.game_rules.specs.Squares.{same_square, is_playable}
+use Rattle.game_rules.specs.declared.Side.{Side}
 use Rattle.game_rules.specs.declared.Side.TheVariants.{White, Black}
 use Rattle.game_rules.proofs.Lists.{Among}
 use Rattle.game_rules.proofs.Ends.{on_board_parts}
 use Rattle.game_rules.proofs.Squares.{same_square_refl, has_gives, has_from}
 use Rattle.plan_rules.specs.Squares.{above, word_at}
 use Rattle.plan_rules.specs.Rules.{baseclaim, zone_of, fits, reply_to, upper_of, pair_of, twin_of, barred, is_supported}
-use Rattle.plan_rules.specs.Calm.{claim_words, is_calm}
+use Rattle.plan_rules.specs.Calm.{claim_words, is_one_of, is_calm}
 use Rattle.plan_rules.specs.Laws.{StartLaw, LocalLaw, StepLaw, FactLaw, BarLaw, Answers}
 use Rattle.plan_rules.proofs.Squares.{other_column, other_row}
 use Rattle.plan_rules.proofs.Turns.{turn, answer_at, low_kept, low_above, low_over}
@@ -155,6 +156,24 @@ module _ (a b e : Square) where
         ]
       ])
 
+      -- the square above b answers a, where men stand on b and e
+      above_for_a : (m n : Side) → is_playable q a ≡ true → man_at q (above b) ≡ None → man_at q b ≡ Some m → man_at q e ≡ Some n
+          → is_one_of claim_words (Some White ∷ Some m ∷ Some n ∷ Some Black ∷ []) ≡ true → Answers (zone_of (baseclaim a b e)) (is_calm (baseclaim a b e)) (reply_to (baseclaim a b e)) q a
+      above_for_a m n playable none was_b was_e is_calm_word =
+          let open_now : is_playable (after_move q a.0) (above b) ≡ true = answer_at q a (above b) playable (on (above b) in_u) u_a none (low_over q a b m playable was_b) in
+          let after = turn q a (above b) white playable open_now in
+          let now_b = after.rest b b_a b_u ∙ was_b in
+          let now_e = after.rest e e_a e_u ∙ was_e in
+          let e_now = filled_now q a e n playable was_e in
+          let here = same_square_refl a in
+          record {
+            to = (above b);
+            is_reply = rw (here, e_now) refl;
+            in_zone = has_from (zone_of (baseclaim a b e)) (above b) in_u;
+            playable = open_now;
+            calm_after = rw (after.white, now_b, now_e, after.black) is_calm_word;
+          }
+
       at_a : is_playable q a ≡ true → Answers (zone_of (baseclaim a b e)) (is_calm (baseclaim a b e)) (reply_to (baseclaim a b e)) q a
       at_a playable = elim (narrow (is_free 0) claim_words (word_at q (zone_of (baseclaim a b e))) calm (free_from q a playable)) [
         | inl word ↦
@@ -175,43 +194,9 @@ module _ (a b e : Square) where
               calm_after = rw (after.white, now_b, after.black, now_u) refl;
             }
         | inr more ↦ elim more [
-          | inl word ↦
-              let none : man_at q (above b) ≡ None = cc in
-              let below : man_at q b ≡ Some White = cc in
-              let open_now : is_playable (after_move q a.0) (above b) ≡ true = answer_at q a (above b) playable (on (above b) in_u) u_a none (low_over q a b White playable below) in
-              let after = turn q a (above b) white playable open_now in
-              let was_b : man_at q b ≡ Some White = cc in
-              let now_b = after.rest b b_a b_u ∙ was_b in
-              let was_e : man_at q e ≡ Some Black = cc in
-              let now_e = after.rest e e_a e_u ∙ was_e in
-              let e_now = filled_now q a e Black playable was_e in
-              let here = same_square_refl a in
-              record {
-                to = (above b);
-                is_reply = rw (here, e_now) refl;
-                in_zone = has_from (zone_of (baseclaim a b e)) (above b) in_u;
-                playable = open_now;
-                calm_after = rw (after.white, now_b, now_e, after.black) refl;
-              }
+          | inl word ↦ above_for_a White Black playable (cc) (cc) (cc) refl
           | inr more ↦ elim more [
-            | inl word ↦
-                let none : man_at q (above b) ≡ None = cc in
-                let below : man_at q b ≡ Some Black = cc in
-                let open_now : is_playable (after_move q a.0) (above b) ≡ true = answer_at q a (above b) playable (on (above b) in_u) u_a none (low_over q a b Black playable below) in
-                let after = turn q a (above b) white playable open_now in
-                let was_b : man_at q b ≡ Some Black = cc in
-                let now_b = after.rest b b_a b_u ∙ was_b in
-                let was_e : man_at q e ≡ Some White = cc in
-                let now_e = after.rest e e_a e_u ∙ was_e in
-                let e_now = filled_now q a e White playable was_e in
-                let here = same_square_refl a in
-                record {
-                  to = (above b);
-                  is_reply = rw (here, e_now) refl;
-                  in_zone = has_from (zone_of (baseclaim a b e)) (above b) in_u;
-                  playable = open_now;
-                  calm_after = rw (after.white, now_b, now_e, after.black) refl;
-                }
+            | inl word ↦ above_for_a Black White playable (cc) (cc) (cc) refl
             | inr past ↦ absurd past
           ]
         ]
@@ -279,41 +264,28 @@ module _ (a b e : Square) where
         | inr past ↦ absurd past
       ]
 
+      -- a answers the square above b, where men stand on b and e
+      a_for_above : (m n : Side) → is_playable q (above b) ≡ true → man_at q a ≡ None → man_at q b ≡ Some m → man_at q e ≡ Some n
+          → is_one_of claim_words (Some Black ∷ Some m ∷ Some n ∷ Some White ∷ []) ≡ true → Answers (zone_of (baseclaim a b e)) (is_calm (baseclaim a b e)) (reply_to (baseclaim a b e)) q (above b)
+      a_for_above m n playable none was_b was_e is_calm_word =
+          let open_now : is_playable (after_move q (above b).0) a ≡ true = answer_at q (above b) a playable (on a in_a) a_u none (low_kept q (above b) a playable foot_a) in
+          let after = turn q (above b) a white playable open_now in
+          let now_b = after.rest b b_u b_a ∙ was_b in
+          let now_e = after.rest e e_u e_a ∙ was_e in
+          let here = same_square_refl (above b) in
+          record {
+            to = a;
+            is_reply = rw (u_a, u_b, u_e, here) refl;
+            in_zone = has_from (zone_of (baseclaim a b e)) a in_a;
+            playable = open_now;
+            calm_after = rw (after.black, now_b, now_e, after.white) is_calm_word;
+          }
+
       at_u : is_playable q (above b) ≡ true → Answers (zone_of (baseclaim a b e)) (is_calm (baseclaim a b e)) (reply_to (baseclaim a b e)) q (above b)
       at_u playable = elim (narrow (is_free_over 1 3) claim_words (word_at q (zone_of (baseclaim a b e))) calm (free_over_from q b (on_board_parts (board_of q) b.0 b.1 (on b in_b)).1 playable)) [
-        | inl word ↦
-            let none : man_at q a ≡ None = cc in
-            let open_now : is_playable (after_move q (above b).0) a ≡ true = answer_at q (above b) a playable (on a in_a) a_u none (low_kept q (above b) a playable foot_a) in
-            let after = turn q (above b) a white playable open_now in
-            let was_b : man_at q b ≡ Some White = cc in
-            let now_b = after.rest b b_u b_a ∙ was_b in
-            let was_e : man_at q e ≡ Some Black = cc in
-            let now_e = after.rest e e_u e_a ∙ was_e in
-            let here = same_square_refl (above b) in
-            record {
-              to = a;
-              is_reply = rw (u_a, u_b, u_e, here) refl;
-              in_zone = has_from (zone_of (baseclaim a b e)) a in_a;
-              playable = open_now;
-              calm_after = rw (after.black, now_b, now_e, after.white) refl;
-            }
+        | inl word ↦ a_for_above White Black playable (cc) (cc) (cc) refl
         | inr more ↦ elim more [
-          | inl word ↦
-              let none : man_at q a ≡ None = cc in
-              let open_now : is_playable (after_move q (above b).0) a ≡ true = answer_at q (above b) a playable (on a in_a) a_u none (low_kept q (above b) a playable foot_a) in
-              let after = turn q (above b) a white playable open_now in
-              let was_b : man_at q b ≡ Some Black = cc in
-              let now_b = after.rest b b_u b_a ∙ was_b in
-              let was_e : man_at q e ≡ Some White = cc in
-              let now_e = after.rest e e_u e_a ∙ was_e in
-              let here = same_square_refl (above b) in
-              record {
-                to = a;
-                is_reply = rw (u_a, u_b, u_e, here) refl;
-                in_zone = has_from (zone_of (baseclaim a b e)) a in_a;
-                playable = open_now;
-                calm_after = rw (after.black, now_b, now_e, after.white) refl;
-              }
+          | inl word ↦ a_for_above Black White playable (cc) (cc) (cc) refl
           | inr past ↦ absurd past
         ]
       ]

@@ -1,10 +1,10 @@
 -- Highinverse: what is proved of White's move in one column, with the other beside it, holds of both columns, since the
 -- calm words are the same in both orders.
-use Rattle.std.proofs.Common.{◌≡◌, ◌≢◌, ◌+◌, ◌≤◌, true, false, ◌==◌, List, [], ◌∷◌, ◌++◌, Some, None, refl, sym, ap, ◌∙◌, subst, inl, inr, arith}
-use Rattle.std.proofs.lemmas.Bool.{and_parts, and_from, or_cases, eq-eqb, ne_eqb, cond-true, cond-false, false_from_ne_true}
+use Rattle.std.proofs.Common.{◌≡◌, ◌≢◌, ◌+◌, ◌≤◌, true, false, List, [], ◌∷◌, ◌++◌, Some, None, refl, sym, ap, ◌∙◌, subst, inl, inr, arith}
+use Rattle.std.proofs.lemmas.Bool.{and_parts, and_from, or_cases, cond-true, cond-false, false_from_ne_true}
 use Rattle.game_rules.specs.Board.{Square, on_board}
 use Rattle.game_rules.specs.Position.{Position, board_of, height, man_at, has_man, side_to_move, after_move}
-use Rattle.game_rules.specs.Squares.{same_square, is_playable}
+use Rattle.game_rules.specs.Squares.{same_square, has_square, is_playable}
 use Rattle.game_rules.specs.declared.Side.TheVariants.{White, Black}
 use Rattle.game_rules.proofs.Lists.{Among}
 use Rattle.game_rules.proofs.Ends.{on_board_parts}
@@ -235,7 +235,7 @@ module _ (x y : Square) where
       first : Among s (column_up x 3) → HighAnswer x y q s → Answers (zone_of (highinverse x y)) (is_calm (highinverse x y)) (reply_to (highinverse x y)) q s
       first among answer = record {
         to = answer.to;
-        is_reply = cond-true (s.0 == x.0) _ _ (eq-eqb s.0 x.0 (column_of x s among)) ∙ answer.is_reply;
+        is_reply = cond-true (has_square (column_up x 3) s) _ _ (has_from (column_up x 3) s among) ∙ answer.is_reply;
         in_zone = has_from (zone_of (highinverse x y)) answer.to answer.in_zone;
         playable = answer.playable;
         calm_after = answer.calm_after;
@@ -244,7 +244,8 @@ module _ (x y : Square) where
       second : Among s (column_up y 3) → HighAnswer y x q s → Answers (zone_of (highinverse x y)) (is_calm (highinverse x y)) (reply_to (highinverse x y)) q s
       second among answer = record {
         to = answer.to;
-        is_reply = cond-false (s.0 == x.0) (high_reply x y (after_move q s.0) s) (high_reply y x (after_move q s.0) s) (ne_eqb s.0 x.0 (λ same. two.apart (sym same ∙ column_of y s among))) ∙ answer.is_reply;
+        is_reply = cond-false (has_square (column_up x 3) s) (high_reply x y (after_move q s.0) s) (high_reply y x (after_move q s.0) s)
+            (false_from_ne_true _ (λ owned. two.apart (sym (column_of x s (has_gives (column_up x 3) s owned)) ∙ column_of y s among))) ∙ answer.is_reply;
         in_zone = has_from (zone_of (highinverse x y)) answer.to (turned_among y x answer.to answer.in_zone);
         playable = answer.playable;
         calm_after = swapped y x (after_move (after_move q s.0) answer.to.0) answer.calm_after;

@@ -1,12 +1,12 @@
 -- Lowinverse: below the tops White's square is answered by the one above; a top is answered in the other column, which
 -- shifts that column by one. What is proved of White's move in one column, with the other beside it, holds of both.
-use Rattle.std.proofs.Common.{◌≡◌, ◌≢◌, ◌⊎◌, ℕ, zero, suc, ◌+◌, ◌-◌, ◌%◌, ◌<◌, ◌≤◌, true, ◌&&◌, List, [], ◌∷◌, ◌++◌, length, Option, Some, None, refl, sym, ap, ◌∙◌, subst, inl, inr, arith}
+use Rattle.std.proofs.Common.{◌≡◌, ◌≢◌, ◌⊎◌, ℕ, zero, suc, ◌+◌, ◌-◌, ◌%◌, ◌<◌, ◌≤◌, true, false, ◌&&◌, List, [], ◌∷◌, ◌++◌, length, Option, Some, None, refl, sym, ap, ◌∙◌, subst, inl, inr, arith}
 use Rattle.std.specs.List.{slice_get}
 use Rattle.std.proofs.lemmas.Bool.{cases_lt, leb-true, eqb-true, eq-eqb, and_parts, and_from, or_cases, or_left, or_right, cond-true, cond-false, false_from_ne_true}
 use Rattle.std.proofs.lemmas.List.{length_push}
 use Rattle.game_rules.specs.Board.{Square, on_board}
 use Rattle.game_rules.specs.Position.{Position, board_of, height, man_at, has_man, men_in, side_to_move, has_room, lowest_empty, other, after_move}
-use Rattle.game_rules.specs.Squares.{same_square, is_playable}
+use Rattle.game_rules.specs.Squares.{same_square, has_square, is_playable}
 use Rattle.game_rules.specs.declared.Side.{Side}
 use Rattle.game_rules.specs.declared.Side.TheVariants.{White, Black}
 use Rattle.game_rules.proofs.Lists.{Among, any_gives, Among-append_cases, Among-append_left, Among-append_right}
@@ -375,16 +375,20 @@ module _ (x x_top y y_top : Square) where
           past_row : (r : ℕ) → height q u.0 < r → man_at q (u.0, r) ≡ None
           past_row r past = man_past (men_in q u.0) r past
 
+      own_place : (u top : Square) (i : ℕ) → i < top.1 + 1 - u.1 → has_square (span u top) (place_in u i) ≡ true
+      own_place u top i within = has_from (span u top) (place_in u i) (column_from u (top.1 + 1 - u.1) i within)
+
+      not_in_x : (i : ℕ) → has_square (span x x_top) (place_in y i) ≡ false
+      not_in_x i = false_from_ne_true _ (λ owned. two.apart (sym (ap (λ u. u.0) (column_gives x (x_top.1 + 1 - x.1) (place_in y i) (has_gives (span x x_top) (place_in y i) owned)).2)))
+
       left_column : (i : ℕ) → i < x_top.1 + 1 - x.1 → is_playable q (place_in x i) ≡ true → (i + 1 < x_top.1 + 1 - x.1) ⊎ (x_top.1 + 1 - x.1 ≤ i + 1)
           → Answers (zone_of (lowinverse x x_top y y_top)) (is_calm (lowinverse x x_top y y_top)) (reply_to (lowinverse x x_top y y_top)) q (place_in x i)
       left_column i within playable (inl more) =
           let open_now = up i x playable (on_x p q fitted board (i + 1) more) in
-          let not_left = other_row (place_in x i) x_top (λ same. omega (arith, (column_x p fitted).rows)) in
-          let not_right = other_column (place_in x i) y_top (λ same. two.apart (same ∙ (column_y p fitted).same)) in
-          let here = has_from (zone_of (lowinverse x x_top y y_top)) (place_in x i) (in_x i within) in
+          let below_top = other_row (place_in x i) x_top (λ same. omega (arith, (column_x p fitted).rows)) in
           record {
             to = above (place_in x i);
-            is_reply = cond-false {A = Option Square} _ _ _ not_left ∙ cond-false {A = Option Square} _ _ _ not_right ∙ cond-true {A = Option Square} _ _ _ here;
+            is_reply = cond-true {A = Option Square} _ _ _ (own_place x x_top i within) ∙ cond-false {A = Option Square} _ _ _ below_top;
             in_zone = has_from (zone_of (lowinverse x x_top y y_top)) (above (place_in x i)) (subst (λ r. Among (x.0, r) (zone_of (lowinverse x x_top y y_top))) (omega arith) (in_x (i + 1) more));
             playable = open_now;
             calm_after = calm_from (after_move (after_move q x.0) x.0) x y (x_top.1 + 1 - x.1) (y_top.1 + 1 - y.1)
@@ -397,7 +401,7 @@ module _ (x x_top y y_top : Square) where
           let here = ap (λ u. same_square u x_top) (top_is x x_top (x_top.1 + 1 - x.1) i (column_x p fitted) (omega arith)) ∙ same_square_refl x_top in
           record {
             to = place_in y answer.place;
-            is_reply = cond-true {A = Option Square} _ _ _ here ∙ answer.is_reply;
+            is_reply = cond-true {A = Option Square} _ _ _ (own_place x x_top i within) ∙ cond-true {A = Option Square} _ _ _ here ∙ answer.is_reply;
             in_zone = has_from (zone_of (lowinverse x x_top y y_top)) (place_in y answer.place) (in_y answer.place answer.within);
             playable = answer.playable;
             calm_after = calm_from (after_move (after_move q x.0) y.0) x y (x_top.1 + 1 - x.1) (y_top.1 + 1 - y.1) answer.calm_after;
@@ -407,12 +411,10 @@ module _ (x x_top y y_top : Square) where
           → Answers (zone_of (lowinverse x x_top y y_top)) (is_calm (lowinverse x x_top y y_top)) (reply_to (lowinverse x x_top y y_top)) q (place_in y i)
       right_column i within playable (inl more) =
           let open_now = up i y playable (on_y p q fitted board (i + 1) more) in
-          let not_left = other_column (place_in y i) x_top (λ same. turned_apart (same ∙ (column_x p fitted).same)) in
-          let not_right = other_row (place_in y i) y_top (λ same. omega (arith, (column_y p fitted).rows)) in
-          let here = has_from (zone_of (lowinverse x x_top y y_top)) (place_in y i) (in_y i within) in
+          let below_top = other_row (place_in y i) y_top (λ same. omega (arith, (column_y p fitted).rows)) in
           record {
             to = above (place_in y i);
-            is_reply = cond-false {A = Option Square} _ _ _ not_left ∙ cond-false {A = Option Square} _ _ _ not_right ∙ cond-true {A = Option Square} _ _ _ here;
+            is_reply = cond-false {A = Option Square} _ _ _ (not_in_x i) ∙ cond-true {A = Option Square} _ _ _ (own_place y y_top i within) ∙ cond-false {A = Option Square} _ _ _ below_top;
             in_zone = has_from (zone_of (lowinverse x x_top y y_top)) (above (place_in y i)) (subst (λ r. Among (y.0, r) (zone_of (lowinverse x x_top y y_top))) (omega arith) (in_y (i + 1) more));
             playable = open_now;
             calm_after = calm_from (after_move (after_move q y.0) y.0) x y (x_top.1 + 1 - x.1) (y_top.1 + 1 - y.1) (calm_turned _ _ _ _
@@ -422,11 +424,10 @@ module _ (x x_top y y_top : Square) where
       right_column i within playable (inr last) =
           let answer = top y x (y_top.1 + 1 - y.1) (x_top.1 + 1 - x.1) (column_y p fitted).odd (column_x p fitted).odd turned_apart (low_y p fitted) (low_x p fitted) q white foot_y foot_x (calm_turned _ _ _ _ cases)
           (on_x p q fitted board) i (omega arith) playable in
-          let not_left = other_column (place_in y i) x_top (λ same. turned_apart (same ∙ (column_x p fitted).same)) in
           let here = ap (λ u. same_square u y_top) (top_is y y_top (y_top.1 + 1 - y.1) i (column_y p fitted) (omega arith)) ∙ same_square_refl y_top in
           record {
             to = place_in x answer.place;
-            is_reply = cond-false {A = Option Square} _ _ _ not_left ∙ cond-true {A = Option Square} _ _ _ here ∙ answer.is_reply;
+            is_reply = cond-false {A = Option Square} _ _ _ (not_in_x i) ∙ cond-true {A = Option Square} _ _ _ (own_place y y_top i within) ∙ cond-true {A = Option Square} _ _ _ here ∙ answer.is_reply;
             in_zone = has_from (zone_of (lowinverse x x_top y y_top)) (place_in x answer.place) (in_x answer.place answer.within);
             playable = answer.playable;
             calm_after = calm_from (after_move (after_move q y.0) x.0) x y (x_top.1 + 1 - x.1) (y_top.1 + 1 - y.1) (calm_turned _ _ _ _ answer.calm_after);

@@ -133,17 +133,21 @@ high_reply u v now last =
     else (if same_square last (above u) then Some (above (above u))
     else (if same_square last (above (above u)) then Some v else None))
 
--- Claimeven: the lower square by the upper. Baseinverse: each by the other. Lowinverse: a top by the playable square of
--- the other column, each other square by the one above it. Highinverse: as above, in the column of White's square.
--- Baseclaim: a and b by e while e is empty, else by the square above b; e by b; the square above b by a.
+-- Lowinverse, with `last` in the column up to this top: the top by the playable square of the other column, each other
+-- square by the one above it
+abbrev pub low_reply : Square → Square → Position → Square → Option Square
+low_reply top other now last = if same_square last top then lowest_empty now other.0 else Some (above last)
+
+-- Claimeven: the lower square by the upper. Baseinverse: each by the other. Lowinverse and Highinverse: as above, in the
+-- column of White's square. Baseclaim: a and b by e while e is empty, else by the square above b; e by b; the square
+-- above b by a.
 abbrev pub reply_to : RuleInstance → Position → Square → Option Square
 reply_to (claimeven x) now last = if same_square last x then Some (above x) else None
 reply_to (baseinverse s t) now last = if same_square last s then Some t else (if same_square last t then Some s else None)
 reply_to (lowinverse x x_top y y_top) now last =
-    if same_square last x_top then lowest_empty now y.0
-    else (if same_square last y_top then lowest_empty now x.0
-    else (if has_square (span x x_top ++ span y y_top) last then Some (above last) else None))
-reply_to (highinverse x y) now last = if last.0 == x.0 then high_reply x y now last else high_reply y x now last
+    if has_square (span x x_top) last then low_reply x_top y now last
+    else (if has_square (span y y_top) last then low_reply y_top x now last else None)
+reply_to (highinverse x y) now last = if has_square (column_up x 3) last then high_reply x y now last else high_reply y x now last
 reply_to (baseclaim a b e) now last =
     if same_square last a then (if is_empty now e then Some e else Some (above b))
     else (if same_square last b then (if is_empty now e then Some e else Some (above b))
@@ -159,7 +163,8 @@ reply_to (specialbefore g f e0) now last = None
 abbrev pub has_no_answer : RuleInstance → Position → Square → Bool
 has_no_answer (claimeven x) now last = same_square last (above x)
 has_no_answer (baseinverse s t) now last = false
-has_no_answer (lowinverse x x_top y y_top) now last = (same_square last x_top && not (has_room now y.0)) || (same_square last y_top && not (has_room now x.0))
+has_no_answer (lowinverse x x_top y y_top) now last =
+    if has_square (span x x_top) last then same_square last x_top && not (has_room now y.0) else same_square last y_top && not (has_room now x.0)
 has_no_answer (highinverse x y) now last = false
 has_no_answer (baseclaim a b e) now last = false
 has_no_answer (vertical e) now last = false

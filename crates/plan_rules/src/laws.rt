@@ -33,11 +33,10 @@ pub fn a_move_in_a_zone_is_answered_in_it()
     ensures { (w : RuleInstance) → StepLaw (zone_of w) (fits w) (is_calm w) (reply_to w) }
 {}
 
-/// Of an instance with its shape on the board, a square has no reply exactly where it isn't in the zone, or is a
-/// Claimeven's upper square, or is a Lowinverse's top while the other column is full.
+/// A square has no reply exactly where it isn't in the zone, or is a Claimeven's upper square, or is a Lowinverse's top
+/// while the other column is full.
 pub fn a_reply_is_missing_where_the_rule_names_none()
-    ensures { (w : RuleInstance) (now : Position) (last : Square) → is_shaped w (board_of now) ≡ true
-        → is_none (reply_to w now last) ≡ (not (has_square (zone_of w) last) || has_no_answer w now last) }
+    ensures { (w : RuleInstance) (now : Position) (last : Square) → is_none (reply_to w now last) ≡ (not (has_square (zone_of w) last) || has_no_answer w now last) }
 {}
 
 /// The instance fitted where the empty squares were those of the facts, it is supported by them and calm, the facts are

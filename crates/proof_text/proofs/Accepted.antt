@@ -1,14 +1,14 @@
 -- The lines behind a game are accepted exactly where they are lemmas, remarks and a verdict that are right.
-use Rattle.std.proofs.Common.{◌≡◌, ℕ, ◌+◌, ◌≤◌, Bool, true, ◌&&◌, nat_le, List, [], ◌∷◌, ◌++◌, map, length, Option, Some, None, refl, sym, ap, ◌∙◌, subst, arith}
+use Rattle.std.proofs.Common.{◌≡◌, ℕ, ◌+◌, ◌≤◌, Bool, true, nat_le, List, [], ◌∷◌, ◌++◌, map, length, Option, Some, None, refl, sym, ap, ◌∙◌, subst, arith}
 use Rattle.std.specs.List.{AllByRecursion}
-use Rattle.std.proofs.lemmas.Bool.{and_parts, and_from, leb-true, le-leb}
+use Rattle.std.proofs.lemmas.Bool.{leb-true, le-leb}
 use Rattle.game_rules.specs.Position.{Position, played}
 use Rattle.proof_text.specs.Lemma.{Lemma, Line, ALemma, ARemark, AVerdict}
 use Rattle.proof_text.specs.Right.{Shown, AreRight, IsVerdict}
 use Rattle.proof_text.specs.Checked.{unless, CheckerState, line_refusal, shown_of, with_line}
 use Rattle.proof_text.specs.Spelling.{lemma_text, verdict_text, VerdictFits, IsLine}
 use Rattle.proof_text.specs.Reading.{read_line}
-use Rattle.proof_text.specs.Texts.{most_lines, longest_line, said_refusal, bytes_refusal, CheckAnswer, Accepted, verdict_answer, with_said, with_bytes, line_answer, check_from, Entry, LemmaEntry, RemarkEntry, entry_text, lemmas_among, EntryFits}
+use Rattle.proof_text.specs.Texts.{most_lines, said_refusal, bytes_refusal, CheckAnswer, Accepted, verdict_answer, with_said, with_bytes, line_answer, check_from, Entry, LemmaEntry, RemarkEntry, entry_text, lemmas_among, EntryFits}
 use Rattle.proof_text.proofs.Refusals.{none_or, line_of_none, none_of_line, right_of_none, none_of_right, verdict_of_none, none_of_verdict}
 use Rattle.proof_text.proofs.Spelled.{line_read, line_spelled}
 use Rattle.proof_text.proofs.Fold.{bytes_of_none}
@@ -25,8 +25,6 @@ pub record AreAccepted (root : Position) (known : List Shown) (at : ℕ) (lines 
   pub verdict_fits : VerdictFits v
   pub verdict_right : IsVerdict root after v
   pub counted : count ≡ length after
-  pub short : AllByRecursion (λ entry. length (entry_text entry) ≤ longest_line) entries
-  pub verdict_short : length (verdict_text v) ≤ longest_line
   pub few : length entries + at ≤ most_lines
   pub spelled : lines ≡ map entry_text entries ++ verdict_text v ∷ []
 
@@ -50,19 +48,15 @@ ended_lines s at (line ∷ lines) w v count ended h =
 pub shown_along : (root : Position) (l : Lemma) (p : Position) → played root l.path ≡ Some p → shown_of root l ≡ (p, l.claim) ∷ []
 shown_along root l p h = rw h refl
 
--- the bounds of a line
-bounds_of : (at : ℕ) (bytes : List ℕ) → (nat_le at most_lines && nat_le (length bytes) longest_line) ≡ true → (at ≤ most_lines) × (length bytes ≤ longest_line)
-bounds_of at bytes h = let both = and_parts (nat_le at most_lines) (nat_le (length bytes) longest_line) h in (leb-true at most_lines both.0, leb-true (length bytes) longest_line both.1)
-
 -- what stands before the verdict
 abbrev pub going : Position → List Shown → CheckerState
 going root known = record { root = root; known = known; verdict = None }
 
 -- one more line at the start
 with_first : (root : Position) (known : List Shown) (at : ℕ) (bytes : List ℕ) (lines : List (List ℕ)) (v : Verdict) (count : ℕ) (line : Line)
-    → at ≤ most_lines → length bytes ≤ longest_line → IsLine (length root.columns) bytes line → line_refusal (going root known) line ≡ None → check_from (with_line (going root known) line) (at + 1) lines ≡ Accepted v count
+    → at ≤ most_lines → IsLine (length root.columns) bytes line → line_refusal (going root known) line ≡ None → check_from (with_line (going root known) line) (at + 1) lines ≡ Accepted v count
     → ((known : List Shown) → check_from (going root known) (at + 1) lines ≡ Accepted v count → AreAccepted root known (at + 1) lines v count) → AreAccepted root known at (bytes ∷ lines) v count
-with_first root known at bytes lines v count (ALemma l) within short is_line none rest later =
+with_first root known at bytes lines v count (ALemma l) within is_line none rest later =
     let one = right_of_none root known l (line_of_none (going root known) (ALemma l) none).1 in
     let shown : known ++ shown_of root l ≡ known ++ (one.0, l.claim) ∷ [] = ap (λ more. known ++ more) (shown_along root l one.0 one.1.along) in
     let more = later (known ++ (one.0, l.claim) ∷ []) (sym (ap (λ known. check_from (going root known) (at + 1) lines) shown) ∙ rest) in
@@ -74,12 +68,10 @@ with_first root known at bytes lines v count (ALemma l) within short is_line non
       verdict_fits = more.verdict_fits;
       verdict_right = more.verdict_right;
       counted = more.counted;
-      short = (subst (λ bytes. length bytes ≤ longest_line) is_line.1 short, more.short);
-      verdict_short = more.verdict_short;
       few = let fewer : length more.entries + (at + 1) ≤ most_lines = more.few in omega arith;
       spelled = ap (λ first. first ∷ lines) is_line.1 ∙ ap (λ lines. lemma_text l ∷ lines) more.spelled;
     }
-with_first root known at bytes lines v count ARemark within short is_line none rest later =
+with_first root known at bytes lines v count ARemark within is_line none rest later =
     let more = later known rest in
     record {
       entries = RemarkEntry bytes ∷ more.entries;
@@ -89,12 +81,10 @@ with_first root known at bytes lines v count ARemark within short is_line none r
       verdict_fits = more.verdict_fits;
       verdict_right = more.verdict_right;
       counted = more.counted;
-      short = (short, more.short);
-      verdict_short = more.verdict_short;
       few = let fewer : length more.entries + (at + 1) ≤ most_lines = more.few in omega arith;
       spelled = ap (λ lines. bytes ∷ lines) more.spelled;
     }
-with_first root known at bytes lines v count (AVerdict w) within short is_line none rest later =
+with_first root known at bytes lines v count (AVerdict w) within is_line none rest later =
     let right : IsVerdict root known w = verdict_of_none root known w (line_of_none (going root known) (AVerdict w) none).1 in
     let end = ended_lines (record { root = root; known = known; verdict = Some w }) (at + 1) lines w v count refl rest in
     record {
@@ -105,8 +95,6 @@ with_first root known at bytes lines v count (AVerdict w) within short is_line n
       verdict_fits = subst VerdictFits end.1 is_line.0;
       verdict_right = subst (IsVerdict root known) end.1 right;
       counted = end.2;
-      short = tt;
-      verdict_short = subst (λ bytes. length bytes ≤ longest_line) (is_line.1 ∙ ap verdict_text end.1) short;
       few = omega arith;
       spelled = ap (λ first. first ∷ lines) (is_line.1 ∙ ap verdict_text end.1) ∙ ap (λ lines. verdict_text v ∷ lines) end.0;
     }
@@ -118,43 +106,42 @@ accepted_lines root known at (bytes ∷ lines) v count h =
     let parts = answer_parts (bytes_refusal s at bytes) at (check_from (with_bytes s bytes) (at + 1) lines) v count h in
     let found = bytes_of_none s at bytes parts.0 in
     let rest : check_from (with_line s found.0) (at + 1) lines ≡ Accepted v count = sym (ap (λ said. check_from (with_said s said) (at + 1) lines) found.1) ∙ parts.1 in
-    let bounds = bounds_of at bytes found.3 in
-    with_first root known at bytes lines v count found.0 bounds.0 bounds.1 (line_read (length root.columns) bytes found.0 found.1) found.2 rest
+    with_first root known at bytes lines v count found.0 (leb-true at most_lines found.3) (line_read (length root.columns) bytes found.0 found.1) found.2 rest
     (λ known accepted. accepted_lines root known (at + 1) lines v count accepted)
 
 -- ---- what is right is accepted
 
 -- a right line isn't refused
-none_of_bytes : (s : CheckerState) (at : ℕ) (bytes : List ℕ) (line : Line) → at ≤ most_lines → length bytes ≤ longest_line → read_line (length s.root.columns) bytes ≡ Some line → line_refusal s line ≡ None → bytes_refusal s at bytes ≡ None
-none_of_bytes s at bytes line within short read none =
-    none_or (unless (nat_le at most_lines && nat_le (length bytes) longest_line) BadLine) (said_refusal s (read_line (length s.root.columns) bytes))
-    (passed (nat_le at most_lines && nat_le (length bytes) longest_line) (and_from _ _ (le-leb at most_lines within) (le-leb (length bytes) longest_line short)))
+none_of_bytes : (s : CheckerState) (at : ℕ) (bytes : List ℕ) (line : Line) → at ≤ most_lines → read_line (length s.root.columns) bytes ≡ Some line → line_refusal s line ≡ None → bytes_refusal s at bytes ≡ None
+none_of_bytes s at bytes line within read none =
+    none_or (unless (nat_le at most_lines) BadLine) (said_refusal s (read_line (length s.root.columns) bytes))
+    (passed (nat_le at most_lines) (le-leb at most_lines within))
     (ap (said_refusal s) read ∙ none)
   where
     passed : (b : Bool) → b ≡ true → unless b BadLine ≡ None
     passed b e = rw e refl
 
 -- the answer goes on behind a right line
-past_line : (s : CheckerState) (at : ℕ) (bytes : List ℕ) (lines : List (List ℕ)) (line : Line) → at ≤ most_lines → length bytes ≤ longest_line → read_line (length s.root.columns) bytes ≡ Some line → line_refusal s line ≡ None
+past_line : (s : CheckerState) (at : ℕ) (bytes : List ℕ) (lines : List (List ℕ)) (line : Line) → at ≤ most_lines → read_line (length s.root.columns) bytes ≡ Some line → line_refusal s line ≡ None
     → check_from s at (bytes ∷ lines) ≡ check_from (with_line s line) (at + 1) lines
-past_line s at bytes lines line within short read none =
-    ap (λ r. line_answer r at (check_from (with_bytes s bytes) (at + 1) lines)) (none_of_bytes s at bytes line within short read none)
+past_line s at bytes lines line within read none =
+    ap (λ r. line_answer r at (check_from (with_bytes s bytes) (at + 1) lines)) (none_of_bytes s at bytes line within read none)
     ∙ ap (λ said. check_from (with_said s said) (at + 1) lines) read
 
 pub lines_accepted : (root : Position) (known : List Shown) (at : ℕ) (entries : List Entry) (after : List Shown) (v : Verdict)
     → AllByRecursion (EntryFits (length root.columns)) entries → AreRight root known (lemmas_among entries) after → VerdictFits v → IsVerdict root after v
-    → AllByRecursion (λ entry. length (entry_text entry) ≤ longest_line) entries → length (verdict_text v) ≤ longest_line → length entries + at ≤ most_lines
+    → length entries + at ≤ most_lines
     → check_from (going root known) at (map entry_text entries ++ verdict_text v ∷ []) ≡ Accepted v (length after)
-lines_accepted root known at [] after v fit right verdict_fits verdict_right short verdict_short few =
-    past_line (going root known) at (verdict_text v) [] (AVerdict v) (omega arith) verdict_short (line_spelled (length root.columns) (verdict_text v) (AVerdict v) (verdict_fits, refl))
+lines_accepted root known at [] after v fit right verdict_fits verdict_right few =
+    past_line (going root known) at (verdict_text v) [] (AVerdict v) (omega arith) (line_spelled (length root.columns) (verdict_text v) (AVerdict v) (verdict_fits, refl))
     (none_of_line (going root known) (AVerdict v) refl (none_of_verdict root known v (subst (λ known. IsVerdict root known v) right verdict_right)))
     ∙ ap (λ known. Accepted v (length known)) (sym right)
-lines_accepted root known at (LemmaEntry l ∷ entries) after v fit (p, one, rest) verdict_fits verdict_right short verdict_short few =
-    past_line (going root known) at (lemma_text l) (map entry_text entries ++ verdict_text v ∷ []) (ALemma l) (omega arith) short.0 (line_spelled (length root.columns) (lemma_text l) (ALemma l) (fit.0, refl))
+lines_accepted root known at (LemmaEntry l ∷ entries) after v fit (p, one, rest) verdict_fits verdict_right few =
+    past_line (going root known) at (lemma_text l) (map entry_text entries ++ verdict_text v ∷ []) (ALemma l) (omega arith) (line_spelled (length root.columns) (lemma_text l) (ALemma l) (fit.0, refl))
     (none_of_line (going root known) (ALemma l) refl (none_of_right root known l p one))
     ∙ ap (λ more. check_from (going root (known ++ more)) (at + 1) (map entry_text entries ++ verdict_text v ∷ [])) (shown_along root l p one.along)
-    ∙ lines_accepted root (known ++ (p, l.claim) ∷ []) (at + 1) entries after v fit.1 rest verdict_fits verdict_right short.1 verdict_short (omega arith)
-lines_accepted root known at (RemarkEntry bytes ∷ entries) after v fit right verdict_fits verdict_right short verdict_short few =
-    past_line (going root known) at bytes (map entry_text entries ++ verdict_text v ∷ []) ARemark (omega arith) short.0 (line_spelled (length root.columns) bytes ARemark fit.0)
+    ∙ lines_accepted root (known ++ (p, l.claim) ∷ []) (at + 1) entries after v fit.1 rest verdict_fits verdict_right (omega arith)
+lines_accepted root known at (RemarkEntry bytes ∷ entries) after v fit right verdict_fits verdict_right few =
+    past_line (going root known) at bytes (map entry_text entries ++ verdict_text v ∷ []) ARemark (omega arith) (line_spelled (length root.columns) bytes ARemark fit.0)
     (none_of_line (going root known) ARemark refl refl)
-    ∙ lines_accepted root known (at + 1) entries after v fit.1 right verdict_fits verdict_right short.1 verdict_short (omega arith)
+    ∙ lines_accepted root known (at + 1) entries after v fit.1 right verdict_fits verdict_right (omega arith)

@@ -1,10 +1,10 @@
 -- The first line that fails, line by line, and texts without a head or a game.
-use Rattle.std.proofs.Common.{Result, ◌≡◌, ◌⊎◌, ℕ, zero, suc, ◌+◌, ◌<◌, ◌≤◌, Bool, true, false, ◌&&◌, nat_le, cond, List, [], ◌∷◌, ◌++◌, length, take, drop, Option, Some, None, Ok, Err, refl, sym, ap, ◌∙◌, append_assoc, append-nil, inl, inr, arith}
+use Rattle.std.proofs.Common.{Result, ◌≡◌, ◌⊎◌, ℕ, zero, suc, ◌+◌, ◌<◌, ◌≤◌, Bool, true, false, nat_le, cond, List, [], ◌∷◌, ◌++◌, length, take, drop, Option, Some, None, Ok, Err, refl, sym, ap, ◌∙◌, append_assoc, append-nil, inl, inr, arith}
 use Rattle.std.specs.List.{range_with_len}
 use Rattle.std.specs.Str.{bytes_eq}
 use Rattle.std.proofs.lemmas.List.{length-append, length-take-le, take-append-drop, take_all}
 use Rattle.std.proofs.lemmas.Slice.Eq.{bytes_eq-Decides}
-use Rattle.std.proofs.lemmas.Bool.{cases_lt, cases_eq, lt-leb, and_left, and_right, false_from_ne_true}
+use Rattle.std.proofs.lemmas.Bool.{cases_lt, cases_eq, lt-leb, false_from_ne_true}
 use Rattle.game_rules.specs.Board.{below}
 use Rattle.game_rules.specs.Position.{Position}
 use Rattle.game_rules.specs.Text.{game_at}
@@ -16,6 +16,7 @@ use Rattle.proof_text.specs.Reading.{read_line}
 use Rattle.proof_text.specs.Texts.{pieces, lines_in, longest_line, most_lines, game_prefix, first_number, game_of, whole_game_of, behind_game, said_refusal, bytes_refusal, refusal_at, first_or, first_some, state_after, NoGame, Refused, verdict_answer, lines_answer, line_answer, with_bytes, check_from, start, answer_of, game_answer, first_line, pieces_answer, check_of}
 use Rattle.proof_text.proofs.Pieces.{IsFeedless, pieces_some, lines_line, lines_last}
 use Rattle.proof_text.proofs.Fold.{answer_by_lines}
+use Rattle.proof_text.proofs.Fitting.{long_unread}
 use Rattle.std.proofs.lemmas.Option.{some_pair_parts}
 use Rattle.game_rules.proofs.Lists.{chosen}
 use Rattle.proof_text.specs.declared.Verdict.{Verdict}
@@ -106,24 +107,21 @@ refused_first root lines at why h = of_first (first_some (refusal_at root lines)
 
 -- ---- line by line
 
--- a line that is too long or stands too far down is none
-pub out_of_bounds : (s : CheckerState) (at : ℕ) (bytes : List ℕ) → (most_lines < at) ⊎ (longest_line < length bytes) → bytes_refusal s at bytes ≡ Some BadLine
-out_of_bounds s at bytes h = failed (nat_le at most_lines && nat_le (length bytes) longest_line) (past h)
-  where
-    past : (most_lines < at) ⊎ (longest_line < length bytes) → (nat_le at most_lines && nat_le (length bytes) longest_line) ≡ false
-    past (inl late) = and_left (nat_le at most_lines) (nat_le (length bytes) longest_line) (lt-leb at most_lines late)
-    past (inr long) = and_right (nat_le at most_lines) (nat_le (length bytes) longest_line) (lt-leb (length bytes) longest_line long)
-
-    failed : (b : Bool) → b ≡ false → or_then (unless b BadLine) (said_refusal s (read_line (length s.root.columns) bytes)) ≡ Some BadLine
-    failed b e = rw e refl
-
 -- what is no line is refused so
 pub unread : (s : CheckerState) (at : ℕ) (bytes : List ℕ) → read_line (length s.root.columns) bytes ≡ None → bytes_refusal s at bytes ≡ Some BadLine
-unread s at bytes h = rw h (either (nat_le at most_lines && nat_le (length bytes) longest_line))
+unread s at bytes h = rw h (either (nat_le at most_lines))
   where
     either : (b : Bool) → or_then (unless b BadLine) (Some BadLine) ≡ Some BadLine
     either true = refl
     either false = refl
+
+-- a line that is too long or stands too far down is none
+pub out_of_bounds : (s : CheckerState) (at : ℕ) (bytes : List ℕ) → (most_lines < at) ⊎ (longest_line < length bytes) → bytes_refusal s at bytes ≡ Some BadLine
+out_of_bounds s at bytes (inl late) = failed (nat_le at most_lines) (lt-leb at most_lines late)
+  where
+    failed : (b : Bool) → b ≡ false → or_then (unless b BadLine) (said_refusal s (read_line (length s.root.columns) bytes)) ≡ Some BadLine
+    failed b e = rw e refl
+out_of_bounds s at bytes (inr long) = unread s at bytes (long_unread (length s.root.columns) bytes long)
 
 -- a text goes on with its first line
 pub check_line : (s : CheckerState) (at : ℕ) (line rest : List ℕ) → IsFeedless line

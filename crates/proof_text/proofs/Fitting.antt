@@ -1,6 +1,6 @@
 -- Every right lemma behind a game has a spelling, while its number has one; and no spelling is long.
-use Rattle.std.proofs.Common.{◌≡◌, ℕ, ◌+◌, ◌*◌, ◌<◌, ◌≤◌, true, nat_le, List, [], ◌∷◌, ◌++◌, map, filter, length, Some, None, refl, sym, ap, ◌∙◌, subst, inl, inr, arith, lit<}
-use Rattle.std.specs.List.{AllByRecursion}
+use Rattle.std.proofs.Common.{◌≡◌, ℕ, ◌+◌, ◌*◌, ◌<◌, ◌≤◌, true, ◌&&◌, ◌==◌, nat_le, List, [], ◌∷◌, ◌++◌, map, filter, length, Option, Some, None, refl, sym, ap, ◌∙◌, subst, inl, inr, arith, lit<}
+use Rattle.std.specs.List.{AllByRecursion, list_all}
 use Rattle.std.specs.Fmt.{decimal}
 use Rattle.std.proofs.lemmas.List.{length-append, length-map}
 use Rattle.std.proofs.lemmas.List.FromFn.{length-range_with_len}
@@ -15,10 +15,12 @@ use Rattle.game_rules.proofs.Values.{goes_on_room}
 use Rattle.game_rules.proofs.Ends.{legal_parts}
 use Rattle.game_rules.proofs.BoardLine.{empty_count_within}
 use Rattle.game_rules.proofs.Grammar.{board_along}
-use Rattle.proof_text.specs.Lemma.{Cite, Reason, ByEnd, ByOne, ByAll, Lemma}
+use Rattle.proof_text.specs.Lemma.{Cite, Reason, ByEnd, ByOne, ByAll, Lemma, Line, ALemma, ARemark, AVerdict}
 use Rattle.proof_text.specs.Right.{Shown, IsCited, HasReason, IsRight, AreRight, IsVerdict}
-use Rattle.proof_text.specs.Spelling.{spaced, claim_word, cite_word, reason_words, lemma_text, verdict_text, greatest_number, longest_path, most_cites, IsNumber, CiteFits, ReasonFits, Fits, VerdictFits}
+use Rattle.proof_text.specs.Spelling.{spaced, claim_word, cite_word, reason_words, lemma_text, verdict_text, greatest_number, longest_path, most_cites, IsNumber, CiteFits, ReasonFits, Fits, VerdictFits, longest_line, is_printable, IsLine}
+use Rattle.proof_text.specs.Reading.{read_line}
 use Rattle.proof_text.proofs.Append.{Shows_number}
+use Rattle.proof_text.proofs.Spelled.{line_read}
 use Rattle.proof_text.specs.declared.Claim.{Claim}
 use Rattle.proof_text.specs.declared.Claim.TheVariants.{WhiteWins, WhiteFails, BlackWins, BlackFails}
 use Rattle.proof_text.specs.declared.Verdict.{Verdict}
@@ -182,3 +184,19 @@ verdict_length (Draw n m) h =
     let second : length (decimal m) ≤ 8 = number_length m h.1 in
     omega (arith, length-append (decimal n) (32 ∷ decimal m))
 verdict_length Unknown h = omega arith
+
+-- no line has more bytes than a line may have
+pub line_short : (cols : ℕ) (bytes : List ℕ) (line : Line) → IsLine cols bytes line → length bytes ≤ longest_line
+line_short cols bytes (ALemma l) h = omega (arith, ap length h.1, lemma_length cols l h.0)
+line_short cols bytes (AVerdict v) h = omega (arith, ap length h.1, verdict_length v h.0)
+line_short cols [] ARemark h = omega arith
+line_short cols (byte ∷ bytes) ARemark h =
+    leb-true (length (byte ∷ bytes)) longest_line (and_parts (byte == 35 && list_all is_printable bytes) (nat_le (length (byte ∷ bytes)) longest_line) h).1
+
+-- so what is longer isn't read
+pub long_unread : (cols : ℕ) (bytes : List ℕ) → longest_line < length bytes → read_line cols bytes ≡ None
+long_unread cols bytes long = of (read_line cols bytes) refl
+  where
+    of : (found : Option Line) → read_line cols bytes ≡ found → found ≡ None
+    of None e = refl
+    of (Some line) e = absurd (omega (arith, line_short cols bytes line (line_read cols bytes line e)))

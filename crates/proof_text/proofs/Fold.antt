@@ -1,5 +1,5 @@
 -- Looking for the first line that fails is going through the lines one by one.
-use Rattle.std.proofs.Common.{◌≡◌, ℕ, ◌+◌, Bool, true, false, ◌&&◌, nat_le, List, [], ◌∷◌, ◌++◌, length, Option, Some, None, refl, sym, ap, ◌∙◌, append_assoc, append-nil, arith}
+use Rattle.std.proofs.Common.{◌≡◌, ℕ, ◌+◌, Bool, true, false, nat_le, List, [], ◌∷◌, ◌++◌, length, Option, Some, None, refl, sym, ap, ◌∙◌, append_assoc, append-nil, arith}
 use Rattle.std.specs.List.{range_with_len, filter_map, slice_index_or}
 use Rattle.std.proofs.lemmas.List.{length-append}
 use Rattle.std.proofs.lemmas.List.Elements.{filter_map-append}
@@ -9,7 +9,7 @@ use Rattle.proof_text.specs.Lemma.{Line, ALemma, ARemark, AVerdict}
 use Rattle.proof_text.specs.Right.{Shown}
 use Rattle.proof_text.specs.Checked.{first_verdict, unless, CheckerState, line_refusal, shown_of, with_line}
 use Rattle.proof_text.specs.Reading.{read_line}
-use Rattle.proof_text.specs.Texts.{most_lines, longest_line, first_number, shown_by, state_after, said_refusal, bytes_refusal, refusal_at, first_or, first_some, verdict_answer, lines_answer, with_said, with_bytes, line_answer, check_from, start, answer_of}
+use Rattle.proof_text.specs.Texts.{most_lines, first_number, shown_by, state_after, said_refusal, bytes_refusal, refusal_at, first_or, first_some, verdict_answer, lines_answer, with_said, with_bytes, line_answer, check_from, start, answer_of}
 use Rattle.proof_text.proofs.Refusals.{or_none, line_of_none}
 use Rattle.proof_text.specs.declared.Verdict.{Verdict}
 use Rattle.proof_text.specs.declared.Why.{Why}
@@ -46,17 +46,17 @@ said_push root said line h =
 
 -- a line that isn't refused is one, within the bounds, and stands behind no verdict
 pub bytes_of_none : (s : CheckerState) (at : ℕ) (bytes : List ℕ) → bytes_refusal s at bytes ≡ None
-    → (line : Line) × (read_line (length s.root.columns) bytes ≡ Some line) × (line_refusal s line ≡ None) × ((nat_le at most_lines && nat_le (length bytes) longest_line) ≡ true)
+    → (line : Line) × (read_line (length s.root.columns) bytes ≡ Some line) × (line_refusal s line ≡ None) × (nat_le at most_lines ≡ true)
 bytes_of_none s at bytes h =
-    let both = or_none (unless (nat_le at most_lines && nat_le (length bytes) longest_line) BadLine) (said_refusal s (read_line (length s.root.columns) bytes)) h in
-    said (read_line (length s.root.columns) bytes) refl both.1 (bound (nat_le at most_lines && nat_le (length bytes) longest_line) both.0)
+    let both = or_none (unless (nat_le at most_lines) BadLine) (said_refusal s (read_line (length s.root.columns) bytes)) h in
+    said (read_line (length s.root.columns) bytes) refl both.1 (bound (nat_le at most_lines) both.0)
   where
     bound : (b : Bool) → unless b BadLine ≡ None → b ≡ true
     bound true h = refl
     bound false h = cc
 
-    said : (line : Option Line) → read_line (length s.root.columns) bytes ≡ line → said_refusal s line ≡ None → (nat_le at most_lines && nat_le (length bytes) longest_line) ≡ true
-        → (line : Line) × (read_line (length s.root.columns) bytes ≡ Some line) × (line_refusal s line ≡ None) × ((nat_le at most_lines && nat_le (length bytes) longest_line) ≡ true)
+    said : (line : Option Line) → read_line (length s.root.columns) bytes ≡ line → said_refusal s line ≡ None → nat_le at most_lines ≡ true
+        → (line : Line) × (read_line (length s.root.columns) bytes ≡ Some line) × (line_refusal s line ≡ None) × (nat_le at most_lines ≡ true)
     said None e h bounds = cc
     said (Some line) e h bounds = (line, e, h, bounds)
 

@@ -1,5 +1,5 @@
 -- A line is read exactly where it is in the grammar; no spelling has a line feed, and none is that of two lines.
-use Rattle.std.proofs.Common.{◌≡◌, ℕ, ◌+◌, ◌%◌, ◌<◌, ◌≤◌, ◌^◌, Bool, true, false, ◌==◌, nat_le, cond, List, [], ◌∷◌, map, length, Some, codes, refl, sym, ap, ◌∙◌, subst, inl, inr, arith, lit<, lit≤}
+use Rattle.std.proofs.Common.{◌≡◌, ℕ, ◌+◌, ◌%◌, ◌<◌, ◌≤◌, ◌^◌, Bool, true, false, ◌&&◌, ◌==◌, nat_le, cond, List, [], ◌∷◌, map, length, Some, codes, refl, sym, ap, ◌∙◌, subst, inl, inr, arith, lit<, lit≤}
 use Rattle.std.specs.List.{All, AllByRecursion, list_all}
 use Rattle.std.specs.Str.{bytes_eq}
 use Rattle.std.specs.Fmt.{decimal}
@@ -12,7 +12,7 @@ use Rattle.std.proofs.lemmas.Bool.{and_parts, leb-true, eqb-true, ne_eqb, false_
 use Rattle.game_rules.specs.Grammar.{letter_of, move_list}
 use Rattle.game_rules.proofs.Lists.{chosen}
 use Rattle.proof_text.specs.Lemma.{Cite, Reason, ByEnd, ByOne, ByAll, Lemma, Line, ALemma, ARemark, AVerdict}
-use Rattle.proof_text.specs.Spelling.{spaced, claim_word, cite_word, reason_words, lemma_words, verdict_words, lemma_text, verdict_text, is_printable, is_remark, IsNumber, CiteFits, ReasonFits, Fits, VerdictFits, IsLine}
+use Rattle.proof_text.specs.Spelling.{spaced, claim_word, cite_word, reason_words, lemma_words, verdict_words, lemma_text, verdict_text, is_printable, is_remark, IsNumber, CiteFits, ReasonFits, Fits, VerdictFits, IsLine, longest_line}
 use Rattle.proof_text.specs.Reading.{words_of, lemma_of, verdict_of, line_of_words, read_line}
 use Rattle.proof_text.proofs.Append.{all_append, all_each}
 use Rattle.proof_text.proofs.Words.{map_some, lemma_read, lemma_spelled, verdict_read, verdict_spelled}
@@ -203,7 +203,7 @@ line_bytes cols bytes (ALemma l) h = subst (AllByRecursion (λ byte. 32 ≤ byte
 line_bytes cols bytes (AVerdict v) h = subst (AllByRecursion (λ byte. 32 ≤ byte)) (sym h.1) (spaced_bytes (verdict_words v) (plain_verdict v h.0))
 line_bytes cols [] ARemark h = tt
 line_bytes cols (byte ∷ bytes) ARemark h =
-    let both = and_parts (byte == 35) (list_all is_printable bytes) h in
+    let both = and_parts (byte == 35) (list_all is_printable bytes) (and_parts (byte == 35 && list_all is_printable bytes) (nat_le (length (byte ∷ bytes)) longest_line) h).0 in
     let hash : byte ≡ 35 = eqb-true byte 35 both.0 in
     (omega arith, printable bytes both.1)
   where

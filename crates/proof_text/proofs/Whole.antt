@@ -22,7 +22,6 @@ use Rattle.proof_text.specs.Texts.{pieces, last_line, lines_in, game_prefix, fir
 use Rattle.proof_text.proofs.Append.{all_append, all_each, length_shown}
 use Rattle.proof_text.proofs.Spelled.{plain_decimal, plain_moves, line_bytes}
 use Rattle.proof_text.proofs.Pieces.{IsFeedless, feedless_high, pieces_line, pieces_last, pieces_feedless, pieces_some, joined, cut_lines, lines_append, joined_lines}
-use Rattle.proof_text.proofs.Fitting.{verdict_length}
 use Rattle.proof_text.proofs.Fold.{answer_by_lines}
 use Rattle.proof_text.proofs.Accepted.{AreAccepted, accepted_lines, lines_accepted}
 use Rattle.proof_text.specs.declared.Verdict.{Verdict}
@@ -165,7 +164,6 @@ whole_accepted bytes v count h =
           verdict_fits = lines.verdict_fits;
           verdict_right = lines.verdict_right;
           counted = lines.counted ∙ shown_count root (lemmas_among lines.entries) lines.after lines.right;
-          short = lines.short;
           few = lines.few;
           spelled = sym (joined bytes) ∙ ap (join_with_byte 10) cut
               ∙ whole (board_line read.0) (moves_line read.1) (join_with_byte 10 (next ∷ more)) (entry_lines lines.entries ++ (verdict_text v ++ last_feed text.0)) read.4 read.5
@@ -241,5 +239,5 @@ right_accepted bytes v count text =
     ap check_of text.spelled
     ∙ text_answer text.board text.columns text.root (entry_lines text.entries ++ (verdict_text v ++ last_feed text.ended)) text.has_board text.has_moves
     ∙ ap (check_from (start text.root) first_number) (lines_behind text.board.cols text.entries v text.ended text.fit text.verdict_fits)
-    ∙ lines_accepted text.root [] first_number text.entries text.after v fit text.right text.verdict_fits text.verdict_right text.short (omega (arith, verdict_length v text.verdict_fits)) text.few
+    ∙ lines_accepted text.root [] first_number text.entries text.after v fit text.right text.verdict_fits text.verdict_right text.few
     ∙ ap (Accepted v) (shown_count text.root (lemmas_among text.entries) text.after text.right ∙ sym text.counted)

@@ -10,13 +10,13 @@ use Rattle.game_rules.specs.Position.{Position, board_of, empty_position, played
 use Rattle.game_rules.proofs.Grammar.{board_along}
 use Rattle.proof_text.specs.Lemma.{Lemma}
 use Rattle.proof_text.specs.Right.{Shown, AreRight}
-use Rattle.proof_text.specs.Spelling.{lemma_text, verdict_line, as_line, lines_of, is_remark, greatest_number, Fits}
-use Rattle.proof_text.specs.Texts.{first_line, longest_line, Accepted, check_of, Entry, LemmaEntry, RemarkEntry, entry_text, entry_lines, lemmas_among, EntryFits, head_of, IsRightText}
+use Rattle.proof_text.specs.Spelling.{verdict_line, as_line, lines_of, is_remark, greatest_number, Fits}
+use Rattle.proof_text.specs.Texts.{first_line, Accepted, check_of, Entry, LemmaEntry, RemarkEntry, entry_text, entry_lines, lemmas_among, EntryFits, head_of, IsRightText}
 use Rattle.proof_text.specs.Written.{IsAskedInTurn, IsRemarkLine, remark_line, AreSided, HasWritten, MayStand, IsProof}
 use Rattle.game_rules.specs.Grammar.{board_line, moves_line, game_text, IsGameText}
 use Rattle.game_rules.specs.declared.Side.TheVariants.{White, Black}
-use Rattle.proof_text.proofs.Append.{AreRight_append, all_append, all_left, all_right, all_each}
-use Rattle.proof_text.proofs.Fitting.{right_all_fit, right_verdict_fits, lemma_length}
+use Rattle.proof_text.proofs.Append.{AreRight_append, all_append, all_left, all_right}
+use Rattle.proof_text.proofs.Fitting.{right_all_fit, right_verdict_fits}
 use Rattle.proof_text.proofs.Whole.{cols_of_root, shown_count, right_accepted}
 use Rattle.proof_text.specs.declared.Verdict.{Verdict}
 
@@ -54,7 +54,7 @@ lines_remark None more = refl
 lines_remark (Some bytes) more = flat_map-cons (λ entry. as_line (entry_text entry)) (RemarkEntry bytes) more
 
 -- what holds of remarks and of lemmas
-all_remark : (P : Entry → Type 0) (remark : Option (List ℕ)) (more : List Entry) → ((bytes : List ℕ) → (is_remark bytes ≡ true) × (length bytes ≤ longest_line) → P (RemarkEntry bytes))
+all_remark : (P : Entry → Type 0) (remark : Option (List ℕ)) (more : List Entry) → ((bytes : List ℕ) → is_remark bytes ≡ true → P (RemarkEntry bytes))
     → IsRemarkLine remark → AllByRecursion P more → AllByRecursion P (remark_entries remark ++ more)
 all_remark P None more each one h = h
 all_remark P (Some bytes) more each one h = (each bytes one, h)
@@ -104,7 +104,7 @@ size_of white_remark white black_remark black =
 
 -- what holds of each remark and each lemma holds of each entry
 each_entry : (P : Entry → Type 0) (white_remark : Option (List ℕ)) (white : List Lemma) (black_remark : Option (List ℕ)) (black : List Lemma)
-    → ((bytes : List ℕ) → (is_remark bytes ≡ true) × (length bytes ≤ longest_line) → P (RemarkEntry bytes)) → IsRemarkLine white_remark → IsRemarkLine black_remark
+    → ((bytes : List ℕ) → is_remark bytes ≡ true → P (RemarkEntry bytes)) → IsRemarkLine white_remark → IsRemarkLine black_remark
     → AllByRecursion (λ l. P (LemmaEntry l)) (white ++ black) → AllByRecursion P (entries_of white_remark white black_remark black)
 each_entry P white_remark white black_remark black each one two ls =
     all_remark P white_remark (map LemmaEntry white ++ (remark_entries black_remark ++ map LemmaEntry black)) each one
@@ -137,13 +137,11 @@ proof_right board columns root text v proof has_board has_moves few =
       ended = true;
       has_board = has_board;
       has_moves = has_moves;
-      fit = each_entry (EntryFits board.cols) w.white_remark w.white w.black_remark w.black (λ bytes one. one.0) w.white_remarked w.black_remarked fits;
+      fit = each_entry (EntryFits board.cols) w.white_remark w.white w.black_remark w.black (λ bytes one. one) w.white_remarked w.black_remarked fits;
       right = subst (λ ls. AreRight root [] ls proof.after) (sym among) right;
       verdict_fits = right_verdict_fits root proof.after v few proof.verdict;
       verdict_right = proof.verdict;
       counted = count ∙ ap length (sym among);
-      short = each_entry (λ entry. length (entry_text entry) ≤ longest_line) w.white_remark w.white w.black_remark w.black (λ bytes one. one.1) w.white_remarked w.black_remarked
-          (all_each (Fits board.cols) (λ l. length (lemma_text l) ≤ longest_line) ls (λ l fit. omega (arith, lemma_length board.cols l fit)) fits);
       few = omega arith;
       spelled = w.spelled ∙ ap (λ rest. head_of board columns ++ rest) (sym (text_of w.white_remark w.white w.black_remark w.black (verdict_line v)));
     }

@@ -5,3 +5,4 @@ pub mod Spelling
 pub mod Reading
 pub mod Texts
 pub mod Written
+pub mod Words

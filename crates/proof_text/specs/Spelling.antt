@@ -56,13 +56,17 @@ verdict_line v = as_line (verdict_text v)
 abbrev pub lines_of : List Lemma → List ℕ
 lines_of ls = flat_map lemma_line ls
 
--- a remark begins with `#` and has printable bytes alone
+-- no line has more bytes, without its line feed
+abbrev pub longest_line : ℕ
+longest_line = 8192
+
+-- a remark begins with `#`, has printable bytes alone, and isn't longer than a line may be
 abbrev pub is_printable : ℕ → Bool
 is_printable byte = nat_le 32 byte && nat_le byte 126
 
 abbrev pub is_remark : List ℕ → Bool
 is_remark [] = false
-is_remark (byte ∷ bytes) = byte == 35 && list_all is_printable bytes
+is_remark (byte ∷ bytes) = byte == 35 && list_all is_printable bytes && nat_le (length (byte ∷ bytes)) longest_line
 
 -- ---- what has a spelling
 
@@ -100,7 +104,8 @@ VerdictFits (Loss n) = IsNumber n
 VerdictFits (Draw n m) = IsNumber n × IsNumber m
 VerdictFits Unknown = ⊤
 
--- The bytes are a line on a board with so many columns, and say this.
+-- The bytes are a line on a board with so many columns, and say this. That no line is longer than `longest_line` is said
+-- of remarks; lemmas and verdicts are shorter by themselves.
 abbrev pub IsLine : ℕ → List ℕ → Line → Type 0
 IsLine cols bytes (ALemma l) = Fits cols l × (bytes ≡ lemma_text l)
 IsLine cols bytes ARemark = is_remark bytes ≡ true

@@ -1,5 +1,5 @@
 -- Whole texts of proofs: which are right, and what is wrong with the others. A text is taken as a whole list of bytes.
-use Rattle.std.specs.Prelude.{◌≡◌, ◌≤◌, ℕ, ◌+◌, Bool, true, ◌&&◌, ◌==◌, nat_le, if◌then◌else◌, List, [], ◌∷◌, ◌++◌, length, take, filter_map, Option, Some, None, Result, Ok, Err, slice_index_or, codes, bytes_eq, flat_map}
+use Rattle.std.specs.Prelude.{◌≡◌, ◌≤◌, ℕ, ◌+◌, Bool, true, ◌==◌, nat_le, if◌then◌else◌, List, [], ◌∷◌, ◌++◌, length, take, filter_map, Option, Some, None, Result, Ok, Err, slice_index_or, codes, bytes_eq, flat_map}
 use Rattle.std.specs.List.{slice_split, AllByRecursion}
 use Rattle.game_rules.specs.Board.{Board, is_board, below}
 use Rattle.game_rules.specs.Position.{Position, empty_position, played}
@@ -10,6 +10,7 @@ use Rattle.proof_text.specs.Lemma.{Lemma, Line, ALemma, ARemark, AVerdict}
 use Rattle.proof_text.specs.Right.{Shown, AreRight, IsVerdict}
 use Rattle.proof_text.specs.Checked.{unless, or_then, CheckerState, line_refusal, shown_of, with_line, first_verdict}
 use Rattle.proof_text.specs.Spelling.{lemma_text, verdict_text, as_line, is_remark, Fits, VerdictFits}
+pub use Rattle.proof_text.specs.Spelling.{longest_line}
 use Rattle.proof_text.specs.Reading.{read_line}
 use Rattle.proof_text.specs.declared.Verdict.{Verdict}
 use Rattle.proof_text.specs.declared.Why.{Why}
@@ -34,10 +35,7 @@ lines_in [] = []
 lines_in (last ∷ []) = last_line last
 lines_in (piece ∷ next ∷ more) = piece ∷ lines_in (next ∷ more)
 
--- how long a line may be, how many bytes of a line of the game are looked at, and how many lines there may be
-abbrev pub longest_line : ℕ
-longest_line = 8192
-
+-- how many bytes of a line of the game are looked at, and how many lines there may be
 abbrev pub game_prefix : ℕ
 game_prefix = 256
 
@@ -92,7 +90,7 @@ said_refusal s (Some line) = line_refusal s line
 -- the name of what is wrong with a line, which has this number and stands behind what stands
 abbrev pub bytes_refusal : CheckerState → ℕ → List ℕ → Option Why
 bytes_refusal s at bytes =
-    or_then (unless (nat_le at most_lines && nat_le (length bytes) longest_line) BadLine) (said_refusal s (read_line (length s.root.columns) bytes))
+    or_then (unless (nat_le at most_lines) BadLine) (said_refusal s (read_line (length s.root.columns) bytes))
 
 -- what is wrong with the line at a place, the lines before it accepted
 abbrev pub refusal_at : Position → List (List ℕ) → ℕ → Option Why
@@ -214,6 +212,5 @@ pub record IsRightText (bytes : List ℕ) (v : Verdict) (count : ℕ) : Type 0 w
   pub verdict_fits : VerdictFits v
   pub verdict_right : IsVerdict root after v
   pub counted : count ≡ length (lemmas_among entries)
-  pub short : AllByRecursion (λ entry. length (entry_text entry) ≤ longest_line) entries
   pub few : length entries + first_number ≤ most_lines
   pub spelled : bytes ≡ head_of board columns ++ (entry_lines entries ++ (verdict_text v ++ last_feed ended))

@@ -1,6 +1,6 @@
 -- What stands written of a proof: its head, then for each of two questions a remark or none and right lemmas, and last
 -- the verdict.
-use Rattle.std.specs.Prelude.{◌≡◌, ◌≢◌, ◌≤◌, ◌⊎◌, ℕ, true, List, [], ◌++◌, length, Option, Some, None, ⊤}
+use Rattle.std.specs.Prelude.{◌≡◌, ◌≢◌, ◌⊎◌, ℕ, true, List, [], ◌++◌, Option, Some, None, ⊤}
 use Rattle.std.specs.List.{AllByRecursion}
 use Rattle.game_rules.specs.Position.{Position}
 use Rattle.game_rules.specs.declared.Side.{Side}
@@ -8,14 +8,13 @@ use Rattle.game_rules.specs.declared.Side.TheVariants.{White, Black}
 use Rattle.proof_text.specs.Lemma.{claim_side, Lemma}
 use Rattle.proof_text.specs.Right.{Shown, Shows, AreRight, IsVerdict}
 use Rattle.proof_text.specs.Spelling.{as_line, lines_of, verdict_line, is_remark}
-use Rattle.proof_text.specs.Texts.{longest_line}
 use Rattle.proof_text.specs.declared.Claim.TheVariants.{WhiteFails}
 use Rattle.proof_text.specs.declared.Verdict.{Verdict}
 
 -- a remark that may stand as a line, and its line; where there is none, nothing
 abbrev pub IsRemarkLine : Option (List ℕ) → Type 0
 IsRemarkLine None = ⊤
-IsRemarkLine (Some bytes) = (is_remark bytes ≡ true) × (length bytes ≤ longest_line)
+IsRemarkLine (Some bytes) = is_remark bytes ≡ true
 
 abbrev pub remark_line : Option (List ℕ) → List ℕ
 remark_line None = []

@@ -11,7 +11,7 @@ ghost use Rattle.game_rules.specs.declared.End.TheVariants as ends;
 ghost use Rattle.proof_text.specs.Lemma.{claim_holds, Lemma, Line};
 ghost use Rattle.proof_text.specs.Right.{Shown, IsRight, AreRight, IsVerdict, AreTrue, IsTrueVerdict};
 ghost use Rattle.proof_text.specs.Checked.{CheckerState, lemma_refusal, verdict_stands, checked, IsStateAfter};
-ghost use Rattle.proof_text.specs.Spelling.{lemma_text, verdict_text, as_line, greatest_number, Fits, VerdictFits, IsLine};
+ghost use Rattle.proof_text.specs.Spelling.{lemma_text, verdict_text, as_line, longest_line, greatest_number, Fits, VerdictFits, IsLine};
 ghost use Rattle.proof_text.specs.Reading.{read_line};
 ghost use Rattle.proof_text.specs.Texts.{is_feed, pieces, lines_in, first_number, game_of, whole_game_of, behind_game, state_after, refusal_at, CheckAnswer, NoGame, Refused, Accepted, verdict_answer, check_from, start, answer_of, first_line, check_of, head_of, IsRightText};
 ghost use Rattle.proof_text.specs.Written.{IsProof};
@@ -58,9 +58,10 @@ pub fn no_spelling_is_that_of_two()
     ensures apart { (cols : ℕ) (l : Lemma) (v : Verdict) → Fits cols l → VerdictFits v → lemma_text l ≢ verdict_text v }
 {}
 
-/// No line of the grammar has a line feed, and lemmas and verdicts are short.
+/// No line of the grammar has a line feed or more bytes than a line may have; lemmas and verdicts are much shorter.
 pub fn a_line_has_no_line_feed()
     ensures feed { (cols : ℕ) (bytes : List ℕ) (line : Line) → IsLine cols bytes line → AllByRecursion (λ byte. is_feed byte ≡ false) bytes }
+    ensures short { (cols : ℕ) (bytes : List ℕ) (line : Line) → IsLine cols bytes line → length bytes ≤ longest_line }
     ensures lemma { (cols : ℕ) (l : Lemma) → Fits cols l → length (lemma_text l) ≤ 226 }
     ensures verdict { (v : Verdict) → VerdictFits v → length (verdict_text v) ≤ 28 }
 {}

@@ -5,7 +5,13 @@
 //! `laws` is a law about the definitions: its contract is the theorem, and its body is empty.
 #![tactic(auto)]
 
+ghost use Rattle.std.specs.Prelude.{◌≡◌, ◌≤◌, length};
+ghost use Rattle.proof_text.specs.Lemma.{claim_for, claim_of_end};
+ghost use Rattle.proof_text.specs.Words.{verdict_word, why_word};
+
 pub mod laws;
+
+use game_rules::{End, Side};
 
 /// What a lemma says of its position: that a side wins under perfect play, or that it doesn't.
 #[derive(Clone, Copy, Debug, PartialEq, Eq, Hash)]
@@ -20,6 +26,32 @@ pub enum Claim {
     BlackFails,
 }
 
+impl Claim {
+    /// The claim that the side wins, or that it doesn't.
+    pub fn of(side: Side, wins: bool) -> Claim
+        ensures { result ≡ claim_for side wins }
+    {
+        match (side, wins) {
+            (Side::White, true) => Claim::WhiteWins,
+            (Side::White, false) => Claim::WhiteFails,
+            (Side::Black, true) => Claim::BlackWins,
+            (Side::Black, false) => Claim::BlackFails,
+        }
+    }
+
+    /// Whether the claim is true of a game that ended so.
+    pub fn holds_at(self, end: End) -> bool
+        ensures { result ≡ claim_of_end self end }
+    {
+        match self {
+            Claim::WhiteWins => matches!(end, End::White),
+            Claim::WhiteFails => !matches!(end, End::White),
+            Claim::BlackWins => matches!(end, End::Black),
+            Claim::BlackFails => !matches!(end, End::Black),
+        }
+    }
+}
+
 /// What a proof says of its root, for the side to move there, with the numbers of the lemmas that show it. Lemmas are
 /// numbered from 1.
 #[derive(Clone, Copy, Debug, PartialEq, Eq, Hash)]
@@ -32,6 +64,21 @@ pub enum Verdict {
     Draw(u32, u32),
     /// Nothing is said of the value.
     Unknown,
+}
+
+impl Verdict {
+    /// The word of the verdict, as its line has it behind `value`.
+    pub fn word(self) -> &'static [u8]
+        ensures word { result.now ≡ verdict_word self }
+        ensures short { length result.now ≤ 7 }
+    {
+        match self {
+            Verdict::Win(_) => b"win",
+            Verdict::Loss(_) => b"loss",
+            Verdict::Draw(..) => b"draw",
+            Verdict::Unknown => b"unknown",
+        }
+    }
 }
 
 /// Why a line of a proof is refused.
@@ -54,4 +101,23 @@ pub enum Why {
     BadVerdict,
     /// The text ends before its verdict.
     EndedEarly,
+}
+
+impl Why {
+    /// The name by which a report calls it.
+    pub fn word(self) -> &'static [u8]
+        ensures word { result.now ≡ why_word self }
+        ensures short { length result.now ≤ 13 }
+    {
+        match self {
+            Why::BadLine => b"BadLine",
+            Why::BadPath => b"BadPath",
+            Why::NoSuchLemma => b"NoSuchLemma",
+            Why::WrongPosition => b"WrongPosition",
+            Why::WrongClaim => b"WrongClaim",
+            Why::MissingMove => b"MissingMove",
+            Why::BadVerdict => b"BadVerdict",
+            Why::EndedEarly => b"EndedEarly",
+        }
+    }
 }

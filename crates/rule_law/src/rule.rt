@@ -1,10 +1,11 @@
 //! The trait of the nine rules: each call with its meaning, and the laws between the meanings.
-ghost use Rattle.std.specs.Prelude.{◌≡◌, Bool, List, Option};
+ghost use Rattle.std.specs.Prelude.{◌≡◌, Bool, List, Option, is_none, is_some};
 ghost use Rattle.game_rules.specs.Board.{Square};
 ghost use Rattle.game_rules.specs.Position.{Position};
 ghost use Rattle.game_rules.specs.Squares.{has_square, IsSetOf};
 ghost use Rattle.game_rules.specs.Groups.{Group};
 ghost use Rattle.plan_rules.specs.Rules.{Facts};
+ghost use Rattle.plan_rules.specs.Causes.{names_twins, names_no_reply};
 ghost use Rattle.plan_rules.specs.Laws.{StartLaw, LocalLaw, StepLaw, BarLaw, FactLaw};
 ghost use Rattle.plan_rules.specs.declared.Kind.{Kind};
 ghost use Rattle.rule_law.specs.KeptFacts.{facts_in};
@@ -27,8 +28,8 @@ pub trait Rule {
     /// Black's answer to White's move, at the position after it.
     ghost reply: { Self → Position → Square → Option Square };
 
-    /// Which sets of squares it promises, given the kept facts, that White never owns whole: the meaning of `bars`.
-    ghost barred: { Self → Facts → (Square → Bool) → Bool };
+    /// Which sets of squares it promises, given the kept facts, that White never owns whole.
+    ghost bars: { Self → Facts → (Square → Bool) → Bool };
 
     /// Whether the kept facts have what it rests on: the meaning of `is_supported`.
     ghost supported: { Self → Facts → Bool };
@@ -61,15 +62,16 @@ pub trait Rule {
     fn fits(&self, p: &Position) -> bool
         ensures { result ≡ fitted self.now p.now };
 
-    /// Black's answer to White's move `last`, at the position after it. None exactly where the rule names no square; of
-    /// the nine rules that is where `last` isn't in the zone, or is a Claimeven's upper square, or is a Lowinverse's top
-    /// while the other column is full.
+    /// Black's answer to White's move `last`, at the position after it. None exactly where the rule names no square:
+    /// where `last` isn't in the zone, or is a Claimeven's upper square, or is a Lowinverse's top while the other column
+    /// is full.
     fn reply(&self, now: &Position, last: Square) -> Option<Square>
-        ensures { result ≡ reply self.now now.now last };
+        ensures value { result ≡ reply self.now now.now last }
+        ensures missing { is_none result ≡ names_no_reply (kind self.now) (zone self.now) now.now last };
 
     /// Whether it promises, given the kept facts, that White never owns the whole set.
     fn bars(&self, kept: &Kept, set: Mask) -> bool
-        ensures { result ≡ barred self.now (facts_in kept.now) (has_square set) };
+        ensures { result ≡ bars self.now (facts_in kept.now) (has_square set) };
 
     /// Whether the kept facts have what it rests on; true for a zone rule, which rests on nothing.
     fn is_supported(&self, kept: &Kept) -> bool
@@ -83,10 +85,10 @@ pub trait Rule {
     fn pair(&self) -> Mask
         ensures { IsSetOf (has_square (pair self.now)) result };
 
-    /// The two squares that it puts among the kept twins; None for each rule that gives none, and of the nine rules
-    /// Baseinverse alone gives any.
+    /// The two squares that it puts among the kept twins; Some exactly where the rule is Baseinverse.
     fn twin(&self) -> Option<(Square, Square)>
-        ensures { result ≡ twin self.now };
+        ensures value { result ≡ twin self.now }
+        ensures found { is_some result ≡ names_twins (kind self.now) };
 
     /// Start: an instance that fits is calm, and its line is a line of the position's board.
     ghost starts: { (x : Self) → StartLaw (fitted x) (calm x) (line x) };
@@ -102,7 +104,7 @@ pub trait Rule {
     /// Bar: the instance fitted where the empty squares were the kept ones, it is supported by the kept facts and calm,
     /// the kept facts are true of the men, and Black's men are still there. Then White owns no barred set whole; for a
     /// rule with a line, where White owns one, the line is all Black's.
-    ghost bar: { (x : Self) → BarLaw (fitted x) (supported x) (calm x) (barred x) (line x) };
+    ghost bar: { (x : Self) → BarLaw (fitted x) (supported x) (calm x) (bars x) (line x) };
 
     /// An instance that fitted and is calm makes its own entries of the kept facts true.
     ghost keeps: { (x : Self) → FactLaw (fitted x) (calm x) (upper x) (pair x) (twin x) };

@@ -101,9 +101,9 @@ module _ (root : Position) (nodes : ℕ) (old held new : Option (List ℕ)) (cou
   }
 
   module _ (second : Answer) (black : Solves root root Black white.after held new counted (Ok second)) (few : counted ≤ nodes) where
-    -- Black wins
-    pub asks_black : (to_move : Side) (v : Verdict) → second.yes ≡ true → to_move ≡ side_to_move root → v ≡ won_by Black to_move second.lemma → Asks root nodes old new (Ok v)
-    asks_black to_move v won turn told = record {
+    -- a verdict behind the lemmas of both questions
+    both_asked : (v : Verdict) → IsVerdict root black.after v × (v ≢ Unknown) → Asks root nodes old new (Ok v)
+    both_asked v verdict = record {
       white = white.more;
       mid = white.after;
       black = black.more;
@@ -114,37 +114,28 @@ module _ (root : Position) (nodes : ℕ) (old held new : Option (List ℕ)) (cou
       white_sided = white.sided;
       black_sided = black.sided;
       asked = λ _. (first.lemma, white_fails);
-      verdict = (
-        rw told (won_verdict root black.after Black to_move second.lemma turn (subst (λ b. Shows black.after second.lemma root (claim_for Black b)) won black.shown)),
-        (λ h. won_known Black to_move second.lemma (sym told ∙ h)),
-      );
+      verdict = verdict;
       few = omega (arith, black.counted, few);
     }
+
+    -- Black wins
+    pub asks_black : (to_move : Side) (v : Verdict) → second.yes ≡ true → to_move ≡ side_to_move root → v ≡ won_by Black to_move second.lemma → Asks root nodes old new (Ok v)
+    asks_black to_move v won turn told = both_asked v (
+      rw told (won_verdict root black.after Black to_move second.lemma turn (subst (λ b. Shows black.after second.lemma root (claim_for Black b)) won black.shown)),
+      (λ h. won_known Black to_move second.lemma (sym told ∙ h)),
+    )
 
     -- neither wins
     pub asks_draw : second.yes ≡ false → Asks root nodes old new (Ok (Draw first.lemma second.lemma))
     asks_draw never =
         let fresh = shown_more root white.after black.more black.after black.right in
-        record {
-          white = white.more;
-          mid = white.after;
-          black = black.more;
-          after = black.after;
-          text = AppendsPrefix_more true old held new (lines_of white.more) (lines_of black.more) white.text black.text;
-          white_right = white.right;
-          black_right = black.right;
-          white_sided = white.sided;
-          black_sided = black.sided;
-          asked = λ _. (first.lemma, white_fails);
-          verdict = (
-            (
-              subst (λ after. Shows after first.lemma root (claim_for White false)) (sym fresh.1) (Shows_more white.after fresh.0 first.lemma root (claim_for White false) white_fails),
-              subst (λ b. Shows black.after second.lemma root (claim_for Black b)) never black.shown,
-            ),
-            (λ h. cc),
-          );
-          few = omega (arith, black.counted, few);
-        }
+        both_asked (Draw first.lemma second.lemma) (
+          (
+            subst (λ after. Shows after first.lemma root (claim_for White false)) (sym fresh.1) (Shows_more white.after fresh.0 first.lemma root (claim_for White false) white_fails),
+            subst (λ b. Shows black.after second.lemma root (claim_for Black b)) never black.shown,
+          ),
+          (λ h. cc),
+        )
 
 pub same_stop : {A : Type 0} (r : Result A SearchStop) (stop other : SearchStop) → r ≡ Err stop → r ≡ Err other → stop ≡ other
 same_stop r stop other h k = cc

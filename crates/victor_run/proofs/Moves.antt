@@ -4,11 +4,14 @@ use Rattle.std.proofs.lemmas.List.{drop_more, drop_all}
 use Rattle.std.specs.List.{list_any}
 use mathlib.Core.Bool.{beq}
 use Rattle.game_rules.specs.Position.{Position, has_room, after_move, same_side, side_to_move, end_of}
-use Rattle.game_rules.specs.Value.{wins}
+use Rattle.game_rules.specs.Value.{wins, same_end}
 use Rattle.game_rules.specs.Cost.{decides, moved_out, count_until, count, none_closed}
 use Rattle.game_rules.specs.declared.Side.{Side}
 use Rattle.game_rules.specs.declared.Side.TheVariants.{White, Black}
+use Rattle.game_rules.specs.declared.End.{End}
+use Rattle.game_rules.specs.declared.End.TheVariants as ends
 use Rattle.game_rules.specs.contracts.SidePartialEq.TheImpl.{eq-value}
+use Rattle.game_rules.specs.contracts.EndPartialEq.TheImpl as end_eq
 use Rattle.game_rules.proofs.Costs.{wins_step, count_step}
 
 -- the positions after the moves into the columns from place i on
@@ -30,6 +33,18 @@ side_same White White = refl
 side_same White Black = refl
 side_same Black White = refl
 side_same Black Black = refl
+
+-- and so are ends
+pub end_same : (a b : End) → end_eq.eq-value.it a b ≡ same_end a b
+end_same ends.White ends.White = refl
+end_same ends.White ends.Black = refl
+end_same ends.White ends.Draw = refl
+end_same ends.Black ends.White = refl
+end_same ends.Black ends.Black = refl
+end_same ends.Black ends.Draw = refl
+end_same ends.Draw ends.White = refl
+end_same ends.Draw ends.Black = refl
+end_same ends.Draw ends.Draw = refl
 
 module _ (side : Side) (p : Position) (own : Bool) (is_own : own ≡ same_side side (side_to_move p)) where
   pub decides_yes : (q : Position) (won : Bool) → won ≡ wins side q → won ≡ own → decides side p q ≡ true

@@ -1,11 +1,9 @@
 -- The texts for the error stream, byte by byte.
 use Rattle.std.specs.Prelude.{ℕ, List, [], ◌++◌, codes, decimal}
 use Rattle.game_rules.specs.declared.InputFault.{InputFault}
-use Rattle.game_rules.specs.declared.InputKind.{InputKind}
-use Rattle.game_rules.specs.declared.InputKind.TheVariants.{BadHeader, BadSize, BadColumn, ColumnFull, GameOver, Trailing}
+use Rattle.game_rules.specs.Words.{kind_word}
 use Rattle.proof_text.specs.Spelling.{as_line}
-use Rattle.proof_text.specs.declared.Why.{Why}
-use Rattle.proof_text.specs.declared.Why.TheVariants.{BadLine, BadPath, NoSuchLemma, WrongPosition, WrongClaim, MissingMove, BadVerdict, EndedEarly}
+use Rattle.proof_text.specs.Words.{why_word}
 use Rattle.cert_checker.specs.declared.stops.Refusal.{Refusal}
 use Rattle.victor_run.specs.declared.ending.Ending.{Ending}
 use Rattle.victor_run.specs.declared.ending.Ending.TheVariants as endings
@@ -13,27 +11,9 @@ use Rattle.victor_run.specs.declared.ending.Ending.TheVariants as endings
 abbrev pub usage : List ℕ
 usage = codes "usage: victor prove [--nodes N] [--reach K] [--front F] [--table T] | check | play | explain [--reach K] | drill COLS ROWS MOVES SEED GAMES [--nodes N] [--reach K]"
 
-abbrev pub kind_word : InputKind → List ℕ
-kind_word BadHeader = codes "BadHeader"
-kind_word BadSize = codes "BadSize"
-kind_word BadColumn = codes "BadColumn"
-kind_word ColumnFull = codes "ColumnFull"
-kind_word GameOver = codes "GameOver"
-kind_word Trailing = codes "Trailing"
-
 -- the kind of the fault and its byte place
 abbrev pub fault_line : InputFault → List ℕ
 fault_line fault = as_line (codes "input fault: " ++ kind_word fault.kind ++ codes " at " ++ decimal fault.at)
-
-abbrev pub why_word : Why → List ℕ
-why_word BadLine = codes "BadLine"
-why_word BadPath = codes "BadPath"
-why_word NoSuchLemma = codes "NoSuchLemma"
-why_word WrongPosition = codes "WrongPosition"
-why_word WrongClaim = codes "WrongClaim"
-why_word MissingMove = codes "MissingMove"
-why_word BadVerdict = codes "BadVerdict"
-why_word EndedEarly = codes "EndedEarly"
 
 -- the number of the line that is refused, and why
 abbrev pub refusal_line : Refusal → List ℕ

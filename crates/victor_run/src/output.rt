@@ -3,16 +3,15 @@ ghost use Rattle.std.specs.Prelude.{◌≡◌, ◌≤◌, ◌++◌, codes, decim
 ghost use Rattle.arrayvec.specs.ArrayVec.{array_vec_len};
 ghost use Rattle.device_rules.specs.Devices.{HasCause, AppendsPrefix};
 ghost use Rattle.proof_text.specs.Spelling.{as_line};
-ghost use Rattle.victor_run.specs.Output.{fault_text, fault_line, kind_word, refusal_line, why_word};
+ghost use Rattle.victor_run.specs.Output.{fault_text, fault_line, refusal_line};
 ghost use Rattle.victor_run.specs.Outcome.{Reports};
 
 use crate::ending::Ending;
-use board_bits::{InputFault, InputKind};
+use board_bits::InputFault;
 use cert_checker::Refusal;
 use cert_format::{LineText, push_number, push_text};
 use io_ports::{Failed, Sink, put_all};
 use itoa::Buffer;
-use proof_text::Why;
 
 const USAGE: &[u8] =
     b"usage: victor prove [--nodes N] [--reach K] [--front F] [--table T] | check | play | explain [--reach K] | drill COLS ROWS MOVES SEED GAMES [--nodes N] [--reach K]\n";
@@ -50,24 +49,10 @@ fn push_input_fault(text: &mut LineText, fault: InputFault)
     ensures { text.new.items ≡ text.old.items ++ fault_line fault }
 {
     push_text(text, b"input fault: ");
-    push_text(text, kind_word(fault.kind));
+    push_text(text, fault.kind.word());
     push_text(text, b" at ");
     push_number(text, fault.at);
     text.push(b'\n');
-}
-
-fn kind_word(kind: InputKind) -> &'static [u8]
-    ensures word { result.now ≡ kind_word kind }
-    ensures short { length result.now ≤ 10 }
-{
-    match kind {
-        InputKind::BadHeader => b"BadHeader",
-        InputKind::BadSize => b"BadSize",
-        InputKind::BadColumn => b"BadColumn",
-        InputKind::ColumnFull => b"ColumnFull",
-        InputKind::GameOver => b"GameOver",
-        InputKind::Trailing => b"Trailing",
-    }
 }
 
 /// The number of the line that is refused, and why.
@@ -79,24 +64,8 @@ fn push_refusal(text: &mut LineText, refusal: Refusal)
     push_text(text, b"refused line ");
     push_text(text, digits.format(refusal.at).as_bytes());
     push_text(text, b": ");
-    push_text(text, why_word(refusal.why));
+    push_text(text, refusal.why.word());
     text.push(b'\n');
-}
-
-fn why_word(why: Why) -> &'static [u8]
-    ensures word { result.now ≡ why_word why }
-    ensures short { length result.now ≤ 13 }
-{
-    match why {
-        Why::BadLine => b"BadLine",
-        Why::BadPath => b"BadPath",
-        Why::NoSuchLemma => b"NoSuchLemma",
-        Why::WrongPosition => b"WrongPosition",
-        Why::WrongClaim => b"WrongClaim",
-        Why::MissingMove => b"MissingMove",
-        Why::BadVerdict => b"BadVerdict",
-        Why::EndedEarly => b"EndedEarly",
-    }
 }
 
 /// Writes a line, and hands on what was written.

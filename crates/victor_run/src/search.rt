@@ -3,16 +3,16 @@
 ghost use Rattle.std.specs.Prelude.{◌≡◌, ℕ, ◌+◌, ◌<◌, ◌≤◌, List, Ok, Err, Some, length, map, IfOk, OnOk};
 ghost use Rattle.device_rules.specs.Devices.{Rose};
 ghost use Rattle.game_rules.specs.Position.{Position as Men, played, empty_count, open_columns};
-ghost use Rattle.game_rules.specs.Value.{wins, win_of, same_end};
+ghost use Rattle.game_rules.specs.Value.{wins};
 ghost use Rattle.game_rules.specs.Cost.{centre_out, count, cost, none_closed};
-ghost use Rattle.proof_text.specs.Lemma.{claim_for, ByAll};
+ghost use Rattle.proof_text.specs.Lemma.{claim_for};
 ghost use Rattle.proof_text.specs.Right.{Shown, HasReason};
 ghost use Rattle.cert_format.specs.Shape.{cite_of, reason_of};
 ghost use Rattle.victor_run.specs.Search.{uncounted, Solves, Asks, cites_from, won_by};
 ghost use Rattle.victor_run.specs.declared.search.SearchStop.TheVariants as stops;
 
 use arrayvec::ArrayVec;
-use board_bits::{Column, End, MOST_COLS, MOST_SQUARES, Position, Side, centre_out};
+use board_bits::{Column, MOST_COLS, MOST_SQUARES, Position, Side, centre_out};
 use cert_format::{Cite, Claim, LemmaOut, Reason, Verdict};
 use io_ports::{Failed, Sink};
 
@@ -63,7 +63,7 @@ pub(crate) fn solve<O: Sink>(
     };
     *budget = left;
     if let Some(end) = position.ended() {
-        return put_lemma(path, side, is_win(side, end), Reason::Ended, lemmas, out);
+        return put_lemma(path, side, side.win() == end, Reason::Ended, lemmas, out);
     }
     let own = side == position.to_move();
     let mut numbers = [0; MOST_COLS];
@@ -91,7 +91,8 @@ pub(crate) fn solve<O: Sink>(
             numbers[column.index() as usize] = found.lemma;
         }
     }
-    put_lemma_by_all(position, path, side, !own, &numbers, lemmas, out)
+    let all = Reason::All(cites_from(position, &numbers));
+    put_lemma(path, side, !own, all, lemmas, out)
 }
 
 /// Puts a lemma, and answers with its number.
@@ -114,35 +115,10 @@ fn put_lemma<O: Sink>(
         → HasReason known p (claim_for side yes) (reason_of reason)
         → Solves root p side known (O.written out.old) (O.written out.new) lemmas.new result }
 {
-    match lemmas.put(out, path, claim_for(side, yes), reason) {
+    match lemmas.put(out, path, Claim::of(side, yes), reason) {
         Ok(lemma) => Ok(Answer { yes, lemma }),
         Err(Failed) => Err(SearchStop::WriteFault),
     }
-}
-
-/// Puts the lemma that every move leads to one that claims the same; their numbers stand at their columns.
-fn put_lemma_by_all<O: Sink>(
-    position: &Position,
-    path: &[Column],
-    side: Side,
-    yes: bool,
-    numbers: &[u32; MOST_COLS],
-    lemmas: &mut LemmaOut,
-    out: &mut O,
-) -> Result<Answer, SearchStop>
-    requires room { lemmas.old < 10000000 }
-    requires deep { length path.now ≤ 100 }
-    ensures answer { IfOk result (λ answer. answer.yes ≡ yes) }
-    ensures spent { result ≡ Err stops.Spent → ⊥ }
-    ensures few { lemmas.new + uncounted result ≤ lemmas.old + 1 }
-    ensures later { O.faults out.old ≤ O.faults out.new }
-    ensures fault { result ≡ Err stops.WriteFault → Rose (O.faults out.old) (O.faults out.new) }
-    ensures wrote { (root : Men) (known : List Shown) → played root path.now ≡ Some position.now → length known ≡ lemmas.old
-        → HasReason known position.now (claim_for side yes) (ByAll (cites_from numbers.now (open_columns position.now)))
-        → Solves root position.now side known (O.written out.old) (O.written out.new) lemmas.new result }
-{
-    let cites = cites_from(position, numbers);
-    put_lemma(path, side, yes, Reason::All(cites), lemmas, out)
 }
 
 /// The playable columns, each with the lemma whose number stands at its place.
@@ -160,18 +136,6 @@ fn cites_from(position: &Position, numbers: &[u32; MOST_COLS]) -> ArrayVec<Cite,
         }
     }
     cites
-}
-
-/// The claim that the side wins, or that it doesn't.
-fn claim_for(side: Side, yes: bool) -> Claim
-    ensures { result ≡ claim_for side yes }
-{
-    match (side, yes) {
-        (Side::White, true) => Claim::WhiteWins,
-        (Side::White, false) => Claim::WhiteFails,
-        (Side::Black, true) => Claim::BlackWins,
-        (Side::Black, false) => Claim::BlackFails,
-    }
 }
 
 /// Asks whether White wins and, where it doesn't, whether Black does, within one budget of `nodes` positions. `Spent`
@@ -227,14 +191,5 @@ fn won_by(winner: Side, to_move: Side, lemma: u32) -> Verdict
         Verdict::Win(lemma)
     } else {
         Verdict::Loss(lemma)
-    }
-}
-
-fn is_win(side: Side, end: End) -> bool
-    ensures { result ≡ same_end (win_of side) end }
-{
-    match side {
-        Side::White => matches!(end, End::White),
-        Side::Black => matches!(end, End::Black),
     }
 }

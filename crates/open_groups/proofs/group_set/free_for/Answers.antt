@@ -1,6 +1,7 @@
 use Rattle.std.proofs.Common.{◌≡◌, false, not, [], ◌&&◌, take, refl, sym, ap, ◌∙◌, subst}
 use Rattle.std.proofs.lemmas.List.{take_all}
-use Rattle.game_rules.specs.Position.{board_of}
+use Rattle.game_rules.specs.Position.{board_of, has_man}
+use Rattle.game_rules.specs.Squares.{IsSetOf}
 use Rattle.game_rules.specs.Groups.{lies_on, groups_of, has_group, is_free_for, IsGroupSetOf}
 use Rattle.game_rules.proofs.Groups.{has_group_of, group_set_same}
 use Rattle.open_groups.proofs.Free.{others_are, group_passes, group_fails}
@@ -13,7 +14,7 @@ loop-group-init c = group_set_same (λ _. false) (λ g. has_group [] g && is_fre
 pub loop-group-preserved : goal.loop-group-preserved
 loop-group-preserved c =
     let gs = c.as_slice-group-items.result.now in let i = c.loop-group.group-index in let g = c.group-item.result in
-    let clear = c.is_clear_of.ensures ∙ ap not (others_are c.args.p.now c.args.side g c.men_of_other-others.result c.men_of_other-others.ensures) in
+    let clear = c.is_clear_of.ensures ∙ ap not (others_are c.args.p.now c.args.side g c.men-others.result (subst (λ s. IsSetOf (has_man c.args.p.now s) c.men-others.result) c.other.ensures c.men-others.ensures)) in
     elim c.if-is_clear_of.branch [
       | then-is_clear_of w ↦ group_passes gs i g (is_free_for c.args.side c.args.p.now) c.loop-group-test.true c.group-item.is c.loop-group.free c.if-is_clear_of.free
           (sym clear ∙ w.if-is_clear_of.true) c.loop-group.invariant (subst (IsGroupSetOf _) (sym w.free-is) w.with-free.ensures)

@@ -8,4 +8,4 @@ returns-clause-answers g c = λ start.
     let x = c.args.rule.now in
     first_answer (g.R.Rule.zone x) (g.R.Rule.fitted x) (g.R.Rule.calm x) (g.R.Rule.reply x) (g.R.Rule.line x) (g.met.R.Rule.starts x) (g.met.R.Rule.steps x)
     c.args.p.now c.args.last c.requires start c.reply.result
-    (c.reply.ensures ∙ ap (λ q. g.R.Rule.reply x q c.args.last) (c.after-now.ensures ∙ ap (after_move c.args.p.now) c.column.ensures))
+    (c.reply.ensures.value ∙ ap (λ q. g.R.Rule.reply x q c.args.last) (c.after-now.ensures ∙ ap (after_move c.args.p.now) c.column.ensures))

@@ -8,8 +8,10 @@ use Rattle.game_rules.specs.Cost.{decides, count_until, count, none_closed, cent
 use Rattle.game_rules.proofs.Values.{value_at_end}
 use Rattle.game_rules.proofs.Costs.{count_closed, count_positive}
 use Rattle.game_rules.proofs.Moves.{empty_count_moved, cols_moved}
+use Rattle.proof_text.specs.Lemma.{claim_for, ByAll}
+use Rattle.proof_text.specs.Right.{HasReason}
 use Rattle.victor_run.specs.Search.{Solves}
-use Rattle.victor_run.proofs.Moves.{side_same, moves_left_room, moves_left_none, moves_left_full, any_after, other_from_apart, decides_yes, decides_no, some_decides, none_decides, left_at, spent_at, spent_after, left_none, same_from_beq, apart_from_beq}
+use Rattle.victor_run.proofs.Moves.{side_same, end_same, moves_left_room, moves_left_none, moves_left_full, any_after, other_from_apart, decides_yes, decides_no, some_decides, none_decides, left_at, spent_at, spent_after, left_none, same_from_beq, apart_from_beq}
 use Rattle.victor_run.proofs.Proving.{ok_more, on_ok, played_more, closed_by_one, closed_by_all, path_back, so_far_start, so_far_full, so_far_more, then_stopped}
 use Rattle.victor_run.proofs.search.+solve.Goals as goal
 use Rattle.victor_run.proofs.search.+solve.Goals.{then-has_room+in_ok-found+else-found-own, else-has_room}
@@ -19,7 +21,7 @@ returns-in_default-clause-spent g t c _ = omega (arith, c.in_default.ensures, co
 
 pub returns-in-Some-ended-clause-answer : goal.returns-in-Some-ended-clause-answer
 returns-in-Some-ended-clause-answer g t c = ok_more c.put_lemma.result _ _ c.put_lemma.ensures.answer (λ answer told.
-    told ∙ c.is_win.ensures ∙ ap (same_end (win_of c.args.side)) (sym (value_at_end c.args.position.now c.in-Some-ended.end (sym c.ended.ensures ∙ c.in-Some-ended.is))))
+    told ∙ c.eq.ensures ∙ end_same c.win.result c.in-Some-ended.end ∙ ap (λ e. same_end e c.in-Some-ended.end) c.win.ensures ∙ ap (same_end (win_of c.args.side)) (sym (value_at_end c.args.position.now c.in-Some-ended.end (sym c.ended.ensures ∙ c.in-Some-ended.is))))
 
 pub returns-in-Some-ended-clause-left : goal.returns-in-Some-ended-clause-left
 returns-in-Some-ended-clause-left g t c =
@@ -131,13 +133,13 @@ returns-clause-answer g t c =
     let is_own : c.eq-own.result ≡ same_side c.args.side (side_to_move p) = c.eq-own.ensures ∙ side_same c.args.side c.to_move.result ∙ ap (same_side c.args.side) c.to_move.ensures in
     let none : not c.eq-own.result ≡ wins c.args.side p = none_decides c.args.side p c.eq-own.result is_own going
     (sym c.loop-column.invariant.answer ∙ ap (list_any (decides c.args.side p)) (moves_left_none p order c.loop-column.column-index c.loop-column-test.false)) in
-    ok_more c.put_lemma_by_all.result _ _ c.put_lemma_by_all.ensures.answer (λ answer told. told ∙ none)
+    ok_more c.put_lemma-2.result _ _ c.put_lemma-2.ensures.answer (λ answer told. told ∙ none)
 
 pub returns-clause-left : goal.returns-clause-left
 returns-clause-left g t c =
     let p = c.args.position.now in let order = c.args.order.now in
     let going : end_of p ≡ None = sym c.ended.ensures ∙ c.in_default-ended.is in
-    on_ok c.put_lemma_by_all.result _ (left_none c.args.side p going c.args.budget.now c.loop-column.budget
+    on_ok c.put_lemma-2.result _ (left_none c.args.side p going c.args.budget.now c.loop-column.budget
     (ap (λ qs. c.args.budget.now + count_until (decides c.args.side p) (count none_closed c.args.side) qs) (sym (moves_left_none p order c.loop-column.column-index c.loop-column-test.false)) ∙ c.loop-column.invariant.spent))
 
 pub returns-clause-wrote : goal.returns-clause-wrote
@@ -147,9 +149,10 @@ returns-clause-wrote g t c root known along many =
     let going : end_of p ≡ None = sym c.ended.ensures ∙ c.in_default-ended.is in
     let is_own : c.eq-own.result ≡ same_side c.args.side (side_to_move p) = c.eq-own.ensures ∙ side_same c.args.side c.to_move.result ∙ ap (same_side c.args.side) c.to_move.ensures in
     let back : c.deref-2.result.now ≡ c.args.path.now.items = c.deref-2.ensures.0 ∙ c.loop-column.invariant.same_path in
-    closed_by_all root p c.args.side c.eq-own.result known _ _ _ c.loop-column.lemmas c.put_lemma_by_all.new.lemmas c.loop-column.numbers c.args.order.now c.loop-column.column-index c.put_lemma_by_all.result
+    closed_by_all root p c.args.side c.eq-own.result known _ _ _ c.loop-column.lemmas c.put_lemma-2.new.lemmas c.loop-column.numbers c.args.order.now c.loop-column.column-index c.put_lemma-2.result
     so_far going is_own c.loop-column-test.false c.requires.order
-    (λ also counted reason. c.put_lemma_by_all.ensures.wrote root also (ap (played root) back ∙ along) counted reason)
+    (λ also counted reason. c.put_lemma-2.ensures.wrote root p also (ap (played root) back ∙ along) counted
+    (subst (λ cites. HasReason also p (claim_for c.args.side (not c.eq-own.result)) (ByAll cites)) (sym c.cites_from.ensures) reason))
 
 pub loop-column-preserved : goal.loop-column-preserved
 loop-column-preserved g t c =

@@ -1,6 +1,0 @@
-use Rattle.game_rules.specs.declared.Side.TheVariants.{Black}
-use Rattle.board_bits.proofs.Masks.{held_men}
-use Rattle.board_bits.proofs.position.Position.black.Goals as goal
-
-pub returns : goal.returns
-returns c = held_men c.args.self.now Black c.squares_with.result c.squares_with.ensures.stacked c.squares_with.ensures.squares
