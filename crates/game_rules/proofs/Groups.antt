@@ -7,7 +7,7 @@ use Rattle.std.proofs.lemmas.List.Concat.{flat_map-cons}
 use Rattle.std.proofs.lemmas.List.Folds.{list_any-append}
 use Rattle.std.proofs.lemmas.List.Kept.{AllPairs-cons}
 use Rattle.game_rules.specs.Board.{Board, Square, below, is_cols, is_rows, is_board, on_board, step_of, is_line, ways}
-use Rattle.game_rules.specs.Position.{Position, board_of, has_man, four_at, four_in_column, four_along, has_four}
+use Rattle.game_rules.specs.Position.{Position, board_of, has_man, has_line_at, has_line_in_column, has_line_along, has_line}
 use Rattle.game_rules.specs.Squares.{same_square, has_square, squares_in_column, squares_of_board, widest, Precedes as SquarePrecedes}
 use Rattle.game_rules.specs.Groups.{Group, squares_of, lies_on, rank, same_group, has_group, groups_along, groups_of, Precedes, groups_where, IsGroupSetOf}
 use Rattle.game_rules.proofs.Lists.{Among, any_gives, any_from, any_same, any_map, all_gives, Among-append_cases, Among-filter, Among-filter_gives, Among-map, Among-flat_map, Among-flat_map_gives, Among-range_gives, Among-below, Among-below_gives}
@@ -224,22 +224,22 @@ any_filter p q (x ∷ xs) = elim (cases_Bool (q x)) [
 ]
 
 -- a side has four in a line exactly where it owns all squares of some group
-pub four_by_groups : (p : Position) (side : Side) → has_four p side ≡ list_any (λ g. list_all (has_man p side) (squares_of g)) (groups_of (board_of p))
+pub has_line_by_groups : (p : Position) (side : Side) → has_line p side ≡ list_any (λ g. list_all (has_man p side) (squares_of g)) (groups_of (board_of p))
 unfolding groups_of squares_of_board
-four_by_groups p side =
-    any_same (four_along p side) (λ way. list_any owned (groups_along (board_of p) way)) ways (λ way _. along way)
+has_line_by_groups p side =
+    any_same (has_line_along p side) (λ way. list_any owned (groups_along (board_of p) way)) ways (λ way _. along way)
     ∙ sym (any_flat_map owned (groups_along (board_of p)) ways)
   where
     owned : Group → Bool
     owned g = list_all (has_man p side) (squares_of g)
 
-    in_column : (way : Way) (c : ℕ) → four_in_column p side way c ≡ list_any (four_at p side way) (squares_in_column p.rows c)
-    in_column way c = sym (any_map (four_at p side way) (λ i. (c, i + 1)) (below p.rows))
+    in_column : (way : Way) (c : ℕ) → has_line_in_column p side way c ≡ list_any (has_line_at p side way) (squares_in_column p.rows c)
+    in_column way c = sym (any_map (has_line_at p side way) (λ i. (c, i + 1)) (below p.rows))
 
-    along : (way : Way) → four_along p side way ≡ list_any owned (groups_along (board_of p) way)
+    along : (way : Way) → has_line_along p side way ≡ list_any owned (groups_along (board_of p) way)
     along way =
-        any_same (four_in_column p side way) (λ c. list_any (four_at p side way) (squares_in_column p.rows c)) (below (length p.columns)) (λ c _. in_column way c)
-        ∙ sym (any_flat_map (four_at p side way) (squares_in_column p.rows) (below (length p.columns)))
+        any_same (has_line_in_column p side way) (λ c. list_any (has_line_at p side way) (squares_in_column p.rows c)) (below (length p.columns)) (λ c _. in_column way c)
+        ∙ sym (any_flat_map (has_line_at p side way) (squares_in_column p.rows) (below (length p.columns)))
         ∙ sym (any_filter (λ s. owned (s, way)) (is_line (board_of p) way) (squares_of_board (board_of p)))
         ∙ sym (any_map owned (λ s. (s, way)) (filter (is_line (board_of p) way) (squares_of_board (board_of p))))
 

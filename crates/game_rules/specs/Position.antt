@@ -79,18 +79,18 @@ abbrev pub after_move : Position → ℕ → Position
 after_move p column = record p { columns = slice_set p.columns column (men_in p column ++ side_to_move p ∷ []) }
 
 -- a line of the board whose squares are all the side's, by its anchor and its direction
-abbrev pub four_at : Position → Side → Way → Square → Bool
-four_at p side way anchor = is_line (board_of p) way anchor && list_all (has_man p side) (line_at way anchor)
+abbrev pub has_line_at : Position → Side → Way → Square → Bool
+has_line_at p side way anchor = is_line (board_of p) way anchor && list_all (has_man p side) (line_at way anchor)
 
-abbrev pub four_in_column : Position → Side → Way → ℕ → Bool
-four_in_column p side way column = list_any (λ i. four_at p side way (column, i + 1)) (below p.rows)
+abbrev pub has_line_in_column : Position → Side → Way → ℕ → Bool
+has_line_in_column p side way column = list_any (λ i. has_line_at p side way (column, i + 1)) (below p.rows)
 
-abbrev pub four_along : Position → Side → Way → Bool
-four_along p side way = list_any (four_in_column p side way) (below (length p.columns))
+abbrev pub has_line_along : Position → Side → Way → Bool
+has_line_along p side way = list_any (has_line_in_column p side way) (below (length p.columns))
 
 -- the side has four in a line
-abbrev pub has_four : Position → Side → Bool
-has_four p side = list_any (four_along p side) ways
+abbrev pub has_line : Position → Side → Bool
+has_line p side = list_any (has_line_along p side) ways
 
 -- no column has room
 abbrev pub is_full : Position → Bool
@@ -98,7 +98,7 @@ is_full p = not (list_any (has_room p) (below (length p.columns)))
 
 -- how the game has ended, if it has
 abbrev pub end_of : Position → Option End
-end_of p = if has_four p White then Some ends.White else (if has_four p Black then Some ends.Black else (if is_full p then Some ends.Draw else None))
+end_of p = if has_line p White then Some ends.White else (if has_line p Black then Some ends.Black else (if is_full p then Some ends.Draw else None))
 
 -- a move may be made where the game goes on and the column has room
 abbrev pub is_legal : Position → ℕ → Bool
