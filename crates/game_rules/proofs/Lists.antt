@@ -73,6 +73,11 @@ Among-map f [] x among = absurd among
 Among-map f (y ∷ xs) x (inl same) = inl (ap f same)
 Among-map f (y ∷ xs) x (inr later) = inr (Among-map f xs x later)
 
+pub Among-map_gives : {X Y : Type 0} (f : X → Y) (xs : List X) (y : Y) → Among y (map f xs) → (x : X) × Among x xs × (f x ≡ y)
+Among-map_gives f [] y among = absurd among
+Among-map_gives f (x ∷ xs) y (inl same) = (x, inl refl, same)
+Among-map_gives f (x ∷ xs) y (inr later) = let rest = Among-map_gives f xs y later in (rest.0, inr rest.1, rest.2)
+
 pub Among-flat_map : {X Y : Type 0} (f : X → List Y) (xs : List X) (x : X) (y : Y) → Among x xs → Among y (f x) → Among y (flat_map f xs)
 Among-flat_map f [] x y among h = absurd among
 Among-flat_map f (z ∷ xs) x y (inl same) h = rw flat_map-cons (Among-append_left y (f z) (flat_map f xs) (subst (λ z. Among y (f z)) (sym same) h))
