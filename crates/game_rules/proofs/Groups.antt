@@ -32,6 +32,10 @@ lies_parts b g h = let both = and_parts (same_length g.len b.len) (is_line b g.w
 pub lies_from : (b : Board) (way : Way) (anchor : Square) → is_line b way anchor ≡ true → lies_on b (group_on b way anchor) ≡ true
 lies_from b way anchor h = and_from _ _ (same_length_refl b.len) h
 
+-- a group on a board has its squares there
+pub squares_on : (b : Board) (g : Group) → lies_on b g ≡ true → list_all (on_board b) (squares_of g) ≡ true
+squares_on b g h = let parts = lies_parts b g h in subst (λ len. list_all (on_board b) (line_at len g.way g.anchor) ≡ true) (sym parts.0) parts.1
+
 -- a group of the board's length is that of its anchor and direction
 pub group_as : (b : Board) (g : Group) → g.len ≡ b.len → group_on b g.way g.anchor ≡ g
 group_as b g same = ap (λ len. record g { len = len }) (sym same)

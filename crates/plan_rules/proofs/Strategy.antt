@@ -1,14 +1,15 @@
 -- From the laws of each instance and the table alone: whatever White plays, Black has a reply, each zone stays calm, and
 -- White never has a line.
 use Rattle.std.proofs.Common.{◌≡◌, ◌≢◌, ◌⊎◌, ℕ, zero, suc, ◌+◌, ◌*◌, ◌<◌, ◌≤◌, Bool, true, false, cond, List, [], ◌∷◌, map, length, Option, Some, None, is_none, refl, sym, ap, ◌∙◌, subst, inl, inr, arith}
-use Rattle.std.specs.List.{slice_get, find, flat_map}
+use Rattle.std.specs.List.{list_all, slice_get, find, flat_map}
 use Rattle.std.specs.Option.{option_map, option_map_or, option_and_then}
 use Rattle.std.proofs.lemmas.Bool.{cases_eq, both_ways, and_parts, and_from, cond-true, false_from_ne_true, not_from_true}
-use Rattle.game_rules.specs.Board.{Square, below, on_board}
+use Rattle.game_rules.specs.Board.{Square, below, on_board, line_at}
 use Rattle.game_rules.specs.Position.{Position, board_of, men_in, height, man_at, has_man, other, side_to_move, has_room, has_line, is_full, end_of, is_legal, after_move, empty_count, moved, open_columns}
 use Rattle.game_rules.specs.Value.{wins, same_end}
 use Rattle.game_rules.specs.Squares.{same_square, has_square, is_empty, is_playable}
-use Rattle.game_rules.specs.Groups.{Group, squares_of, lies_on}
+use Rattle.game_rules.specs.Groups.{Group, squares_of, lies_on, group_on}
+use Rattle.game_rules.proofs.Groups.{lies_parts, lies_from}
 use Rattle.game_rules.specs.declared.Side.{Side}
 use Rattle.game_rules.specs.declared.Side.TheVariants.{White, Black}
 use Rattle.game_rules.specs.declared.End.{End}
@@ -56,18 +57,21 @@ facts_same upper pair twin q r same facts = record {
 line_squares : (q : Position) (side : Side) → has_line q side ≡ true → (g : Group) × (lies_on (board_of q) g ≡ true) × Owns side q (has_square (squares_of g))
 line_squares q side h =
     let line = has_line_gives q side h in (
-      (line.anchor, line.way),
-      from_steps (on_board (board_of q)) line.way line.anchor line.on_the_board,
-      λ u owned. all_gives (has_man q side) (squares_of (line.anchor, line.way)) u (from_steps (has_man q side) line.way line.anchor line.owned) (has_gives (squares_of (line.anchor, line.way)) u owned),
+      group_on (board_of q) line.way line.anchor,
+      lies_from (board_of q) line.way line.anchor (from_steps (on_board (board_of q)) q.len line.way line.anchor line.on_the_board),
+      λ u owned. all_gives (has_man q side) (line_at q.len line.way line.anchor) u (from_steps (has_man q side) q.len line.way line.anchor line.owned) (has_gives (line_at q.len line.way line.anchor) u owned),
     )
 
 group_gives_line : (q : Position) (side : Side) (g : Group) → lies_on (board_of q) g ≡ true → Owns side q (has_square (squares_of g)) → has_line q side ≡ true
-group_gives_line q side g lies owns = has_line_from q side (record {
-  way = g.1;
-  anchor = g.0;
-  on_the_board = each_step (on_board (board_of q)) g.1 g.0 lies;
-  owned = each_step (has_man q side) g.1 g.0 (all_from (has_man q side) (squares_of g) (λ u among. owns u (has_from (squares_of g) u among)));
-})
+group_gives_line q side g lies owns =
+    let parts = lies_parts (board_of q) g lies in
+    has_line_from q side (record {
+      way = g.way;
+      anchor = g.anchor;
+      on_the_board = each_step (on_board (board_of q)) q.len g.way g.anchor parts.1;
+      owned = each_step (has_man q side) q.len g.way g.anchor (subst (λ len. list_all (has_man q side) (line_at len g.way g.anchor) ≡ true) parts.0
+          (all_from (has_man q side) (squares_of g) (λ u among. owns u (has_from (squares_of g) u among))));
+    })
 
 module _ (laws : (w : RuleInstance) → Lawful w) (p : Position) (ws : List RuleInstance) (plan : IsPlan p ws) where
   -- what members promise of White's men is true wherever all are calm

@@ -3,10 +3,10 @@
 use Rattle.std.specs.Prelude.{◌≡◌, ◌⊎◌, ℕ, ◌+◌, ◌*◌, ◌<◌, ◌≤◌, Bool, true, false, not, ◌&&◌, ◌||◌, if◌then◌else◌, List, [], ◌∷◌, length, Option, Some, None, is_none, option_and_then, slice_get}
 use Rattle.std.specs.List.{list_all, list_any, find}
 use Rattle.std.specs.Option.{option_map, option_map_or}
-use Rattle.game_rules.specs.Board.{Board, Square, below, ways}
+use Rattle.game_rules.specs.Board.{Board, Square, below, is_line, ways}
 use Rattle.game_rules.specs.Position.{Position, board_of, height, man_at, has_man, side_to_move, same_side, has_line, end_of, is_legal, after_move}
 use Rattle.game_rules.specs.Squares.{has_square, is_empty, is_playable}
-use Rattle.game_rules.specs.Groups.{Group, squares_of, lies_on}
+use Rattle.game_rules.specs.Groups.{Group, squares_of, lies_on, group_on}
 use Rattle.game_rules.specs.declared.Side.{Side}
 use Rattle.game_rules.specs.declared.Side.TheVariants.{White, Black}
 use Rattle.plan_rules.specs.Squares.{is_even, men_on}
@@ -27,7 +27,7 @@ every_square board test = list_all (λ c. list_all (λ r. test (c, r + 1)) (belo
 
 -- each line of the board passes the test
 abbrev pub every_line : Board → (Group → Bool) → Bool
-every_line board test = list_all (λ way. every_square board (λ anchor. not (lies_on board (anchor, way)) || test (anchor, way))) ways
+every_line board test = list_all (λ way. every_square board (λ anchor. not (is_line board way anchor) || test (group_on board way anchor))) ways
 
 -- the square stands in the zone of some member
 abbrev pub has_owner : List RuleInstance → Square → Bool
