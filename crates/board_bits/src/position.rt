@@ -10,7 +10,7 @@ ghost use Rattle.game_rules.specs.declared.Side.TheVariants as sides;
 ghost use Rattle.board_bits.specs.Held.{is_held, holds_on_board};
 ghost use Rattle.board_bits.specs.Move.{moved_into};
 
-use crate::line::{LINE_LENGTH, is_line, step_of};
+use crate::line::{is_line, step_of};
 use crate::size::MOST_COLS;
 use crate::stack::Stack;
 use crate::{Column, End, Mask, Side, Size, Square, Way};
@@ -190,7 +190,7 @@ impl Position {
         self.man_at((s.column().index(), s.row()))
     }
 
-    /// Whether the boards are of one size, and White's men and Black's stand on the same squares. `==` answers the
+    /// Whether the boards are of one size and their lines of one length, and White's men and Black's stand on the same squares. `==` answers the
     /// same, and positions that are the same have one hash.
     pub fn same(&self, other: &Position) -> bool
         ensures value { result ≡ same_position self.now other.now }
@@ -228,7 +228,7 @@ impl Position {
         Ok(self.after(c))
     }
 
-    /// How the game has ended: Some exactly where a side has four in a line, or the board is full.
+    /// How the game has ended: Some exactly where a side has a line of the board's length, or the board is full.
     pub fn ended(&self) -> Option<End>
         ensures { result ≡ end_of self.now }
     {
@@ -300,9 +300,9 @@ impl Position {
     fn owns_line(&self, side: Side, way: Way, anchor: (u8, u8)) -> bool
         requires column { anchor.0 < 10 }
         requires row { anchor.1 ≤ 10 }
-        ensures { result ≡ list_all (has_man self.now side) (line_at way anchor) }
+        ensures { result ≡ list_all (has_man self.now side) (line_at self.now.len way anchor) }
     {
-        for i in 0..LINE_LENGTH {
+        for i in 0..self.size().line() {
             if !self.has_man_at(side, step_of(way, anchor, i)) {
                 return false;
             }
