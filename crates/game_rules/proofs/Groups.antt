@@ -10,7 +10,7 @@ use Rattle.game_rules.specs.Board.{Board, Square, below, is_cols, is_rows, is_bo
 use Rattle.game_rules.specs.Position.{Position, board_of, has_man, has_line_at, has_line_in_column, has_line_along, has_line}
 use Rattle.game_rules.specs.Squares.{same_square, has_square, squares_in_column, squares_of_board, widest_with, Precedes as SquarePrecedes}
 use Rattle.game_rules.specs.Groups.{Group, squares_of, lies_on, rank, same_group, has_group, group_on, groups_along, groups_of, Precedes, groups_where, GroupsOn, IsGroupSetOf}
-use Rattle.game_rules.proofs.Lists.{Among, any_gives, any_from, any_same, any_map, all_gives, Among-append_cases, Among-filter, Among-filter_gives, Among-map, Among-map_gives, Among-flat_map, Among-flat_map_gives, Among-range_gives, Among-below, Among-below_gives}
+use Rattle.game_rules.proofs.Lists.{Among, Among-at, any_gives, any_from, any_same, any_map, all_gives, Among-append_cases, Among-filter, Among-filter_gives, Among-map, Among-map_gives, Among-flat_map, Among-flat_map_gives, Among-range_gives, Among-below, Among-below_gives}
 use Rattle.game_rules.proofs.Ends.{on_board_parts, on_board_from, some_length, each_step, from_steps, step_none, Among-ways}
 use Rattle.game_rules.proofs.Squares.{agree, same_square_refl, same_square_is, has_gives, has_from, Among-board, filter_same}
 use Rattle.game_rules.proofs.Moves.{same_length_refl, same_length_is}
@@ -189,12 +189,7 @@ Ordered-range a (suc n) = ((λ j among. let within = Among-range_gives (a + 1) n
 
 pairs_from_ordered : {X : Type 0} (R : X → X → Type 0) (xs : List X) → Ordered R xs → AllPairs R xs
 pairs_from_ordered R [] h = λ i j d before within. absurd (omega arith)
-pairs_from_ordered R (x ∷ xs) h = AllPairs-cons R x xs (λ k d within. h.0 (slice_index_or xs k d) (among_at xs k d within)) (pairs_from_ordered R xs h.1)
-  where
-    among_at : {X : Type 0} (xs : List X) (k : ℕ) (d : X) → k < length xs → Among (slice_index_or xs k d) xs
-    among_at [] k d within = absurd (omega arith)
-    among_at (x ∷ xs) zero d within = inl refl
-    among_at (x ∷ xs) (suc k) d within = inr (among_at xs k d (omega arith))
+pairs_from_ordered R (x ∷ xs) h = AllPairs-cons R x xs (λ k d within. h.0 (slice_index_or xs k d) (Among-at xs k d within)) (pairs_from_ordered R xs h.1)
 
 squares_in_order : (b : Board) → Ordered SquarePrecedes (squares_of_board b)
 unfolding squares_of_board

@@ -1,6 +1,6 @@
 -- Tests of some element of a list, and which elements a list has.
 use Rattle.std.proofs.Common.{◌≡◌, ◌⊎◌, ℕ, zero, suc, ◌+◌, ◌<◌, ◌≤◌, Bool, true, false, not, ◌||◌, cond, List, [], ◌∷◌, ◌++◌, length, map, filter, refl, sym, ap, ◌∙◌, subst, inl, inr, arith}
-use Rattle.std.specs.List.{list_any, list_all, flat_map, range_with_len}
+use Rattle.std.specs.List.{list_any, list_all, flat_map, range_with_len, slice_index_or}
 use Rattle.std.proofs.lemmas.Bool.{or_cases, or_right, cases_Bool, cases_lt, false_from_ne_true, both_ways, and_parts, and_from}
 use Rattle.std.proofs.lemmas.List.Concat.{flat_map-cons}
 use Rattle.game_rules.specs.Board.{below}
@@ -14,6 +14,12 @@ chosen false x y z h = inr (refl, h)
 abbrev pub Among : {X : Type 0} → X → List X → Type 0
 Among x [] = ⊥
 Among x (y ∷ ys) = (y ≡ x) ⊎ Among x ys
+
+-- the element at a place of the list
+pub Among-at : {X : Type 0} (xs : List X) (k : ℕ) (d : X) → k < length xs → Among (slice_index_or xs k d) xs
+Among-at [] k d within = absurd (omega arith)
+Among-at (x ∷ xs) zero d within = inl refl
+Among-at (x ∷ xs) (suc k) d within = inr (Among-at xs k d (omega arith))
 
 pub any_gives : {X : Type 0} (p : X → Bool) (xs : List X) → list_any p xs ≡ true → (x : X) × Among x xs × (p x ≡ true)
 any_gives p [] h = cc
