@@ -6,3 +6,4 @@ pub mod OrderTable
 pub mod Searches
 pub mod MoveFields
 pub mod Stops
+pub mod Lengths

@@ -26,7 +26,7 @@ module _ (a : Inside) (i : ℕ) (men : List Side) (sound : IsSound a) (room : ha
     (pushed : men ≡ men_in (men_of a) i ++ side_to_move (men_of a) ∷ []) where
   pub men_after : men_of (record a { columns = set a.columns i men }) ≡ after_move (men_of a) i
   men_after =
-      ap (λ columns. record { rows = a.size.rows; columns = columns }) (prefix_set 10 a.size.cols i [] men a.columns sound.padding (column_within a i sound room)
+      ap (λ columns. record { rows = a.size.rows; len = a.size.len; columns = columns }) (prefix_set 10 a.size.cols i [] men a.columns sound.padding (column_within a i sound room)
       ∙ ap (λ men. set (take a.size.cols a.columns) i men) pushed)
 
   pub sound_after : IsSound (record a { columns = set a.columns i men })

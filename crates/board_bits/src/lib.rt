@@ -11,8 +11,9 @@ mod position;
 mod size;
 mod stack;
 
-pub use game_rules::{End, InputFault, InputKind, Question, Side, Way};
+pub use game_rules::{End, InputFault, InputKind, Length, Question, Side, Way};
 pub use game_text::read_game;
+pub use line::MOST_IN_LINE;
 pub use mask::Mask;
 pub use order::centre_out;
 pub use position::{MoveFault, Position};

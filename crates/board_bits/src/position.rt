@@ -4,13 +4,13 @@
 ghost use Rattle.std.specs.Prelude.{◌≡◌, ◌+◌, ◌<◌, ◌≤◌, true, not, length, IsTrue};
 ghost use Rattle.std.specs.List.{list_any, list_all};
 ghost use Rattle.game_rules.specs.Board.{is_board, line_at};
-ghost use Rattle.game_rules.specs.Position.{board_of, empty_position, men_in, height, man_at, has_man, side_to_move, man_count, has_room, lowest_empty, empty_count, after_move, four_at, four_in_column, four_along, has_four, is_full, end_of, is_legal, IsStacked, same_position};
+ghost use Rattle.game_rules.specs.Position.{board_of, empty_position, men_in, height, man_at, has_man, side_to_move, man_count, has_room, lowest_empty, empty_count, after_move, has_line_at, has_line_in_column, has_line_along, has_line, is_full, end_of, is_legal, IsStacked, same_position};
 ghost use Rattle.game_rules.specs.Squares.{IsSetOf, is_empty, is_playable};
 ghost use Rattle.game_rules.specs.declared.Side.TheVariants as sides;
 ghost use Rattle.board_bits.specs.Held.{is_held, holds_on_board};
 ghost use Rattle.board_bits.specs.Move.{moved_into};
 
-use crate::line::{LINE_LENGTH, is_line, step_of};
+use crate::line::{is_line, step_of};
 use crate::size::MOST_COLS;
 use crate::stack::Stack;
 use crate::{Column, End, Mask, Side, Size, Square, Way};
@@ -197,7 +197,7 @@ impl Position {
         self.man_at((s.column().index(), s.row()))
     }
 
-    /// Whether the boards are of one size, and White's men and Black's stand on the same squares. `==` answers the
+    /// Whether the boards are of one size and their lines of one length, and White's men and Black's stand on the same squares. `==` answers the
     /// same, and positions that are the same have one hash.
     pub fn same(&self, other: &Position) -> bool
         ensures value { result ≡ same_position self.now other.now }
@@ -235,14 +235,14 @@ impl Position {
         Ok(self.after(c))
     }
 
-    /// How the game has ended: Some exactly where a side has four in a line, or the board is full.
+    /// How the game has ended: Some exactly where a side has a line of the board's length, or the board is full.
     pub fn ended(&self) -> Option<End>
         ensures { result ≡ end_of self.now }
     {
-        if self.has_four(Side::White) {
+        if self.has_line(Side::White) {
             return Some(End::White);
         }
-        if self.has_four(Side::Black) {
+        if self.has_line(Side::Black) {
             return Some(End::Black);
         }
         if self.is_full() {
@@ -263,32 +263,32 @@ impl Position {
         true
     }
 
-    fn has_four(&self, side: Side) -> bool
-        ensures { result ≡ has_four self.now side }
+    fn has_line(&self, side: Side) -> bool
+        ensures { result ≡ has_line self.now side }
     {
-        self.four_along(side, Way::H)
-            || self.four_along(side, Way::V)
-            || self.four_along(side, Way::U)
-            || self.four_along(side, Way::D)
+        self.has_line_along(side, Way::H)
+            || self.has_line_along(side, Way::V)
+            || self.has_line_along(side, Way::U)
+            || self.has_line_along(side, Way::D)
     }
 
-    fn four_along(&self, side: Side, way: Way) -> bool
-        ensures { result ≡ four_along self.now side way }
+    fn has_line_along(&self, side: Side, way: Way) -> bool
+        ensures { result ≡ has_line_along self.now side way }
     {
         for index in 0..self.size().cols() {
-            if self.four_in_column(side, way, index) {
+            if self.has_line_in_column(side, way, index) {
                 return true;
             }
         }
         false
     }
 
-    fn four_in_column(&self, side: Side, way: Way, index: u8) -> bool
+    fn has_line_in_column(&self, side: Side, way: Way, index: u8) -> bool
         requires { index < 10 }
-        ensures { result ≡ four_in_column self.now side way index }
+        ensures { result ≡ has_line_in_column self.now side way index }
     {
         for i in 0..self.size().rows() {
-            if self.four_at(side, way, (index, i + 1)) {
+            if self.has_line_at(side, way, (index, i + 1)) {
                 return true;
             }
         }
@@ -296,10 +296,10 @@ impl Position {
     }
 
     /// A line of the board from the anchor whose squares are all the side's.
-    fn four_at(&self, side: Side, way: Way, anchor: (u8, u8)) -> bool
+    fn has_line_at(&self, side: Side, way: Way, anchor: (u8, u8)) -> bool
         requires column { anchor.0 < 10 }
         requires row { anchor.1 ≤ 10 }
-        ensures { result ≡ four_at self.now side way anchor }
+        ensures { result ≡ has_line_at self.now side way anchor }
     {
         is_line(self.size(), way, anchor) && self.owns_line(side, way, anchor)
     }
@@ -307,9 +307,9 @@ impl Position {
     fn owns_line(&self, side: Side, way: Way, anchor: (u8, u8)) -> bool
         requires column { anchor.0 < 10 }
         requires row { anchor.1 ≤ 10 }
-        ensures { result ≡ list_all (has_man self.now side) (line_at way anchor) }
+        ensures { result ≡ list_all (has_man self.now side) (line_at self.now.len way anchor) }
     {
-        for i in 0..LINE_LENGTH {
+        for i in 0..self.size().line() {
             if !self.has_man_at(side, step_of(way, anchor, i)) {
                 return false;
             }

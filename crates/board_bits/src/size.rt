@@ -1,13 +1,14 @@
-//! Sizes of boards, and their columns and squares. A value of each of these types is one that some board has, so no
-//! later code tests a number again.
-ghost use Rattle.std.specs.Prelude.{◌≡◌, ◌+◌, ◌<◌, ◌≤◌, ◌++◌, true, Some, None, if◌then◌else◌, nat_lt, IsTrue};
-ghost use Rattle.game_rules.specs.Board.{is_board, is_cols, is_rows, on_board, is_line, line_at, step_of};
-ghost use Rattle.game_rules.specs.Squares.{squares_of_board, squares_in_column, widest};
+//! Sizes of boards with the length of their lines, and their columns and squares. A value of each of these types is one
+//! that some board has, so no later code tests a number again.
+ghost use Rattle.std.specs.Prelude.{◌≡◌, ◌+◌, ◌<◌, ◌≤◌, ◌++◌, ◌↔◌, true, Some, None, if◌then◌else◌, nat_lt, IsTrue};
+ghost use Rattle.game_rules.specs.Board.{is_board, is_cols, is_rows, on_board, is_line, line_at, line_length, step_of};
+ghost use Rattle.game_rules.specs.Squares.{squares_of_board, squares_in_column, widest, widest_with};
 ghost use Rattle.board_bits.specs.Size.{sized};
+ghost use Rattle.game_rules.specs.declared.Length.TheVariants.{Four};
 ghost use Rattle.arrayvec.specs.ArrayVec.{array_vec_len};
 
-use crate::Way;
-use crate::line::{is_line, step_of};
+use crate::line::{MOST_IN_LINE, is_line, squares_in, step_of};
+use crate::{Length, Way};
 use arrayvec::ArrayVec;
 use std::marker::Model;
 
@@ -17,20 +18,24 @@ pub const MOST_COLS: usize = 10;
 /// No board has more squares.
 pub const MOST_SQUARES: usize = 100;
 
-/// Why two numbers are no size of a board.
+/// Why numbers are no size of a board.
 #[derive(Clone, Copy, Debug, PartialEq, Eq, Hash)]
 pub enum SizeFault {
     /// The number of columns isn't from 4 to 10.
     BadCols,
     /// The number of rows isn't 4, 6, 8 or 10.
     BadRows,
+    /// The length of a line isn't 4 or 5.
+    BadLen,
 }
 
-/// The size of a board: 4 to 10 columns, and 4, 6, 8 or 10 rows.
+/// The size of a board: 4 to 10 columns, 4, 6, 8 or 10 rows, and lines of 4 or 5 squares. Every size may have either
+/// length, also where no line of five fits. Two sizes are equal where all three are.
 #[derive(Clone, Copy, Debug, PartialEq, Eq, Hash)]
 pub struct Size {
     cols: u8,
     rows: u8,
+    len: Length,
 }
 
 impl Model for Size {
@@ -39,17 +44,26 @@ impl Model for Size {
 
     ghost Value = { Board };
 
-    ghost view = { λ size. record { cols = size.cols; rows = size.rows } };
+    ghost view = { λ size. record { cols = size.cols; rows = size.rows; len = size.len } };
 
-    ghost invariant = { λ size. is_board (record { cols = size.cols; rows = size.rows }) ≡ true };
+    ghost invariant = { λ size. is_board (record { cols = size.cols; rows = size.rows; len = size.len }) ≡ true };
 
-    ghost inverse = { λ board. record { cols = board.cols; rows = board.rows } };
+    ghost inverse = { λ board. record { cols = board.cols; rows = board.rows; len = board.len } };
 }
 
 impl Size {
-    /// The size with these numbers. `BadCols` comes before `BadRows` where both are wrong.
+    /// The size with these numbers of columns and rows, and lines of four. `BadCols` comes before `BadRows` where both
+    /// are wrong.
     pub fn new(cols: u8, rows: u8) -> Result<Size, SizeFault>
-        ensures { result ≡ sized (record { cols = cols; rows = rows }) }
+        ensures { result ≡ sized cols rows 4 }
+    {
+        Size::with_line(cols, rows, 4)
+    }
+
+    /// The size with these numbers of columns and rows, and lines of this many squares. `BadCols` comes first where
+    /// several are wrong, then `BadRows`, and `BadLen` exactly where `len` alone is.
+    pub fn with_line(cols: u8, rows: u8, len: u8) -> Result<Size, SizeFault>
+        ensures { result ≡ sized cols rows len }
     {
         if !(4..=10).contains(&cols) {
             return Err(SizeFault::BadCols);
@@ -57,16 +71,40 @@ impl Size {
         if rows != 4 && rows != 6 && rows != 8 && rows != 10 {
             return Err(SizeFault::BadRows);
         }
-        Ok(Size { cols, rows })
+        match len {
+            4 => Ok(Size {
+                cols,
+                rows,
+                len: Length::Four,
+            }),
+            5 => Ok(Size {
+                cols,
+                rows,
+                len: Length::Five,
+            }),
+            _ => Err(SizeFault::BadLen),
+        }
     }
 
-    /// The size with these numbers, which a board has.
+    /// The size with these numbers, which a board has, and lines of four.
     pub(crate) fn of(cols: u8, rows: u8) -> Size
         requires cols { is_cols cols ≡ true }
         requires rows { is_rows rows ≡ true }
-        ensures { result ≡ record { cols = cols; rows = rows } }
+        ensures { result ≡ record { cols = cols; rows = rows; len = Four } }
     {
-        Size { cols, rows }
+        Size {
+            cols,
+            rows,
+            len: Length::Four,
+        }
+    }
+
+    /// Whether the sizes have as many columns, as many rows, and lines of the same length. `==` answers the same.
+    pub fn same(&self, other: &Size) -> bool
+        ensures value { IsTrue result ↔ (self.now ≡ other.now) }
+        ensures equal { result ≡ ⟦<Size as PartialEq>⟧.eq self.now other.now }
+    {
+        self == other
     }
 
     /// How many columns the board has, from 4 to 10.
@@ -87,6 +125,22 @@ impl Size {
         ensures most { result ≤ 10 }
     {
         self.rows
+    }
+
+    /// How many squares a line of the board has: 4 or 5.
+    pub fn line(&self) -> u8
+        ensures value { result ≡ line_length self.now.len }
+        ensures least { 4 ≤ result }
+        ensures most { result ≤ 5 }
+    {
+        squares_in(self.len)
+    }
+
+    /// The length of the board's lines.
+    pub fn length(&self) -> Length
+        ensures { result ≡ self.now.len }
+    {
+        self.len
     }
 
     /// The column with this number, counted from 0 at the left; None exactly where the board has no such column.
@@ -125,7 +179,7 @@ impl Size {
         square.0 < self.cols() && 1 <= square.1 && square.1 <= self.rows()
     }
 
-    /// Whether the squares of a line from the anchor are all on the board.
+    /// Whether the squares of a line of the board's length from the anchor are all on the board.
     pub fn has_line(&self, anchor: Square, way: Way) -> bool
         ensures value { result ≡ is_line self.now way anchor }
         ensures board { is_board self.now ≡ true }
@@ -256,23 +310,22 @@ impl Square {
         self.row
     }
 
-    /// The squares of a line from this anchor. They are all on the board with ten columns and ten rows, so also where
-    /// they are on any other board.
-    pub fn line(&self, way: Way) -> [Square; 4]
-        requires { is_line widest way self.now ≡ true }
-        ensures { result ≡ line_at way self.now }
+    /// The squares of a line of this length from this anchor. They are all on the board with ten columns and ten rows,
+    /// so also where they are on any other board.
+    pub fn line(&self, len: Length, way: Way) -> ArrayVec<Square, MOST_IN_LINE>
+        requires { is_line (widest_with len) way self.now ≡ true }
+        ensures { result.items ≡ line_at len way self.now }
     {
-        [
-            self.step(way, 0),
-            self.step(way, 1),
-            self.step(way, 2),
-            self.step(way, 3),
-        ]
+        let mut squares = ArrayVec::new();
+        for i in 0..squares_in(len) {
+            squares.push(self.step(way, i));
+        }
+        squares
     }
 
     /// The square that lies so many steps from this one.
-    fn step(&self, way: Way, i: u8) -> Square
-        requires steps { i < 4 }
+    pub fn step(&self, way: Way, i: u8) -> Square
+        requires steps { i < 5 }
         requires on_the_board { on_board widest (step_of way self.now i) ≡ true }
         ensures { result ≡ step_of way self.now i }
     {

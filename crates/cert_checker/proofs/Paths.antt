@@ -5,13 +5,13 @@ use Rattle.std.proofs.lemmas.List.{take-append-drop, drop_more, drop_all}
 use Rattle.std.specs.Prelude.{is_none}
 use Rattle.std.proofs.lemmas.Bool.{cases_Bool, both_ways, and_from, false_from_ne_true}
 use Rattle.game_rules.specs.Board.{Square, below, on_board, step_of}
-use Rattle.game_rules.specs.Position.{Position, height, has_man, is_man, has_room, after_move, has_four, is_full, end_of, is_legal, played}
+use Rattle.game_rules.specs.Position.{Position, height, has_man, is_man, has_room, after_move, has_line, is_full, end_of, is_legal, played}
 use Rattle.game_rules.specs.Laws.{HasLine}
 use Rattle.game_rules.specs.declared.Side.{Side}
 use Rattle.game_rules.specs.declared.Side.TheVariants.{White, Black}
 use Rattle.game_rules.proofs.Lists.{any_from, Among-below, chosen}
 use Rattle.game_rules.proofs.Moves.{unchanged, was_empty, board_moved, room_column}
-use Rattle.game_rules.proofs.Ends.{cases_square, line_from_four, four_from_line, ended_parts, legal_parts}
+use Rattle.game_rules.proofs.Ends.{cases_square, has_line_gives, has_line_from, ended_parts, legal_parts}
 use Rattle.cert_checker.specs.Checking.{stacked, last_move}
 
 module _ (p : Position) (column : ℕ) (room : has_room p column ≡ true) where
@@ -24,8 +24,8 @@ module _ (p : Position) (column : ℕ) (room : has_room p column ≡ true) where
       nobody : is_man side None ≡ true → ⊥
       nobody h = cc
 
-  four_stays : (side : Side) → has_four p side ≡ true → has_four (after_move p column) side ≡ true
-  four_stays side h = four_from_line (after_move p column) side (moved (line_from_four p side h))
+  line_stays : (side : Side) → has_line p side ≡ true → has_line (after_move p column) side ≡ true
+  line_stays side h = has_line_from (after_move p column) side (moved (has_line_gives p side h))
     where
       moved : HasLine p side → HasLine (after_move p column) side
       moved line = record {
@@ -39,8 +39,8 @@ module _ (p : Position) (column : ℕ) (room : has_room p column ≡ true) where
   going_before : end_of (after_move p column) ≡ None → end_of p ≡ None
   going_before h =
       let told = ended_parts (after_move p column) h in
-      let white : has_four p White ≡ false = false_from_ne_true _ (λ four. both_ways _ told.0 (four_stays White four)) in
-      let black : has_four p Black ≡ false = false_from_ne_true _ (λ four. both_ways _ told.1 (four_stays Black four)) in
+      let white : has_line p White ≡ false = false_from_ne_true _ (λ held. both_ways _ told.0 (line_stays White held)) in
+      let black : has_line p Black ≡ false = false_from_ne_true _ (λ held. both_ways _ told.1 (line_stays Black held)) in
       let full : is_full p ≡ false = ap not (any_from (has_room p) (below (length p.columns)) column (Among-below (length p.columns) column (room_column p column room)) room) in
       rw (white, black, full) refl
 

@@ -16,7 +16,7 @@ on_odd_row u = is_odd u.1
 
 odd_squares : (b : Board) → is_board b ≡ true → length (filter on_odd_row (squares_of_board b)) ≤ 50
 unfolding squares_of_board
-odd_squares b h = leb-true (length (filter on_odd_row (squares_of_board b))) 50 (on_each_size (λ b. nat_le (length (filter on_odd_row (squares_of_board b))) 50) refl b h)
+odd_squares b h = leb-true (length (filter on_odd_row (squares_of_board b))) 50 (on_each_size (λ b. nat_le (length (filter on_odd_row (squares_of_board b))) 50) (λ len. refl) b h)
 
 -- what fits has its lower square on an odd row
 fitting_odd : (p : Position) (x : Square) → fits (claimeven x) p ≡ true → is_odd x.1 ≡ true

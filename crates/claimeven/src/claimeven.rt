@@ -38,8 +38,11 @@ impl Default for Claimeven {
 
     /// The two lowest squares of the first column, which every board has.
     fn default() -> Self {
-        let [lower, upper, _, _] = Square::default().line(Way::V);
-        Claimeven { lower, upper }
+        let lower = Square::default();
+        Claimeven {
+            lower,
+            upper: lower.step(Way::V, 1),
+        }
     }
 }
 

@@ -19,9 +19,16 @@ use Rattle.std.proofs.lemmas.List.Folds.{prefix_len-append}
 use Rattle.std.specs.List.{prefix_len}
 use Rattle.game_rules.specs.Text.{is_digit, read_as}
 use Rattle.game_rules.specs.declared.Stop.{Stop}
-use Rattle.game_rules.specs.Grammar.{board_line}
+use Rattle.game_rules.specs.Grammar.{board_line, is_spelled}
+use Rattle.game_rules.specs.Board.{same_length}
+use Rattle.game_rules.proofs.Moves.{same_length_is}
+use Rattle.game_rules.specs.declared.Length.TheVariants.{Four}
 
 -- ---- the sizes of boards
+
+-- a board that a text can name is one, and its lines have four squares
+pub spelled_parts : (board : Board) → is_spelled board ≡ true → (is_board board ≡ true) × (board.len ≡ Four)
+spelled_parts board h = let both = and_parts (is_board board) (same_length board.len Four) h in (both.0, same_length_is board.len Four both.1)
 
 pub long_cols : (run : List ℕ) → 3 ≤ length run → cols_of run ≡ None
 long_cols [] h = absurd (omega arith)
@@ -130,7 +137,7 @@ first_empty board h =
 -- ---- the line of the board, by its steps
 
 abbrev pub rest_of_line : ℕ → ℕ → List ℕ → Result (Board × List ℕ) Stop
-rest_of_line cols rows bytes = after_text (10 ∷ codes "moves ") bytes >>= λ rest. Ok (record { cols = cols; rows = rows }, rest)
+rest_of_line cols rows bytes = after_text (10 ∷ codes "moves ") bytes >>= λ rest. Ok (record { cols = cols; rows = rows; len = Four }, rest)
 
 abbrev pub rows_on : ℕ → List ℕ → Result (Board × List ℕ) Stop
 rows_on cols bytes = size_at rows_of bytes >>= λ rows. rest_of_line cols rows.0 rows.1
@@ -146,7 +153,7 @@ unfolding board_at
 board_at_steps bytes = refl
 
 rest_spends : (cols rows : ℕ) (bytes : List ℕ) → Spends behind (length bytes) 7 (rest_of_line cols rows bytes)
-rest_spends cols rows bytes = spends_bind length behind (length bytes) 7 0 (after_text (10 ∷ codes "moves ") bytes) (λ rest. Ok (record { cols = cols; rows = rows }, rest))
+rest_spends cols rows bytes = spends_bind length behind (length bytes) 7 0 (after_text (10 ∷ codes "moves ") bytes) (λ rest. Ok (record { cols = cols; rows = rows; len = Four }, rest))
     (after_text_spends (10 ∷ codes "moves ") bytes) (λ rest read. (omega arith, omega arith))
 
 rows_spend : (cols : ℕ) (bytes : List ℕ) → Spends behind (length bytes) 9 (rows_on cols bytes)
@@ -171,9 +178,9 @@ with_rest ys x = (x.0, x.1 ++ ys)
 
 rest_more : (cols rows : ℕ) (bytes ys : List ℕ) → 7 ≤ length bytes → rest_of_line cols rows (bytes ++ ys) ≡ with_more (with_rest ys) (length ys) (rest_of_line cols rows bytes)
 rest_more cols rows bytes ys h =
-    ap (λ r. r >>= λ rest. Ok (record { cols = cols; rows = rows }, rest)) (after_text_more (10 ∷ codes "moves ") bytes ys h)
+    ap (λ r. r >>= λ rest. Ok (record { cols = cols; rows = rows; len = Four }, rest)) (after_text_more (10 ∷ codes "moves ") bytes ys h)
     ∙ more_bind (λ rest. rest ++ ys) (with_rest ys) (length ys) (after_text (10 ∷ codes "moves ") bytes)
-    (λ rest. Ok (record { cols = cols; rows = rows }, rest)) (λ rest. Ok (record { cols = cols; rows = rows }, rest)) (λ rest read. refl)
+    (λ rest. Ok (record { cols = cols; rows = rows; len = Four }, rest)) (λ rest. Ok (record { cols = cols; rows = rows; len = Four }, rest)) (λ rest read. refl)
 
 rows_more : (cols : ℕ) (bytes ys : List ℕ) → 9 ≤ length bytes → rows_on cols (bytes ++ ys) ≡ with_more (with_rest ys) (length ys) (rows_on cols bytes)
 rows_more cols bytes ys h =
@@ -203,44 +210,44 @@ board_more bytes ys h =
 
 -- ---- what a line that was read says
 
-rest_gives : (cols rows : ℕ) (bytes : List ℕ) (x : Board × List ℕ) → rest_of_line cols rows bytes ≡ Ok x → (x.0 ≡ record { cols = cols; rows = rows }) × (bytes ≡ (10 ∷ codes "moves ") ++ x.1)
+rest_gives : (cols rows : ℕ) (bytes : List ℕ) (x : Board × List ℕ) → rest_of_line cols rows bytes ≡ Ok x → (x.0 ≡ record { cols = cols; rows = rows; len = Four }) × (bytes ≡ (10 ∷ codes "moves ") ++ x.1)
 rest_gives cols rows bytes x h =
-    let read = bind_ok (after_text (10 ∷ codes "moves ") bytes) (λ rest. Ok (record { cols = cols; rows = rows }, rest)) x h in
-    let pair : (record { cols = cols; rows = rows }, read.0) ≡ x = cc (read.2) in (
+    let read = bind_ok (after_text (10 ∷ codes "moves ") bytes) (λ rest. Ok (record { cols = cols; rows = rows; len = Four }, rest)) x h in
+    let pair : (record { cols = cols; rows = rows; len = Four }, read.0) ≡ x = cc (read.2) in (
       sym (ap (λ (x : Board × List ℕ). x.0) pair),
       after_text_gives (10 ∷ codes "moves ") bytes read.0 read.1 ∙ ap (λ (x : Board × List ℕ). (10 ∷ codes "moves ") ++ x.1) pair,
     )
 
 rows_on_gives : (cols : ℕ) (bytes : List ℕ) (x : Board × List ℕ) → rows_on cols bytes ≡ Ok x
-    → (is_rows x.0.rows ≡ true) × (x.0.cols ≡ cols) × (bytes ≡ decimal x.0.rows ++ ((10 ∷ codes "moves ") ++ x.1))
+    → (is_rows x.0.rows ≡ true) × (x.0.cols ≡ cols) × (x.0.len ≡ Four) × (bytes ≡ decimal x.0.rows ++ ((10 ∷ codes "moves ") ++ x.1))
 rows_on_gives cols bytes x h =
     let read = bind_ok (size_at rows_of bytes) (λ rows. rest_of_line cols rows.0 rows.1) x h in
     let size = size_gives rows_of long_rows bytes read.0 read.1 in
     let number = rows_give (take_while is_digit bytes) read.0.0 size.0 in
     let rest = rest_gives cols read.0.0 read.0.1 x read.2 in
     let rows : x.0.rows ≡ read.0.0 = ap (λ (b : Board). b.rows) rest.0 in
-    (rw rows number.0, ap (λ (b : Board). b.cols) rest.0, size.1 ∙ ap (λ run. run ++ read.0.1) (number.1 ∙ ap decimal (sym rows)) ∙ ap (λ more. decimal x.0.rows ++ more) rest.1)
+    (rw rows number.0, ap (λ (b : Board). b.cols) rest.0, ap (λ (b : Board). b.len) rest.0, size.1 ∙ ap (λ run. run ++ read.0.1) (number.1 ∙ ap decimal (sym rows)) ∙ ap (λ more. decimal x.0.rows ++ more) rest.1)
 
 gap_gives : (cols : ℕ) (bytes : List ℕ) (x : Board × List ℕ) → gap_on cols bytes ≡ Ok x
-    → (is_rows x.0.rows ≡ true) × (x.0.cols ≡ cols) × (bytes ≡ codes " " ++ (decimal x.0.rows ++ ((10 ∷ codes "moves ") ++ x.1)))
+    → (is_rows x.0.rows ≡ true) × (x.0.cols ≡ cols) × (x.0.len ≡ Four) × (bytes ≡ codes " " ++ (decimal x.0.rows ++ ((10 ∷ codes "moves ") ++ x.1)))
 gap_gives cols bytes x h =
     let read = bind_ok (after_text (codes " ") bytes) (λ gap. rows_on cols gap) x h in
     let rows = rows_on_gives cols read.0 x read.2 in
-    (rows.0, rows.1, after_text_gives (codes " ") bytes read.0 read.1 ∙ ap (λ more. codes " " ++ more) rows.2)
+    (rows.0, rows.1, rows.2, after_text_gives (codes " ") bytes read.0 read.1 ∙ ap (λ more. codes " " ++ more) rows.3)
 
 cols_on_gives : (bytes : List ℕ) (x : Board × List ℕ) → cols_on bytes ≡ Ok x
-    → (is_board x.0 ≡ true) × (bytes ≡ decimal x.0.cols ++ (codes " " ++ (decimal x.0.rows ++ ((10 ∷ codes "moves ") ++ x.1))))
+    → (is_spelled x.0 ≡ true) × (bytes ≡ decimal x.0.cols ++ (codes " " ++ (decimal x.0.rows ++ ((10 ∷ codes "moves ") ++ x.1))))
 cols_on_gives bytes x h =
     let read = bind_ok (size_at cols_of bytes) (λ cols. gap_on cols.0 cols.1) x h in
     let size = size_gives cols_of long_cols bytes read.0 read.1 in
     let number = cols_give (take_while is_digit bytes) read.0.0 size.0 in
     let gap = gap_gives read.0.0 read.0.1 x read.2 in (
-      and_from _ _ (rw (gap.1) number.0) gap.0,
-      size.1 ∙ ap (λ run. run ++ read.0.1) (number.1 ∙ ap decimal (sym gap.1)) ∙ ap (λ more. decimal x.0.cols ++ more) gap.2,
+      and_from _ _ (and_from _ _ (rw (gap.1) number.0) gap.0) (rw gap.2 refl),
+      size.1 ∙ ap (λ run. run ++ read.0.1) (number.1 ∙ ap decimal (sym gap.1)) ∙ ap (λ more. decimal x.0.cols ++ more) gap.3,
     )
 
 -- the board is one, and its line is its spelling
-pub board_gives : (bytes : List ℕ) (x : Board × List ℕ) → board_at bytes ≡ Ok x → (is_board x.0 ≡ true) × (bytes ≡ board_line x.0 ++ (10 ∷ (codes "moves " ++ x.1)))
+pub board_gives : (bytes : List ℕ) (x : Board × List ℕ) → board_at bytes ≡ Ok x → (is_spelled x.0 ≡ true) × (bytes ≡ board_line x.0 ++ (10 ∷ (codes "moves " ++ x.1)))
 board_gives bytes x h =
     let read = bind_ok (after_text (codes "board ") bytes) cols_on x (sym (board_at_steps bytes) ∙ h) in
     let cols = cols_on_gives read.0 x read.2 in
@@ -292,9 +299,10 @@ rows_spelled n h = elim (or_cases (n == 4 || n == 6 || n == 8) (n == 10) h) [
 ]
 
 -- the spelling of a board is read
-pub board_of_spelling : (board : Board) (rest : List ℕ) → is_board board ≡ true → board_at (board_line board ++ (10 ∷ (codes "moves " ++ rest))) ≡ Ok (board, rest)
+pub board_of_spelling : (board : Board) (rest : List ℕ) → is_spelled board ≡ true → board_at (board_line board ++ (10 ∷ (codes "moves " ++ rest))) ≡ Ok (board, rest)
 board_of_spelling board rest h =
-    let both = and_parts (is_cols board.cols) (is_rows board.rows) h in
+    let spelled = spelled_parts board h in
+    let both = and_parts (is_cols board.cols) (is_rows board.rows) spelled.0 in
     let cols = cols_spelled board.cols both.0 in
     let rows = rows_spelled board.rows both.1 in
     board_at_steps (board_line board ++ (10 ∷ (codes "moves " ++ rest)))
@@ -303,7 +311,8 @@ board_of_spelling board rest h =
     ∙ ap (λ r. r >>= λ cols. gap_on cols.0 cols.1) (size_of cols_of (decimal board.cols) (codes " " ++ (decimal board.rows ++ (10 ∷ (codes "moves " ++ rest)))) board.cols cols.0 cols.1 refl)
     ∙ ap (λ r. r >>= λ gap. rows_on board.cols gap) (after_text_of (codes " ") (decimal board.rows ++ (10 ∷ (codes "moves " ++ rest))))
     ∙ ap (λ r. r >>= λ rows. rest_of_line board.cols rows.0 rows.1) (size_of rows_of (decimal board.rows) (10 ∷ (codes "moves " ++ rest)) board.rows rows.0 rows.1 refl)
-    ∙ ap (λ r. r >>= λ rest. Ok (board, rest)) (after_text_of (10 ∷ codes "moves ") rest)
+    ∙ ap (λ r. r >>= λ rest. Ok (record board { len = Four }, rest)) (after_text_of (10 ∷ codes "moves ") rest)
+    ∙ ap (λ len. Ok (record board { len = len }, rest)) (sym spelled.1)
   where
     parted : (cols rows rest : List ℕ) → (codes "board " ++ (cols ++ (codes " " ++ rows))) ++ rest ≡ codes "board " ++ (cols ++ (codes " " ++ (rows ++ rest)))
     parted cols rows rest = append_assoc (codes "board ") (cols ++ (codes " " ++ rows)) rest ∙ ap (λ more. codes "board " ++ more)

@@ -6,10 +6,12 @@ use Rattle.std.proofs.lemmas.List.{get_or-replicate, length-replicate, get_or_pa
 use Rattle.std.proofs.lemmas.List.Elements.{All-replicate}
 use Rattle.std.proofs.lemmas.List.Folds.{sum_by-replicate}
 use Rattle.game_rules.specs.Board.{Board, Square, below, on_board, step_of, line_at, line_length, is_line, ways}
-use Rattle.game_rules.specs.Position.{Position, board_of, empty_position, other, men_in, height, man_in, man_at, has_man, is_man, man_count, side_to_move, has_room, after_move, four_at, four_in_column, four_along, has_four, is_full, end_of, is_legal, played, IsStacked}
+use Rattle.game_rules.specs.Position.{Position, board_of, empty_position, other, men_in, height, man_in, man_at, has_man, is_man, man_count, side_to_move, has_room, after_move, has_line_at, has_line_in_column, has_line_along, has_line, is_full, end_of, is_legal, played, IsStacked}
 use Rattle.game_rules.specs.Laws.{HasLine, IsFilled, DropsMan}
-use Rattle.game_rules.proofs.Lists.{Among, any_gives, any_from, any_same, all_gives, Among-map, Among-below, chosen}
+use Rattle.game_rules.proofs.Lists.{Among, any_gives, any_from, any_same, all_gives, all_from, Among-map, Among-map_gives, Among-below, Among-below_gives, chosen}
 use Rattle.game_rules.proofs.Moves.{man_within, placed, unchanged, was_empty, board_moved, room_column, room_height, room_from, stacked_moved, man_count_moved}
+use Rattle.game_rules.specs.declared.Length.{Length}
+use Rattle.game_rules.specs.declared.Length.TheVariants.{Four, Five}
 use Rattle.game_rules.specs.declared.Side.{Side}
 use Rattle.game_rules.specs.declared.Side.TheVariants.{White, Black}
 use Rattle.game_rules.specs.declared.End.{End}
@@ -40,24 +42,30 @@ step_none V (c, r) = ap (λ n. (c, n)) (omega arith)
 step_none U (c, r) = let over : c + 0 ≡ c = omega arith in let up : r + 0 ≡ r = omega arith in rw (over, up) refl
 step_none D (c, r) = let over : c + 0 ≡ c = omega arith in let up : r - 0 ≡ r = omega arith in rw (over, up) refl
 
-pub each_step : (test : Square → Bool) (way : Way) (s : Square) → list_all test (line_at way s) ≡ true → (i : ℕ) → i < line_length → test (step_of way s i) ≡ true
-each_step test way s h i low = all_gives test (line_at way s) (step_of way s i) h (Among-map (step_of way s) (below line_length) i (Among-below line_length i low))
+-- a line has at least two squares
+pub some_length : (len : Length) → 1 < line_length len
+some_length Four = lit< tt
+some_length Five = lit< tt
 
-pub from_steps : (test : Square → Bool) (way : Way) (s : Square) → ((i : ℕ) → i < line_length → test (step_of way s i) ≡ true) → list_all test (line_at way s) ≡ true
-from_steps test way s each =
-    and_from _ _ (each 0 (lit< tt)) (and_from _ _ (each 1 (lit< tt)) (and_from _ _ (each 2 (lit< tt)) (and_from _ _ (each 3 (lit< tt)) refl)))
+pub each_step : (test : Square → Bool) (len : Length) (way : Way) (s : Square) → list_all test (line_at len way s) ≡ true → (i : ℕ) → i < line_length len → test (step_of way s i) ≡ true
+each_step test len way s h i low = all_gives test (line_at len way s) (step_of way s i) h (Among-map (step_of way s) (below (line_length len)) i (Among-below (line_length len) i low))
 
-pub line_from_four : (p : Position) (side : Side) → has_four p side ≡ true → HasLine p side
-line_from_four p side h =
-    let along = any_gives (four_along p side) ways h in
-    let column = any_gives (four_in_column p side along.0) (below (length p.columns)) along.2 in
-    let row = any_gives (λ i. four_at p side along.0 (column.0, i + 1)) (below p.rows) column.2 in
-    let both = and_parts (is_line (board_of p) along.0 (column.0, row.0 + 1)) (list_all (has_man p side) (line_at along.0 (column.0, row.0 + 1))) row.2 in
+pub from_steps : (test : Square → Bool) (len : Length) (way : Way) (s : Square) → ((i : ℕ) → i < line_length len → test (step_of way s i) ≡ true) → list_all test (line_at len way s) ≡ true
+from_steps test len way s each = all_from test (line_at len way s) (λ u among.
+    let from = Among-map_gives (step_of way s) (below (line_length len)) u among in
+    subst (λ u. test u ≡ true) from.2 (each from.0 (Among-below_gives (line_length len) from.0 from.1)))
+
+pub has_line_gives : (p : Position) (side : Side) → has_line p side ≡ true → HasLine p side
+has_line_gives p side h =
+    let along = any_gives (has_line_along p side) ways h in
+    let column = any_gives (has_line_in_column p side along.0) (below (length p.columns)) along.2 in
+    let row = any_gives (λ i. has_line_at p side along.0 (column.0, i + 1)) (below p.rows) column.2 in
+    let both = and_parts (is_line (board_of p) along.0 (column.0, row.0 + 1)) (list_all (has_man p side) (line_at p.len along.0 (column.0, row.0 + 1))) row.2 in
     record {
       way = along.0;
       anchor = (column.0, row.0 + 1);
-      on_the_board = each_step (on_board (board_of p)) along.0 (column.0, row.0 + 1) both.0;
-      owned = each_step (has_man p side) along.0 (column.0, row.0 + 1) both.1;
+      on_the_board = each_step (on_board (board_of p)) p.len along.0 (column.0, row.0 + 1) both.0;
+      owned = each_step (has_man p side) p.len along.0 (column.0, row.0 + 1) both.1;
     }
 
 pub on_board_parts : (b : Board) (c r : ℕ) → on_board b (c, r) ≡ true → (c < b.cols) × (1 ≤ r) × (r ≤ b.rows)
@@ -68,17 +76,20 @@ on_board_parts b c r h =
 pub on_board_from : (b : Board) (c r : ℕ) → c < b.cols → 1 ≤ r → r ≤ b.rows → on_board b (c, r) ≡ true
 on_board_from b c r within low high = and_from _ _ (lt-ltb c b.cols within) (and_from _ _ (le-leb 1 r low) (le-leb r b.rows high))
 
-pub four_from_line : (p : Position) (side : Side) → HasLine p side → has_four p side ≡ true
-four_from_line p side line = at line.way line.anchor line.on_the_board line.owned
+pub has_line_from : (p : Position) (side : Side) → HasLine p side → has_line p side ≡ true
+has_line_from p side line = at line.way line.anchor line.on_the_board line.owned
   where
-    at : (way : Way) (s : Square) → ((i : ℕ) → i < line_length → on_board (board_of p) (step_of way s i) ≡ true) → ((i : ℕ) → i < line_length → has_man p side (step_of way s i) ≡ true) → has_four p side ≡ true
-    at way (c, zero) inside owned = let first = on_board_parts (board_of p) c 0 (subst (λ s. on_board (board_of p) s ≡ true) (step_none way (c, 0)) (inside 0 (lit< tt))) in absurd (omega arith)
+    first_step : 0 < line_length p.len
+    first_step = let two = some_length p.len in omega arith
+
+    at : (way : Way) (s : Square) → ((i : ℕ) → i < line_length p.len → on_board (board_of p) (step_of way s i) ≡ true) → ((i : ℕ) → i < line_length p.len → has_man p side (step_of way s i) ≡ true) → has_line p side ≡ true
+    at way (c, zero) inside owned = let first = on_board_parts (board_of p) c 0 (subst (λ s. on_board (board_of p) s ≡ true) (step_none way (c, 0)) (inside 0 first_step)) in absurd (omega arith)
     at way (c, suc i) inside owned =
-        let first = on_board_parts (board_of p) c (suc i) (subst (λ s. on_board (board_of p) s ≡ true) (step_none way (c, suc i)) (inside 0 (lit< tt))) in
-        let four : four_at p side way (c, suc i) ≡ true = and_from _ _ (from_steps (on_board (board_of p)) way (c, suc i) inside) (from_steps (has_man p side) way (c, suc i) owned) in
-        any_from (four_along p side) ways way (Among-ways way)
-        (any_from (four_in_column p side way) (below (length p.columns)) c (Among-below (length p.columns) c first.0)
-        (any_from (λ i. four_at p side way (c, i + 1)) (below p.rows) i (Among-below p.rows i (omega arith)) (rw add-one four)))
+        let first = on_board_parts (board_of p) c (suc i) (subst (λ s. on_board (board_of p) s ≡ true) (step_none way (c, suc i)) (inside 0 first_step)) in
+        let line : has_line_at p side way (c, suc i) ≡ true = and_from _ _ (from_steps (on_board (board_of p)) p.len way (c, suc i) inside) (from_steps (has_man p side) p.len way (c, suc i) owned) in
+        any_from (has_line_along p side) ways way (Among-ways way)
+        (any_from (has_line_in_column p side way) (below (length p.columns)) c (Among-below (length p.columns) c first.0)
+        (any_from (λ i. has_line_at p side way (c, i + 1)) (below p.rows) i (Among-below p.rows i (omega arith)) (rw add-one line)))
 
 -- ---- full boards
 
@@ -103,15 +114,15 @@ full_from_filled p filled = not_from_false _ (false_from_ne_true _ (λ some.
 -- ---- the end
 
 -- a test at each square decides a line
-pub four_same : (p q : Position) (side : Side) → board_of p ≡ board_of q → ((s : Square) → has_man p side s ≡ has_man q side s) → has_four p side ≡ has_four q side
-four_same p q side board same =
-    any_same (four_along p side) (four_along q side) ways (λ way _.
-    ap (λ n. list_any (four_in_column p side way) (below n)) cols
-    ∙ any_same (four_in_column p side way) (four_in_column q side way) (below (length q.columns)) (λ c _.
-    ap (λ n. list_any (λ i. four_at p side way (c, i + 1)) (below n)) rows
-    ∙ any_same (λ i. four_at p side way (c, i + 1)) (λ i. four_at q side way (c, i + 1)) (below q.rows) (λ i _.
-    ap (λ b. is_line b way (c, i + 1) && list_all (has_man p side) (line_at way (c, i + 1))) board
-    ∙ ap (λ b. is_line (board_of q) way (c, i + 1) && b) (all_same (line_at way (c, i + 1))))))
+pub has_line_same : (p q : Position) (side : Side) → board_of p ≡ board_of q → ((s : Square) → has_man p side s ≡ has_man q side s) → has_line p side ≡ has_line q side
+has_line_same p q side board same =
+    any_same (has_line_along p side) (has_line_along q side) ways (λ way _.
+    ap (λ n. list_any (has_line_in_column p side way) (below n)) cols
+    ∙ any_same (has_line_in_column p side way) (has_line_in_column q side way) (below (length q.columns)) (λ c _.
+    ap (λ n. list_any (λ i. has_line_at p side way (c, i + 1)) (below n)) rows
+    ∙ any_same (λ i. has_line_at p side way (c, i + 1)) (λ i. has_line_at q side way (c, i + 1)) (below q.rows) (λ i _.
+    ap (λ (b : Board). is_line b way (c, i + 1) && list_all (has_man p side) (line_at b.len way (c, i + 1))) board
+    ∙ ap (λ b. is_line (board_of q) way (c, i + 1) && b) (all_same (line_at q.len way (c, i + 1))))))
   where
     cols : length p.columns ≡ length q.columns
     cols = ap (λ (b : Board). b.cols) board
@@ -144,10 +155,10 @@ other_kept p column room s = elim (cases_square s (column, height p column + 1))
     not_own White = refl
     not_own Black = refl
 
-pub ended_parts : (p : Position) → (end_of p ≡ None) → (has_four p White ≡ false) × (has_four p Black ≡ false) × (is_full p ≡ false)
-ended_parts p h = elim (chosen (has_four p White) (Some ends.White) _ None h) [
+pub ended_parts : (p : Position) → (end_of p ≡ None) → (has_line p White ≡ false) × (has_line p Black ≡ false) × (is_full p ≡ false)
+ended_parts p h = elim (chosen (has_line p White) (Some ends.White) _ None h) [
   | inl won ↦ absurd (cc won.1)
-  | inr rest ↦ elim (chosen (has_four p Black) (Some ends.Black) _ None rest.1) [
+  | inr rest ↦ elim (chosen (has_line p Black) (Some ends.Black) _ None rest.1) [
     | inl lost ↦ absurd (cc lost.1)
     | inr more ↦ elim (chosen (is_full p) (Some ends.Draw) None None more.1) [
       | inl full ↦ absurd (cc full.1)
@@ -165,12 +176,12 @@ legal_parts p column h = let both = and_parts (is_none (end_of p)) (has_room p c
     none (Some e) h = cc
 
 -- while the game went on before the move, the side that didn't move has no line after it
-pub none_for_other : (p : Position) (column : ℕ) → is_legal p column ≡ true → has_four (after_move p column) (other (side_to_move p)) ≡ false
+pub none_for_other : (p : Position) (column : ℕ) → is_legal p column ≡ true → has_line (after_move p column) (other (side_to_move p)) ≡ false
 none_for_other p column h =
     let parts = legal_parts p column h in let going = ended_parts p parts.0 in
-    four_same (after_move p column) p (other (side_to_move p)) (board_moved p column) (other_kept p column parts.1) ∙ of_side (side_to_move p) going.0 going.1
+    has_line_same (after_move p column) p (other (side_to_move p)) (board_moved p column) (other_kept p column parts.1) ∙ of_side (side_to_move p) going.0 going.1
   where
-    of_side : (side : Side) → has_four p White ≡ false → has_four p Black ≡ false → has_four p (other side) ≡ false
+    of_side : (side : Side) → has_line p White ≡ false → has_line p Black ≡ false → has_line p (other side) ≡ false
     of_side White white black = black
     of_side Black white black = white
 
@@ -188,12 +199,12 @@ module _ (P : Position → Type 0) (keeps : (p : Position) (column : ℕ) → P 
 
 -- not both sides have a line
 abbrev OneLine : Position → Type 0
-OneLine p = has_four p White ≡ true → has_four p Black ≡ true → ⊥
+OneLine p = has_line p White ≡ true → has_line p Black ≡ true → ⊥
 
 one_line_moved : (p : Position) (column : ℕ) → OneLine p → is_legal p column ≡ true → OneLine (after_move p column)
 one_line_moved p column h legal white black = of_side (side_to_move p) (none_for_other p column legal)
   where
-    of_side : (side : Side) → has_four (after_move p column) (other side) ≡ false → ⊥
+    of_side : (side : Side) → has_line (after_move p column) (other side) ≡ false → ⊥
     of_side White none = both_ways _ none black
     of_side Black none = both_ways _ none white
 
@@ -213,8 +224,8 @@ empty_no_man board side (c, r) = ap (λ men. is_man side (man_in men r)) (empty_
 
 one_line_first : (board : Board) → OneLine (empty_position board)
 one_line_first board white black =
-    let line = line_from_four (empty_position board) White white in
-    both_ways _ (empty_no_man board White (step_of line.way line.anchor 0)) (line.owned 0 (lit< tt))
+    let line = has_line_gives (empty_position board) White white in
+    both_ways _ (empty_no_man board White (step_of line.way line.anchor 0)) (line.owned 0 (let two = some_length board.len in omega arith))
 
 pub one_line_along : (board : Board) (columns : List ℕ) (p : Position) → played (empty_position board) columns ≡ Some p → OneLine p
 one_line_along board columns p e = kept_along OneLine one_line_moved columns (empty_position board) p (one_line_first board) e
@@ -225,51 +236,51 @@ stacked_along board columns p e =
     (All-replicate (λ (men : List Side). length men ≤ board.rows) board.cols [] (omega arith)) e
 
 pub lines_apart : (board : Board) (columns : List ℕ) (p : Position) → played (empty_position board) columns ≡ Some p → HasLine p White → HasLine p Black → ⊥
-lines_apart board columns p e white black = one_line_along board columns p e (four_from_line p White white) (four_from_line p Black black)
+lines_apart board columns p e white black = one_line_along board columns p e (has_line_from p White white) (has_line_from p Black black)
 
 pub white_end : (p : Position) → (end_of p ≡ Some ends.White) ↔ HasLine p White
 white_end p = (to, from)
   where
     to : end_of p ≡ Some ends.White → HasLine p White
-    to h = elim (chosen (has_four p White) (Some ends.White) _ (Some ends.White) h) [
-      | inl won ↦ line_from_four p White won.0
-      | inr rest ↦ elim (chosen (has_four p Black) (Some ends.Black) _ (Some ends.White) rest.1) [
+    to h = elim (chosen (has_line p White) (Some ends.White) _ (Some ends.White) h) [
+      | inl won ↦ has_line_gives p White won.0
+      | inr rest ↦ elim (chosen (has_line p Black) (Some ends.Black) _ (Some ends.White) rest.1) [
         | inl lost ↦ absurd (cc lost.1)
         | inr more ↦ elim (chosen (is_full p) (Some ends.Draw) None (Some ends.White) more.1) [ inl full ↦ absurd (cc full.1) | inr going ↦ absurd (cc going.1) ]
       ]
     ]
 
     from : HasLine p White → end_of p ≡ Some ends.White
-    from line = rw (four_from_line p White line) refl
+    from line = rw (has_line_from p White line) refl
 
-black_end_to : (p : Position) → end_of p ≡ Some ends.Black → (has_four p White ≡ false) × (has_four p Black ≡ true)
-black_end_to p h = elim (chosen (has_four p White) (Some ends.White) _ (Some ends.Black) h) [
+black_end_to : (p : Position) → end_of p ≡ Some ends.Black → (has_line p White ≡ false) × (has_line p Black ≡ true)
+black_end_to p h = elim (chosen (has_line p White) (Some ends.White) _ (Some ends.Black) h) [
   | inl won ↦ absurd (cc won.1)
-  | inr rest ↦ elim (chosen (has_four p Black) (Some ends.Black) _ (Some ends.Black) rest.1) [
+  | inr rest ↦ elim (chosen (has_line p Black) (Some ends.Black) _ (Some ends.Black) rest.1) [
     | inl lost ↦ (rest.0, lost.0)
     | inr more ↦ elim (chosen (is_full p) (Some ends.Draw) None (Some ends.Black) more.1) [ inl full ↦ absurd (cc full.1) | inr going ↦ absurd (cc going.1) ]
   ]
 ]
 
 pub black_end : (board : Board) (columns : List ℕ) (p : Position) → played (empty_position board) columns ≡ Some p → (end_of p ≡ Some ends.Black) ↔ HasLine p Black
-black_end board columns p e = (λ h. line_from_four p Black (black_end_to p h).1, from)
+black_end board columns p e = (λ h. has_line_gives p Black (black_end_to p h).1, from)
   where
     from : HasLine p Black → end_of p ≡ Some ends.Black
     from line =
-        let black : has_four p Black ≡ true = four_from_line p Black line in
-        let white : has_four p White ≡ false = false_from_ne_true _ (λ white. one_line_along board columns p e white black) in
+        let black : has_line p Black ≡ true = has_line_from p Black line in
+        let white : has_line p White ≡ false = false_from_ne_true _ (λ white. one_line_along board columns p e white black) in
         rw (white, black) refl
 
 pub draw_end : (p : Position) → (end_of p ≡ Some ends.Draw) ↔ (IsFilled p × (HasLine p White → ⊥) × (HasLine p Black → ⊥))
 draw_end p = (to, from)
   where
     to : end_of p ≡ Some ends.Draw → IsFilled p × (HasLine p White → ⊥) × (HasLine p Black → ⊥)
-    to h = elim (chosen (has_four p White) (Some ends.White) _ (Some ends.Draw) h) [
+    to h = elim (chosen (has_line p White) (Some ends.White) _ (Some ends.Draw) h) [
       | inl won ↦ absurd (cc won.1)
-      | inr rest ↦ elim (chosen (has_four p Black) (Some ends.Black) _ (Some ends.Draw) rest.1) [
+      | inr rest ↦ elim (chosen (has_line p Black) (Some ends.Black) _ (Some ends.Draw) rest.1) [
         | inl lost ↦ absurd (cc lost.1)
         | inr more ↦ elim (chosen (is_full p) (Some ends.Draw) None (Some ends.Draw) more.1) [
-          | inl full ↦ (filled_from_full p full.0, λ line. both_ways _ rest.0 (four_from_line p White line), λ line. both_ways _ more.0 (four_from_line p Black line))
+          | inl full ↦ (filled_from_full p full.0, λ line. both_ways _ rest.0 (has_line_from p White line), λ line. both_ways _ more.0 (has_line_from p Black line))
           | inr going ↦ absurd (cc going.1)
         ]
       ]
@@ -277,8 +288,8 @@ draw_end p = (to, from)
 
     from : IsFilled p × (HasLine p White → ⊥) × (HasLine p Black → ⊥) → end_of p ≡ Some ends.Draw
     from (filled, no_white, no_black) =
-        let white : has_four p White ≡ false = false_from_ne_true _ (λ h. no_white (line_from_four p White h)) in
-        let black : has_four p Black ≡ false = false_from_ne_true _ (λ h. no_black (line_from_four p Black h)) in
+        let white : has_line p White ≡ false = false_from_ne_true _ (λ h. no_white (has_line_gives p White h)) in
+        let black : has_line p Black ≡ false = false_from_ne_true _ (λ h. no_black (has_line_gives p Black h)) in
         let full : is_full p ≡ true = full_from_filled p filled in
         rw (white, black, full) refl
 
@@ -354,4 +365,4 @@ same_by_squares p q board same =
     let rows : p.rows ≡ q.rows = ap (λ (b : Board). b.rows) board in
     let columns : p.columns ≡ q.columns = ext_get_or [] p.columns q.columns (ap (λ (b : Board). b.cols) board)
     (λ c _. same_men (men_in p c) (men_in q c) (λ r. same_man (man_at p (c, r)) (man_at q (c, r)) (λ side. same side (c, r)))) in
-    ap (λ n. record p { rows = n }) rows ∙ ap (λ men. record q { columns = men }) columns
+    ap (λ n. record p { rows = n }) rows ∙ ap (λ (b : Board). record q { len = b.len; columns = p.columns }) board ∙ ap (λ men. record q { columns = men }) columns

@@ -1,6 +1,6 @@
 -- Tests of some element of a list, and which elements a list has.
 use Rattle.std.proofs.Common.{◌≡◌, ◌⊎◌, ℕ, zero, suc, ◌+◌, ◌<◌, ◌≤◌, Bool, true, false, not, ◌||◌, cond, List, [], ◌∷◌, ◌++◌, length, map, filter, refl, sym, ap, ◌∙◌, subst, inl, inr, arith}
-use Rattle.std.specs.List.{list_any, list_all, flat_map, range_with_len}
+use Rattle.std.specs.List.{list_any, list_all, flat_map, range_with_len, slice_index_or}
 use Rattle.std.proofs.lemmas.Bool.{or_cases, or_right, cases_Bool, cases_lt, false_from_ne_true, both_ways, and_parts, and_from}
 use Rattle.std.proofs.lemmas.List.Concat.{flat_map-cons}
 use Rattle.game_rules.specs.Board.{below}
@@ -14,6 +14,12 @@ chosen false x y z h = inr (refl, h)
 abbrev pub Among : {X : Type 0} → X → List X → Type 0
 Among x [] = ⊥
 Among x (y ∷ ys) = (y ≡ x) ⊎ Among x ys
+
+-- the element at a place of the list
+pub Among-at : {X : Type 0} (xs : List X) (k : ℕ) (d : X) → k < length xs → Among (slice_index_or xs k d) xs
+Among-at [] k d within = absurd (omega arith)
+Among-at (x ∷ xs) zero d within = inl refl
+Among-at (x ∷ xs) (suc k) d within = inr (Among-at xs k d (omega arith))
 
 pub any_gives : {X : Type 0} (p : X → Bool) (xs : List X) → list_any p xs ≡ true → (x : X) × Among x xs × (p x ≡ true)
 any_gives p [] h = cc
@@ -72,6 +78,11 @@ pub Among-map : {X Y : Type 0} (f : X → Y) (xs : List X) (x : X) → Among x x
 Among-map f [] x among = absurd among
 Among-map f (y ∷ xs) x (inl same) = inl (ap f same)
 Among-map f (y ∷ xs) x (inr later) = inr (Among-map f xs x later)
+
+pub Among-map_gives : {X Y : Type 0} (f : X → Y) (xs : List X) (y : Y) → Among y (map f xs) → (x : X) × Among x xs × (f x ≡ y)
+Among-map_gives f [] y among = absurd among
+Among-map_gives f (x ∷ xs) y (inl same) = (x, inl refl, same)
+Among-map_gives f (x ∷ xs) y (inr later) = let rest = Among-map_gives f xs y later in (rest.0, inr rest.1, rest.2)
 
 pub Among-flat_map : {X Y : Type 0} (f : X → List Y) (xs : List X) (x : X) (y : Y) → Among x xs → Among y (f x) → Among y (flat_map f xs)
 Among-flat_map f [] x y among h = absurd among

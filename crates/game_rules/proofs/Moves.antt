@@ -1,5 +1,5 @@
 -- What a move changes, and what it leaves: the men of the columns, how many there are, and who is to move.
-use Rattle.std.proofs.Common.{◌≡◌, ◌==◌, ◌≢◌, ℕ, zero, suc, ◌+◌, ◌-◌, ◌%◌, ◌<◌, ◌≤◌, true, false, cond, List, [], ◌∷◌, ◌++◌, length, Some, None, refl, ap, ◌∙◌, inl, inr, arith, add-one, length-set}
+use Rattle.std.proofs.Common.{◌≡◌, ◌&&◌, ◌==◌, ◌≢◌, ℕ, zero, suc, ◌+◌, ◌-◌, ◌%◌, ◌<◌, ◌≤◌, true, false, cond, List, [], ◌∷◌, ◌++◌, length, Some, None, refl, sym, ap, ◌∙◌, inl, inr, arith, add-one, length-set}
 use Rattle.std.specs.List.{slice_get}
 use Rattle.std.proofs.lemmas.List.{get_or-set_same, get_or-set_other, length_push}
 use Rattle.std.proofs.lemmas.List.Sums.{sum_by-set}
@@ -9,6 +9,9 @@ use Rattle.std.proofs.lemmas.Slice.Eq.{slice_eq-Decides}
 use Rattle.std.specs.Bool.{Decides}
 use Rattle.std.specs.Cmp.Lexicographic.{pointwise}
 use Rattle.game_rules.specs.Position.{Position, board_of, other, same_side, same_position, men_in, height, man_in, man_at, man_count, side_to_move, has_room, empty_count, after_move, IsStacked}
+use Rattle.game_rules.specs.Board.{same_length}
+use Rattle.game_rules.specs.declared.Length.{Length}
+use Rattle.game_rules.specs.declared.Length.TheVariants.{Four, Five}
 use Rattle.game_rules.specs.declared.Side.{Side}
 use Rattle.game_rules.specs.declared.Side.TheVariants.{White, Black}
 
@@ -36,6 +39,16 @@ other_other Black = refl
 pub same_side_Decides : (a b : Side) → Decides (same_side a b) (a ≡ b)
 same_side_Decides a b = (same_side_is a b, λ e. rw e (same_side_refl b))
 
+pub same_length_refl : (len : Length) → same_length len len ≡ true
+same_length_refl Four = refl
+same_length_refl Five = refl
+
+pub same_length_is : (a b : Length) → same_length a b ≡ true → a ≡ b
+same_length_is Four Four h = refl
+same_length_is Four Five h = cc
+same_length_is Five Four h = cc
+same_length_is Five Five h = refl
+
 pub same_position_Decides : (p q : Position) → Decides (same_position p q) (p ≡ q)
 same_position_Decides p q = (to, from)
   where
@@ -44,11 +57,14 @@ same_position_Decides p q = (to, from)
 
     to : same_position p q ≡ true → p ≡ q
     to h =
-        let both = and_parts (p.rows == q.rows) (pointwise (pointwise same_side) p.columns q.columns) h in
-        ap (λ n. record p { rows = n }) (eqb-true p.rows q.rows both.0) ∙ ap (λ men. record q { columns = men }) (columns.0 both.1)
+        let both = and_parts (p.rows == q.rows && same_length p.len q.len) (pointwise (pointwise same_side) p.columns q.columns) h in
+        let board = and_parts (p.rows == q.rows) (same_length p.len q.len) both.0 in
+        ap (λ n. record p { rows = n }) (eqb-true p.rows q.rows board.0)
+        ∙ ap (λ len. record q { len = len; columns = p.columns }) (same_length_is p.len q.len board.1)
+        ∙ ap (λ men. record q { columns = men }) (columns.0 both.1)
 
     from : p ≡ q → same_position p q ≡ true
-    from e = and_from _ _ (eq-eqb p.rows q.rows (ap (λ (r : Position). r.rows) e)) (columns.1 (ap (λ (r : Position). r.columns) e))
+    from e = and_from _ _ (and_from _ _ (eq-eqb p.rows q.rows (ap (λ (r : Position). r.rows) e)) (ap (λ (r : Position). same_length p.len r.len) (sym e) ∙ same_length_refl p.len)) (columns.1 (ap (λ (r : Position). r.columns) e))
 
 -- ---- a column
 
@@ -91,7 +107,7 @@ pub cols_moved : (p : Position) (column : ℕ) → length (after_move p column).
 cols_moved p column = length-set p.columns column (men_in p column ++ side_to_move p ∷ [])
 
 pub board_moved : (p : Position) (column : ℕ) → board_of (after_move p column) ≡ board_of p
-board_moved p column = ap (λ n. record { cols = n; rows = p.rows }) (cols_moved p column)
+board_moved p column = ap (λ n. record { cols = n; rows = p.rows; len = p.len }) (cols_moved p column)
 
 -- the man stands on the lowest empty square
 pub placed : (p : Position) (column : ℕ) → column < length p.columns → man_at (after_move p column) (column, height p column + 1) ≡ Some (side_to_move p)

@@ -7,13 +7,13 @@ use Rattle.game_rules.specs.Text.{◌>>=◌, moves_at, board_at, read_game, plac
 use Rattle.game_rules.specs.declared.Stop.{Stop}
 use Rattle.game_rules.proofs.Readers.{Spends, spends_bind, spends_more, with_more, more_bind, behind, nothing, moves_spend, moves_more}
 use Rattle.game_rules.specs.declared.InputFault.{InputFault}
-use Rattle.game_rules.proofs.BoardLine.{first_empty, board_spends, board_more, with_rest, board_gives}
+use Rattle.game_rules.proofs.BoardLine.{spelled_parts, first_empty, board_spends, board_more, with_rest, board_gives}
 
 pub game_spends : (bytes : List ℕ) → Spends nothing (length bytes) 119 (read_game bytes)
 unfolding read_game
 game_spends bytes = spends_bind behind nothing (length bytes) 18 101 (board_at bytes) (λ line. moves_at (empty_position line.0) line.1)
     (board_spends bytes)
-    (λ line read. let empty = first_empty line.0 (board_gives bytes line read).0 in
+    (λ line read. let empty = first_empty line.0 (spelled_parts line.0 (board_gives bytes line read).0).0 in
     spends_more nothing (length line.1) (empty_count (empty_position line.0) + 1) 101 (moves_at (empty_position line.0) line.1) (omega arith)
     (moves_spend (empty_position line.0) line.1 (omega arith)))
 
@@ -22,7 +22,7 @@ unfolding read_game
 game_more bytes ys h =
     ap (λ r. r >>= λ line. moves_at (empty_position line.0) line.1) (board_more bytes ys (omega arith))
     ∙ more_bind (with_rest ys) (λ p. p) (length ys) (board_at bytes) (λ line. moves_at (empty_position line.0) line.1) (λ line. moves_at (empty_position line.0) line.1)
-    (λ line read. let empty = first_empty line.0 (board_gives bytes line read).0 in
+    (λ line read. let empty = first_empty line.0 (spelled_parts line.0 (board_gives bytes line read).0).0 in
     let spent = subst (Spends behind (length bytes) 18) read (board_spends bytes) in
     moves_more (empty_position line.0) line.1 ys (omega arith) (omega arith))
 

@@ -1,5 +1,5 @@
 -- Sets of squares: which squares a set by a test has, when two are the same, and the squares of a board.
-use Rattle.std.proofs.Common.{◌≡◌, ◌≢◌, ◌⊎◌, ◌↔◌, ℕ, zero, suc, ◌+◌, ◌<◌, ◌≤◌, Bool, true, false, ◌==◌, List, [], ◌∷◌, map, filter, length, Option, Some, None, is_none, refl, sym, ap, ◌∙◌, subst, inl, inr, arith, add-one}
+use Rattle.std.proofs.Common.{◌≡◌, ◌≢◌, ◌⊎◌, ◌↔◌, ℕ, zero, suc, ◌+◌, ◌<◌, ◌≤◌, Bool, true, false, ◌==◌, List, [], ◌∷◌, filter, length, Option, Some, None, is_none, refl, sym, ap, ◌∙◌, subst, inl, inr, arith, add-one}
 use Rattle.std.specs.List.{list_any, list_all}
 use Rattle.std.proofs.lemmas.Bool.{cases_Bool, cases_lt, both_ways, and_parts, and_from, eq-eqb, eqb-true}
 use Rattle.std.proofs.lemmas.List.{get_or_past}
@@ -7,7 +7,7 @@ use Rattle.game_rules.specs.Board.{Board, Square, below, on_board}
 use Rattle.game_rules.specs.Position.{Position, board_of, men_in, height, man_in, man_at, is_man, has_man, IsStacked}
 use Rattle.game_rules.specs.declared.Side.{Side}
 use Rattle.game_rules.specs.Squares.{is_empty, is_playable, same_square, has_square, squares_in_column, squares_of_board, widest, squares_where, IsSetOf}
-use Rattle.game_rules.proofs.Lists.{Among, any_gives, any_from, any_agree, all_gives, all_from, Among-filter, Among-filter_gives, Among-map, Among-flat_map, Among-flat_map_gives, Among-below, Among-below_gives}
+use Rattle.game_rules.proofs.Lists.{Among, any_gives, any_from, any_agree, all_gives, all_from, Among-filter, Among-filter_gives, Among-map, Among-map_gives, Among-flat_map, Among-flat_map_gives, Among-below, Among-below_gives}
 use Rattle.game_rules.proofs.Ends.{on_board_parts, on_board_from}
 use Rattle.game_rules.proofs.Moves.{man_past, man_within, was_empty}
 
@@ -29,11 +29,6 @@ pub has_from : (us : List Square) (u : Square) → Among u us → has_square us 
 has_from us u among = any_from (same_square u) us u among (same_square_refl u)
 
 -- ---- the squares of a board
-
-pub Among-map_gives : {X Y : Type 0} (f : X → Y) (xs : List X) (y : Y) → Among y (map f xs) → (x : X) × Among x xs × (f x ≡ y)
-Among-map_gives f [] y among = absurd among
-Among-map_gives f (x ∷ xs) y (inl same) = (x, inl refl, same)
-Among-map_gives f (x ∷ xs) y (inr later) = let rest = Among-map_gives f xs y later in (rest.0, inr rest.1, rest.2)
 
 pub Among-board : (b : Board) (u : Square) → on_board b u ≡ true → Among u (squares_of_board b)
 unfolding squares_of_board

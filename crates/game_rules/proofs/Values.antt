@@ -3,7 +3,7 @@ use Rattle.std.proofs.Common.{◌≡◌, ◌⊎◌, ℕ, zero, suc, ◌+◌, ◌
 use Rattle.std.specs.List.{list_any, list_all}
 use Rattle.std.proofs.lemmas.Bool.{cases_Bool, true_from_ne_false}
 use Rattle.game_rules.specs.Board.{below}
-use Rattle.game_rules.specs.Position.{Position, other, has_room, has_four, is_full, end_of, empty_count, after_move, side_to_move, open_columns, moved}
+use Rattle.game_rules.specs.Position.{Position, other, has_room, has_line, is_full, end_of, empty_count, after_move, side_to_move, open_columns, moved}
 use Rattle.game_rules.specs.Value.{win_of, same_end, best_of, ended_or, value_within, value, wins}
 use Rattle.game_rules.proofs.Lists.{Among, any_gives, any_map, all_any, Among-filter_gives}
 use Rattle.game_rules.proofs.Moves.{empty_count_moved, other_other}
@@ -38,9 +38,9 @@ nothing_open p h = elim (cases_Bool (list_any (has_room p) (below (length p.colu
 ]
 
 pub full_ended : (p : Position) → is_full p ≡ true → (e : End) × (end_of p ≡ Some e)
-full_ended p full = elim (cases_Bool (has_four p sides.White)) [
+full_ended p full = elim (cases_Bool (has_line p sides.White)) [
   | inl white ↦ (White, rw white refl)
-  | inr not_white ↦ elim (cases_Bool (has_four p sides.Black)) [
+  | inr not_white ↦ elim (cases_Bool (has_line p sides.Black)) [
     | inl black ↦ (Black, rw (not_white, black) refl)
     | inr not_black ↦ (Draw, rw (not_white, not_black, full) refl)
   ]

@@ -1,11 +1,13 @@
 -- The definitions, computed at positions whose answers are known from outside.
 use Rattle.std.proofs.Common.{◌≡◌, ℕ, List, [], ◌∷◌, ◌++◌, Some, None, Ok, Err, Result, Option, codes, length, refl}
-use Rattle.game_rules.specs.Position.{Position, end_of}
+use Rattle.std.specs.Option.{option_map}
+use Rattle.game_rules.specs.Position.{Position, empty_position, played, end_of}
 use Rattle.game_rules.specs.Squares.{squares_of_board}
 use Rattle.game_rules.specs.Groups.{groups_of}
 use Rattle.game_rules.specs.Value.{value, value_within}
 use Rattle.game_rules.specs.Cost.{cost, count, count_within, none_closed, centre_out}
 use Rattle.game_rules.specs.Text.{game_at, read_game, board_at}
+use Rattle.game_rules.specs.declared.Length.TheVariants.{Four, Five}
 use Rattle.game_rules.specs.declared.End.{End}
 use Rattle.game_rules.specs.declared.End.TheVariants as ends
 use Rattle.game_rules.specs.declared.InputKind.{InputKind}
@@ -94,14 +96,31 @@ no_list = refl
 
 -- ---- how many groups boards have
 
-smallest_board : length (groups_of (record { cols = 4; rows = 4 })) ≡ 10
+-- how many groups of four, and how many of five
+abbrev group_counts : ℕ → ℕ → ℕ × ℕ
+group_counts cols rows = (length (groups_of (record { cols = cols; rows = rows; len = Four })), length (groups_of (record { cols = cols; rows = rows; len = Five })))
+
+smallest_board : group_counts 4 4 ≡ (10, 0)
 unfolding groups_of squares_of_board
 smallest_board = refl
 
-usual_board : length (groups_of (record { cols = 7; rows = 6 })) ≡ 69
+usual_board : group_counts 7 6 ≡ (69, 44)
 unfolding groups_of squares_of_board
 usual_board = refl
 
-widest_board : length (groups_of (record { cols = 10; rows = 10 })) ≡ 238
+widest_board : group_counts 10 10 ≡ (238, 192)
 unfolding groups_of squares_of_board
 widest_board = refl
+
+-- ---- lines of five
+
+-- how a game on a board of five columns, four rows and lines of five has ended
+abbrev ended_by_five : List ℕ → Option (Option End)
+ended_by_five moves = option_map end_of (played (empty_position (record { cols = 5; rows = 4; len = Five })) moves)
+
+-- White has a1 to d1, and the game goes on; e1 then ends it
+four_of_five : ended_by_five (0 ∷ 0 ∷ 1 ∷ 1 ∷ 2 ∷ 2 ∷ 3 ∷ []) ≡ Some None
+four_of_five = refl
+
+five_in_a_line : ended_by_five (0 ∷ 0 ∷ 1 ∷ 1 ∷ 2 ∷ 2 ∷ 3 ∷ 3 ∷ 4 ∷ []) ≡ Some (Some ends.White)
+five_in_a_line = refl

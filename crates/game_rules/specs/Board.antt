@@ -1,20 +1,23 @@
--- The board and its lines. That lines have four squares is a rule of the game; which sizes a board has is this
--- project's own choice.
-use Rattle.std.specs.Prelude.{ℕ, ◌+◌, ◌-◌, Bool, ◌&&◌, ◌||◌, ◌==◌, nat_lt, nat_le, List, [], ◌∷◌, map}
+-- The board and its lines. That lines have four squares is a rule of the game. Lines of five, and which sizes a board
+-- has, are this project's own choice.
+use Rattle.std.specs.Prelude.{ℕ, ◌+◌, ◌-◌, Bool, true, false, ◌&&◌, ◌||◌, ◌==◌, nat_lt, nat_le, List, [], ◌∷◌, map}
 use Rattle.std.specs.List.{list_all, range_with_len}
+use Rattle.game_rules.specs.declared.Length.{Length}
+use Rattle.game_rules.specs.declared.Length.TheVariants.{Four, Five}
 use Rattle.game_rules.specs.declared.Way.{Way}
 use Rattle.game_rules.specs.declared.Way.TheVariants.{H, V, U, D}
 
--- how many columns and rows a board has
+-- how many columns and rows a board has, and how many squares its lines have
 pub record Board : Type 0 where
   pub cols : ℕ
   pub rows : ℕ
+  pub len : Length
 
 -- the numbers from 0 up to n
 abbrev pub below : ℕ → List ℕ
 below n = range_with_len 0 n
 
--- boards have 4 to 10 columns, and 4, 6, 8 or 10 rows
+-- boards have 4 to 10 columns, and 4, 6, 8 or 10 rows, at either length
 abbrev pub is_cols : ℕ → Bool
 is_cols n = nat_le 4 n && nat_le n 10
 
@@ -32,8 +35,15 @@ abbrev pub on_board : Board → Square → Bool
 on_board board (column, row) = nat_lt column board.cols && (nat_le 1 row && nat_le row board.rows)
 
 -- how many squares in a line win
-abbrev pub line_length : ℕ
-line_length = 4
+abbrev pub line_length : Length → ℕ
+line_length Four = 4
+line_length Five = 5
+
+abbrev pub same_length : Length → Length → Bool
+same_length Four Four = true
+same_length Four Five = false
+same_length Five Four = false
+same_length Five Five = true
 
 -- the square that lies i steps from another
 abbrev pub step_of : Way → Square → ℕ → Square
@@ -43,12 +53,12 @@ step_of U (column, row) i = (column + i, row + i)
 step_of D (column, row) i = (column + i, row - i)
 
 -- an anchor and the next squares in one direction; below the lowest row there is no board, so a falling line never passes it
-abbrev pub line_at : Way → Square → List Square
-line_at way anchor = map (step_of way anchor) (below line_length)
+abbrev pub line_at : Length → Way → Square → List Square
+line_at len way anchor = map (step_of way anchor) (below (line_length len))
 
--- the four squares are all on the board
+-- the squares of a line of the board's length are all on the board
 abbrev pub is_line : Board → Way → Square → Bool
-is_line board way anchor = list_all (on_board board) (line_at way anchor)
+is_line board way anchor = list_all (on_board board) (line_at board.len way anchor)
 
 abbrev pub ways : List Way
 ways = H ∷ V ∷ U ∷ D ∷ []

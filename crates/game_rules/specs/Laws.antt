@@ -9,8 +9,8 @@ use Rattle.game_rules.specs.declared.Way.{Way}
 pub record HasLine (p : Position) (side : Side) : Type 0 where
   pub way : Way
   pub anchor : Square
-  pub on_the_board : (i : ℕ) → i < line_length → on_board (board_of p) (step_of way anchor i) ≡ true
-  pub owned : (i : ℕ) → i < line_length → has_man p side (step_of way anchor i) ≡ true
+  pub on_the_board : (i : ℕ) → i < line_length p.len → on_board (board_of p) (step_of way anchor i) ≡ true
+  pub owned : (i : ℕ) → i < line_length p.len → has_man p side (step_of way anchor i) ≡ true
 
 -- every square of the board holds a man
 abbrev pub IsFilled : Position → Type 0

@@ -3,24 +3,26 @@
 use Rattle.std.specs.Prelude.{ℕ, zero, suc, ◌+◌, ◌-◌, ◌%◌, ◌≤◌, Bool, true, false, not, ◌&&◌, ◌==◌, nat_lt, if◌then◌else◌, List, [], ◌∷◌, ◌++◌, map, length, replicate, sum_by, filter, Option, Some, None, is_none, slice_get, slice_set, slice_index_or, All}
 use Rattle.std.specs.List.{list_all, list_any}
 use Rattle.std.specs.Cmp.Lexicographic.{pointwise}
-use Rattle.game_rules.specs.Board.{Board, Square, below, line_at, is_line, ways}
+use Rattle.game_rules.specs.Board.{Board, Square, below, line_at, is_line, same_length, ways}
+use Rattle.game_rules.specs.declared.Length.{Length}
 use Rattle.game_rules.specs.declared.Side.{Side}
 use Rattle.game_rules.specs.declared.Side.TheVariants.{White, Black}
 use Rattle.game_rules.specs.declared.End.{End}
 use Rattle.game_rules.specs.declared.End.TheVariants as ends
 use Rattle.game_rules.specs.declared.Way.{Way}
 
--- how many rows the board has, and the men of each of its columns from the bottom up
+-- how many rows the board has, how many squares its lines have, and the men of each of its columns from the bottom up
 pub record Position : Type 0 where
   pub rows : ℕ
+  pub len : Length
   pub columns : List (List Side)
 
 abbrev pub board_of : Position → Board
-board_of p = record { cols = length p.columns; rows = p.rows }
+board_of p = record { cols = length p.columns; rows = p.rows; len = p.len }
 
 -- the position before the first move
 abbrev pub empty_position : Board → Position
-empty_position board = record { rows = board.rows; columns = replicate board.cols [] }
+empty_position board = record { rows = board.rows; len = board.len; columns = replicate board.cols [] }
 
 abbrev pub other : Side → Side
 other White = Black
@@ -79,18 +81,18 @@ abbrev pub after_move : Position → ℕ → Position
 after_move p column = record p { columns = slice_set p.columns column (men_in p column ++ side_to_move p ∷ []) }
 
 -- a line of the board whose squares are all the side's, by its anchor and its direction
-abbrev pub four_at : Position → Side → Way → Square → Bool
-four_at p side way anchor = is_line (board_of p) way anchor && list_all (has_man p side) (line_at way anchor)
+abbrev pub has_line_at : Position → Side → Way → Square → Bool
+has_line_at p side way anchor = is_line (board_of p) way anchor && list_all (has_man p side) (line_at p.len way anchor)
 
-abbrev pub four_in_column : Position → Side → Way → ℕ → Bool
-four_in_column p side way column = list_any (λ i. four_at p side way (column, i + 1)) (below p.rows)
+abbrev pub has_line_in_column : Position → Side → Way → ℕ → Bool
+has_line_in_column p side way column = list_any (λ i. has_line_at p side way (column, i + 1)) (below p.rows)
 
-abbrev pub four_along : Position → Side → Way → Bool
-four_along p side way = list_any (four_in_column p side way) (below (length p.columns))
+abbrev pub has_line_along : Position → Side → Way → Bool
+has_line_along p side way = list_any (has_line_in_column p side way) (below (length p.columns))
 
--- the side has four in a line
-abbrev pub has_four : Position → Side → Bool
-has_four p side = list_any (four_along p side) ways
+-- the side has a line
+abbrev pub has_line : Position → Side → Bool
+has_line p side = list_any (has_line_along p side) ways
 
 -- no column has room
 abbrev pub is_full : Position → Bool
@@ -98,7 +100,7 @@ is_full p = not (list_any (has_room p) (below (length p.columns)))
 
 -- how the game has ended, if it has
 abbrev pub end_of : Position → Option End
-end_of p = if has_four p White then Some ends.White else (if has_four p Black then Some ends.Black else (if is_full p then Some ends.Draw else None))
+end_of p = if has_line p White then Some ends.White else (if has_line p Black then Some ends.Black else (if is_full p then Some ends.Draw else None))
 
 -- a move may be made where the game goes on and the column has room
 abbrev pub is_legal : Position → ℕ → Bool
@@ -120,6 +122,6 @@ open_columns p = filter (has_room p) (below (length p.columns))
 abbrev pub moved : Position → List Position
 moved p = map (after_move p) (open_columns p)
 
--- whether two positions are the same: their rows, and each column man by man
+-- whether two positions are the same: their rows, the length of their lines, and each column man by man
 abbrev pub same_position : Position → Position → Bool
-same_position p q = p.rows == q.rows && pointwise (pointwise same_side) p.columns q.columns
+same_position p q = p.rows == q.rows && same_length p.len q.len && pointwise (pointwise same_side) p.columns q.columns

@@ -3,6 +3,8 @@ use Rattle.std.specs.Prelude.{◌≡◌, ◌⊎◌, ℕ, ◌+◌, ◌<◌, Bool,
 use Rattle.std.specs.List.{list_any, flat_map}
 use Rattle.game_rules.specs.Board.{Board, Square, below, on_board}
 use Rattle.game_rules.specs.Position.{Position, board_of, height, man_at}
+use Rattle.game_rules.specs.declared.Length.{Length}
+use Rattle.game_rules.specs.declared.Length.TheVariants.{Four}
 
 -- the same column and the same row
 abbrev pub same_square : Square → Square → Bool
@@ -25,8 +27,12 @@ abbrev pub Precedes : Square → Square → Type 0
 Precedes u v = (u.0 < v.0) ⊎ ((u.0 ≡ v.0) × (u.1 < v.1))
 
 -- no board has more columns or more rows
+abbrev pub widest_with : Length → Board
+widest_with len = record { cols = 10; rows = 10; len = len }
+
+-- which squares a board has doesn't depend on the length of its lines
 abbrev pub widest : Board
-widest = record { cols = 10; rows = 10 }
+widest = widest_with Four
 
 -- the squares that pass a test, in square order
 unfoldable pub squares_where : (Square → Bool) → List Square

@@ -1,4 +1,4 @@
--- The text of a game, this project's own: the line `board COLS ROWS`, and the line `moves` with a letter for each
+-- The text of a game on a board with lines of four, this project's own: the line `board COLS ROWS`, and the line `moves` with a letter for each
 -- move, or `-` for none. The last line feed may be missing. Reading goes from the left and gives the position, or the
 -- first fault.
 use Rattle.std.specs.Prelude.{ℕ, ◌+◌, ◌-◌, Bool, ◌&&◌, ◌||◌, ◌==◌, nat_lt, nat_le, if◌then◌else◌, List, [], ◌∷◌, length, drop, take_while, Option, Some, None, is_some, Result, Ok, Err, codes}
@@ -8,6 +8,7 @@ use Rattle.game_rules.specs.declared.InputKind.{InputKind}
 use Rattle.game_rules.specs.declared.InputKind.TheVariants.{BadHeader, BadSize, BadColumn, ColumnFull, GameOver, Trailing}
 use Rattle.game_rules.specs.declared.InputFault.{InputFault}
 use Rattle.game_rules.specs.declared.Stop.{Stop}
+use Rattle.game_rules.specs.declared.Length.TheVariants.{Four}
 
 -- reading stops at a fault of this kind, with so many bytes left
 abbrev pub stop : {X : Type 0} → InputKind → ℕ → Result X Stop
@@ -89,7 +90,7 @@ board_at bytes = do
   gap ← after_text (codes " ") cols.1
   rows ← size_at rows_of gap
   rest ← after_text (10 ∷ codes "moves ") rows.1
-  Ok (record { cols = cols.0; rows = rows.0 }, rest)
+  Ok (record { cols = cols.0; rows = rows.0; len = Four }, rest)
 
 unfoldable pub read_game : List ℕ → Result Position Stop
 read_game bytes = do

@@ -3,7 +3,7 @@
 ghost use Rattle.std.specs.Prelude.{◌≡◌, ◌≢◌, ◌↔◌, ℕ, Bool, ◌<◌, ◌≤◌, true, None, List, length, AllPairs};
 ghost use Rattle.std.specs.List.{list_any, list_all};
 ghost use Rattle.game_rules.specs.Board.{Board, Square, is_board, on_board};
-ghost use Rattle.game_rules.specs.Position.{Position, board_of, has_man, man_at, has_four, IsStacked};
+ghost use Rattle.game_rules.specs.Position.{Position, board_of, has_man, man_at, has_line, IsStacked};
 ghost use Rattle.game_rules.specs.Squares.{has_square, squares_of_board, Precedes as SquarePrecedes, widest, squares_where, IsSetOf, is_empty, is_playable};
 ghost use Rattle.game_rules.specs.Groups.{Group, squares_of, lies_on, has_group, groups_of, Precedes};
 ghost use Rattle.game_rules.specs.declared.Side.{Side};
@@ -31,7 +31,7 @@ pub fn a_playable_square_is_empty_over_filled_ones()
         → (is_playable p u ≡ true) ↔ ((is_empty p u ≡ true) × ((row : ℕ) → 1 ≤ row → row < u.1 → man_at p (u.0, row) ≢ None)) }
 {}
 
-/// The groups of a board are exactly its lines, each once, in group order, and at most 238. Two groups with the same four
+/// The groups of a board are exactly its lines, each once, in group order, and at most 238. Two groups with the same
 /// squares are one group, so each line stands there once as a set of squares too.
 pub fn groups_are_the_lines_of_the_board()
     ensures lines { (board : Board) (g : Group) → has_group (groups_of board) g ≡ lies_on board g }
@@ -41,7 +41,7 @@ pub fn groups_are_the_lines_of_the_board()
     ensures most { (board : Board) → is_board board ≡ true → length (groups_of board) ≤ 238 }
 {}
 
-/// A side has four in a line exactly where it has a man on every square of some group.
-pub fn four_in_a_line_is_a_whole_group()
-    ensures { (p : Position) (side : Side) → has_four p side ≡ list_any (λ g. list_all (has_man p side) (squares_of g)) (groups_of (board_of p)) }
+/// A side has a line exactly where it has a man on every square of some group.
+pub fn a_line_is_a_whole_group()
+    ensures { (p : Position) (side : Side) → has_line p side ≡ list_any (λ g. list_all (has_man p side) (squares_of g)) (groups_of (board_of p)) }
 {}

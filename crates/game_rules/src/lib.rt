@@ -22,6 +22,7 @@ pub enum Side {
     Black,
 }
 
+<<<<<<< HEAD
 impl Side {
     /// The other player.
     pub fn other(self) -> Side
@@ -45,6 +46,16 @@ impl Side {
 }
 
 /// How a game ended: with a win of White, a win of Black, or a full board without four in a line.
+=======
+/// How many squares in a line win, and so how many each line of a board has: four or five.
+#[derive(Clone, Copy, Debug, PartialEq, Eq, Hash)]
+pub enum Length {
+    Four,
+    Five,
+}
+
+/// How a game ended: with a win of White, a win of Black, or a full board on which no side has a line.
+>>>>>>> length
 #[derive(Clone, Copy, Debug, PartialEq, Eq, Hash)]
 pub enum End {
     White,
@@ -52,7 +63,7 @@ pub enum End {
     Draw,
 }
 
-/// The direction in which a line of four runs from its anchor, its leftmost square (its lowest for `V`).
+/// The direction in which a line runs from its anchor, its leftmost square (its lowest for `V`).
 #[derive(Clone, Copy, Debug, PartialEq, Eq, Hash)]
 pub enum Way {
     /// To the right.

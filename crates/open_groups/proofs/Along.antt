@@ -2,18 +2,14 @@
 use Rattle.std.proofs.Common.{◌≡◌, ◌+◌, ◌≤◌, true, List, ◌++◌, length, map, filter, ap, arith, length-append}
 use Rattle.std.proofs.lemmas.List.{append-nil}
 use Rattle.game_rules.specs.Board.{Board, Square, is_board, is_line}
-use Rattle.game_rules.specs.Groups.{Group, groups_along, groups_of}
+use Rattle.game_rules.specs.Groups.{Group, group_on, groups_along, groups_of}
 use Rattle.game_rules.proofs.Groups.{groups_fit}
 use Rattle.game_rules.specs.declared.Way.{Way}
 use Rattle.game_rules.specs.declared.Way.TheVariants.{H, V, U, D}
 
 -- the groups with their anchors in a list of squares
 abbrev pub anchored_in : Board → Way → List Square → List Group
-anchored_in b way us = map (λ s. (s, way)) (filter (is_line b way) us)
-
--- a square as an anchor
-abbrev pub anchor_along : Way → Square → Group
-anchor_along way s = (s, way)
+anchored_in b way us = map (group_on b way) (filter (is_line b way) us)
 
 pub groups_by_way : (b : Board) → groups_of b ≡ groups_along b H ++ (groups_along b V ++ (groups_along b U ++ groups_along b D))
 unfolding groups_of

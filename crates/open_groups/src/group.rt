@@ -1,62 +1,65 @@
-//! One group, and all groups of a board.
+//! One group, and all groups of a board. A group has the length of the lines of its board.
 ghost use Rattle.std.specs.Prelude.{◌≡◌, ◌+◌, ◌≤◌, ◌++◌, true, Some, None, if◌then◌else◌, length};
 ghost use Rattle.game_rules.specs.Board.{is_line};
-ghost use Rattle.game_rules.specs.Squares.{has_square, squares_of_board, widest, IsSetOf};
-ghost use Rattle.game_rules.specs.Groups.{squares_of, lies_on, groups_along, groups_of};
+ghost use Rattle.game_rules.specs.Squares.{has_square, squares_of_board, widest_with, IsSetOf};
+ghost use Rattle.game_rules.specs.Groups.{squares_of, group_on, groups_along, groups_of};
 ghost use Rattle.arrayvec.specs.ArrayVec.{array_vec_len};
 
 use arrayvec::ArrayVec;
-use board_bits::{Mask, Size, Square};
+use board_bits::{Length, MOST_IN_LINE, Mask, Size, Square};
 use game_rules::Way;
 use std::marker::Model;
 
-/// No board has more groups.
+/// No board has more groups, of either length.
 const MOST_GROUPS: usize = 238;
 
-/// A group of four squares in a line, by its anchor and its direction.
+/// A group of squares in a line, by its anchor, its direction and its length.
 #[derive(Clone, Copy, Debug, PartialEq, Eq, Hash)]
 pub struct GroupId {
     anchor: Square,
     way: Way,
+    len: Length,
 }
 
 impl Model for GroupId {
-    ghost use Rattle.std.specs.Prelude.{◌≡◌, ℕ, true};
-    ghost use Rattle.game_rules.specs.Squares.{widest};
-    ghost use Rattle.game_rules.specs.Groups.{lies_on};
-    ghost use Rattle.game_rules.specs.declared.Way.{Way};
+    ghost use Rattle.std.specs.Prelude.{◌≡◌, true};
+    ghost use Rattle.game_rules.specs.Board.{is_line};
+    ghost use Rattle.game_rules.specs.Squares.{widest_with};
+    ghost use Rattle.game_rules.specs.Groups.{Group};
 
-    ghost Value = { (ℕ × ℕ) × Way };
+    ghost Value = { Group };
 
-    ghost view = { λ group. (group.anchor, group.way) };
+    ghost view = { λ group. record { anchor = group.anchor; way = group.way; len = group.len } };
 
-    ghost invariant = { λ group. lies_on widest (group.anchor, group.way) ≡ true };
+    ghost invariant = { λ group. is_line (widest_with group.len) group.way group.anchor ≡ true };
 
-    ghost inverse = { λ g. record { anchor = g.0; way = g.1 } };
+    ghost inverse = { λ g. record { anchor = g.anchor; way = g.way; len = g.len } };
 }
 
 impl Default for GroupId {
     ghost use Rattle.std.specs.Prelude.{◌≡◌};
     ghost use Rattle.game_rules.specs.declared.Way.TheVariants.{H};
+    ghost use Rattle.game_rules.specs.declared.Length.TheVariants.{Four};
 
-    ghost is_default = { λ g. g ≡ ((0, 1), H) };
+    ghost is_default = { λ g. g ≡ record { anchor = (0, 1); way = H; len = Four } };
 
-    /// The level group with its anchor in the lowest square of the first column, which every board has.
+    /// The level group of four squares with its anchor in the lowest square of the first column, which every board
+    /// with lines of four has.
     fn default() -> Self {
         GroupId {
             anchor: Square::default(),
             way: Way::H,
+            len: Length::Four,
         }
     }
 }
 
 impl GroupId {
-    /// The group's four squares, from its anchor on.
-    pub fn squares(&self) -> [Square; 4]
-        ensures value { result ≡ squares_of self.now }
-        ensures lies { lies_on widest self.now ≡ true }
+    /// The group's squares, from its anchor on: as many as its length says.
+    pub fn squares(&self) -> ArrayVec<Square, MOST_IN_LINE>
+        ensures { result.items ≡ squares_of self.now }
     {
-        self.anchor.line(self.way)
+        self.anchor.line(self.len, self.way)
     }
 }
 
@@ -87,35 +90,48 @@ fn push_along(size: Size, way: Way, squares: &[Square], groups: &mut ArrayVec<Gr
     }
 }
 
-/// The group from this anchor in this direction, and None exactly where its four squares aren't all on the board.
+/// The group of the board's length from this anchor in this direction, and None exactly where its squares aren't all on
+/// the board.
 pub fn group_at(size: Size, anchor: Square, way: Way) -> Option<GroupId>
-    ensures { result ≡ (if is_line size way anchor then Some (anchor, way) else None) }
+    ensures { result ≡ (if is_line size way anchor then Some (group_on size way anchor) else None) }
 {
     if size.has_line(anchor, way) {
-        Some(GroupId { anchor, way })
+        Some(GroupId {
+            anchor,
+            way,
+            len: size.length(),
+        })
     } else {
         None
     }
 }
 
-/// The set of the group's four squares.
+/// The set of the group's squares.
 pub fn group_mask(g: GroupId) -> Mask
     ensures { IsSetOf (has_square (squares_of g)) result }
 {
-    Mask::of(&g.squares())
+    let squares = g.squares();
+    Mask::of(squares.as_slice())
 }
 
 /// The group's anchor: its leftmost square, or its lowest where it is upright.
 pub fn group_anchor(g: GroupId) -> Square
-    ensures value { result ≡ g.0 }
-    ensures lies { lies_on widest g ≡ true }
+    ensures value { result ≡ g.anchor }
+    ensures line { is_line (widest_with g.len) g.way g.anchor ≡ true }
 {
     g.anchor
 }
 
 /// The group's direction.
 pub fn group_way(g: GroupId) -> Way
-    ensures { result ≡ g.1 }
+    ensures { result ≡ g.way }
 {
     g.way
+}
+
+/// The group's length.
+pub fn group_length(g: GroupId) -> Length
+    ensures { result ≡ g.len }
+{
+    g.len
 }

@@ -1,70 +1,85 @@
-//! Sets of groups, and the groups that a side can still fill. A set is kept as the anchors of its groups in each
-//! direction; a contract sees the list of its groups in group order.
-ghost use Rattle.std.specs.Prelude.{◌≡◌, ◌&&◌, ◌||◌, false, not};
+//! Sets of groups, and the groups that a side can still fill. A set is of groups of one board, and is kept as the
+//! anchors of its groups in each direction; a contract sees the board, and the list of the groups in group order.
+ghost use Rattle.std.specs.Prelude.{◌≡◌, ◌&&◌, ◌||◌, true, false, not};
 ghost use Rattle.std.specs.List.{list_any};
+ghost use Rattle.game_rules.specs.Board.{same_length};
 ghost use Rattle.game_rules.specs.Position.{board_of, has_man, other};
 ghost use Rattle.game_rules.specs.Squares.{has_square, IsSetOf};
 ghost use Rattle.game_rules.specs.Groups.{squares_of, lies_on, rank, same_group, has_group, is_free_for, IsGroupSetOf};
 
-use crate::{GroupId, group_anchor, group_mask, group_way, groups};
-use board_bits::{Mask, Position, Side};
+use crate::{GroupId, group_anchor, group_length, group_mask, group_way, groups};
+use board_bits::{Length, Mask, Position, Side, Size};
 use game_rules::Way;
 use std::marker::Model;
 
 /// How many directions there are.
 const WAYS: usize = 4;
 
-/// A set of groups.
+/// A set of groups of one board.
 #[derive(Clone, Copy, Debug, PartialEq, Eq, Hash)]
 pub struct GroupSet {
+    size: Size,
     anchors: [Mask; WAYS],
 }
 
 impl Model for GroupSet {
-    ghost use Rattle.std.specs.Prelude.{List, ℕ};
-    ghost use Rattle.game_rules.specs.declared.Way.{Way};
+    ghost use Rattle.game_rules.specs.Groups.{GroupsOn};
 
-    ghost Value = { List ((ℕ × ℕ) × Way) };
+    ghost Value = { GroupsOn };
 
-    ghost use Rattle.open_groups.specs.AnchorFields.{groups_anchored, anchors_of, IsDetermined};
+    ghost use Rattle.open_groups.specs.AnchorFields.{set_anchored, anchors_of, IsSound, groups_determine_the_fields};
 
-    ghost view = { λ set. groups_anchored set.anchors };
+    ghost view = { λ set. set_anchored set.size set.anchors };
 
-    ghost invariant = { IsDetermined };
+    ghost invariant = { IsSound };
 
-    ghost inverse = { λ gs. record { anchors = anchors_of gs } };
+    ghost inverse = { λ set. record { size = set.board; anchors = anchors_of set } };
 
-    ghost inverse_ok = { λ a told. told };
+    ghost inverse_ok = { groups_determine_the_fields };
 }
 
 impl GroupSet {
     /// The set without groups.
-    pub fn empty() -> GroupSet
-        ensures { IsGroupSetOf (λ _. false) result }
+    pub fn empty(size: Size) -> GroupSet
+        ensures { IsGroupSetOf size (λ _. false) result }
     {
+        // its contract says that the size is a board's
+        let _board = size.cols();
         GroupSet {
+            size,
             anchors: [Mask::empty(); WAYS],
         }
     }
 
-    /// Whether the set has the group.
+    /// Whether the set has the group. It has none of another length than its board's, and none off the board.
     pub fn has(&self, g: GroupId) -> bool
-        ensures { result ≡ has_group self.now g }
+        ensures { result ≡ has_group self.now.groups g }
     {
         let anchors = self.anchors[place_of(group_way(g))];
-        anchors.has(group_anchor(g))
+        same_length(group_length(g), self.size.length()) && anchors.has(group_anchor(g))
     }
 
-    /// The set with one more group.
+    /// The set with one more group of its board.
     pub fn with(&self, g: GroupId) -> GroupSet
-        ensures { IsGroupSetOf (λ h. same_group h g || has_group self.now h) result }
+        requires { lies_on self.now.board g ≡ true }
+        ensures { IsGroupSetOf self.now.board (λ h. same_group h g || has_group self.now.groups h) result }
     {
         let place = place_of(group_way(g));
         let mut anchors = self.anchors;
         let along = anchors[place];
         anchors[place] = along.with(group_anchor(g));
-        GroupSet { anchors }
+        GroupSet {
+            size: self.size,
+            anchors,
+        }
     }
+}
+
+/// Whether the lengths are the same.
+fn same_length(a: Length, b: Length) -> bool
+    ensures { result ≡ same_length a b }
+{
+    a == b
 }
 
 /// Where the anchors of a direction are kept.
@@ -81,11 +96,18 @@ fn place_of(way: Way) -> usize
 
 /// The groups of the board without a man of the other side.
 pub fn free_for(p: &Position, side: Side) -> GroupSet
-    ensures { IsGroupSetOf (λ g. lies_on (board_of p.now) g && is_free_for side p.now g) result }
+    ensures { IsGroupSetOf (board_of p.now) (λ g. lies_on (board_of p.now) g && is_free_for side p.now g) result }
 {
+<<<<<<< HEAD
     let others = p.men(side.other());
     let groups = groups(p.size());
     let mut free = GroupSet::empty();
+=======
+    let others = men_of_other(p, side);
+    let size = p.size();
+    let groups = groups(size);
+    let mut free = GroupSet::empty(size);
+>>>>>>> length
     for group in groups.as_slice() {
         if is_clear_of(*group, others) {
             free = free.with(*group);

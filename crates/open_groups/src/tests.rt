@@ -1,8 +1,8 @@
-//! How many groups a board has, and which of them a man takes from the other side, as counted by hand. Two tests are of
-//! the sizes, positions and squares of `board_bits`, which has none of its own: what a square holds, and that a game
-//! without moves is the empty position.
+//! How many groups a board has, and which of them a man takes from the other side, as counted by hand. Four tests are of
+//! the sizes, positions and squares of `board_bits`, which has none of its own: what a square holds, that a game without
+//! moves is the empty position, which numbers are a size, and which line ends a game.
 use crate::{GroupId, GroupSet, free_for, group_anchor, group_at, group_mask, group_way, groups};
-use board_bits::{Mask, Position, Side, Size, Square, read_game};
+use board_bits::{End, Mask, Position, Side, Size, SizeFault, Square, read_game};
 use game_rules::Way;
 use std::test::Fail;
 
@@ -16,10 +16,76 @@ fn count_in(set: &GroupSet, list: &[GroupId]) -> usize {
 
 #[test]
 fn boards_have_their_groups(rt: HostRuntime) -> Result<(), Fail> {
-    for (cols, rows, want) in [(4, 4, 10), (7, 6, 69), (10, 10, 238)] {
-        let size = Size::new(cols, rows)?;
-        assert_eq!(rt; groups(size).len(), want, "at {cols} by {rows}");
+    for (cols, rows, len, want) in [
+        (4, 4, 4, 10),
+        (7, 6, 4, 69),
+        (10, 10, 4, 238),
+        (4, 4, 5, 0),
+        (7, 6, 5, 44),
+        (10, 10, 5, 192),
+    ] {
+        let size = Size::with_line(cols, rows, len)?;
+        let groups = groups(size);
+        assert_eq!(rt;
+            groups.len(),
+            want,
+            "at {cols} by {rows} with lines of {len}"
+        );
+        for group in groups.as_slice() {
+            assert_eq!(rt; group.squares().len(), usize::from(len));
+        }
     }
+    Ok(())
+}
+
+#[test]
+fn a_group_of_four_is_none_of_five(rt: HostRuntime) -> Result<(), Fail> {
+    let four = Position::empty(Size::new(7, 6)?);
+    let five = Position::empty(Size::with_line(7, 6, 5)?);
+    let corner = square_of(four.size(), 0, 1).ok_or("no a1")?;
+    let short = group_at(four.size(), corner, Way::H).ok_or("no group of four")?;
+    let long = group_at(five.size(), corner, Way::H).ok_or("no group of five")?;
+    assert!(rt; free_for(&four, Side::White).has(short) && free_for(&five, Side::White).has(long));
+    assert!(rt;
+        !free_for(&four, Side::White).has(long) && !free_for(&five, Side::White).has(short)
+    );
+    assert!(rt; short != long);
+    Ok(())
+}
+
+#[test]
+fn the_first_wrong_number_is_reported(rt: HostRuntime) -> Result<(), Fail> {
+    for (cols, rows, len, want) in [
+        (3, 5, 3, SizeFault::BadCols),
+        (11, 6, 4, SizeFault::BadCols),
+        (7, 5, 6, SizeFault::BadRows),
+        (7, 6, 3, SizeFault::BadLen),
+        (7, 6, 6, SizeFault::BadLen),
+    ] {
+        assert_eq!(rt;
+            Size::with_line(cols, rows, len).err(),
+            Some(want),
+            "at {cols}, {rows}, {len}"
+        );
+    }
+    let five = Size::with_line(7, 6, 5)?;
+    assert_eq!(rt; (five.cols(), five.rows(), five.line()), (7, 6, 5));
+    assert_eq!(rt; Size::new(7, 6)?.line(), 4);
+    assert!(rt; !five.same(&Size::new(7, 6)?) && five.same(&five));
+    assert!(rt; !Position::empty(five).same(&Position::empty(Size::new(7, 6)?)));
+    Ok(())
+}
+
+#[test]
+fn a_line_of_the_boards_length_ends_the_game(rt: HostRuntime) -> Result<(), Fail> {
+    let mut position = Position::empty(Size::with_line(5, 4, 5)?);
+    for index in [0, 0, 1, 1, 2, 2, 3, 3, 4] {
+        // White has a1 to d1 before the last two moves
+        assert_eq!(rt; position.ended(), None, "before column {index}");
+        let column = position.size().column(index).ok_or("no such column")?;
+        position = position.play(column)?;
+    }
+    assert_eq!(rt; position.ended(), Some(End::White));
     Ok(())
 }
 
@@ -40,7 +106,7 @@ fn a_man_takes_three_groups(rt: HostRuntime) -> Result<(), Fail> {
 }
 
 #[test]
-fn a_group_is_its_four_squares(rt: HostRuntime) -> Result<(), Fail> {
+fn a_group_is_its_squares(rt: HostRuntime) -> Result<(), Fail> {
     let position = read_game(b"board 4 4\nmoves abc\n")?;
     let size = position.size();
     let top = square_of(size, 0, 4).ok_or("no a4")?;

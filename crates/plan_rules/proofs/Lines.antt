@@ -8,6 +8,7 @@ use Rattle.game_rules.specs.Squares.{has_square, is_empty}
 use Rattle.game_rules.specs.Groups.{Group, squares_of, lies_on}
 use Rattle.game_rules.specs.declared.Side.{Side}
 use Rattle.game_rules.specs.declared.Side.TheVariants.{White, Black}
+use Rattle.game_rules.proofs.Groups.{squares_on}
 use Rattle.game_rules.proofs.Lists.{all_gives}
 use Rattle.game_rules.proofs.Squares.{has_gives}
 use Rattle.plan_rules.specs.Squares.{each_of}
@@ -25,7 +26,7 @@ pub open_lies : (p : Position) (g : Group) → is_open_line p g ≡ true → lie
 open_lies p g h = (and_parts (lies_on (board_of p) g) _ (and_parts _ _ h).0).0
 
 pub line_square_on : (p : Position) (g : Group) → is_open_line p g ≡ true → (u : Square) → has_square (squares_of g) u ≡ true → on_board (board_of p) u ≡ true
-line_square_on p g h u in_line = all_gives (on_board (board_of p)) (squares_of g) u (open_lies p g h) (has_gives (squares_of g) u in_line)
+line_square_on p g h u in_line = all_gives (on_board (board_of p)) (squares_of g) u (squares_on (board_of p) g (open_lies p g h)) (has_gives (squares_of g) u in_line)
 
 -- a filled square that isn't White's is Black's
 black_left : (m : Option Side) → is_none m ≡ false → is_man White m ≡ false → is_man Black m ≡ true

@@ -2,17 +2,17 @@
 use Rattle.std.proofs.Common.{◌≡◌, ℕ, zero, suc, ◌+◌, ◌<◌, Bool, true, not, ◌||◌, List, [], ◌∷◌, Option, Some, None, is_none, refl, sym, ap, subst, inl, inr, arith}
 use Rattle.std.specs.List.{list_all, list_any}
 use Rattle.std.proofs.lemmas.Bool.{cases_Bool, both_ways, and_parts, and_from, or_cases, or_left, or_right, not-true, not_from_false, false_from_ne_true}
-use Rattle.game_rules.specs.Board.{Board, Square, below, on_board, ways}
+use Rattle.game_rules.specs.Board.{Board, Square, below, on_board, is_line, ways}
 use Rattle.game_rules.specs.Position.{Position, board_of, has_man, side_to_move, same_side, end_of}
 use Rattle.game_rules.specs.Squares.{has_square, is_empty}
-use Rattle.game_rules.specs.Groups.{Group, squares_of, lies_on}
+use Rattle.game_rules.specs.Groups.{Group, squares_of, lies_on, group_on}
 use Rattle.game_rules.specs.declared.Side.TheVariants.{White, Black}
 use Rattle.game_rules.specs.declared.End.{End}
 use Rattle.game_rules.proofs.Lists.{any_gives, any_from, all_gives, all_from, Among-below}
 use Rattle.game_rules.proofs.Moves.{same_side_is}
 use Rattle.game_rules.proofs.Ends.{on_board_parts, Among-ways}
 use Rattle.game_rules.proofs.Squares.{has_gives, has_from}
-use Rattle.game_rules.proofs.Groups.{anchor_on}
+use Rattle.game_rules.proofs.Groups.{anchor_on, lies_parts, lies_from, group_as}
 use Rattle.plan_rules.specs.Rules.{RuleInstance, zone_of, fits, facts_of, barred, is_supported, together}
 use Rattle.plan_rules.specs.Plan.{each_two, every_square, every_line, has_owner, empty_part, is_barred, is_plan, IsMember, SomeMember, IsPlan}
 use Rattle.plan_rules.proofs.Squares.{Among-get, get-Among}
@@ -63,15 +63,19 @@ every_square_from board test each = all_from (λ c. list_all (λ r. test (c, r +
 
 every_line_gives : (board : Board) (test : Group → Bool) → every_line board test ≡ true → (g : Group) → lies_on board g ≡ true → test g ≡ true
 every_line_gives board test h g lies =
-    let along = all_gives (λ way. every_square board (λ anchor. not (lies_on board (anchor, way)) || test (anchor, way))) ways g.1 h (Among-ways g.1) in
-    let at = every_square_gives board (λ anchor. not (lies_on board (anchor, g.1)) || test (anchor, g.1)) along g.0 (anchor_on board g.1 g.0 lies) in
-    elim (or_cases _ _ at) [ inl off ↦ absurd (both_ways (lies_on board g) (not-true _ off) lies) | inr passes ↦ passes ]
+    let parts = lies_parts board g lies in
+    let along = all_gives (λ way. every_square board (λ anchor. not (is_line board way anchor) || test (group_on board way anchor))) ways g.way h (Among-ways g.way) in
+    let at = every_square_gives board (λ anchor. not (is_line board g.way anchor) || test (group_on board g.way anchor)) along g.anchor (anchor_on board g.way g.anchor parts.1) in
+    elim (or_cases _ _ at) [
+      | inl off ↦ absurd (both_ways (is_line board g.way g.anchor) (not-true _ off) parts.1)
+      | inr passes ↦ subst (λ g. test g ≡ true) (group_as board g parts.0) passes
+    ]
 
 every_line_from : (board : Board) (test : Group → Bool) → ((g : Group) → lies_on board g ≡ true → test g ≡ true) → every_line board test ≡ true
 every_line_from board test each =
-    all_from (λ way. every_square board (λ anchor. not (lies_on board (anchor, way)) || test (anchor, way))) ways (λ way _.
-    every_square_from board (λ anchor. not (lies_on board (anchor, way)) || test (anchor, way)) (λ anchor. elim (cases_Bool (lies_on board (anchor, way))) [
-      | inl lies ↦ or_right _ _ (each (anchor, way) lies)
+    all_from (λ way. every_square board (λ anchor. not (is_line board way anchor) || test (group_on board way anchor))) ways (λ way _.
+    every_square_from board (λ anchor. not (is_line board way anchor) || test (group_on board way anchor)) (λ anchor. elim (cases_Bool (is_line board way anchor)) [
+      | inl line ↦ or_right _ _ (each (group_on board way anchor) (lies_from board way anchor line))
       | inr off ↦ or_left _ _ (not_from_false _ off)
     ]))
 

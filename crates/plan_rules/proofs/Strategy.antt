@@ -1,14 +1,15 @@
 -- From the laws of each instance and the table alone: whatever White plays, Black has a reply, each zone stays calm, and
 -- White never has a line.
 use Rattle.std.proofs.Common.{◌≡◌, ◌≢◌, ◌⊎◌, ℕ, zero, suc, ◌+◌, ◌*◌, ◌<◌, ◌≤◌, Bool, true, false, cond, List, [], ◌∷◌, map, length, Option, Some, None, is_none, refl, sym, ap, ◌∙◌, subst, inl, inr, arith}
-use Rattle.std.specs.List.{slice_get, find, flat_map}
+use Rattle.std.specs.List.{list_all, slice_get, find, flat_map}
 use Rattle.std.specs.Option.{option_map, option_map_or, option_and_then}
 use Rattle.std.proofs.lemmas.Bool.{cases_eq, both_ways, and_parts, and_from, cond-true, false_from_ne_true, not_from_true}
-use Rattle.game_rules.specs.Board.{Square, below, on_board}
-use Rattle.game_rules.specs.Position.{Position, board_of, men_in, height, man_at, has_man, other, side_to_move, has_room, has_four, is_full, end_of, is_legal, after_move, empty_count, moved, open_columns}
+use Rattle.game_rules.specs.Board.{Square, below, on_board, line_at}
+use Rattle.game_rules.specs.Position.{Position, board_of, men_in, height, man_at, has_man, other, side_to_move, has_room, has_line, is_full, end_of, is_legal, after_move, empty_count, moved, open_columns}
 use Rattle.game_rules.specs.Value.{wins, same_end}
 use Rattle.game_rules.specs.Squares.{same_square, has_square, is_empty, is_playable}
-use Rattle.game_rules.specs.Groups.{Group, squares_of, lies_on}
+use Rattle.game_rules.specs.Groups.{Group, squares_of, lies_on, group_on}
+use Rattle.game_rules.proofs.Groups.{lies_parts, lies_from}
 use Rattle.game_rules.specs.declared.Side.{Side}
 use Rattle.game_rules.specs.declared.Side.TheVariants.{White, Black}
 use Rattle.game_rules.specs.declared.End.{End}
@@ -16,7 +17,7 @@ use Rattle.game_rules.specs.declared.End.TheVariants as ends
 use Rattle.game_rules.proofs.Lists.{Among, any_gives, any_from, all_gives, all_from, Among-below, Among-flat_map_gives, Among-filter, Among-filter_gives, Among-map, chosen}
 use Rattle.game_rules.proofs.Moves.{man_past, board_moved, room_column, room_height, empty_count_moved, side_moved}
 use Rattle.game_rules.proofs.Values.{wins_own, wins_other, value_at_end}
-use Rattle.game_rules.proofs.Ends.{on_board_from, line_from_four, four_from_line, four_same, each_step, from_steps, ended_parts, legal_parts, none_for_other, other_kept, disjoint, white_end}
+use Rattle.game_rules.proofs.Ends.{on_board_from, has_line_gives, has_line_from, has_line_same, each_step, from_steps, ended_parts, legal_parts, none_for_other, other_kept, disjoint, white_end}
 use Rattle.game_rules.proofs.Squares.{has_gives, has_from, same_square_is}
 use Rattle.plan_rules.specs.Squares.{above}
 use Rattle.plan_rules.specs.Rules.{RuleInstance, zone_of, line_of, reply_to, upper_of, pair_of, twin_of, as_list, facts_of, barred}
@@ -53,21 +54,24 @@ facts_same upper pair twin q r same facts = record {
 }
 
 -- a line that a side has, as a line and its squares
-line_squares : (q : Position) (side : Side) → has_four q side ≡ true → (g : Group) × (lies_on (board_of q) g ≡ true) × Owns side q (has_square (squares_of g))
+line_squares : (q : Position) (side : Side) → has_line q side ≡ true → (g : Group) × (lies_on (board_of q) g ≡ true) × Owns side q (has_square (squares_of g))
 line_squares q side h =
-    let line = line_from_four q side h in (
-      (line.anchor, line.way),
-      from_steps (on_board (board_of q)) line.way line.anchor line.on_the_board,
-      λ u owned. all_gives (has_man q side) (squares_of (line.anchor, line.way)) u (from_steps (has_man q side) line.way line.anchor line.owned) (has_gives (squares_of (line.anchor, line.way)) u owned),
+    let line = has_line_gives q side h in (
+      group_on (board_of q) line.way line.anchor,
+      lies_from (board_of q) line.way line.anchor (from_steps (on_board (board_of q)) q.len line.way line.anchor line.on_the_board),
+      λ u owned. all_gives (has_man q side) (line_at q.len line.way line.anchor) u (from_steps (has_man q side) q.len line.way line.anchor line.owned) (has_gives (line_at q.len line.way line.anchor) u owned),
     )
 
-four_squares : (q : Position) (side : Side) (g : Group) → lies_on (board_of q) g ≡ true → Owns side q (has_square (squares_of g)) → has_four q side ≡ true
-four_squares q side g lies owns = four_from_line q side (record {
-  way = g.1;
-  anchor = g.0;
-  on_the_board = each_step (on_board (board_of q)) g.1 g.0 lies;
-  owned = each_step (has_man q side) g.1 g.0 (all_from (has_man q side) (squares_of g) (λ u among. owns u (has_from (squares_of g) u among)));
-})
+group_gives_line : (q : Position) (side : Side) (g : Group) → lies_on (board_of q) g ≡ true → Owns side q (has_square (squares_of g)) → has_line q side ≡ true
+group_gives_line q side g lies owns =
+    let parts = lies_parts (board_of q) g lies in
+    has_line_from q side (record {
+      way = g.way;
+      anchor = g.anchor;
+      on_the_board = each_step (on_board (board_of q)) q.len g.way g.anchor parts.1;
+      owned = each_step (has_man q side) q.len g.way g.anchor (subst (λ len. list_all (has_man q side) (line_at len g.way g.anchor) ≡ true) parts.0
+          (all_from (has_man q side) (squares_of g) (λ u among. owns u (has_from (squares_of g) u among))));
+    })
 
 module _ (laws : (w : RuleInstance) → Lawful w) (p : Position) (ws : List RuleInstance) (plan : IsPlan p ws) where
   -- what members promise of White's men is true wherever all are calm
@@ -97,7 +101,7 @@ module _ (laws : (w : RuleInstance) → Lawful w) (p : Position) (ws : List Rule
     even = λ i w member. calm_even w p (calm i w member);
     floors = has_floors p p ws plan (λ u m h. h) calm;
     facts = facts_true p calm;
-    no_four = (ended_parts p plan.going).0;
+    no_line = (ended_parts p plan.going).0;
   }
     where
       calm : (i : ℕ) (w : RuleInstance) → IsMember ws i w → is_calm w p ≡ true
@@ -158,9 +162,9 @@ module _ (laws : (w : RuleInstance) → Lawful w) (p : Position) (ws : List Rule
 
   -- ---- White has no line
 
-  no_four_after : (q : Position) → IsKept p ws q → end_of q ≡ None → (s : Square) → is_playable q s ≡ true → Reply q s → has_four (after_move q s.0) White ≡ false
-  no_four_after q kept going s playable answer = false_from_ne_true _ (λ four.
-      let line = line_squares (after_move q s.0) White four in against line.0 line.1 line.2)
+  no_line_after : (q : Position) → IsKept p ws q → end_of q ≡ None → (s : Square) → is_playable q s ≡ true → Reply q s → has_line (after_move q s.0) White ≡ false
+  no_line_after q kept going s playable answer = false_from_ne_true _ (λ held.
+      let line = line_squares (after_move q s.0) White held in against line.0 line.1 line.2)
     where
       board_now : board_of p ≡ board_of (after_move q s.0)
       board_now = kept.board ∙ sym (board_moved q s.0)
@@ -204,8 +208,8 @@ module _ (laws : (w : RuleInstance) → Lawful w) (p : Position) (ws : List Rule
           (always_calm w h line (after_move q s.0)) (facts_same _ _ _ (after_move (after_move q s.0) answer.to.0) (after_move q s.0) white_same facts_next) stay_now is_barred
           (λ u in_part. owns u (and_parts (is_empty p u) (has_square (squares_of g) u) in_part).1)) in
           let lies : lies_on (board_of p) h ≡ true = subst (λ line. IsLineOf line p) line ((laws w).starts p (plan.fitting i w member)).line_on_board in
-          both_ways (has_four q Black) (ended_parts q going).1
-          (four_squares q Black h (subst (λ board. lies_on board h ≡ true) kept.board lies) (λ u in_line. sym (black_same u) ∙ held u in_line))
+          both_ways (has_line q Black) (ended_parts q going).1
+          (group_gives_line q Black h (subst (λ board. lies_on board h ≡ true) kept.board lies) (λ u in_line. sym (black_same u) ∙ held u in_line))
 
       against : (g : Group) → lies_on (board_of (after_move q s.0)) g ≡ true → Owns White (after_move q s.0) (has_square (squares_of g)) → ⊥
       against g lies owns =
@@ -218,8 +222,8 @@ module _ (laws : (w : RuleInstance) → Lawful w) (p : Position) (ws : List Rule
   -- White's move doesn't end the game: it makes no line, Black had none, and the reply has room
   going_after : (q : Position) → IsKept p ws q → end_of q ≡ None → (s : Square) → is_playable q s ≡ true → Reply q s → end_of (after_move q s.0) ≡ None
   going_after q kept going s playable answer =
-      let white : has_four (after_move q s.0) White ≡ false = no_four_after q kept going s playable answer in
-      let black : has_four (after_move q s.0) Black ≡ false = black_none in
+      let white : has_line (after_move q s.0) White ≡ false = no_line_after q kept going s playable answer in
+      let black : has_line (after_move q s.0) Black ≡ false = black_none in
       let full : is_full (after_move q s.0) ≡ false = not_from_true _ (any_from (has_room (after_move q s.0)) (below (length (after_move q s.0).columns)) answer.to.0
       (Among-below (length (after_move q s.0).columns) answer.to.0 (room_column (after_move q s.0) answer.to.0 (playable_room (after_move q s.0) answer.to answer.playable)))
       (playable_room (after_move q s.0) answer.to answer.playable)) in
@@ -228,8 +232,8 @@ module _ (laws : (w : RuleInstance) → Lawful w) (p : Position) (ws : List Rule
       legal : is_legal q s.0 ≡ true
       legal = and_from _ _ (ap is_none going) (playable_room q s playable)
 
-      black_none : has_four (after_move q s.0) Black ≡ false
-      black_none = ap (λ side. has_four (after_move q s.0) (other side)) (sym kept.white) ∙ none_for_other q s.0 legal
+      black_none : has_line (after_move q s.0) Black ≡ false
+      black_none = ap (λ side. has_line (after_move q s.0) (other side)) (sym kept.white) ∙ none_for_other q s.0 legal
 
   kept_after : (q : Position) → IsKept p ws q → end_of q ≡ None → (s : Square) → is_playable q s ≡ true → (answer : Reply q s)
       → IsKept p ws (after_move (after_move q s.0) answer.to.0)
@@ -242,11 +246,11 @@ module _ (laws : (w : RuleInstance) → Lawful w) (p : Position) (ws : List Rule
     floors = has_floors p (after_move (after_move q s.0) answer.to.0) ws plan
         (λ u m man. stays (after_move q s.0) answer.to u m answer.playable (stays q s u m playable (kept.stay u m man))) answer.calms;
     facts = facts_true (after_move (after_move q s.0) answer.to.0) answer.calms;
-    no_four = ap (λ side. has_four (after_move (after_move q s.0) answer.to.0) (other side)) (sym turn_now)
-        ∙ four_same (after_move (after_move q s.0) answer.to.0) (after_move q s.0) (other (side_to_move (after_move q s.0))) (board_moved (after_move q s.0) answer.to.0)
+    no_line = ap (λ side. has_line (after_move (after_move q s.0) answer.to.0) (other side)) (sym turn_now)
+        ∙ has_line_same (after_move (after_move q s.0) answer.to.0) (after_move q s.0) (other (side_to_move (after_move q s.0))) (board_moved (after_move q s.0) answer.to.0)
         (other_kept (after_move q s.0) answer.to.0 (playable_room (after_move q s.0) answer.to answer.playable))
-        ∙ ap (λ side. has_four (after_move q s.0) (other side)) turn_now
-        ∙ no_four_after q kept going s playable answer;
+        ∙ ap (λ side. has_line (after_move q s.0) (other side)) turn_now
+        ∙ no_line_after q kept going s playable answer;
   }
     where
       turn_now : side_to_move (after_move q s.0) ≡ Black
@@ -269,7 +273,7 @@ module _ (laws : (w : RuleInstance) → Lawful w) (p : Position) (ws : List Rule
       from : end_of q ≡ None → is_playable q (column, height q column + 1) ≡ true → Turn q column
       from going playable = record {
         is_answered = record {
-          no_four = no_four_after q kept going (column, height q column + 1) playable answer;
+          no_line = no_line_after q kept going (column, height q column + 1) playable answer;
           going = going_now;
           reply = answer.to;
           is_reply = answer.is_reply;
@@ -329,18 +333,18 @@ module _ (laws : (w : RuleInstance) → Lawful w) (p : Position) (ws : List Rule
       either false rest = refl
 
   -- no position of the duel has a line of White's
-  no_four_along : (columns : List ℕ) (q : Position) → IsKept p ws q → is_playable_list ws q columns ≡ true → (i : ℕ) (r : Position) → slice_get (duel ws q columns) i ≡ Some r → has_four r White ≡ false
-  no_four_along [] q kept played zero r h = let same : q ≡ r = cc in subst (λ q. has_four q White ≡ false) same kept.no_four
-  no_four_along [] q kept played (suc i) r h = absurd (cc h)
-  no_four_along (column ∷ columns) q kept played i r h =
+  no_line_along : (columns : List ℕ) (q : Position) → IsKept p ws q → is_playable_list ws q columns ≡ true → (i : ℕ) (r : Position) → slice_get (duel ws q columns) i ≡ Some r → has_line r White ≡ false
+  no_line_along [] q kept played zero r h = let same : q ≡ r = cc in subst (λ q. has_line q White ≡ false) same kept.no_line
+  no_line_along [] q kept played (suc i) r h = absurd (cc h)
+  no_line_along (column ∷ columns) q kept played i r h =
       let both = and_parts (is_legal q column) _ played in
       let one = take_turn q kept column both.0 in
-      at i one (λ j. no_four_along columns one.next one.is_kept (list_opens q column columns played one) j r)
+      at i one (λ j. no_line_along columns one.next one.is_kept (list_opens q column columns played one) j r)
       (ap (λ positions. slice_get positions i) (sym (duel_opens q column columns both.0 one)) ∙ h)
     where
-      at : (i : ℕ) (one : Turn q column) → ((j : ℕ) → slice_get (duel ws one.next columns) j ≡ Some r → has_four r White ≡ false) → slice_get (q ∷ after_move q column ∷ duel ws one.next columns) i ≡ Some r → has_four r White ≡ false
-      at zero one later h = let same : q ≡ r = cc in subst (λ q. has_four q White ≡ false) same kept.no_four
-      at (suc zero) one later h = let same : after_move q column ≡ r = cc in subst (λ q. has_four q White ≡ false) same one.is_answered.no_four
+      at : (i : ℕ) (one : Turn q column) → ((j : ℕ) → slice_get (duel ws one.next columns) j ≡ Some r → has_line r White ≡ false) → slice_get (q ∷ after_move q column ∷ duel ws one.next columns) i ≡ Some r → has_line r White ≡ false
+      at zero one later h = let same : q ≡ r = cc in subst (λ q. has_line q White ≡ false) same kept.no_line
+      at (suc zero) one later h = let same : after_move q column ≡ r = cc in subst (λ q. has_line q White ≡ false) same one.is_answered.no_line
       at (suc (suc i)) one later h = later i h
 
   -- each of White's columns opens a turn of the duel
@@ -388,8 +392,8 @@ module _ (laws : (w : RuleInstance) → Lawful w) (p : Position) (ws : List Rule
   pub turn_in_duel : (columns : List ℕ) → is_playable_list ws p columns ≡ true → (i column : ℕ) → slice_get columns i ≡ Some column → IsTurn p ws (duel ws p columns) i column
   turn_in_duel columns played i column at = turn_along columns p first_kept played i column at
 
-  pub no_four_in_duel : (columns : List ℕ) → is_playable_list ws p columns ≡ true → (i : ℕ) (r : Position) → slice_get (duel ws p columns) i ≡ Some r → has_four r White ≡ false
-  no_four_in_duel columns played i r h = no_four_along columns p first_kept played i r h
+  pub no_line_in_duel : (columns : List ℕ) → is_playable_list ws p columns ≡ true → (i : ℕ) (r : Position) → slice_get (duel ws p columns) i ≡ Some r → has_line r White ≡ false
+  no_line_in_duel columns played i r h = no_line_along columns p first_kept played i r h
 
   -- ---- the value
 
@@ -398,7 +402,7 @@ module _ (laws : (w : RuleInstance) → Lawful w) (p : Position) (ws : List Rule
   won_step q kept lower = by_end (end_of q) refl
     where
       not_white : (e : End) → end_of q ≡ Some e → same_end ends.White e ≡ false
-      not_white ends.White ended = absurd (both_ways (has_four q White) kept.no_four (four_from_line q White ((white_end q).0 ended)))
+      not_white ends.White ended = absurd (both_ways (has_line q White) kept.no_line (has_line_from q White ((white_end q).0 ended)))
       not_white ends.Black ended = refl
       not_white ends.Draw ended = refl
 

@@ -3,14 +3,14 @@ use Rattle.std.proofs.Common.{◌≡◌, ◌≢◌, ℕ, true, false, List, Some
 use Rattle.std.specs.List.{slice_get}
 use Rattle.std.proofs.lemmas.Bool.{cases_eq, both_ways}
 use Rattle.game_rules.specs.Board.{Square}
-use Rattle.game_rules.specs.Position.{Position, has_four, is_legal}
+use Rattle.game_rules.specs.Position.{Position, has_line, is_legal}
 use Rattle.game_rules.specs.Value.{value, wins, same_end}
 use Rattle.game_rules.specs.Laws.{HasLine}
 use Rattle.game_rules.specs.Squares.{has_square, is_empty}
 use Rattle.game_rules.specs.declared.Side.TheVariants as sides
 use Rattle.game_rules.specs.declared.End.TheVariants as ends
 use Rattle.game_rules.proofs.Lists.{all_gives}
-use Rattle.game_rules.proofs.Ends.{four_from_line}
+use Rattle.game_rules.proofs.Ends.{has_line_from}
 use Rattle.game_rules.proofs.Squares.{agree, has_gives}
 use Rattle.plan_rules.specs.Rules.{RuleInstance, zone_of, together}
 use Rattle.plan_rules.specs.Plan.{is_plan, IsMember, IsKept, IsAnswered, IsTurn, after_turns, duel, is_playable_list}
@@ -18,7 +18,7 @@ use Rattle.plan_rules.proofs.Table.{together_sym, zones_apart}
 use Rattle.plan_rules.proofs.Plans.{plan_gives}
 use Rattle.plan_rules.proofs.Grounds.{fits_empty, members_together}
 use Rattle.plan_rules.proofs.AllRules.{lawful}
-use Rattle.plan_rules.proofs.Strategy.{first_kept, kept_at, answered_at, turn_in_duel, no_four_in_duel, white_never_wins}
+use Rattle.plan_rules.proofs.Strategy.{first_kept, kept_at, answered_at, turn_in_duel, no_line_in_duel, white_never_wins}
 
 pub together_orders : (v w : RuleInstance) → together v w ≡ together w v
 together_orders v w = agree (together v w) (together w v) (together_sym v w) (together_sym w v)
@@ -45,7 +45,7 @@ pub duel_turns : (p : Position) (ws : List RuleInstance) (columns : List ℕ) (i
 duel_turns p ws columns i column is played at = turn_in_duel lawful p ws (plan_gives p ws is) columns played i column at
 
 pub duel_no_line : (p : Position) (ws : List RuleInstance) (columns : List ℕ) (i : ℕ) (q : Position) → is_plan p ws ≡ true → is_playable_list ws p columns ≡ true → slice_get (duel ws p columns) i ≡ Some q → HasLine q sides.White → ⊥
-duel_no_line p ws columns i q is played at line = both_ways (has_four q sides.White) (no_four_in_duel lawful p ws (plan_gives p ws is) columns played i q at) (four_from_line q sides.White line)
+duel_no_line p ws columns i q is played at line = both_ways (has_line q sides.White) (no_line_in_duel lawful p ws (plan_gives p ws is) columns played i q at) (has_line_from q sides.White line)
 
 pub plan_wins : (p : Position) (ws : List RuleInstance) → is_plan p ws ≡ true → wins sides.White p ≡ false
 plan_wins p ws is = white_never_wins lawful p ws (plan_gives p ws is)

@@ -2,18 +2,28 @@
 -- decides.
 use Rattle.std.proofs.Common.{◌≡◌, ℕ, ◌+◌, Bool, true, false, List, [], ◌∷◌, ◌++◌, length, Option, Some, None, refl}
 use Rattle.std.specs.Option.{option_map, option_map_or}
-use Rattle.game_rules.specs.Board.{Square}
+use Rattle.game_rules.specs.Board.{Board, Square}
 use Rattle.game_rules.specs.Position.{Position, empty_position, height, end_of, after_move, played}
 use Rattle.game_rules.specs.Squares.{has_square}
 use Rattle.game_rules.specs.declared.End.{End}
 use Rattle.game_rules.specs.declared.End.TheVariants as ends
+use Rattle.game_rules.specs.Groups.{Group}
+use Rattle.game_rules.specs.declared.Length.TheVariants.{Four, Five}
+use Rattle.game_rules.specs.declared.Way.{Way}
 use Rattle.game_rules.specs.declared.Way.TheVariants.{H, U}
 use Rattle.plan_rules.specs.Rules.{RuleInstance, claimeven, baseinverse, lowinverse, highinverse, baseclaim, vertical, aftereven, before, specialbefore, is_shaped, facts_of, barred, together}
 use Rattle.plan_rules.specs.Plan.{is_plan, plan_reply, after_turn, duel, is_playable_list}
 
+-- a group of four squares
+abbrev line_of_four : Square → Way → Group
+line_of_four anchor way = record { anchor = anchor; way = way; len = Four }
+
 -- whether a list is a plan after some moves on a board
+abbrev planned_on : Board → List ℕ → List RuleInstance → Option Bool
+planned_on board moves ws = option_map (λ p. is_plan p ws) (played (empty_position board) moves)
+
 abbrev planned : ℕ → ℕ → List ℕ → List RuleInstance → Option Bool
-planned cols rows moves ws = option_map (λ p. is_plan p ws) (played (empty_position (record { cols = cols; rows = rows })) moves)
+planned cols rows moves ws = planned_on (record { cols = cols; rows = rows; len = Four }) moves ws
 
 -- White's squares and Black's replies, and how the game stands at the end
 abbrev replies : List RuleInstance → Position → List ℕ → List (Square × Option Square) × Option End
@@ -25,7 +35,7 @@ replies ws q (column ∷ columns) =
     ((last, plan_reply ws now last) ∷ rest.0, rest.1)
 
 abbrev answered : ℕ → ℕ → List ℕ → List RuleInstance → List ℕ → Option (List (Square × Option Square) × Option End)
-answered cols rows moves ws columns = option_map (λ p. replies ws p columns) (played (empty_position (record { cols = cols; rows = rows })) moves)
+answered cols rows moves ws columns = option_map (λ p. replies ws p columns) (played (empty_position (record { cols = cols; rows = rows; len = Four })) moves)
 
 abbrev columns_a_b : List RuleInstance
 columns_a_b = claimeven (0, 1) ∷ claimeven (0, 3) ∷ claimeven (1, 1) ∷ claimeven (1, 3) ∷ []
@@ -37,10 +47,10 @@ six_zones = claimeven (0, 1) ∷ claimeven (0, 3) ∷ claimeven (1, 1) ∷ claim
 six_zone_plan : planned 4 4 ([]) (six_zones) ≡ Some true
 six_zone_plan = refl
 
-with_before : planned 4 4 ([]) (six_zones ++ before ((0, 2), H) ∷ []) ≡ Some true
+with_before : planned 4 4 ([]) (six_zones ++ before (line_of_four (0, 2) H) ∷ []) ≡ Some true
 with_before = refl
 
-with_aftereven : planned 4 4 ([]) (six_zones ++ aftereven ((0, 2), H) ∷ []) ≡ Some false
+with_aftereven : planned 4 4 ([]) (six_zones ++ aftereven (line_of_four (0, 2) H) ∷ []) ≡ Some false
 with_aftereven = refl
 
 without_lowinverse : planned 4 4 ([]) (columns_a_b ++ baseinverse (2, 1) (3, 1) ∷ []) ≡ Some false
@@ -51,6 +61,10 @@ uncovered_square = refl
 
 only_claimevens : planned 4 4 ([]) (columns_a_b ++ claimeven (2, 1) ∷ claimeven (2, 3) ∷ claimeven (3, 1) ∷ claimeven (3, 3) ∷ []) ≡ Some false
 only_claimevens = refl
+
+-- a board that no line of five fits leaves no line to bar
+no_line_of_five : planned_on (record { cols = 4; rows = 4; len = Five }) [] (columns_a_b ++ claimeven (2, 1) ∷ claimeven (2, 3) ∷ claimeven (3, 1) ∷ claimeven (3, 3) ∷ []) ≡ Some true
+no_line_of_five = refl
 
 with_highinverse : planned 4 4 ([]) (columns_a_b ++ baseinverse (2, 1) (3, 1) ∷ highinverse (2, 2) (3, 2) ∷ []) ≡ Some true
 with_highinverse = refl
@@ -86,13 +100,13 @@ without_vertical = refl
 abbrev even_line : List RuleInstance
 even_line = claimeven (0, 1) ∷ claimeven (0, 3) ∷ claimeven (1, 1) ∷ claimeven (1, 3) ∷ claimeven (3, 3) ∷ []
 
-play_aftereven : planned 4 4 (2 ∷ 2 ∷ 2 ∷ 3 ∷ 2 ∷ 3 ∷ []) (even_line ++ aftereven ((0, 2), H) ∷ []) ≡ Some true
+play_aftereven : planned 4 4 (2 ∷ 2 ∷ 2 ∷ 3 ∷ 2 ∷ 3 ∷ []) (even_line ++ aftereven (line_of_four (0, 2) H) ∷ []) ≡ Some true
 play_aftereven = refl
 
 without_aftereven : planned 4 4 (2 ∷ 2 ∷ 2 ∷ 3 ∷ 2 ∷ 3 ∷ []) (even_line) ≡ Some false
 without_aftereven = refl
 
-aftereven_replies : answered 4 4 (2 ∷ 2 ∷ 2 ∷ 3 ∷ 2 ∷ 3 ∷ []) (even_line ++ aftereven ((0, 2), H) ∷ []) (0 ∷ 1 ∷ []) ≡ Some (((0, 1), Some (0, 2)) ∷ ((1, 1), Some (1, 2)) ∷ [], Some ends.Black)
+aftereven_replies : answered 4 4 (2 ∷ 2 ∷ 2 ∷ 3 ∷ 2 ∷ 3 ∷ []) (even_line ++ aftereven (line_of_four (0, 2) H) ∷ []) (0 ∷ 1 ∷ []) ≡ Some (((0, 1), Some (0, 2)) ∷ ((1, 1), Some (1, 2)) ∷ [], Some ends.Black)
 aftereven_replies = refl
 
 abbrev claim : List RuleInstance
@@ -122,16 +136,16 @@ shifted_replies = refl
 abbrev diagonal : List RuleInstance
 diagonal = baseinverse (2, 2) (3, 4) ∷ claimeven (2, 3) ∷ []
 
-play_specialbefore : planned 5 4 (0 ∷ 1 ∷ 1 ∷ 0 ∷ 0 ∷ 1 ∷ 1 ∷ 0 ∷ 3 ∷ 3 ∷ 2 ∷ 4 ∷ 4 ∷ 3 ∷ 4 ∷ 4 ∷ []) (diagonal ++ specialbefore ((1, 1), U) (3, 4) (2, 2) ∷ []) ≡ Some true
+play_specialbefore : planned 5 4 (0 ∷ 1 ∷ 1 ∷ 0 ∷ 0 ∷ 1 ∷ 1 ∷ 0 ∷ 3 ∷ 3 ∷ 2 ∷ 4 ∷ 4 ∷ 3 ∷ 4 ∷ 4 ∷ []) (diagonal ++ specialbefore (line_of_four (1, 1) U) (3, 4) (2, 2) ∷ []) ≡ Some true
 play_specialbefore = refl
 
 without_specialbefore : planned 5 4 (0 ∷ 1 ∷ 1 ∷ 0 ∷ 0 ∷ 1 ∷ 1 ∷ 0 ∷ 3 ∷ 3 ∷ 2 ∷ 4 ∷ 4 ∷ 3 ∷ 4 ∷ 4 ∷ []) (diagonal) ≡ Some false
 without_specialbefore = refl
 
-specialbefore_replies : answered 5 4 (0 ∷ 1 ∷ 1 ∷ 0 ∷ 0 ∷ 1 ∷ 1 ∷ 0 ∷ 3 ∷ 3 ∷ 2 ∷ 4 ∷ 4 ∷ 3 ∷ 4 ∷ 4 ∷ []) (diagonal ++ specialbefore ((1, 1), U) (3, 4) (2, 2) ∷ []) (3 ∷ []) ≡ Some (((3, 4), Some (2, 2)) ∷ [], Some ends.Black)
+specialbefore_replies : answered 5 4 (0 ∷ 1 ∷ 1 ∷ 0 ∷ 0 ∷ 1 ∷ 1 ∷ 0 ∷ 3 ∷ 3 ∷ 2 ∷ 4 ∷ 4 ∷ 3 ∷ 4 ∷ 4 ∷ []) (diagonal ++ specialbefore (line_of_four (1, 1) U) (3, 4) (2, 2) ∷ []) (3 ∷ []) ≡ Some (((3, 4), Some (2, 2)) ∷ [], Some ends.Black)
 specialbefore_replies = refl
 
-specialbefore_to_the_end : answered 5 4 (0 ∷ 1 ∷ 1 ∷ 0 ∷ 0 ∷ 1 ∷ 1 ∷ 0 ∷ 3 ∷ 3 ∷ 2 ∷ 4 ∷ 4 ∷ 3 ∷ 4 ∷ 4 ∷ []) (diagonal ++ specialbefore ((1, 1), U) (3, 4) (2, 2) ∷ []) (2 ∷ 2 ∷ []) ≡ Some (((2, 2), Some (3, 4)) ∷ ((2, 3), Some (2, 4)) ∷ [], Some ends.Draw)
+specialbefore_to_the_end : answered 5 4 (0 ∷ 1 ∷ 1 ∷ 0 ∷ 0 ∷ 1 ∷ 1 ∷ 0 ∷ 3 ∷ 3 ∷ 2 ∷ 4 ∷ 4 ∷ 3 ∷ 4 ∷ 4 ∷ []) (diagonal ++ specialbefore (line_of_four (1, 1) U) (3, 4) (2, 2) ∷ []) (2 ∷ 2 ∷ []) ≡ Some (((2, 2), Some (3, 4)) ∷ ((2, 3), Some (2, 4)) ∷ [], Some ends.Draw)
 specialbefore_to_the_end = refl
 
 -- White may own the bottom and the middle of one column of a Highinverse
@@ -140,7 +154,7 @@ bottom_and_middle p = refl
 
 -- whether a list of White's columns is playable, and how many positions the duel over it has
 abbrev dueled : List RuleInstance → List ℕ → Option (Bool × ℕ)
-dueled ws columns = option_map (λ p. (is_playable_list ws p columns, length (duel ws p columns))) (played (empty_position (record { cols = 4; rows = 4 })) [])
+dueled ws columns = option_map (λ p. (is_playable_list ws p columns, length (duel ws p columns))) (played (empty_position (record { cols = 4; rows = 4; len = Four })) [])
 
 -- eight turns fill the board; a ninth column isn't legal, nor is one that is full
 whole_duel : dueled six_zones (2 ∷ 2 ∷ 3 ∷ 2 ∷ 0 ∷ 0 ∷ 1 ∷ 1 ∷ []) ≡ Some (true, 17)
@@ -154,13 +168,13 @@ full_column = refl
 
 -- whether a Specialbefore has the shape on a board
 abbrev special_shape : ℕ → ℕ → RuleInstance → Bool
-special_shape cols rows w = is_shaped w (record { cols = cols; rows = rows })
+special_shape cols rows w = is_shaped w (record { cols = cols; rows = rows; len = Four })
 
-whole_on_the_board : special_shape 5 4 (specialbefore ((1, 1), U) (3, 4) (2, 2)) ≡ true
+whole_on_the_board : special_shape 5 4 (specialbefore (line_of_four (1, 1) U) (3, 4) (2, 2)) ≡ true
 whole_on_the_board = refl
 
-line_off_the_board : special_shape 4 4 (specialbefore ((1, 1), U) (3, 4) (2, 2)) ≡ false
+line_off_the_board : special_shape 4 4 (specialbefore (line_of_four (1, 1) U) (3, 4) (2, 2)) ≡ false
 line_off_the_board = refl
 
-square_off_the_board : (special_shape 4 4 (specialbefore ((0, 2), H) (4, 1) (0, 2)) ≡ false) × (special_shape 4 4 (specialbefore ((0, 2), H) (3, 5) (0, 2)) ≡ false)
+square_off_the_board : (special_shape 4 4 (specialbefore (line_of_four (0, 2) H) (4, 1) (0, 2)) ≡ false) × (special_shape 4 4 (specialbefore (line_of_four (0, 2) H) (3, 5) (0, 2)) ≡ false)
 square_off_the_board = (refl, refl)

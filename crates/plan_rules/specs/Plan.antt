@@ -3,10 +3,10 @@
 use Rattle.std.specs.Prelude.{◌≡◌, ◌⊎◌, ℕ, ◌+◌, ◌*◌, ◌<◌, ◌≤◌, Bool, true, false, not, ◌&&◌, ◌||◌, if◌then◌else◌, List, [], ◌∷◌, length, Option, Some, None, is_none, option_and_then, slice_get}
 use Rattle.std.specs.List.{list_all, list_any, find}
 use Rattle.std.specs.Option.{option_map, option_map_or}
-use Rattle.game_rules.specs.Board.{Board, Square, below, ways}
-use Rattle.game_rules.specs.Position.{Position, board_of, height, man_at, has_man, side_to_move, same_side, has_four, end_of, is_legal, after_move}
+use Rattle.game_rules.specs.Board.{Board, Square, below, is_line, ways}
+use Rattle.game_rules.specs.Position.{Position, board_of, height, man_at, has_man, side_to_move, same_side, has_line, end_of, is_legal, after_move}
 use Rattle.game_rules.specs.Squares.{has_square, is_empty, is_playable}
-use Rattle.game_rules.specs.Groups.{Group, squares_of, lies_on}
+use Rattle.game_rules.specs.Groups.{Group, squares_of, lies_on, group_on}
 use Rattle.game_rules.specs.declared.Side.{Side}
 use Rattle.game_rules.specs.declared.Side.TheVariants.{White, Black}
 use Rattle.plan_rules.specs.Squares.{is_even, men_on}
@@ -27,7 +27,7 @@ every_square board test = list_all (λ c. list_all (λ r. test (c, r + 1)) (belo
 
 -- each line of the board passes the test
 abbrev pub every_line : Board → (Group → Bool) → Bool
-every_line board test = list_all (λ way. every_square board (λ anchor. not (lies_on board (anchor, way)) || test (anchor, way))) ways
+every_line board test = list_all (λ way. every_square board (λ anchor. not (is_line board way anchor) || test (group_on board way anchor))) ways
 
 -- the square stands in the zone of some member
 abbrev pub has_owner : List RuleInstance → Square → Bool
@@ -143,11 +143,11 @@ pub record IsKept (p : Position) (ws : List RuleInstance) (q : Position) : Type 
   pub floors : (i : ℕ) (w : RuleInstance) (bottoms : Square × Square) → IsMember ws i w → bottoms_of w ≡ Some bottoms → HasFloors q (zone_of w) bottoms
   -- what standing members rest on is true
   pub facts : AreTrue (facts_of p ws).upper (facts_of p ws).pair (facts_of p ws).twin q
-  pub no_four : has_four q White ≡ false
+  pub no_line : has_line q White ≡ false
 
 -- White's move into a column neither makes a line nor ends the game, and Black has a playable reply
 pub record IsAnswered (ws : List RuleInstance) (q : Position) (column : ℕ) : Type 0 where
-  pub no_four : has_four (after_move q column) White ≡ false
+  pub no_line : has_line (after_move q column) White ≡ false
   pub going : end_of (after_move q column) ≡ None
   pub reply : Square
   pub is_reply : plan_reply ws (after_move q column) (column, height q column + 1) ≡ Some reply

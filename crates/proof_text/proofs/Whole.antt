@@ -7,13 +7,14 @@ use Rattle.std.proofs.lemmas.List.{length-append, length-take, take_all, length-
 use Rattle.std.proofs.lemmas.List.Folds.{flat_map-map}
 use Rattle.std.proofs.lemmas.Slice.Eq.{bytes_eq-Decides}
 use Rattle.std.proofs.lemmas.Bool.{and_parts, leb-true, or_cases, eqb-true}
-use Rattle.game_rules.specs.Board.{Board, is_board, is_cols, is_rows}
+use Rattle.game_rules.specs.Board.{Board, is_cols, is_rows}
 use Rattle.game_rules.specs.Position.{Position, empty_position, played}
 use Rattle.game_rules.specs.Text.{game_at}
-use Rattle.game_rules.specs.Grammar.{move_list, board_line, moves_line, last_feed, game_text}
+use Rattle.game_rules.specs.Grammar.{move_list, is_spelled, board_line, moves_line, last_feed, game_text}
 use Rattle.game_rules.proofs.Lists.{chosen}
 use Rattle.game_rules.proofs.Prefix.{game_short}
 use Rattle.game_rules.proofs.Grammar.{read_in_grammar, grammar_read, board_along}
+use Rattle.game_rules.proofs.BoardLine.{spelled_parts}
 use Rattle.game_rules.specs.declared.InputFault.{InputFault}
 use Rattle.proof_text.specs.Lemma.{Lemma, ALemma, ARemark, AVerdict}
 use Rattle.proof_text.specs.Right.{Shown, AreRight}
@@ -56,9 +57,9 @@ rows_small n h = elim (or_cases (n == 4 || n == 6 || n == 8) (n == 10) h) [
   ]
 ]
 
-feedless_board : (board : Board) → is_board board ≡ true → IsFeedless (board_line board)
+feedless_board : (board : Board) → is_spelled board ≡ true → IsFeedless (board_line board)
 feedless_board board h =
-    let both = and_parts (is_cols board.cols) (is_rows board.rows) h in
+    let both = and_parts (is_cols board.cols) (is_rows board.rows) (spelled_parts board h).0 in
     let wide = and_parts (nat_le 4 board.cols) (nat_le board.cols 10) both.0 in
     let rows = rows_small board.rows both.1 in
     let low : 4 ≤ board.cols = leb-true 4 board.cols wide.0 in
@@ -73,7 +74,7 @@ feedless_moves columns =
 
 -- the two lines that a game was read from are its lines, whole
 lines_of_game : (first second : List ℕ) (root : Position) → IsFeedless first → IsFeedless second → game_at (take game_prefix first ++ 10 ∷ as_line (take game_prefix second)) ≡ Ok root
-    → (board : Board) × (columns : List ℕ) × (is_board board ≡ true) × (played (empty_position board) columns ≡ Some root) × (first ≡ board_line board) × (second ≡ moves_line columns)
+    → (board : Board) × (columns : List ℕ) × (is_spelled board ≡ true) × (played (empty_position board) columns ≡ Some root) × (first ≡ board_line board) × (second ≡ moves_line columns)
 lines_of_game first second root one two h =
     let text = take game_prefix first ++ 10 ∷ as_line (take game_prefix second) in
     let short : length text ≤ 119 = game_short text root h in
@@ -98,7 +99,7 @@ lines_of_game first second root one two h =
         cc
 
 -- and the other way round
-game_of_lines : (board : Board) (columns : List ℕ) (root : Position) (next : List ℕ) (more : List (List ℕ)) → is_board board ≡ true → played (empty_position board) columns ≡ Some root
+game_of_lines : (board : Board) (columns : List ℕ) (root : Position) (next : List ℕ) (more : List (List ℕ)) → is_spelled board ≡ true → played (empty_position board) columns ≡ Some root
     → game_at (game_of (board_line board ∷ moves_line columns ∷ next ∷ more)) ≡ Ok root
 game_of_lines board columns root next more has_board has_moves =
     let text = game_text board columns true in
@@ -217,7 +218,7 @@ lines_behind cols entries v ended fit verdict_fits =
         ∙ lines_append (map entry_text entries) (verdict_text v) ∙ ap (λ last. map entry_text entries ++ last) (some v)
 
 -- a text with a game is answered by the lines behind it
-pub text_answer : (board : Board) (columns : List ℕ) (root : Position) (text : List ℕ) → is_board board ≡ true → played (empty_position board) columns ≡ Some root
+pub text_answer : (board : Board) (columns : List ℕ) (root : Position) (text : List ℕ) → is_spelled board ≡ true → played (empty_position board) columns ≡ Some root
     → check_of (head_of board columns ++ text) ≡ check_from (start root) first_number (lines_in (pieces text))
 unfolding check_of
 text_answer board columns root text has_board has_moves =

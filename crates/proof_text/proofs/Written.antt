@@ -8,12 +8,13 @@ use Rattle.std.proofs.lemmas.List.Concat.{flat_map-cons}
 use Rattle.game_rules.specs.Board.{Board, is_board}
 use Rattle.game_rules.specs.Position.{Position, board_of, empty_position, played}
 use Rattle.game_rules.proofs.Grammar.{board_along}
+use Rattle.game_rules.proofs.BoardLine.{spelled_parts}
 use Rattle.proof_text.specs.Lemma.{Lemma}
 use Rattle.proof_text.specs.Right.{Shown, AreRight}
 use Rattle.proof_text.specs.Spelling.{verdict_line, as_line, lines_of, is_remark, greatest_number, Fits}
 use Rattle.proof_text.specs.Texts.{first_line, Accepted, check_of, Entry, LemmaEntry, RemarkEntry, entry_text, entry_lines, lemmas_among, EntryFits, head_of, IsRightText}
 use Rattle.proof_text.specs.Written.{IsAskedInTurn, IsRemarkLine, remark_line, AreSided, HasWritten, MayStand, IsProof}
-use Rattle.game_rules.specs.Grammar.{board_line, moves_line, game_text, IsGameText}
+use Rattle.game_rules.specs.Grammar.{is_spelled, board_line, moves_line, game_text, IsGameText}
 use Rattle.game_rules.specs.declared.Side.TheVariants.{White, Black}
 use Rattle.proof_text.proofs.Append.{AreRight_append, all_append, all_left, all_right}
 use Rattle.proof_text.proofs.Fitting.{right_all_fit, right_verdict_fits}
@@ -114,13 +115,13 @@ each_entry P white_remark white black_remark black each one two ls =
 
 -- a verdict at the end of what is written, within the number of lemmas that have a spelling
 pub proof_right : (board : Board) (columns : List ℕ) (root : Position) (text : List ℕ) (v : Verdict) (proof : IsProof root (head_of board columns) text v)
-    → is_board board ≡ true → played (empty_position board) columns ≡ Some root → length proof.after ≤ greatest_number → IsRightText text v (length proof.after)
+    → is_spelled board ≡ true → played (empty_position board) columns ≡ Some root → length proof.after ≤ greatest_number → IsRightText text v (length proof.after)
 proof_right board columns root text v proof has_board has_moves few =
     let w = proof.written in
     let right = AreRight_append root [] w.mid proof.after w.white w.black w.white_right w.black_right in
     let cols : length root.columns ≡ board.cols = cols_of_root board columns root has_moves in
-    let same : board_of root ≡ board = board_along columns (empty_position board) root has_moves ∙ ap (λ n. record { cols = n; rows = board.rows }) (length-replicate board.cols []) in
-    let root_board : is_board (board_of root) ≡ true = ap is_board same ∙ has_board in
+    let same : board_of root ≡ board = board_along columns (empty_position board) root has_moves ∙ ap (λ n. record { cols = n; rows = board.rows; len = board.len }) (length-replicate board.cols []) in
+    let root_board : is_board (board_of root) ≡ true = ap is_board same ∙ (spelled_parts board has_board).0 in
     let count : length proof.after ≡ length (w.white ++ w.black) = shown_count root (w.white ++ w.black) proof.after right in
     let both : length (w.white ++ w.black) ≡ length w.white + length w.black = length-append w.white w.black in
     let ls = w.white ++ w.black in
@@ -148,7 +149,7 @@ proof_right board columns root text v proof has_board has_moves few =
 
 -- so it is accepted, with its verdict and all its lemmas
 pub proof_accepted : (board : Board) (columns : List ℕ) (root : Position) (text : List ℕ) (v : Verdict) (proof : IsProof root (head_of board columns) text v)
-    → is_board board ≡ true → played (empty_position board) columns ≡ Some root → length proof.after ≤ greatest_number → check_of text ≡ Accepted v (length proof.after)
+    → is_spelled board ≡ true → played (empty_position board) columns ≡ Some root → length proof.after ≤ greatest_number → check_of text ≡ Accepted v (length proof.after)
 proof_accepted board columns root text v proof has_board has_moves few =
     right_accepted text v (length proof.after) (proof_right board columns root text v proof has_board has_moves few)
 

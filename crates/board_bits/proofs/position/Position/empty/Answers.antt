@@ -19,4 +19,4 @@ pub returns : goal.returns
 returns c =
     let cols = c.args.size.cols in
     let most : cols ≤ 10 = omega (arith, c.cols-board.ensures.value, c.cols-board.ensures.most) in
-    rw c.empty.ensures (ap (λ columns. record { rows = c.args.size.rows; columns = columns }) (take-replicate cols 10 [] most))
+    rw c.empty.ensures (ap (λ columns. record { rows = c.args.size.rows; len = c.args.size.len; columns = columns }) (take-replicate cols 10 [] most))

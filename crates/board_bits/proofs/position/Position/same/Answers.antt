@@ -6,6 +6,7 @@ use Rattle.game_rules.specs.contracts.SidePartialEq.TheImpl.{eq-value}
 use Rattle.game_rules.specs.Position.{same_position}
 use Rattle.game_rules.proofs.Moves.{same_position_Decides}
 use Rattle.board_bits.proofs.Equals.{same_known}
+use Rattle.board_bits.proofs.Lengths.{lengths}
 use Rattle.board_bits.proofs.position.Position.same.Goals as goal
 
 sides : (a b : Side) → Decides (eq-value.it a b) (a ≡ b)
@@ -15,10 +16,10 @@ sides Black White = ((λ h. cc), (λ e. cc))
 sides Black Black = ((λ h. refl), (λ e. refl))
 
 pub returns-clause-value : goal.returns-clause-value
-returns-clause-value c = same_known sides c.args.self.now c.args.other.now c.eq.result c.eq.ensures
+returns-clause-value c = same_known sides lengths c.args.self.now c.args.other.now c.eq.result c.eq.ensures
 
 pub returns-clause-hash : goal.returns-clause-hash
 returns-clause-hash c = λ same.
-    let told : c.eq.result ≡ same_position c.args.self.now c.args.other.now = same_known sides c.args.self.now c.args.other.now c.eq.result c.eq.ensures in
+    let told : c.eq.result ≡ same_position c.args.self.now c.args.other.now = same_known sides lengths c.args.self.now c.args.other.now c.eq.result c.eq.ensures in
     let one : c.args.self.now ≡ c.args.other.now = (same_position_Decides c.args.self.now c.args.other.now).0 (sym told ∙ same) in
     rw one refl
