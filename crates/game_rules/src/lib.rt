@@ -22,7 +22,6 @@ pub enum Side {
     Black,
 }
 
-<<<<<<< HEAD
 impl Side {
     /// The other player.
     pub fn other(self) -> Side
@@ -45,8 +44,6 @@ impl Side {
     }
 }
 
-/// How a game ended: with a win of White, a win of Black, or a full board without four in a line.
-=======
 /// How many squares in a line win, and so how many each line of a board has: four or five.
 #[derive(Clone, Copy, Debug, PartialEq, Eq, Hash)]
 pub enum Length {
@@ -55,7 +52,6 @@ pub enum Length {
 }
 
 /// How a game ended: with a win of White, a win of Black, or a full board on which no side has a line.
->>>>>>> length
 #[derive(Clone, Copy, Debug, PartialEq, Eq, Hash)]
 pub enum End {
     White,

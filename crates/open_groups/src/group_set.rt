@@ -98,16 +98,10 @@ fn place_of(way: Way) -> usize
 pub fn free_for(p: &Position, side: Side) -> GroupSet
     ensures { IsGroupSetOf (board_of p.now) (λ g. lies_on (board_of p.now) g && is_free_for side p.now g) result }
 {
-<<<<<<< HEAD
     let others = p.men(side.other());
-    let groups = groups(p.size());
-    let mut free = GroupSet::empty();
-=======
-    let others = men_of_other(p, side);
     let size = p.size();
     let groups = groups(size);
     let mut free = GroupSet::empty(size);
->>>>>>> length
     for group in groups.as_slice() {
         if is_clear_of(*group, others) {
             free = free.with(*group);
