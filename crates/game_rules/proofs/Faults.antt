@@ -4,10 +4,10 @@ use Rattle.std.specs.List.{prefix_len}
 use Rattle.std.specs.Fmt.{decimal}
 use Rattle.std.proofs.lemmas.Bool.{and_parts, and_from, eqb-true, eq-eqb, ne_eqb, both_ways}
 use Rattle.std.proofs.lemmas.List.{length-append, length-replicate, map-append}
-use Rattle.game_rules.specs.Board.{Board, is_board, is_cols, is_rows}
+use Rattle.game_rules.specs.Board.{Board, is_cols, is_rows}
 use Rattle.game_rules.specs.Position.{Position, empty_position, played}
 use Rattle.game_rules.specs.Text.{stop, ◌>>=◌, after_text, is_digit, cols_of, rows_of, size_at, letter_read, at_end, letters_from, after_dash, moves_at, board_at, read_game, placed, game_at}
-use Rattle.game_rules.specs.Grammar.{letter_of, board_line, game_text}
+use Rattle.game_rules.specs.Grammar.{letter_of, board_line, game_text, is_spelled}
 use Rattle.game_rules.specs.Faults.{fault_at, IsAt, IsOther, run_of, IsBadHeader, IsBadSize, up_to, IsUpTo, IsMove, IsNoLetter, IsNoItem, IsBadColumn, IsGameOver, IsColumnFull, IsTrailing}
 use Rattle.game_rules.specs.declared.Stop.{Stop}
 use Rattle.game_rules.specs.declared.InputFault.{InputFault}
@@ -15,7 +15,8 @@ use Rattle.game_rules.specs.declared.InputKind.{InputKind}
 use Rattle.game_rules.specs.declared.InputKind.TheVariants.{BadHeader, BadSize, BadColumn, ColumnFull, GameOver, Trailing}
 use Rattle.game_rules.proofs.Lists.{chosen}
 use Rattle.game_rules.proofs.Readers.{after_text_gives, after_text_of, size_gives, letter_moves}
-use Rattle.game_rules.proofs.BoardLine.{long_cols, long_rows, cols_give, rows_give, cols_spelled, rows_spelled, size_of, rest_of_line, rows_on, gap_on, cols_on, board_at_steps, board_gives, board_of_spelling}
+use Rattle.game_rules.proofs.BoardLine.{long_cols, long_rows, cols_give, rows_give, cols_spelled, rows_spelled, size_of, rest_of_line, rows_on, gap_on, cols_on, board_at_steps, board_gives, board_of_spelling, spelled_parts}
+use Rattle.game_rules.specs.declared.Length.TheVariants.{Four}
 use Rattle.game_rules.proofs.Grammar.{board_along}
 use Rattle.game_rules.proofs.FaultReaders.{bind_err, text_stop, text_stops, run_none, size_ends, size_stop, size_stops, Letterless, LetterStop, no_letter, over, full, letter_stop, letterless_stops, over_stops, full_stops, moves_read, played_push}
 
@@ -74,11 +75,11 @@ gap_whole cols rest = sym (append_assoc (codes "board ") (cols ++ codes " ") res
 
 rest_stop : (cols rows : ℕ) (rest bytes : List ℕ) (s : Stop) → is_cols cols ≡ true → is_rows rows ≡ true → run_of rest ≡ [] → bytes ≡ codes "board " ++ (decimal cols ++ (codes " " ++ (decimal rows ++ rest)))
     → rest_of_line cols rows rest ≡ Err s → Stopped bytes s
-rest_stop cols rows rest bytes s has_cols has_rows ends whole h = elim (bind_err (after_text (10 ∷ codes "moves ") rest) (λ rest. Ok (record { cols = cols; rows = rows }, rest)) s h) [
+rest_stop cols rows rest bytes s has_cols has_rows ends whole h = elim (bind_err (after_text (10 ∷ codes "moves ") rest) (λ rest. Ok (record { cols = cols; rows = rows; len = Four }, rest)) s h) [
   | inr read ↦ absurd (cc (read.2))
   | inl failed ↦
       let t = text_stop (10 ∷ codes "moves ") rest s failed in
-      let board : Board = record { cols = cols; rows = rows } in
+      let board : Board = record { cols = cols; rows = rows; len = Four } in
       stopped BadHeader bytes (board_line board ++ t.before) t.behind s t.is_stop
       (whole ∙ line_whole (decimal cols) (decimal rows) rest ∙ ap (λ rest. board_line board ++ rest) t.whole ∙ sym (append_assoc (board_line board) t.before t.behind))
       (inr (inr (record {
@@ -86,7 +87,7 @@ rest_stop cols rows rest bytes s has_cols has_rows ends whole h = elim (bind_err
         part = t.before;
         byte = t.byte;
         later = t.later;
-        has_board = and_from _ _ has_cols has_rows;
+        has_board = and_from _ _ (and_from _ _ has_cols has_rows) refl;
         is_before = refl;
         fixed = t.fixed;
         run_ends = λ none. ap run_of (sym (t.whole ∙ ap (λ part. part ++ t.behind) none)) ∙ ends;
@@ -169,7 +170,7 @@ cols_along : (board : Board) (columns : List ℕ) (p : Position) → played (emp
 cols_along board columns p h = ap (λ (b : Board). b.cols) (board_along columns (empty_position board) p h) ∙ length-replicate board.cols []
 
 -- a letter that isn't read
-letter_fault : (board : Board) (columns : List ℕ) (p : Position) (byte : ℕ) (more : List ℕ) (s : Stop) → is_board board ≡ true → played (empty_position board) columns ≡ Some p
+letter_fault : (board : Board) (columns : List ℕ) (p : Position) (byte : ℕ) (more : List ℕ) (s : Stop) → is_spelled board ≡ true → played (empty_position board) columns ≡ Some p
     → (IsNoLetter board byte → IsNoItem board columns (byte ∷ more)) → LetterStop p byte (length (byte ∷ more)) s → Stopped (up_to board columns ++ byte ∷ more) s
 letter_fault board columns p byte more s has_board has_moves item why = at why
   where
@@ -193,7 +194,7 @@ letter_fault board columns p byte more s has_board has_moves item why = at why
     at (full column is low goes_on none e) = stopped ColumnFull _ (up_to board columns) (byte ∷ more) s e refl
         (record { p = p; column = column; letter = letter column is low; goes_on = goes_on; full = none })
 
-letters_stop : (board : Board) (first : ℕ) (columns : List ℕ) (p : Position) (bytes : List ℕ) (s : Stop) → is_board board ≡ true → played (empty_position board) (first ∷ columns) ≡ Some p
+letters_stop : (board : Board) (first : ℕ) (columns : List ℕ) (p : Position) (bytes : List ℕ) (s : Stop) → is_spelled board ≡ true → played (empty_position board) (first ∷ columns) ≡ Some p
     → letters_from p bytes ≡ Err s → Stopped (up_to board (first ∷ columns) ++ bytes) s
 letters_stop board first columns p [] s has_board has_moves h = cc
 letters_stop board first columns p (byte ∷ bytes) s has_board has_moves h = elim (chosen (byte == 10) (at_end p bytes) _ (Err s) h) [
@@ -214,7 +215,7 @@ letters_stop board first columns p (byte ∷ bytes) s has_board has_moves h = el
         (inl (record { board = board; columns = first ∷ columns; p = p; byte = next; more = more; has_board = has_board; has_moves = has_moves; is_before = refl; is_behind = refl }))
 
 -- the list itself
-list_stop : (board : Board) (rest : List ℕ) (s : Stop) → is_board board ≡ true → moves_at (empty_position board) rest ≡ Err s → Stopped (board_line board ++ (10 ∷ (codes "moves " ++ rest))) s
+list_stop : (board : Board) (rest : List ℕ) (s : Stop) → is_spelled board ≡ true → moves_at (empty_position board) rest ≡ Err s → Stopped (board_line board ++ (10 ∷ (codes "moves " ++ rest))) s
 list_stop board [] s has_board h = stopped BadColumn _ (up_to board []) [] s (cc) (sym (append-nil (up_to board [])))
     (record { board = board; columns = []; p = empty_position board; up_to = record { has_board = has_board; has_moves = refl; is_before = refl }; none = tt })
 list_stop board (byte ∷ bytes) s has_board h = elim (chosen (byte == 45) (after_dash (empty_position board) bytes) _ (Err s) h) [
@@ -292,9 +293,9 @@ gap_next cols rest has_cols ends =
 rows_next : (cols : ℕ) (rest : List ℕ) → is_cols cols ≡ true → board_at (codes "board " ++ (decimal cols ++ (codes " " ++ rest))) ≡ rows_on cols rest
 rows_next cols rest has_cols = gap_next cols (codes " " ++ rest) has_cols refl ∙ ap (λ r. r >>= λ gap. rows_on cols gap) (after_text_of (codes " ") rest)
 
-rest_next : (board : Board) (rest : List ℕ) → is_board board ≡ true → prefix_len is_digit rest ≡ 0 → board_at (board_line board ++ rest) ≡ rest_of_line board.cols board.rows rest
+rest_next : (board : Board) (rest : List ℕ) → is_spelled board ≡ true → prefix_len is_digit rest ≡ 0 → board_at (board_line board ++ rest) ≡ rest_of_line board.cols board.rows rest
 rest_next board rest has_board ends =
-    let both = and_parts (is_cols board.cols) (is_rows board.rows) has_board in
+    let both = and_parts (is_cols board.cols) (is_rows board.rows) (spelled_parts board has_board).0 in
     let spelled = rows_spelled board.rows both.1 in
     ap board_at (sym (line_whole (decimal board.cols) (decimal board.rows) rest))
     ∙ rows_next board.cols (decimal board.rows ++ rest) both.0
@@ -304,7 +305,7 @@ game_next : (bytes : List ℕ) (s : Stop) → board_at bytes ≡ Err s → read_
 unfolding read_game
 game_next bytes s h = ap (λ r. r >>= λ line. moves_at (empty_position line.0) line.1) h
 
-list_next : (board : Board) (columns behind : List ℕ) → is_board board ≡ true → read_game (up_to board columns ++ behind) ≡ moves_at (empty_position board) (map letter_of columns ++ behind)
+list_next : (board : Board) (columns behind : List ℕ) → is_spelled board ≡ true → read_game (up_to board columns ++ behind) ≡ moves_at (empty_position board) (map letter_of columns ++ behind)
 unfolding read_game
 list_next board columns behind has_board = ap (λ r. r >>= λ line. moves_at (empty_position line.0) line.1)
     (ap board_at (up_to_more board columns behind) ∙ board_of_spelling board (map letter_of columns ++ behind) has_board)
@@ -322,7 +323,7 @@ header_stops before behind (inr (inr h)) = game_next _ _
     (ap (λ before. board_at (before ++ behind)) h.is_before
     ∙ ap board_at (append_assoc (board_line h.board) h.part behind)
     ∙ rest_next h.board (h.part ++ behind) h.has_board (ends h.part h.fixed h.run_ends)
-    ∙ ap (λ r. r >>= λ rest. Ok (h.board, rest)) (ap (λ text. after_text text (h.part ++ behind)) h.fixed ∙ text_stops h.part h.byte h.later behind h.other))
+    ∙ ap (λ r. r >>= λ rest. Ok (record { cols = h.board.cols; rows = h.board.rows; len = Four }, rest)) (ap (λ text. after_text text (h.part ++ behind)) h.fixed ∙ text_stops h.part h.byte h.later behind h.other))
   where
     ends : (part : List ℕ) → 10 ∷ codes "moves " ≡ part ++ h.byte ∷ h.later → (part ≡ [] → run_of behind ≡ []) → prefix_len is_digit (part ++ behind) ≡ 0
     ends [] fixed none = run_none behind (none refl)

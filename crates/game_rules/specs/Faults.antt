@@ -3,10 +3,10 @@
 -- byte is looked at, and which reader finds it, is no matter here.
 use Rattle.std.specs.Prelude.{◌≡◌, ◌≢◌, ◌⊎◌, ℕ, ◌<◌, true, false, List, [], ◌∷◌, ◌++◌, map, length, take_while, Some, None, codes, ⊤}
 use Rattle.std.specs.Fmt.{decimal}
-use Rattle.game_rules.specs.Board.{Board, is_board, is_cols, is_rows}
+use Rattle.game_rules.specs.Board.{Board, is_cols, is_rows}
 use Rattle.game_rules.specs.Position.{Position, empty_position, end_of, has_room, played}
 use Rattle.game_rules.specs.Text.{is_digit}
-use Rattle.game_rules.specs.Grammar.{letter_of, board_line, game_text}
+use Rattle.game_rules.specs.Grammar.{letter_of, board_line, game_text, is_spelled}
 use Rattle.game_rules.specs.declared.End.{End}
 use Rattle.game_rules.specs.declared.InputFault.{InputFault}
 use Rattle.game_rules.specs.declared.InputKind.{InputKind}
@@ -55,7 +55,7 @@ pub record BreaksMoves (before behind : List ℕ) : Type 0 where
   pub part : List ℕ
   pub byte : ℕ
   pub later : List ℕ
-  pub has_board : is_board board ≡ true
+  pub has_board : is_spelled board ≡ true
   pub is_before : before ≡ board_line board ++ part
   pub fixed : 10 ∷ codes "moves " ≡ part ++ byte ∷ later
   pub run_ends : part ≡ [] → run_of behind ≡ []
@@ -87,7 +87,7 @@ up_to board columns = board_line board ++ (10 ∷ (codes "moves " ++ map letter_
 
 -- that stands before the place, and the moves are legal one after the other; they lead from the empty board to p
 pub record IsUpTo (before : List ℕ) (board : Board) (columns : List ℕ) (p : Position) : Type 0 where
-  pub has_board : is_board board ≡ true
+  pub has_board : is_spelled board ≡ true
   pub has_moves : played (empty_position board) columns ≡ Some p
   pub is_before : before ≡ up_to board columns
 
@@ -146,7 +146,7 @@ pub record FollowsText (before behind : List ℕ) : Type 0 where
   pub p : Position
   pub byte : ℕ
   pub more : List ℕ
-  pub has_board : is_board board ≡ true
+  pub has_board : is_spelled board ≡ true
   pub has_moves : played (empty_position board) columns ≡ Some p
   pub is_before : before ≡ game_text board columns true
   pub is_behind : behind ≡ byte ∷ more
@@ -155,7 +155,7 @@ pub record FollowsDash (before behind : List ℕ) : Type 0 where
   pub board : Board
   pub byte : ℕ
   pub more : List ℕ
-  pub has_board : is_board board ≡ true
+  pub has_board : is_spelled board ≡ true
   pub is_before : before ≡ game_text board [] false
   pub is_behind : behind ≡ byte ∷ more
   pub no_feed : byte ≢ 10
