@@ -197,8 +197,8 @@ impl Position {
         self.man_at((s.column().index(), s.row()))
     }
 
-    /// Whether the boards are of one size and their lines of one length, and White's men and Black's stand on the same squares. `==` answers the
-    /// same, and positions that are the same have one hash.
+    /// Whether the boards are of one size and their lines of one length, and White's men and Black's stand on the same
+    /// squares. `==` answers the same, and positions that are the same have one hash.
     pub fn same(&self, other: &Position) -> bool
         ensures value { result ≡ same_position self.now other.now }
         ensures equal { result ≡ ⟦<Position as PartialEq>⟧.eq self.now other.now }

@@ -71,19 +71,12 @@ impl Size {
         if rows != 4 && rows != 6 && rows != 8 && rows != 10 {
             return Err(SizeFault::BadRows);
         }
-        match len {
-            4 => Ok(Size {
-                cols,
-                rows,
-                len: Length::Four,
-            }),
-            5 => Ok(Size {
-                cols,
-                rows,
-                len: Length::Five,
-            }),
-            _ => Err(SizeFault::BadLen),
-        }
+        let len = match len {
+            4 => Length::Four,
+            5 => Length::Five,
+            _ => return Err(SizeFault::BadLen),
+        };
+        Ok(Size { cols, rows, len })
     }
 
     /// The size with these numbers, which a board has, and lines of four.

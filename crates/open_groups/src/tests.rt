@@ -1,6 +1,6 @@
-//! How many groups a board has, and which of them a man takes from the other side, as counted by hand. Four tests are of
-//! the sizes, positions and squares of `board_bits`, which has none of its own: what a square holds, that a game without
-//! moves is the empty position, which numbers are a size, and which line ends a game.
+//! How many groups a board has, and which of them a man takes from the other side, as counted by hand. Four tests are
+//! of the sizes, positions and squares of `board_bits`, which has none of its own: what a square holds, that a game
+//! without moves is the empty position, which numbers are a size, and which line ends a game.
 use crate::{GroupId, GroupSet, free_for, group_anchor, group_at, group_mask, group_way, groups};
 use board_bits::{End, Mask, Position, Side, Size, SizeFault, Square, read_game};
 use game_rules::Way;

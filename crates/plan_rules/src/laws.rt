@@ -1,6 +1,6 @@
 //! Laws of the nine rules and of plans, each the contract of a function with an empty body. The first group is what
 //! every rule keeps; the second follows from it and from the table of instances that may stand together: by a plan
-//! Black has a reply to each move of White's, and White never has four in a line.
+//! Black has a reply to each move of White's, and White never has a line.
 ghost use Rattle.std.specs.Prelude.{◌≡◌, ◌≢◌, ◌↔◌, ℕ, ◌≤◌, true, false, not, ◌||◌, List, length, Some, is_none, slice_get};
 ghost use Rattle.game_rules.specs.Board.{Square};
 ghost use Rattle.game_rules.specs.Position.{Position, board_of, is_legal};
@@ -82,7 +82,7 @@ pub fn a_plan_in_words()
 
 /// From a plan, after any of White's legal moves and the plan's replies: the board is the same, White is to move, the men
 /// of the plan's position are still there, each zone is calm and holds an even number of men, each inverse has both
-/// floors or neither and then no man, what standing members rest on is true, and White has no four in a line.
+/// floors or neither and then no man, what standing members rest on is true, and White has no line.
 pub fn a_plan_is_kept_whatever_white_plays()
     ensures { (p : Position) (ws : List RuleInstance) (columns : List ℕ) (q : Position) → is_plan p ws ≡ true → after_turns ws p columns ≡ Some q → IsKept p ws q }
 {}
@@ -93,9 +93,9 @@ pub fn black_always_has_a_reply()
         → is_legal q column ≡ true → IsAnswered ws q column }
 {}
 
-/// In the duel over columns of which each is legal at its turn, each column opens a turn: White's move and Black's reply
-/// stand there one after the other, and all that a plan keeps holds before it. White has no four in a line at any
-/// position of the duel, those right after White's moves among them.
+/// In the duel over columns of which each is legal at its turn, each column opens a turn: White's move and Black's
+/// reply stand there one after the other, and all that a plan keeps holds before it. White has no line at any position
+/// of the duel, those right after White's moves among them.
 pub fn white_has_no_line_in_a_duel()
     ensures turns { (p : Position) (ws : List RuleInstance) (columns : List ℕ) (i column : ℕ) → is_plan p ws ≡ true → is_playable_list ws p columns ≡ true
         → slice_get columns i ≡ Some column → IsTurn p ws (duel ws p columns) i column }

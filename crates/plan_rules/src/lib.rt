@@ -1,5 +1,5 @@
-//! The nine strategic rules by which Black keeps White from four in a line, as definitions that every crate on plans
-//! cites, with their laws proved.
+//! The nine strategic rules by which Black keeps White from a line, as definitions that every crate on plans cites,
+//! with their laws proved. They hold for lines of four squares and of five: a line is one of the board's length.
 //!
 //! A plan is a list of instances of the nine rules at a position with White to move. Its zone rules share out the
 //! empty squares; Black answers each of White's moves inside the zone that owns White's square. The definitions stand

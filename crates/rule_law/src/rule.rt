@@ -13,8 +13,8 @@ ghost use Rattle.rule_law.specs.KeptFacts.{facts_in};
 use crate::{Kept, Kind};
 use board_bits::{Mask, Position, Square};
 
-/// An instance of one of the nine rules by which Black keeps White from four in a line. The rules are this project's
-/// own profile "after Allis".
+/// An instance of one of the nine rules by which Black keeps White from a line. The rules are this project's own
+/// profile "after Allis".
 pub trait Rule {
     /// Which of the nine rules it is an instance of.
     ghost kind: { Self → Kind };
@@ -46,7 +46,7 @@ pub trait Rule {
     /// In which positions the men of its zone are such that it has an answer to each move of White's there.
     ghost calm: { Self → Position → Bool };
 
-    /// The line of four that a group rule rests on; None for each other rule.
+    /// The line that a group rule rests on; None for each other rule.
     ghost line: { Self → Option Group };
 
     /// Which of the nine rules it is an instance of.
