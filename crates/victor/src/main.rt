@@ -78,3 +78,6 @@ fn main(rt: HostRuntime) -> ExitCode {
     let status = run(rt.alloc(), &words, &mut source, &mut out, &mut err);
     ExitCode::from(finish(status, out, &mut err))
 }
+
+#[cfg(test)]
+mod tests;
