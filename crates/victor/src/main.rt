@@ -1,5 +1,6 @@
 //! The program: it makes the allocator and the three standard streams, and hands all that is to be done to `run`.
 #![tactic(auto)]
+
 ghost use Rattle.std.specs.Prelude.{◌≡◌, ◌≢◌, ◌⊎◌, codes};
 ghost use Rattle.victor_run.specs.Outcome.{Reports};
 
@@ -16,7 +17,7 @@ const WRITE_FAULT: u8 = 7;
 /// The status where memory for the arguments runs out.
 const OUT_OF_MEMORY: u8 = 8;
 
-/// The status where the system doesn't give the words, or they are no text.
+/// The status where the system doesn't give the arguments, or one of them isn't UTF-8.
 const NO_WORDS: u8 = 9;
 
 /// How many bytes of output are held back, so that a line isn't one call of the system.
@@ -25,7 +26,7 @@ const HELD_OUTPUT: usize = 65536;
 /// What the error stream is given where the last flush fails: the same as for any other write fault.
 const WRITE_FAULT_TEXT: &[u8] = b"write fault\n";
 
-/// The words after the program's name.
+/// The arguments after the program's name.
 fn words<R: Env + Alloc>(rt: &R) -> io::Result<Vec<String<R::A>, R::A>> {
     Ok(env::args(rt)?.skip(1).collect(rt.alloc())?)
 }
