@@ -42,7 +42,7 @@ fn output(rt: &HostRuntime) -> BufWriter<Stdout> {
     writer
 }
 
-/// Reports a write fault, as `run` reports one. Its failure changes nothing.
+/// Reports a write fault, as `run` reports one. Where that fails too, no more is tried.
 fn report_fault<E: Sink>(err: &mut E)
     ensures { Reports (E.faults err.old) (E.faults err.new) (E.written err.old) (E.written err.new) (codes "write fault\n") }
 {
