@@ -1,5 +1,6 @@
-# `make` builds the program where it isn't built, which takes `rt`; `make install PREFIX=..` puts the program, its manual
-# page and its documents below that folder, and `make uninstall PREFIX=..` takes them away. DESTDIR is put before PREFIX.
+# `make` builds the program where it isn't built, which takes `rt`. `make install PREFIX=..` puts the program, its
+# manual page and its documents below that folder, and `make uninstall PREFIX=..` takes them away. DESTDIR is put before
+# PREFIX.
 PREFIX ?= /usr/local
 to = $(DESTDIR)$(PREFIX)
 docs = share/doc/victor
