@@ -63,6 +63,13 @@ impl<W: Write> StdSink<W> {
     {
         StdSink { inner, faults: 0 }
     }
+
+    /// The writer as it stands. Nothing is written and nothing is flushed.
+    pub fn into_inner(self) -> W
+        ensures { result ≡ self.inner }
+    {
+        self.inner
+    }
 }
 
 impl<W: Write> Sink for StdSink<W> {

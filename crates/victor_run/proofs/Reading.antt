@@ -18,6 +18,16 @@ Reads_more a b P Q reads more = record {
   fact = λ later none. more _ _ (reads.fact later none);
 }
 
+-- before the first step nothing was taken
+pub Reads_start : (a : Pending) (P : List ℕ → List ℕ → Type 0) → ((bytes : List ℕ) → P bytes bytes) → Reads a a P
+Reads_start a P same = record {
+  taken = [];
+  gave = Consumes-nil a.left;
+  stays = λ ended. (refl, ended);
+  last = λ before after. before after;
+  fact = λ later none. same (a.ahead ++ later);
+}
+
 pub Reads_then : (a b c : Pending) (P Q R : List ℕ → List ℕ → Type 0) → Reads a b P → Reads b c Q
     → ((bytes mid rest : List ℕ) → P bytes mid → Q mid rest → R bytes rest) → Reads a c R
 Reads_then a b c P Q R first next more = record {

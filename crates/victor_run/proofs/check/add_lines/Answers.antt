@@ -1,8 +1,8 @@
-use Rattle.std.proofs.Common.{◌≡◌, ◌+◌, ◌-◌, Bool, Ok, ap, ◌∙◌, subst, arith}
+use Rattle.std.proofs.Common.{◌≡◌, ◌+◌, ◌-◌, Bool, Ok, refl, ap, ◌∙◌, subst, arith}
 use Rattle.std.proofs.lemmas.Result.{err_from_is_err_and}
 use Rattle.victor_run.specs.CheckSteps.{pending, Reads, PassesLines, Adds, lines_read_until}
 use Rattle.victor_run.proofs.Judging.{stops_earlier}
-use Rattle.victor_run.proofs.Reading.{Reads_then, passes_then, passes_most}
+use Rattle.victor_run.proofs.Reading.{Reads_start, Reads_then, passes_none, passes_then, passes_most}
 use Rattle.victor_run.proofs.check.add_lines.Goals as goal
 
 pub returns-in_err-add_next-clause-answer : goal.returns-in_err-add_next-clause-answer
@@ -25,6 +25,15 @@ returns-clause-answer g c =
       passes_most (c.loop-at.at - 4 + 1) (c.loop-at.at - 3) bytes rest (omega (arith, before.from)) (passes_then (c.loop-at.at - 4) 1 bytes mid rest p.0 q.0),
       p.1 ∙ q.1,
     ))
+
+pub loop-at-init : goal.loop-at-init
+loop-at-init g c = record {
+  goes = Reads_start _ _ (λ bytes. (passes_none bytes, refl));
+  cols = c.requires;
+  from = omega arith;
+  later = omega arith;
+  few = omega arith;
+}
 
 pub loop-at-preserved : goal.loop-at-preserved
 loop-at-preserved g c =
