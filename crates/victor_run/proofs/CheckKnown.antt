@@ -74,13 +74,17 @@ module _ (a b c : Pending) (one two : List ℕ) (first : Reads a b (λ bytes res
 
   pub root_known : (root : Position) → game_at two ≡ Ok root → Reads a c (λ bytes rest. PassesLines 2 bytes rest × (game_from bytes ≡ lines_from (start root) first_number rest))
   root_known root game =
-      Reads_then a b c _ _ _ first second (λ bytes mid rest p q. (passes_then 1 1 bytes mid rest p.0 q.0,
-      game_read bytes (next_line bytes) (next_line mid) root refl (ap next_line p.1.1) (sym (ap game_at (both bytes mid p.1.0 p.1.1 q.1.0)) ∙ game) ∙ ap (lines_from (start root) first_number) (sym q.1.1)))
+      Reads_then a b c _ _ _ first second (λ bytes mid rest p q. (
+        passes_then 1 1 bytes mid rest p.0 q.0,
+        game_read bytes (next_line bytes) (next_line mid) root refl (ap next_line p.1.1) (sym (ap game_at (both bytes mid p.1.0 p.1.1 q.1.0)) ∙ game) ∙ ap (lines_from (start root) first_number) (sym q.1.1),
+      ))
 
   pub root_stops : (fault : InputFault) → game_at two ≡ Err fault → Reads a c (λ bytes rest. PassesLines 2 bytes rest × (game_from bytes ≡ NoGame fault))
   root_stops fault game =
-      Reads_then a b c _ _ _ first second (λ bytes mid rest p q. (passes_then 1 1 bytes mid rest p.0 q.0,
-      game_fault bytes (next_line bytes) (next_line mid) fault refl (ap next_line p.1.1) (sym (ap game_at (both bytes mid p.1.0 p.1.1 q.1.0)) ∙ game)))
+      Reads_then a b c _ _ _ first second (λ bytes mid rest p q. (
+        passes_then 1 1 bytes mid rest p.0 q.0,
+        game_fault bytes (next_line bytes) (next_line mid) fault refl (ap next_line p.1.1) (sym (ap game_at (both bytes mid p.1.0 p.1.1 q.1.0)) ∙ game),
+      ))
 
 -- ---- the lines
 

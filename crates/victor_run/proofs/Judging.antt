@@ -72,14 +72,16 @@ module _ (a b c : Pending) (root : Position) (s t : CheckerState) (began : s ≡
   lines_stop n before mid after stop later from lines =
       Reads_then a b c _ _ _ game lines (λ bytes m rest p q. (
         passes_most (3 + (n - 3)) n bytes rest (omega (arith, from)) (passes_then 3 (n - 3) bytes m rest p.0 q.0),
-        stops_earlier _ _ before mid after stop (p.1 ∙ ap (λ s. lines_from s first_number m) (sym began)) later q.1))
+        stops_earlier _ _ before mid after stop (p.1 ∙ ap (λ s. lines_from s first_number m) (sym began)) later q.1,
+      ))
 
   pub lines_known : (end : ℕ) → 3 ≤ end → Reads b c (λ bytes rest. PassesLines (end - 3) bytes rest × (lines_from s first_number bytes ≡ verdict_answer end (length t.known) t.verdict))
       → (answer : CheckAnswer) → verdict_answer end (length t.known) t.verdict ≡ answer → Reads a c (λ bytes rest. PassesLines end bytes rest × (check_of bytes ≡ answer))
   lines_known end from lines answer is =
       Reads_then a b c _ _ _ game lines (λ bytes m rest p q. (
         passes_most (3 + (end - 3)) end bytes rest (omega (arith, from)) (passes_then 3 (end - 3) bytes m rest p.0 q.0),
-        p.1 ∙ ap (λ s. lines_from s first_number m) (sym began) ∙ q.1 ∙ is))
+        p.1 ∙ ap (λ s. lines_from s first_number m) (sym began) ∙ q.1 ∙ is,
+      ))
 
 -- ---- how it was judged
 

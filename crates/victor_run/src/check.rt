@@ -97,7 +97,7 @@ fn judge<S: Source>(alloc: Global, source: &mut S) -> Result<Accepted, Stop>
 fn read_head<S: Source>(lines: &mut InputLines, source: &mut S) -> Result<(), Stop>
     ensures answer { Reads (pending lines.old (S.left source.old)) (pending lines.new (S.left source.new))
         (λ bytes rest. PassesLines 1 bytes rest × MatchResult result (λ _. check_of bytes ≡ game_from rest)
-            (StopsBy (check_of bytes) (S.faults source.old) (S.faults source.new))) }
+        (StopsBy (check_of bytes) (S.faults source.old) (S.faults source.new))) }
     ensures held { length lines.new.ahead ≤ most_held }
     ensures stops { IfErr result (λ stop. 1 ≤ lines_read_until stop) }
     ensures later { S.faults source.old ≤ S.faults source.new }
@@ -116,7 +116,7 @@ fn read_head<S: Source>(lines: &mut InputLines, source: &mut S) -> Result<(), St
 fn read_root<S: Source>(lines: &mut InputLines, source: &mut S) -> Result<Position, Stop>
     ensures answer { Reads (pending lines.old (S.left source.old)) (pending lines.new (S.left source.new))
         (λ bytes rest. PassesLines 2 bytes rest × MatchResult result (λ root. game_from bytes ≡ lines_from (start root) first_number rest)
-            (StopsBy (game_from bytes) (S.faults source.old) (S.faults source.new))) }
+        (StopsBy (game_from bytes) (S.faults source.old) (S.faults source.new))) }
     ensures held { length lines.new.ahead ≤ most_held }
     ensures stops { IfErr result (λ stop. 3 ≤ lines_read_until stop) }
     ensures later { S.faults source.old ≤ S.faults source.new }
@@ -165,8 +165,8 @@ fn add_lines<S: Source>(
     requires { length checker.old.root.columns ≡ size.cols }
     ensures answer { Reads (pending lines.old (S.left source.old)) (pending lines.new (S.left source.new))
         (λ bytes rest. MatchResult result
-            (λ end. PassesLines (end - 3) bytes rest × (lines_from checker.old first_number bytes ≡ verdict_answer end (length checker.new.known) checker.new.verdict))
-            (λ stop. PassesLines (lines_read_until stop - 3) bytes rest × StopsBy (lines_from checker.old first_number bytes) (S.faults source.old) (S.faults source.new) stop)) }
+        (λ end. PassesLines (end - 3) bytes rest × (lines_from checker.old first_number bytes ≡ verdict_answer end (length checker.new.known) checker.new.verdict))
+        (λ stop. PassesLines (lines_read_until stop - 3) bytes rest × StopsBy (lines_from checker.old first_number bytes) (S.faults source.old) (S.faults source.new) stop)) }
     ensures few { MatchResult result (λ end. (FIRST_NUMBER ≤ end) × (end ≤ most_lines_read)) (λ stop. (3 ≤ lines_read_until stop) × (lines_read_until stop ≤ most_lines_read)) }
     ensures ended { OnOk result (lines.new.ended ≡ true) }
     ensures held { length lines.new.ahead ≤ most_held }
@@ -190,7 +190,7 @@ fn add_next<S: Source>(
     requires { length checker.old.root.columns ≡ size.cols }
     ensures answer { Reads (pending lines.old (S.left source.old)) (pending lines.new (S.left source.new))
         (λ bytes rest. PassesLines 1 bytes rest × MatchResult result (λ more. Adds checker.old checker.new at more bytes rest)
-            (StopsBy (lines_from checker.old at bytes) (S.faults source.old) (S.faults source.new))) }
+        (StopsBy (lines_from checker.old at bytes) (S.faults source.old) (S.faults source.new))) }
     ensures few { result ≡ Ok true → at ≤ MOST_LINES }
     ensures root { OnOk result (checker.new.root ≡ checker.old.root) }
     ensures ended { result ≡ Ok false → lines.new.ended ≡ true }

@@ -21,8 +21,8 @@ use crate::words::{Form, read_words};
 use io_ports::{Sink, Source};
 use std::alloc::Global;
 
-/// Runs the command that the words are, reads from `source`, writes to `out`, and answers the exit status; the text of a
-/// fault goes to `err`, and no failure of `err` changes anything.
+/// Runs the command that the arguments ask for, reads from `source`, writes to `out`, and answers the exit status; the
+/// text of a fault goes to `err`, whole unless the count of faults of `err` rose.
 ///
 /// `prove` and `prove --nodes N` read a game and write a proof of its value under perfect play, for the side to move.
 /// `check` reads a proof and writes a line where it is right. Only `check` takes memory, and only for lemmas.

@@ -16,7 +16,7 @@ use itoa::Buffer;
 const USAGE: &[u8] =
     b"usage: victor prove [--nodes N] [--reach K] [--front F] [--table T] | check | play | explain [--reach K] | drill COLS ROWS MOVES SEED GAMES [--nodes N] [--reach K]\n";
 
-/// Writes the text of an ending to the error stream, where there is one. Its failure changes nothing.
+/// Writes the text of an ending to the error stream, where there is one: whole, unless the stream's count of faults rose.
 pub(crate) fn report<E: Sink>(err: &mut E, ending: Ending)
     ensures { Reports (E.faults err.old) (E.faults err.new) (E.written err.old) (E.written err.new) (fault_text ending) }
 {
