@@ -57,7 +57,8 @@ impl Default for GroupId {
 impl GroupId {
     /// The group's squares, from its anchor on: as many as its length says.
     pub fn squares(&self) -> ArrayVec<Square, MOST_IN_LINE>
-        ensures { result.items ≡ squares_of self.now }
+        ensures value { result.items ≡ squares_of self.now }
+        ensures line { is_line (widest_with self.now.len) self.now.way self.now.anchor ≡ true }
     {
         self.anchor.line(self.len, self.way)
     }
