@@ -2,8 +2,8 @@
 ghost use Rattle.std.specs.Prelude.{◌≡◌, ◌+◌, ◌≤◌, ◌∷◌, ◌++◌, length, codes, decimal, flat_map};
 ghost use Rattle.arrayvec.specs.ArrayVec.{array_vec_len};
 ghost use Rattle.game_rules.specs.Grammar.{letter_of, move_list};
-ghost use Rattle.proof_text.specs.Spelling.{claim_word, cite_word, reason_words, lemma_line, verdict_line};
-ghost use Rattle.cert_format.specs.Shape.{cite_of, reason_of, behind_spaces};
+ghost use Rattle.proof_text.specs.Spelling.{claim_word, cite_word, reason_words, lemma_line, verdict_line, longest_path, most_cites};
+ghost use Rattle.cert_format.specs.Shape.{cite_of, reason_of, behind_spaces, line_room};
 
 use crate::lines::{Cite, Reason};
 use arrayvec::ArrayVec;
@@ -12,14 +12,14 @@ use itoa::Buffer;
 use proof_text::{Claim, Verdict};
 
 /// No line that is made here is longer, with its line feed.
-const LONGEST_LINE: usize = 256;
+const LINE_ROOM: usize = 256;
 
 /// The bytes of a line, or of a prefix of it.
-pub type LineText = ArrayVec<u8, LONGEST_LINE>;
+pub type LineText = ArrayVec<u8, LINE_ROOM>;
 
 /// The line of a lemma, with its line feed.
 pub(crate) fn lemma_line(number: u32, path: &[Column], claim: Claim, reason: &Reason) -> LineText
-    requires { length path.now ≤ 100 }
+    requires { length path.now ≤ longest_path }
     ensures { result.items ≡ lemma_line (record { number = number; path = path.now; claim = claim; reason = reason_of reason.now }) }
 {
     let mut line = LineText::new();
@@ -60,7 +60,7 @@ pub(crate) fn verdict_line(verdict: Verdict) -> LineText
 }
 
 fn push_reason(line: &mut LineText, reason: &Reason)
-    requires { array_vec_len line.old + 140 ≤ 256 }
+    requires { array_vec_len line.old + 140 ≤ line_room }
     ensures items { line.new.items ≡ line.old.items ++ behind_spaces (reason_words (reason_of reason.now)) }
     ensures bound { array_vec_len line.new ≤ array_vec_len line.old + 140 }
 {
@@ -72,7 +72,7 @@ fn push_reason(line: &mut LineText, reason: &Reason)
 }
 
 fn push_one(line: &mut LineText, cite: Cite)
-    requires { array_vec_len line.old + 140 ≤ 256 }
+    requires { array_vec_len line.old + 140 ≤ line_room }
     ensures items { line.new.items ≡ line.old.items ++ (codes " one " ++ (letter_of cite.column ∷ (32 ∷ decimal cite.lemma))) }
     ensures bound { array_vec_len line.new ≤ array_vec_len line.old + 140 }
 {
@@ -83,8 +83,8 @@ fn push_one(line: &mut LineText, cite: Cite)
 }
 
 fn push_all(line: &mut LineText, cites: &[Cite])
-    requires few { length cites.now ≤ 10 }
-    requires room { array_vec_len line.old + 140 ≤ 256 }
+    requires few { length cites.now ≤ most_cites }
+    requires room { array_vec_len line.old + 140 ≤ line_room }
     ensures items { line.new.items ≡ line.old.items ++ (codes " all" ++ flat_map (λ cite. 32 ∷ cite_word (cite_of cite)) cites.now) }
     ensures bound { array_vec_len line.new ≤ array_vec_len line.old + 140 }
 {
@@ -96,7 +96,7 @@ fn push_all(line: &mut LineText, cites: &[Cite])
 
 /// A space, then the letter of the cite's column, a colon and its lemma's number.
 fn push_cite(line: &mut LineText, cite: Cite)
-    requires { array_vec_len line.old + 13 ≤ 256 }
+    requires { array_vec_len line.old + 13 ≤ line_room }
     ensures items { line.new.items ≡ line.old.items ++ (32 ∷ cite_word (cite_of cite)) }
     ensures bound { array_vec_len line.new ≤ array_vec_len line.old + 13 }
 {
@@ -108,10 +108,10 @@ fn push_cite(line: &mut LineText, cite: Cite)
 
 /// The letters of the columns, or `-` for none.
 fn push_path(line: &mut LineText, path: &[Column])
-    requires short { length path.now ≤ 100 }
-    requires room { array_vec_len line.old + 100 ≤ 256 }
+    requires short { length path.now ≤ longest_path }
+    requires room { array_vec_len line.old + longest_path ≤ line_room }
     ensures items { line.new.items ≡ line.old.items ++ move_list path.now }
-    ensures bound { array_vec_len line.new ≤ array_vec_len line.old + 100 }
+    ensures bound { array_vec_len line.new ≤ array_vec_len line.old + longest_path }
 {
     if path.is_empty() {
         line.push(b'-');
@@ -142,7 +142,7 @@ fn claim_word(claim: Claim) -> &'static [u8]
 
 /// Puts a number in decimal behind what is there.
 pub fn push_number(line: &mut LineText, number: u32)
-    requires { array_vec_len line.old + 10 ≤ 256 }
+    requires { array_vec_len line.old + 10 ≤ line_room }
     ensures items { line.new.items ≡ line.old.items ++ decimal number }
     ensures bound { array_vec_len line.new ≤ array_vec_len line.old + 10 }
 {

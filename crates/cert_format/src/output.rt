@@ -2,7 +2,7 @@
 ghost use Rattle.std.specs.Prelude.{◌≡◌, ◌≢◌, ◌+◌, ◌<◌, ◌≤◌, length, is_ok, IfOk, OnOk, OnErr};
 ghost use Rattle.device_rules.specs.Devices.{HasCause, AppendsPrefix};
 ghost use Rattle.proof_text.specs.Lemma.{ARemark};
-ghost use Rattle.proof_text.specs.Spelling.{lemma_line};
+ghost use Rattle.proof_text.specs.Spelling.{lemma_line, greatest_number, longest_path};
 ghost use Rattle.cert_format.specs.Shape.{reason_of, line_of, printed};
 
 use crate::line_text::{lemma_line, verdict_line};
@@ -39,12 +39,13 @@ pub struct LemmaOut {
 
 impl Model for LemmaOut {
     ghost use Rattle.std.specs.Prelude.{ℕ, ◌≤◌};
+    ghost use Rattle.proof_text.specs.Spelling.{greatest_number};
 
     ghost Value = { ℕ };
 
     ghost view = { λ lemmas. lemmas.count };
 
-    ghost invariant = { λ lemmas. lemmas.count ≤ 10000000 };
+    ghost invariant = { λ lemmas. lemmas.count ≤ greatest_number };
 
     ghost inverse = { λ n. record { count = n } };
 }
@@ -60,7 +61,7 @@ impl LemmaOut {
     /// How many lemmas were put, at most 10,000,000.
     pub fn count(&self) -> u32
         ensures value { result ≡ self.now }
-        ensures most { result ≤ 10000000 }
+        ensures most { result ≤ greatest_number }
     {
         self.count
     }
@@ -74,8 +75,8 @@ impl LemmaOut {
         claim: Claim,
         reason: Reason,
     ) -> Result<u32, Failed>
-        requires room { self.old < 10000000 }
-        requires short { length path.now ≤ 100 }
+        requires room { self.old < greatest_number }
+        requires short { length path.now ≤ longest_path }
         ensures number { IfOk result (λ n. n ≡ self.old + 1) }
         ensures counted { OnOk result (self.new ≡ self.old + 1) }
         ensures kept { OnErr result (self.new ≡ self.old) }

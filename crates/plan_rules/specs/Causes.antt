@@ -1,5 +1,5 @@
--- Which rule names twins, and to which squares a rule names no reply, by its kind and its zone alone. They are a part of
--- this project's own profile "after Allis".
+-- Which rule names twins, and to which squares a rule names no reply, by its kind and its zone alone. They are a part
+-- of this project's own profile "after Allis".
 use Rattle.std.specs.Prelude.{Bool, true, false, not, ◌&&◌, ◌||◌, ◌==◌, List}
 use Rattle.std.specs.List.{list_any}
 use Rattle.game_rules.specs.Board.{Square}

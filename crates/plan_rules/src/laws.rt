@@ -1,7 +1,7 @@
 //! Laws of the nine rules and of plans, each the contract of a function with an empty body. The first group is what
 //! every rule keeps; the second follows from it and from the table of instances that may stand together: by a plan
 //! Black has a reply to each move of White's, and White never has a line.
-ghost use Rattle.std.specs.Prelude.{◌≡◌, ◌≢◌, ◌↔◌, ℕ, ◌≤◌, true, false, not, ◌||◌, List, length, Some, is_none, slice_get};
+ghost use Rattle.std.specs.Prelude.{◌≡◌, ◌≢◌, ◌↔◌, ℕ, ◌≤◌, true, false, not, ◌||◌, List, length, Some, is_none, is_some, slice_get};
 ghost use Rattle.game_rules.specs.Board.{Square};
 ghost use Rattle.game_rules.specs.Position.{Position, board_of, is_legal};
 ghost use Rattle.game_rules.specs.Value.{value, wins};
@@ -10,9 +10,10 @@ ghost use Rattle.game_rules.specs.Squares.{has_square, is_empty};
 ghost use Rattle.game_rules.specs.declared.Side.TheVariants as sides;
 ghost use Rattle.game_rules.specs.declared.End.TheVariants as ends;
 ghost use Rattle.plan_rules.specs.Squares.{column_up, is_even, is_odd, men_on};
-ghost use Rattle.plan_rules.specs.Rules.{RuleInstance, zone_of, line_of, is_shaped, fits, reply_to, has_no_answer, upper_of, pair_of, twin_of, barred, is_supported, together};
+ghost use Rattle.plan_rules.specs.Rules.{RuleInstance, kind_of, zone_of, line_of, has_shape, fits, reply_to, has_no_answer, upper_of, pair_of, twin_of, barred, is_supported, together};
 ghost use Rattle.plan_rules.specs.Calm.{is_paired, is_capped, is_shifted, is_calm};
 ghost use Rattle.plan_rules.specs.Columns.{IsPairedColumn, IsCappedColumn, IsShiftedColumn};
+ghost use Rattle.plan_rules.specs.Causes.{names_twins, names_no_reply};
 ghost use Rattle.plan_rules.specs.Laws.{StartLaw, LocalLaw, StepLaw, FactLaw, BarLaw};
 ghost use Rattle.plan_rules.specs.Plan.{is_plan, IsMember, IsPlan, IsKept, IsAnswered, IsTurn, after_turns, duel, is_playable_list};
 
@@ -37,6 +38,14 @@ pub fn a_move_in_a_zone_is_answered_in_it()
 /// while the other column is full.
 pub fn a_reply_is_missing_where_the_rule_names_none()
     ensures { (w : RuleInstance) (now : Position) (last : Square) → is_none (reply_to w now last) ≡ (not (has_square (zone_of w) last) || has_no_answer w now last) }
+{}
+
+/// What the kind and the zone alone say: an instance with its shape has no reply exactly where its rule names none, and
+/// it has twins exactly where its rule is Baseinverse.
+pub fn the_kind_and_the_zone_say_what_is_missing()
+    ensures reply { (w : RuleInstance) (now : Position) (last : Square) → has_shape w (board_of now) ≡ true
+        → is_none (reply_to w now last) ≡ names_no_reply (kind_of w) (zone_of w) now last }
+    ensures twin { (w : RuleInstance) → is_some (twin_of w) ≡ names_twins (kind_of w) }
 {}
 
 /// The instance fitted where the empty squares were those of the facts, it is supported by them and calm, the facts are

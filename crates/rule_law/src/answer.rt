@@ -8,9 +8,9 @@ ghost use Rattle.rule_law.specs.Start.{IsStart, IsAnswer};
 use crate::Rule;
 use board_bits::{Position, Square};
 
-/// What an instance answers to a move to a playable square; None exactly where the rule names no square. Where it fits at the position, White is to move, the square
-/// is one of its zone, and the columns are filled below the zone, the answer is a playable square of the zone, and the
-/// instance is calm after it.
+/// What an instance answers to a move to a playable square; None exactly where the rule names no square. Where it fits
+/// at the position, White is to move, the square is one of its zone, and the columns are filled below the zone, the
+/// answer is a playable square of the zone, and the instance is calm after it.
 pub fn answer_at_start<R: Rule>(rule: &R, p: &Position, last: Square) -> Option<Square>
     requires { is_playable p.now last ≡ true }
     ensures value { result ≡ R.reply rule.now (after_move p.now last.0) last }

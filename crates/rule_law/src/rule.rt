@@ -63,8 +63,8 @@ pub trait Rule {
         ensures { result ≡ fitted self.now p.now };
 
     /// Black's answer to White's move `last`, at the position after it. None exactly where the rule names no square:
-    /// where `last` isn't in the zone, or is a Claimeven's upper square, or is a Lowinverse's top while the other column
-    /// is full.
+    /// where `last` isn't in the zone, or is a Claimeven's upper square, or is a Lowinverse's top while the other
+    /// column is full.
     fn reply(&self, now: &Position, last: Square) -> Option<Square>
         ensures value { result ≡ reply self.now now.now last }
         ensures missing { is_none result ≡ names_no_reply (kind self.now) (zone self.now) now.now last };

@@ -6,6 +6,7 @@ ghost use Rattle.game_rules.specs.Position.{Position as Men, played, empty_count
 ghost use Rattle.game_rules.specs.Value.{wins};
 ghost use Rattle.game_rules.specs.Cost.{centre_out, count, cost, none_closed};
 ghost use Rattle.proof_text.specs.Lemma.{claim_for};
+ghost use Rattle.proof_text.specs.Spelling.{greatest_number, longest_path};
 ghost use Rattle.proof_text.specs.Right.{Shown, HasReason};
 ghost use Rattle.cert_format.specs.Shape.{cite_of, reason_of};
 ghost use Rattle.victor_run.specs.Search.{uncounted, Solves, Asks, cites_from, won_by};
@@ -46,8 +47,8 @@ pub(crate) fn solve<O: Sink>(
     out: &mut O,
 ) -> Result<Answer, SearchStop>
     requires order { order.now ≡ centre_out (length position.now.columns) }
-    requires deep { length path.old.items + empty_count position.now ≤ 100 }
-    requires room { lemmas.old + budget.old ≤ 10000000 }
+    requires deep { length path.old.items + empty_count position.now ≤ longest_path }
+    requires room { lemmas.old + budget.old ≤ greatest_number }
     ensures answer { IfOk result (λ answer. answer.yes ≡ wins side position.now) }
     ensures left { OnOk result (budget.new + count none_closed side position.now ≡ budget.old) }
     ensures spent { result ≡ Err stops.Spent → budget.old < count none_closed side position.now }
@@ -104,8 +105,8 @@ fn put_lemma<O: Sink>(
     lemmas: &mut LemmaOut,
     out: &mut O,
 ) -> Result<Answer, SearchStop>
-    requires room { lemmas.old < 10000000 }
-    requires deep { length path.now ≤ 100 }
+    requires room { lemmas.old < greatest_number }
+    requires deep { length path.now ≤ longest_path }
     ensures answer { IfOk result (λ answer. answer.yes ≡ yes) }
     ensures spent { result ≡ Err stops.Spent → ⊥ }
     ensures few { lemmas.new + uncounted result ≤ lemmas.old + 1 }
@@ -122,7 +123,7 @@ fn put_lemma<O: Sink>(
 }
 
 /// The playable columns, each with the lemma whose number stands at its place.
-fn cites_from(position: &Position, numbers: &[u32; MOST_COLS]) -> ArrayVec<Cite, 10>
+fn cites_from(position: &Position, numbers: &[u32; MOST_COLS]) -> ArrayVec<Cite, MOST_COLS>
     ensures { map cite_of result.items ≡ cites_from numbers.now (open_columns position.now) }
 {
     let mut cites = ArrayVec::new();
@@ -145,8 +146,8 @@ pub(crate) fn ask<O: Sink>(
     nodes: u32,
     out: &mut O,
 ) -> Result<Verdict, SearchStop>
-    requires squares { empty_count position.now ≤ 100 }
-    requires nodes { nodes ≤ 10000000 }
+    requires squares { empty_count position.now ≤ longest_path }
+    requires nodes { nodes ≤ greatest_number }
     ensures asked { Asks position.now nodes (O.written out.old) (O.written out.new) result }
     ensures spent { result ≡ Err stops.Spent → nodes < cost none_closed position.now }
     ensures later { O.faults out.old ≤ O.faults out.new }
