@@ -12,17 +12,22 @@ pub record Cut : Type 0 where
   pub fed : Bool
   pub rest : List ℕ
 
+-- no line has more bytes, without its line feed
+abbrev pub longest_line : ℕ
+longest_line = 8192
+
 -- How many bytes stand before the first line feed, or in all where there is none.
 abbrev pub line_len : List ℕ → ℕ
 line_len bytes = position_or_len (λ b. b == 10) bytes
 
--- The first line of the bytes: too long where more than 8,192 of them come without a line feed, and none where no byte is left.
+-- The first line of the bytes: too long where more than the longest line has come without a line feed, and none where no byte is
+-- left.
 abbrev pub next_line : List ℕ → Cut
 next_line [] = record { got = Done; text = []; fed = false; rest = [] }
 next_line (b ∷ bs) =
     let bytes = b ∷ bs in
     let len = line_len bytes in
-    if nat_lt 8192 len then record { got = Long; text = take 8192 bytes; fed = false; rest = bytes }
+    if nat_lt longest_line len then record { got = Long; text = take longest_line bytes; fed = false; rest = bytes }
     else if nat_lt len (length bytes) then record { got = Line; text = take len bytes; fed = true; rest = drop (len + 1) bytes }
     else record { got = Line; text = bytes; fed = false; rest = [] }
 
@@ -37,13 +42,13 @@ pub record IsLine (bytes text : List ℕ) (fed : Bool) (rest : List ℕ) : Type 
   -- the last line, where the input doesn't end in a line feed
   pub last : fed ≡ false → (text ≢ []) × (rest ≡ [])
   pub no_feed : All (λ b. b ≢ 10) text
-  pub short : length text ≤ 8192
+  pub short : length text ≤ longest_line
 
 pub record IsLong (bytes text rest : List ℕ) : Type 0 where
   pub stays : rest ≡ bytes
-  pub prefix : text ≡ take 8192 bytes
-  pub long : 8192 < length bytes
-  pub no_feed : All (λ b. b ≢ 10) (take 8193 bytes)
+  pub prefix : text ≡ take longest_line bytes
+  pub long : longest_line < length bytes
+  pub no_feed : All (λ b. b ≢ 10) (take (longest_line + 1) bytes)
 
 abbrev pub IsCut : List ℕ → LineGot → List ℕ → Bool → List ℕ → Type 0
 IsCut bytes Line text fed rest = IsLine bytes text fed rest

@@ -4,7 +4,7 @@
 ghost use Rattle.std.specs.Prelude.{◌≡◌, ◌≢◌, ◌≤◌, [], ◌++◌, false, length, All, IfOk};
 ghost use Rattle.std.specs.Io.KnownBytes.{IsAtEnd};
 ghost use Rattle.device_rules.specs.Devices.{HasCause, Rose};
-ghost use Rattle.io_ports.specs.Lines.{EachTextIsCut, Gives, Takes, Moves, is_end, line_len, most_held};
+ghost use Rattle.io_ports.specs.Lines.{EachTextIsCut, Gives, Takes, Moves, is_end, line_len, longest_line, most_held};
 
 use crate::ahead::{Ahead, LONGEST};
 use crate::{Failed, Source};
@@ -69,7 +69,7 @@ impl Lines {
         ensures held { length self.new.ahead ≤ most_held }
         ensures done { result ≡ LineGot.Done → self.new.text ≡ [] }
         ensures kept { result ≡ LineGot.Failed → (self.new.text ≡ []) × (self.new.fed ≡ false) }
-        ensures short { length self.new.text ≤ 8192 }
+        ensures short { length self.new.text ≤ longest_line }
         ensures no_feed { All (λ b. b ≢ 10) self.new.text }
         ensures later { S.faults source.old ≤ S.faults source.new }
         ensures failed { result ≡ LineGot.Failed → Rose (S.faults source.old) (S.faults source.new) }

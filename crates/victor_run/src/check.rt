@@ -4,7 +4,7 @@
 ghost use Rattle.std.specs.Prelude.{◌≡◌, ◌+◌, ◌-◌, ◌≤◌, true, false, [], length, is_ok, Ok, Some, MatchResult, IfOk, IfErr, OnOk};
 ghost use Rattle.device_rules.specs.Devices.{Rose, HasCause, AppendsPrefix};
 ghost use Rattle.arrayvec.specs.ArrayVec.{array_vec_len};
-ghost use Rattle.proof_text.specs.Texts.{first_number, bytes_refusal, with_bytes, start, verdict_answer, check_of};
+ghost use Rattle.proof_text.specs.Texts.{longest_line, first_number, bytes_refusal, with_bytes, start, verdict_answer, check_of};
 ghost use Rattle.io_ports.specs.Lines.{most_held};
 ghost use Rattle.victor_run.specs.Check.{word_of, accepted_line, most_lines_read};
 ghost use Rattle.victor_run.specs.CheckSteps.{game_from, lines_from, pending, Reads, PassesLines, KeepsLine, Adds, StopsBy, IsRefused, lines_read_until, ending_of, Judges};
@@ -212,7 +212,7 @@ fn add_next<S: Source>(
 /// Adds the line at this number, given by its bytes.
 fn add_line(checker: &mut Checker, size: Size, at: u64, bytes: &[u8]) -> Result<(), Stop>
     requires cols { length checker.old.root.columns ≡ size.cols }
-    requires short { length bytes.now ≤ 8192 }
+    requires short { length bytes.now ≤ longest_line }
     ensures answer { MatchResult result
         (λ _. (bytes_refusal checker.old at bytes.now ≡ None) × (checker.new ≡ with_bytes checker.old bytes.now))
         (IsRefused at (bytes_refusal checker.old at bytes.now)) }
