@@ -1,6 +1,5 @@
 -- However a run ends, what the sink held stands there still.
 use Rattle.std.proofs.Common.{◌≡◌, ℕ, List, [], take, Option, Some, None, sym, ◌∙◌, append-nil}
-use Rattle.victor_run.specs.Streams.{Streams}
 use Rattle.victor_run.specs.Outcome.{Promise}
 use Rattle.victor_run.specs.declared.words.Form.{Form}
 use Rattle.victor_run.specs.declared.words.Form.TheVariants.{Prove, Check}

@@ -1,6 +1,5 @@
 -- What a sink in memory holds after a run.
-use Rattle.std.specs.Prelude.{◌≡◌, ℕ, List, ◌++◌, Ok, Some}
-use Rattle.std.specs.Io.KnownBytes.{Appends}
+use Rattle.std.specs.Prelude.{◌≡◌, ℕ, List, ◌++◌, Ok}
 use Rattle.game_rules.specs.Position.{Position}
 use Rattle.game_rules.specs.Text.{game_at}
 use Rattle.proof_text.specs.declared.Verdict.{Verdict}
