@@ -17,8 +17,8 @@ pub fn what_is_read_is_in_the_grammar()
 /// A text has a fault of each of the six kinds at a place exactly where what stands before and behind the place is so,
 /// in words of the text and of the rules of the game: a byte of the fixed parts is another byte or is missing; the
 /// digits spell no number of columns or of rows that a board has; the list of moves has a byte that is neither a column
-/// letter nor its end, or has no byte; a letter stands after the end of the game; a letter names a full column while the
-/// game goes on; or a byte follows the text.
+/// letter nor its end, or has no byte; a letter stands after the end of the game; a letter names a full column while
+/// the game goes on; or a byte follows the text.
 pub fn a_text_that_is_no_game_has_its_fault()
     ensures bad_header { (bytes : List ℕ) (at : ℕ) → (game_at bytes ≡ Err (fault_at kinds.BadHeader at)) ↔ IsAt bytes at IsBadHeader }
     ensures bad_size { (bytes : List ℕ) (at : ℕ) → (game_at bytes ≡ Err (fault_at kinds.BadSize at)) ↔ IsAt bytes at IsBadSize }
