@@ -7,21 +7,14 @@ use Rattle.io_ports.specs.Lines.{behind_lines}
 use Rattle.proof_text.specs.Right.{AreTrue, IsTrueVerdict}
 use Rattle.proof_text.specs.Texts.{most_lines, check_of, CheckAnswer, NoGame, Refused, Accepted, IsRightText}
 use Rattle.proof_text.specs.declared.Verdict.{Verdict}
-use Rattle.proof_text.specs.declared.Verdict.TheVariants as verdicts
+use Rattle.proof_text.specs.Words.{verdict_word}
 use Rattle.victor_run.specs.Streams.{Streams}
 use Rattle.victor_run.specs.declared.ending.Ending.{Ending}
 use Rattle.victor_run.specs.declared.ending.Ending.TheVariants as endings
 
--- the word of a verdict
-abbrev pub word_of : Verdict → List ℕ
-word_of (verdicts.Win n) = codes "win"
-word_of (verdicts.Loss n) = codes "loss"
-word_of (verdicts.Draw n m) = codes "draw"
-word_of verdicts.Unknown = codes "unknown"
-
 -- what is written where a proof is right: its verdict, and how many lemmas it has
 abbrev pub accepted_line : Verdict → ℕ → List ℕ
-accepted_line v count = codes "accepted " ++ word_of v ++ 32 ∷ decimal count ++ 10 ∷ []
+accepted_line v count = codes "accepted " ++ verdict_word v ++ 32 ∷ decimal count ++ 10 ∷ []
 
 -- The definitions give this answer to the bytes that were taken; and to all of the input, where the source tells it.
 abbrev pub IsAnswer : List ℕ → Option (List ℕ) → CheckAnswer → Type 0

@@ -4,9 +4,9 @@
 ghost use Rattle.std.specs.Prelude.{◌≡◌, ◌+◌, ◌-◌, ◌≤◌, true, false, [], length, is_ok, Ok, Some, MatchResult, IfOk, IfErr, OnOk};
 ghost use Rattle.device_rules.specs.Devices.{Rose, HasCause, AppendsPrefix};
 ghost use Rattle.arrayvec.specs.ArrayVec.{array_vec_len};
-ghost use Rattle.proof_text.specs.Texts.{longest_line, first_number, bytes_refusal, with_bytes, start, verdict_answer, check_of};
+ghost use Rattle.proof_text.specs.Texts.{first_number, bytes_refusal, with_bytes, start, verdict_answer, check_of};
 ghost use Rattle.io_ports.specs.Lines.{most_held};
-ghost use Rattle.victor_run.specs.Check.{word_of, accepted_line, most_lines_read};
+ghost use Rattle.victor_run.specs.Check.{accepted_line, most_lines_read};
 ghost use Rattle.victor_run.specs.CheckSteps.{game_from, lines_from, pending, Reads, PassesLines, KeepsLine, Adds, StopsBy, IsRefused, lines_read_until, ending_of, Judges};
 ghost use Rattle.victor_run.specs.Outcome.{Outcome};
 ghost use Rattle.victor_run.specs.declared.words.Form.TheVariants as forms;
@@ -22,7 +22,7 @@ use board_bits::{InputFault, Position, Size, read_game};
 use cert_checker::{Accepted, AddStop, Checker, Refusal};
 use cert_format::{FIRST_LINE, LineText, push_number, push_text, read_line};
 use io_ports::{Failed, LineGot, Sink, Source};
-use proof_text::{Verdict, Why};
+use proof_text::Why;
 use std::alloc::Global;
 
 /// How much of a line of the game is kept. The lines of a game are shorter.
@@ -211,8 +211,7 @@ fn add_next<S: Source>(
 
 /// Adds the line at this number, given by its bytes.
 fn add_line(checker: &mut Checker, size: Size, at: u64, bytes: &[u8]) -> Result<(), Stop>
-    requires cols { length checker.old.root.columns ≡ size.cols }
-    requires short { length bytes.now ≤ longest_line }
+    requires { length checker.old.root.columns ≡ size.cols }
     ensures answer { MatchResult result
         (λ _. (bytes_refusal checker.old at bytes.now ≡ None) × (checker.new ≡ with_bytes checker.old bytes.now))
         (IsRefused at (bytes_refusal checker.old at bytes.now)) }
@@ -255,22 +254,9 @@ fn accepted_line(accepted: Accepted) -> LineText
 {
     let mut line = LineText::new();
     push_text(&mut line, b"accepted ");
-    push_text(&mut line, word_of(accepted.verdict));
+    push_text(&mut line, accepted.verdict.word());
     line.push(b' ');
     push_number(&mut line, accepted.lemmas);
     line.push(b'\n');
     line
-}
-
-/// The word of a verdict.
-fn word_of(verdict: Verdict) -> &'static [u8]
-    ensures word { result.now ≡ word_of verdict }
-    ensures short { length result.now ≤ 7 }
-{
-    match verdict {
-        Verdict::Win(_) => b"win",
-        Verdict::Loss(_) => b"loss",
-        Verdict::Draw(..) => b"draw",
-        Verdict::Unknown => b"unknown",
-    }
 }
