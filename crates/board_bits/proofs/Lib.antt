@@ -7,3 +7,5 @@ pub mod Searches
 pub mod MoveFields
 pub mod Stops
 pub mod Lengths
+pub mod Digits
+pub mod Words
