@@ -1,5 +1,6 @@
 pub mod Places
 pub mod Masks
+pub mod Runs
 pub mod Columns
 pub mod Equals
 pub mod OrderTable

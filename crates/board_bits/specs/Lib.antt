@@ -7,3 +7,4 @@ pub mod Move
 pub mod Reading
 pub mod Held
 pub mod Words
+pub mod Runs

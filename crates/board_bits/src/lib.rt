@@ -8,6 +8,7 @@ mod line;
 mod mask;
 mod order;
 mod position;
+mod run;
 mod size;
 mod stack;
 

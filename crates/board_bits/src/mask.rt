@@ -1,12 +1,14 @@
 //! Sets of squares, each kept as a number: the bits of its squares. A contract sees the list of the squares in square
 //! order, and says of each square whether the set has it.
-ghost use Rattle.std.specs.Prelude.{◌≡◌, ◌+◌, ◌-◌, ◌*◌, ◌^◌, ◌<◌, ◌||◌, true, false, sum_by};
+ghost use Rattle.std.specs.Prelude.{◌≡◌, ◌⊎◌, ◌+◌, ◌-◌, ◌*◌, ◌^◌, ◌<◌, ◌||◌, true, false, sum_by};
 ghost use Rattle.std.specs.List.{list_any, list_all};
 ghost use Rattle.game_rules.specs.Board.{on_board};
 ghost use Rattle.game_rules.specs.Squares.{same_square, has_square, widest, IsSetOf};
 ghost use Rattle.board_bits.specs.Words.{place_of, word_of};
+ghost use Rattle.board_bits.specs.Runs.{has_run};
 
 use crate::Square;
+use crate::run::has_run;
 use std::marker::Model;
 
 /// A set of squares.
@@ -16,7 +18,7 @@ pub struct Mask {
 }
 
 impl Model for Mask {
-    ghost use Rattle.std.specs.Prelude.{◌≡◌, List, ℕ};
+    ghost use Rattle.std.specs.Prelude.{◌≡◌, ◌⊎◌, List, ℕ};
     ghost use Rattle.std.proofs.Common.{ap};
 
     ghost Value = { List (ℕ × ℕ) };
@@ -97,6 +99,15 @@ impl Mask {
         ensures { result ≡ list_any (has_square other) self.now }
     {
         self.word & other.word != 0
+    }
+
+    /// Whether the set holds so many squares, four or five, that follow one another in one of the four directions of a
+    /// line.
+    pub fn run_of(&self, len: u8) -> bool
+        requires { (len ≡ 4) ⊎ (len ≡ 5) }
+        ensures { result ≡ has_run self.now len }
+    {
+        has_run(self.word, len)
     }
 }
 
