@@ -98,21 +98,16 @@ fn place_of(way: Way) -> usize
 pub fn free_for(p: &Position, side: Side) -> GroupSet
     ensures { IsGroupSetOf (board_of p.now) (λ g. lies_on (board_of p.now) g && is_free_for side p.now g) result }
 {
-    let others = p.men(side.other());
+    let clear = p.empties().union(p.men(side));
     let size = p.size();
-    let groups = groups(size);
-    let mut free = GroupSet::empty(size);
-    for group in groups.as_slice() {
-        if is_clear_of(*group, others) {
-            free = free.with(*group);
-        }
+    let len = size.length();
+    GroupSet {
+        size,
+        anchors: [
+            clear.line_starts(Way::H, len),
+            clear.line_starts(Way::V, len),
+            clear.line_starts(Way::U, len),
+            clear.line_starts(Way::D, len),
+        ],
     }
-    free
-}
-
-/// Whether the group has none of these squares.
-fn is_clear_of(group: GroupId, others: Mask) -> bool
-    ensures { result ≡ not (list_any (has_square others) (squares_of group)) }
-{
-    !group_mask(group).meets(others)
 }
