@@ -1,9 +1,14 @@
-pub mod Places
 pub mod Masks
-pub mod Columns
+pub mod Runs
+pub mod Positions
+pub mod Counts
 pub mod Equals
+pub mod BoardWord
+pub mod MoveWords
+pub mod Columns
 pub mod OrderTable
 pub mod Searches
-pub mod MoveFields
 pub mod Stops
 pub mod Lengths
+pub mod Digits
+pub mod Words
