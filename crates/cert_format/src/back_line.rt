@@ -1,6 +1,6 @@
 //! The line of a lemma, made from its end: each piece is put before what is there, so a number needs no place of its own
 //! first, and one buffer serves every line.
-ghost use Rattle.std.specs.Prelude.{◌≡◌, ◌+◌, ◌≤◌, [], ◌∷◌, ◌++◌, length, codes, decimal};
+ghost use Rattle.std.specs.Prelude.{◌≡◌, ◌+◌, ◌≤◌, [], ◌∷◌, ◌++◌, map, length, codes, decimal};
 ghost use Rattle.game_rules.specs.Grammar.{letter_of, move_list};
 ghost use Rattle.proof_text.specs.Spelling.{cite_word, reason_words, lemma_line, longest_path, most_cites};
 ghost use Rattle.cert_format.specs.Shape.{cite_of, reason_of, cite_words, behind_spaces, line_room};
@@ -129,11 +129,9 @@ impl BackLine {
             self.put_byte(b'-');
             return;
         }
-        let mut index = path.len();
-        while index > 0 {
-            index -= 1;
-            self.put_byte(letter_of(path[index]));
-        }
+        let start = self.start - path.len();
+        write_letters(&mut self.bytes[start..self.start], path);
+        self.start = start;
     }
 
     /// Puts a number in decimal.
@@ -162,5 +160,15 @@ impl BackLine {
     {
         self.start -= 1;
         self.bytes[self.start] = byte;
+    }
+}
+
+/// Writes the columns' letters over the bytes. They are as many.
+fn write_letters(bytes: &mut [u8], path: &[Column])
+    requires { length bytes.old ≡ length path.now }
+    ensures { bytes.new ≡ map letter_of path.now }
+{
+    for index in 0..path.len() {
+        bytes[index] = letter_of(path[index]);
     }
 }
