@@ -15,12 +15,12 @@ pub cites_behind : (cites : List Cite) → flat_map (λ cite. 32 ∷ cite_word (
 cites_behind [] = refl
 cites_behind (cite ∷ cites) = ap (λ rest. (32 ∷ cite_word (cite_of cite)) ++ rest) (cites_behind cites)
 
--- the line of a lemma, put piece by piece
-pub lemma_pieces : (l : Lemma) (before after : List ℕ)
-    → before ≡ ((((([] ++ decimal l.number) ++ 32 ∷ []) ++ move_list l.path) ++ 32 ∷ []) ++ claim_word l.claim) ++ behind_spaces (reason_words l.reason)
-    → after ≡ before ++ 10 ∷ [] → after ≡ lemma_line l
-lemma_pieces l before after pieces last =
-    let rest = claim_word l.claim ++ behind_spaces (reason_words l.reason) in
-    let grouped : before ≡ decimal l.number ++ (32 ∷ (move_list l.path ++ (32 ∷ rest))) = pieces ∙ simp append_assoc in
-    let spelled : spaced (claim_word l.claim ∷ reason_words l.reason) ≡ rest = spaced_behind (claim_word l.claim) (reason_words l.reason) in
-    last ∙ ap (λ text. text ++ 10 ∷ []) (grouped ∙ ap (λ text. decimal l.number ++ (32 ∷ (move_list l.path ++ (32 ∷ text)))) (sym spelled))
+-- the line of a lemma, each of its pieces before what was put
+pub lemma_pieces : (l : Lemma) (reason said path : List ℕ) → reason ≡ behind_spaces (reason_words l.reason) ++ 10 ∷ [] → said ≡ claim_word l.claim ++ reason → path ≡ move_list l.path ++ 32 ∷ said
+    → decimal l.number ++ 32 ∷ path ≡ lemma_line l
+lemma_pieces l reason said path put_reason put_said put_path =
+    let words = claim_word l.claim ∷ reason_words l.reason in
+    let spelled : claim_word l.claim ++ behind_spaces (reason_words l.reason) ≡ spaced words = sym (spaced_behind (claim_word l.claim) (reason_words l.reason)) in
+    let claimed : said ≡ spaced words ++ 10 ∷ [] =
+    put_said ∙ ap (λ rest. claim_word l.claim ++ rest) put_reason ∙ sym (append_assoc (claim_word l.claim) (behind_spaces (reason_words l.reason)) (10 ∷ [])) ∙ ap (λ text. text ++ 10 ∷ []) spelled in
+    ap (λ rest. decimal l.number ++ 32 ∷ rest) (put_path ∙ ap (λ rest. move_list l.path ++ 32 ∷ rest) claimed) ∙ sym (simp append_assoc)

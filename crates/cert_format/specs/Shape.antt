@@ -1,7 +1,7 @@
 -- The lines of the code as the plain data of the definitions.
 use Rattle.std.specs.Prelude.{◌≡◌, ℕ, List, [], ◌∷◌, map, flat_map, Option, Some, None, Result, Ok, Err}
 use Rattle.proof_text.specs.Lemma.{Cite as PlainCite, Reason as PlainReason, ByEnd, ByOne, ByAll, Lemma as PlainLemma, Line as PlainLine, ALemma, ARemark, AVerdict}
-use Rattle.proof_text.specs.Spelling.{lemma_line, verdict_line}
+use Rattle.proof_text.specs.Spelling.{cite_word, lemma_line, verdict_line}
 use Rattle.cert_format.specs.declared.lines.Cite.{Cite}
 use Rattle.cert_format.specs.declared.lines.Reason.{Reason}
 use Rattle.cert_format.specs.declared.lines.Reason.TheVariants.{Ended, One, All}
@@ -33,6 +33,10 @@ line_of (lines.Verdict v) = AVerdict v
 -- words with a space before each
 abbrev pub behind_spaces : List (List ℕ) → List ℕ
 behind_spaces words = flat_map (λ word. 32 ∷ word) words
+
+-- the words of cites, with a space before each
+abbrev pub cite_words : List Cite → List ℕ
+cite_words cites = flat_map (λ cite. 32 ∷ cite_word (cite_of cite)) cites
 
 -- the bytes of a lemma's or a verdict's line, with its line feed; a remark's aren't determined by what it says
 abbrev pub printed : PlainLine → List ℕ

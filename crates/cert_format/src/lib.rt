@@ -2,6 +2,7 @@
 //! `proof_text`, whose definitions each contract here cites. No call takes memory.
 #![tactic(auto)]
 
+mod back_line;
 mod line_text;
 mod lines;
 mod number;

@@ -5,7 +5,8 @@ ghost use Rattle.proof_text.specs.Lemma.{ARemark};
 ghost use Rattle.proof_text.specs.Spelling.{lemma_line, greatest_number, longest_path};
 ghost use Rattle.cert_format.specs.Shape.{reason_of, line_of, printed};
 
-use crate::line_text::{lemma_line, verdict_line};
+use crate::back_line::BackLine;
+use crate::line_text::verdict_line;
 use crate::lines::{Line, Reason};
 use board_bits::Column;
 use io_ports::{Failed, Sink, put_all};
@@ -22,19 +23,22 @@ pub fn print_line<O: Sink>(line: &Line, out: &mut O) -> Result<(), Failed>
     ensures cause { HasCause (O.faults out.old) (O.faults out.new) result }
 {
     match line {
-        Line::Lemma(l) => put_all(
-            out,
-            lemma_line(l.number, l.path.as_slice(), l.claim, &l.reason).as_slice(),
-        ),
+        Line::Lemma(l) => {
+            let mut line = BackLine::new();
+            line.make_lemma(l.number, l.path.as_slice(), l.claim, &l.reason);
+            put_all(out, line.bytes())
+        }
         Line::Verdict(verdict) => put_all(out, verdict_line(*verdict).as_slice()),
         Line::Remark => unreachable!(),
     }
 }
 
-/// The lemmas of a proof as they are put, numbered from 1. It holds no sink, so that other lines can stand between them.
+/// The lemmas of a proof as they are put, numbered from 1. It holds no sink, so that other lines can stand between them, but
+/// the buffer in which each line is made.
 #[derive(Drop)]
 pub struct LemmaOut {
     count: u32,
+    line: BackLine,
 }
 
 impl Model for LemmaOut {
@@ -46,8 +50,6 @@ impl Model for LemmaOut {
     ghost view = { λ lemmas. lemmas.count };
 
     ghost invariant = { λ lemmas. lemmas.count ≤ greatest_number };
-
-    ghost inverse = { λ n. record { count = n } };
 }
 
 impl LemmaOut {
@@ -55,7 +57,10 @@ impl LemmaOut {
     pub fn new() -> LemmaOut
         ensures { result ≡ 0 }
     {
-        LemmaOut { count: 0 }
+        LemmaOut {
+            count: 0,
+            line: BackLine::new(),
+        }
     }
 
     /// How many lemmas were put, at most 10,000,000.
@@ -85,8 +90,8 @@ impl LemmaOut {
         ensures cause { HasCause (O.faults out.old) (O.faults out.new) result }
     {
         let number = self.count + 1;
-        let line = lemma_line(number, path, claim, &reason);
-        put_all(out, line.as_slice())?;
+        self.line.make_lemma(number, path, claim, &reason);
+        put_all(out, self.line.bytes())?;
         self.count = number;
         Ok(number)
     }
