@@ -11,6 +11,7 @@ mod reasons;
 mod stops;
 #[cfg(test)]
 mod tests;
+mod trail;
 
 pub use cert_format::{Line, Verdict};
 pub use checker::Checker;
