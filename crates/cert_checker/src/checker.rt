@@ -4,7 +4,7 @@ ghost use Rattle.proof_text.specs.Lemma.{ALemma, AVerdict};
 ghost use Rattle.proof_text.specs.Checked.{lemma_refusal, shown_of as shown_of_lemma, line_refusal, with_line};
 ghost use Rattle.proof_text.specs.Texts.{start};
 ghost use Rattle.proof_text.specs.declared.Why.TheVariants.{EndedEarly};
-ghost use Rattle.cert_format.specs.Shape.{lemma_of, line_of};
+ghost use Rattle.cert_format.specs.Shape.{lemma_of, line_of, viewed};
 ghost use Rattle.cert_checker.specs.Checking.{shown_of, Finds, StopsAt};
 ghost use Rattle.cert_checker.specs.declared.stops.AddStop.TheVariants.{Refused};
 
@@ -13,7 +13,7 @@ use crate::reasons::{check_reason, verdict_stands};
 use crate::stops::{Accepted, AddStop, Refusal};
 use crate::trail::Trail;
 use board_bits::Position;
-use cert_format::{Lemma, Line};
+use cert_format::{Lemma, Line, LineView};
 use proof_text::{Verdict, Why};
 use std::alloc::{AllocError, Global};
 use std::marker::Model;
@@ -59,13 +59,22 @@ impl Checker {
         ensures kept { OnErr result (self.new ≡ self.old) }
         ensures cause { IfErr result (λ stop. StopsAt at stop (line_refusal self.old (line_of line.now)) (line_of line.now)) }
     {
+        self.add_view(at, line.view())
+    }
+
+    /// As `add`, of a line that is lent.
+    pub fn add_view(&mut self, at: u64, line: LineView<'_>) -> Result<(), AddStop>
+        ensures accepted { OnOk result ((line_refusal self.old (viewed line.entry) ≡ None) × (self.new ≡ with_line self.old (viewed line.entry))) }
+        ensures kept { OnErr result (self.new ≡ self.old) }
+        ensures cause { IfErr result (λ stop. StopsAt at stop (line_refusal self.old (viewed line.entry)) (viewed line.entry)) }
+    {
         if self.verdict.is_some() {
             return Err(refused(at, Why::BadLine));
         }
         match line {
-            Line::Lemma(lemma) => self.add_lemma(at, lemma),
-            Line::Remark => Ok(()),
-            Line::Verdict(verdict) => self.add_verdict(at, *verdict),
+            LineView::Lemma(lemma) => self.add_lemma(at, lemma),
+            LineView::Remark => Ok(()),
+            LineView::Verdict(verdict) => self.add_verdict(at, verdict),
         }
     }
 

@@ -13,7 +13,7 @@ mod stops;
 mod tests;
 mod trail;
 
-pub use cert_format::{Line, Verdict};
+pub use cert_format::{Line, LineView, Verdict};
 pub use checker::Checker;
 pub use proof_text::Why;
 pub use stops::{Accepted, AddStop, Refusal};

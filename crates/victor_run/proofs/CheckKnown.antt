@@ -1,5 +1,5 @@
 -- What each step of `check` says of the bytes, where those are known: that the answer goes on, or what it is.
-use Rattle.std.proofs.Common.{◌≡◌, ℕ, ◌+◌, Bool, List, [], ◌∷◌, ◌++◌, length, take, min, append_assoc, Ok, Err, Option, Some, None, refl, sym, ap, ◌∙◌, subst, ◌≤◌, ◌-◌, ◌^◌, arith}
+use Rattle.std.proofs.Common.{◌≡◌, ℕ, ◌+◌, Bool, List, [], ◌++◌, length, take, min, append_assoc, Ok, Err, Option, Some, None, refl, sym, ap, ◌∙◌, subst, ◌≤◌, arith}
 use Rattle.std.specs.Io.KnownBytes.{IsAtEnd}
 use Rattle.std.proofs.lemmas.List.{take_min}
 use Rattle.device_rules.specs.Devices.{Rose}

@@ -1,8 +1,8 @@
 -- All that was read of a proof: from the first step on, what was taken, and how `check` answers it.
-use Rattle.std.proofs.Common.{◌≡◌, ℕ, ◌+◌, ◌-◌, ◌^◌, ◌≤◌, min, Bool, true, false, List, [], ◌++◌, length, Option, Some, None, Result, Ok, Err, IfSome, refl, sym, ap, ◌∙◌, subst, arith}
+use Rattle.std.proofs.Common.{◌≡◌, ℕ, ◌+◌, ◌-◌, ◌≤◌, true, false, List, [], ◌++◌, length, Option, Some, None, Ok, Err, IfSome, refl, sym, ap, ◌∙◌, subst, arith}
 use Rattle.std.specs.Io.KnownBytes.{Consumes, IsAtEnd, Keeps, Appends}
 use Rattle.std.proofs.lemmas.List.{append-nil}
-use Rattle.device_rules.specs.Devices.{Rose, AppendsPrefix}
+use Rattle.device_rules.specs.Devices.{AppendsPrefix}
 use Rattle.io_ports.specs.Lines.{behind_lines, most_held}
 use Rattle.game_rules.specs.Position.{Position}
 use Rattle.proof_text.specs.Checked.{CheckerState}
@@ -19,7 +19,7 @@ use Rattle.victor_run.specs.declared.check.Stop.{Stop}
 use Rattle.victor_run.specs.declared.check.Stop.TheVariants as stops
 use Rattle.victor_run.proofs.CheckKnown.{right_input}
 use Rattle.victor_run.proofs.Passing.{takes_bytes}
-use Rattle.victor_run.proofs.Reading.{Reads_more, Reads_then, passes_then, passes_most}
+use Rattle.victor_run.proofs.Reading.{Reads_then, passes_then, passes_most}
 
 -- nothing was read yet
 abbrev pub fresh : Option (List ℕ) → Pending

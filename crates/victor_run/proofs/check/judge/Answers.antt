@@ -1,9 +1,8 @@
-use Rattle.std.proofs.Common.{◌≡◌, List, ℕ, length, sym, ap, ◌∙◌, subst, arith}
+use Rattle.std.proofs.Common.{◌≡◌, length, sym, ap, ◌∙◌, subst, arith}
 use Rattle.std.proofs.lemmas.Result.{err_from_is_err_and}
 use Rattle.proof_text.specs.Texts.{check_of, verdict_answer, Accepted, Refused}
-use Rattle.proof_text.specs.declared.Why.TheVariants.{EndedEarly}
 use Rattle.victor_run.specs.InputState.{InputState}
-use Rattle.victor_run.specs.CheckSteps.{Pending, pending, Reads, PassesLines, StopsBy, game_from, lines_read_until}
+use Rattle.victor_run.specs.CheckSteps.{pending, Reads, PassesLines, StopsBy, game_from, lines_read_until}
 use Rattle.victor_run.specs.declared.check.Stop.TheVariants as stops
 use Rattle.victor_run.proofs.Judging.{game_known, game_stops, lines_stop, lines_known, judged_stop, judged_right}
 use Rattle.victor_run.proofs.check.judge.Goals as goal
