@@ -1,5 +1,6 @@
 pub mod Places
 pub mod Masks
+pub mod Runs
 pub mod Columns
 pub mod Equals
 pub mod OrderTable
@@ -7,3 +8,5 @@ pub mod Searches
 pub mod MoveFields
 pub mod Stops
 pub mod Lengths
+pub mod Digits
+pub mod Words

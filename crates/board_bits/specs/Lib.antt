@@ -5,6 +5,6 @@ pub mod StackFields
 pub mod PositionFields
 pub mod Move
 pub mod Reading
-pub mod SquarePlaces
-pub mod MaskFields
 pub mod Held
+pub mod Words
+pub mod Runs

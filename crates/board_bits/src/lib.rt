@@ -8,13 +8,14 @@ mod line;
 mod mask;
 mod order;
 mod position;
+mod run;
 mod size;
 mod stack;
 
 pub use game_rules::{End, InputFault, InputKind, Length, Question, Side, Way};
 pub use game_text::read_game;
 pub use line::MOST_IN_LINE;
-pub use mask::Mask;
+pub use mask::{Mask, bits_determine_a_mask};
 pub use order::centre_out;
 pub use position::{MoveFault, Position};
 pub use size::{Column, MOST_COLS, MOST_SQUARES, Size, SizeFault, Square};

@@ -1,35 +1,37 @@
-//! Sets of squares. A mask is kept as a mark for each square of the widest board; a contract sees the list of its
-//! squares in square order, and says of each square whether the set has it.
-ghost use Rattle.std.specs.Prelude.{◌≡◌, ◌<◌, ◌||◌, true, false};
+//! Sets of squares, each kept as a number: the bits of its squares. A contract sees the list of the squares in square
+//! order, and says of each square whether the set has it.
+ghost use Rattle.std.specs.Prelude.{◌≡◌, ◌⊎◌, ◌+◌, ◌-◌, ◌*◌, ◌^◌, ◌<◌, ◌||◌, true, false, sum_by};
 ghost use Rattle.std.specs.List.{list_any, list_all};
 ghost use Rattle.game_rules.specs.Board.{on_board};
 ghost use Rattle.game_rules.specs.Squares.{same_square, has_square, widest, IsSetOf};
-ghost use Rattle.board_bits.specs.SquarePlaces.{place_of};
+ghost use Rattle.board_bits.specs.Words.{place_of, word_of};
+ghost use Rattle.board_bits.specs.Runs.{has_run};
 
 use crate::Square;
-use crate::size::MOST_SQUARES;
+use crate::run::has_run;
 use std::marker::Model;
 
 /// A set of squares.
 #[derive(Clone, Copy, Debug, PartialEq, Eq, Hash)]
 pub struct Mask {
-    places: [bool; MOST_SQUARES],
+    word: u128,
 }
 
 impl Model for Mask {
-    ghost use Rattle.std.specs.Prelude.{List, ℕ};
+    ghost use Rattle.std.specs.Prelude.{◌≡◌, ◌⊎◌, List, ℕ};
+    ghost use Rattle.std.proofs.Common.{ap};
 
     ghost Value = { List (ℕ × ℕ) };
 
-    ghost use Rattle.board_bits.specs.MaskFields.{squares_marked, places_of, IsDetermined};
+    ghost use Rattle.board_bits.specs.Words.{squares_of, word_of};
 
-    ghost view = { λ mask. squares_marked mask.places };
+    ghost view = { λ mask. squares_of mask.word };
 
-    ghost invariant = { IsDetermined };
+    ghost invariant = { λ mask. word_of (squares_of mask.word) ≡ mask.word };
 
-    ghost inverse = { λ us. record { places = places_of us } };
+    ghost inverse = { λ us. record { word = word_of us } };
 
-    ghost inverse_ok = { λ a told. told };
+    ghost inverse_ok = { λ a told. ap (λ n. record a { word = n }) told };
 }
 
 impl Mask {
@@ -37,9 +39,7 @@ impl Mask {
     pub fn empty() -> Mask
         ensures { IsSetOf (λ _. false) result }
     {
-        Mask {
-            places: [false; MOST_SQUARES],
-        }
+        Mask { word: 0 }
     }
 
     /// The set of a list's squares.
@@ -53,65 +53,78 @@ impl Mask {
         mask
     }
 
+    /// The set as a number: the sum of `2^(11 * column + row - 1)` over its squares, columns being counted from 0 and
+    /// rows from 1. Sets with one number are the same.
+    pub fn bits(&self) -> u128
+        ensures value { result ≡ sum_by (λ s. 2 ^ (11 * s.0 + s.1 - 1)) self.now }
+        ensures within { result < 2 ^ 110 }
+    {
+        self.word
+    }
+
     /// Whether the set has the square.
     pub fn has(&self, s: Square) -> bool
         ensures { result ≡ has_square self.now s }
     {
-        self.places[place_of(s)]
+        (self.word >> place_of(s)) & 1 == 1
     }
 
     /// The set with one more square.
     pub fn with(&self, s: Square) -> Mask
         ensures { IsSetOf (λ u. same_square u s || has_square self.now u) result }
     {
-        let mut places = self.places;
-        places[place_of(s)] = true;
-        Mask { places }
+        Mask {
+            word: self.word | (1 << place_of(s)),
+        }
     }
 
     /// The set of the squares that either set has.
     pub fn union(&self, other: Mask) -> Mask
         ensures { IsSetOf (λ u. has_square self.now u || has_square other u) result }
     {
-        let mut places = self.places;
-        for place in 0..MOST_SQUARES {
-            places[place] = places[place] || other.places[place];
+        Mask {
+            word: self.word | other.word,
         }
-        Mask { places }
     }
 
     /// Whether the other set has each square of this one.
     pub fn within(&self, other: Mask) -> bool
         ensures { result ≡ list_all (has_square other) self.now }
     {
-        for place in 0..MOST_SQUARES {
-            let is_outside = self.places[place] && !other.places[place];
-            if is_outside {
-                return false;
-            }
-        }
-        true
+        self.word & !other.word == 0
     }
 
     /// Whether the other set has some square of this one.
     pub fn meets(&self, other: Mask) -> bool
         ensures { result ≡ list_any (has_square other) self.now }
     {
-        for place in 0..MOST_SQUARES {
-            let is_common = self.places[place] && other.places[place];
-            if is_common {
-                return true;
-            }
-        }
-        false
+        self.word & other.word != 0
+    }
+
+    /// Whether the set holds so many squares, four or five, that follow one another in one of the four directions of a
+    /// line.
+    pub fn run_of(&self, len: u8) -> bool
+        requires { (len ≡ 4) ⊎ (len ≡ 5) }
+        ensures { result ≡ has_run self.now len }
+    {
+        has_run(self.word, len)
     }
 }
 
-/// Where the mark of a square is kept.
-fn place_of(s: Square) -> usize
+/// Which bit is a square's.
+fn place_of(s: Square) -> u32
     ensures value { result ≡ place_of s }
     ensures on { on_board widest s ≡ true }
-    ensures within { result < 100 }
+    ensures within { result < 110 }
 {
-    10 * s.column().index() as usize + s.row() as usize - 1
+    11 * u32::from(s.column().index()) + u32::from(s.row()) - 1
+}
+
+/// Sets with the same number are the same set.
+pub fn bits_determine_a_mask(a: &Mask, b: &Mask)
+    ensures { word_of a.now ≡ word_of b.now → a.now ≡ b.now }
+{
+    // so the proof sees the numbers of both
+    let _a = &a.word;
+    let _b = &b.word;
 }

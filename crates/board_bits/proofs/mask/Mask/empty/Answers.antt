@@ -1,10 +1,9 @@
-use Rattle.std.proofs.Common.{refl}
-use Rattle.board_bits.specs.MaskFields.{determined_from}
-use Rattle.board_bits.proofs.Masks.{unmarked_set}
+use Rattle.board_bits.proofs.Words.{word_back}
+use Rattle.board_bits.proofs.Masks.{zero_word, zero_set}
 use Rattle.board_bits.proofs.mask.Mask.empty.Goals as goal
 
 pub invariant_of-result : goal.invariant_of-result
-invariant_of-result c = determined_from _ refl
+invariant_of-result c = word_back 0 zero_word
 
 pub returns : goal.returns
-returns c = unmarked_set
+returns c = zero_set

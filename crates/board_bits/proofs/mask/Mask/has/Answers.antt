@@ -1,11 +1,13 @@
-use Rattle.std.proofs.Common.{false, get_or, sym, ap, ◌∙◌}
+use Rattle.std.proofs.Common.{ap, sym, ◌∙◌, ◌^◌, ◌/◌, ◌==◌, bit_and}
+use Rattle.std.proofs.lemmas.Nat.Bits.{shr_and_one}
 use Rattle.game_rules.specs.Squares.{has_square}
 use Rattle.game_rules.proofs.Squares.{has_where}
-use Rattle.board_bits.specs.MaskFields.{is_marked}
+use Rattle.board_bits.specs.Words.{place_of, has_bit}
 use Rattle.board_bits.proofs.mask.Mask.has.Goals as goal
 
 pub returns : goal.returns
 returns c =
-    ap (λ n. get_or c.self.inside.places n false) c.place_of.ensures.value
-    ∙ sym (has_where (is_marked c.self.inside.places) c.args.s c.place_of.ensures.on)
+    ap (λ i. bit_and (c.self.inside.word / 2 ^ i) 1 == 1) c.place_of.ensures.value
+    ∙ ap (λ n. n == 1) (shr_and_one c.self.inside.word (place_of c.args.s))
+    ∙ sym (has_where (has_bit c.self.inside.word) c.args.s c.place_of.ensures.on)
     ∙ ap (λ us. has_square us c.args.s) c.self.view_is

@@ -1,10 +1,9 @@
-use Rattle.std.proofs.Common.{true, length-set, ◌∙◌}
-use Rattle.board_bits.specs.MaskFields.{determined_from}
-use Rattle.board_bits.proofs.Masks.{with_set}
+use Rattle.board_bits.proofs.Words.{word_back}
+use Rattle.board_bits.proofs.Masks.{word_from, more, more_word, more_set}
 use Rattle.board_bits.proofs.mask.Mask.with.Goals as goal
 
 pub invariant_of-result : goal.invariant_of-result
-invariant_of-result c = determined_from _ (length-set c.self.inside.places c.place_of.result true ∙ c.self.told)
+invariant_of-result c = rw c.place_of.ensures.value (word_back (more c.self.inside.word c.args.s) (more_word c.self.inside.word c.args.s c.place_of.ensures.on (word_from c.self.inside.word c.self.invariant)))
 
 pub returns : goal.returns
-returns c = rw (c.place_of.ensures.value, ← c.self.view_is) (with_set c.self.inside.places c.args.s c.self.told c.place_of.ensures.on)
+returns c = rw (c.place_of.ensures.value, ← c.self.view_is) (more_set c.self.inside.word c.args.s c.place_of.ensures.on)

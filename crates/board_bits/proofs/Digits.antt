@@ -1,0 +1,44 @@
+-- Numbers by their digits to a base that is a power of two.
+use Rattle.std.proofs.Common.{◌≡◌, ℕ, zero, suc, ◌+◌, ◌*◌, ◌/◌, ◌%◌, ◌^◌, ◌<◌, sum_by, sym, ap, ◌∙◌, subst, arith}
+use Rattle.std.specs.List.{range_with_len}
+use Rattle.std.proofs.Math.Nat.{mul-zero, mul-suc, mul-add, add-mul, mul_assoc}
+use Rattle.std.proofs.lemmas.Nat.{pow-add, pow_pos, shr-shr, mul-add-lt, div-mul-add, mod-mul-add}
+use Rattle.std.proofs.lemmas.List.Sums.{sum_by-cons}
+
+-- so many digits of k bits from the given one on, the first of them the lowest
+pub number : (k : ℕ) → (ℕ → ℕ) → ℕ → ℕ → ℕ
+number k d a zero = 0
+number k d a (suc m) = number k d (a + 1) m * 2 ^ k + d a
+
+pub sum_number : (k : ℕ) (d : ℕ → ℕ) (m a : ℕ) → sum_by (λ i. d i * 2 ^ (k * i)) (range_with_len a m) ≡ number k d a m * 2 ^ (k * a)
+unfolding number
+sum_number k d zero a = omega arith
+sum_number k d (suc m) a =
+    let rest : number k d (a + 1) m * 2 ^ (k * (a + 1)) ≡ number k d (a + 1) m * 2 ^ k * 2 ^ (k * a) =
+    ap (λ e. number k d (a + 1) m * 2 ^ e) (let e : k * (a + 1) ≡ k + k * a = omega (arith, mul-add k a 1) in e)
+    ∙ ap (λ n. number k d (a + 1) m * n) (pow-add 2 k (k * a)) ∙ sym (mul_assoc (number k d (a + 1) m) (2 ^ k) (2 ^ (k * a))) in
+    sum_by-cons (λ i. d i * 2 ^ (k * i)) a (range_with_len (a + 1) m)
+    ∙ ap (λ n. d a * 2 ^ (k * a) + n) (sum_number k d m (a + 1) ∙ rest)
+    ∙ omega (arith, add-mul (number k d (a + 1) m * 2 ^ k) (d a) (2 ^ (k * a)))
+
+module _ (k : ℕ) (d : ℕ → ℕ) (small : (i : ℕ) → d i < 2 ^ k) where
+  pub number_below : (a m : ℕ) → number k d a m < 2 ^ (k * m)
+  unfolding number
+  number_below a zero = pow_pos (k * 0)
+  number_below a (suc m) =
+      subst (λ n. number k d (a + 1) m * 2 ^ k + d a < n) (sym (pow-add 2 k (k * m)) ∙ ap (λ n. 2 ^ n) (let e : k + k * m ≡ k * suc m = omega (arith, mul-suc k m) in e))
+      (mul-add-lt (number k d (a + 1) m) (2 ^ k) (d a) (2 ^ (k * m)) (number_below (a + 1) m) (small a))
+
+  pub digit : (m a j : ℕ) → j < m → number k d a m / 2 ^ (k * j) % 2 ^ k ≡ d (a + j)
+  unfolding number
+  digit zero a j low = absurd (omega arith)
+  digit (suc m) a zero low =
+      ap (λ e. number k d a (suc m) / 2 ^ e % 2 ^ k) (mul-zero k)
+      ∙ ap (λ n. n % 2 ^ k) (let e : number k d a (suc m) / 1 ≡ number k d a (suc m) = omega arith in e)
+      ∙ mod-mul-add (number k d (a + 1) m) (2 ^ k) (d a) (small a)
+      ∙ ap d (let e : a ≡ a + 0 = omega arith in e)
+  digit (suc m) a (suc j) low =
+      ap (λ n. n % 2 ^ k) (ap (λ e. number k d a (suc m) / 2 ^ e) (let e : k * suc j ≡ k + k * j = omega (arith, mul-suc k j) in e) ∙ sym (shr-shr (number k d a (suc m)) k (k * j))
+      ∙ ap (λ n. n / 2 ^ (k * j)) (div-mul-add (number k d (a + 1) m) (2 ^ k) (d a) (small a)))
+      ∙ digit m (a + 1) j (omega arith)
+      ∙ ap d (let e : a + 1 + j ≡ a + suc j = omega arith in e)
