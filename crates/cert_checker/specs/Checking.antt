@@ -1,6 +1,5 @@
 -- What the checker keeps of a lemma, and how it stops.
-use Rattle.std.specs.Prelude.{◌≡◌, ℕ, if◌then◌else◌, List, [], ◌∷◌, map, Option, Some, None, Result, Ok, Err, ⊤}
-use Rattle.game_rules.specs.Position.{Position, has_room, after_move, is_legal}
+use Rattle.std.specs.Prelude.{◌≡◌, ℕ, List, map, Option, Some, None, Result, Ok, Err, ⊤}
 use Rattle.proof_text.specs.Lemma.{Line, ALemma, ARemark, AVerdict}
 use Rattle.proof_text.specs.Right.{Shown}
 use Rattle.proof_text.specs.declared.Why.{Why}
@@ -32,13 +31,3 @@ IsLemma (AVerdict v) = ⊥
 abbrev pub StopsAt : ℕ → AddStop → Option Why → Line → Type 0
 StopsAt at (Refused refused) refusal line = (refusal ≡ Some refused.why) × (refused.at ≡ at)
 StopsAt at (Memory e) refusal line = (refusal ≡ None) × IsLemma line
-
--- the position after moves that each have room at their turn, whether or not the game had ended
-abbrev pub stacked : Position → List ℕ → Option Position
-stacked p [] = Some p
-stacked p (column ∷ columns) = if has_room p column then stacked (after_move p column) columns else None
-
--- the position after one more move, if that is legal
-abbrev pub last_move : Option Position → ℕ → Option Position
-last_move None column = None
-last_move (Some p) column = if is_legal p column then Some (after_move p column) else None

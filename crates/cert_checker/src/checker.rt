@@ -4,25 +4,25 @@ ghost use Rattle.proof_text.specs.Lemma.{ALemma, AVerdict};
 ghost use Rattle.proof_text.specs.Checked.{lemma_refusal, shown_of as shown_of_lemma, line_refusal, with_line};
 ghost use Rattle.proof_text.specs.Texts.{start};
 ghost use Rattle.proof_text.specs.declared.Why.TheVariants.{EndedEarly};
-ghost use Rattle.cert_format.specs.Shape.{lemma_of, line_of};
+ghost use Rattle.cert_format.specs.Shape.{lemma_of, line_of, viewed};
 ghost use Rattle.cert_checker.specs.Checking.{shown_of, Finds, StopsAt};
 ghost use Rattle.cert_checker.specs.declared.stops.AddStop.TheVariants.{Refused};
 
 use crate::known::Known;
-use crate::moves::position_after;
 use crate::reasons::{check_reason, verdict_stands};
 use crate::stops::{Accepted, AddStop, Refusal};
+use crate::trail::Trail;
 use board_bits::Position;
-use cert_format::{Lemma, Line};
+use cert_format::{Lemma, Line, LineView};
 use proof_text::{Verdict, Why};
 use std::alloc::{AllocError, Global};
 use std::marker::Model;
 
 /// What stands after the lines of a proof that were added: the root, what each lemma shows, and the verdict if there
-/// was one.
+/// was one. The path of the last lemma is kept with its positions; none of what a contract sees depends on it.
 #[derive(Drop)]
 pub struct Checker {
-    root: Position,
+    trail: Trail,
     known: Vec<Known>,
     verdict: Option<Verdict>,
 }
@@ -34,7 +34,7 @@ impl Model for Checker {
 
     ghost Value = { CheckerState };
 
-    ghost view = { λ a. record { root = a.root; known = map shown_of a.known.items; verdict = a.verdict } };
+    ghost view = { λ a. record { root = a.trail.root; known = map shown_of a.known.items; verdict = a.verdict } };
 
     ghost invariant = { λ a. length a.known.items < 2 ^ 32 };
 }
@@ -45,7 +45,7 @@ impl Checker {
         ensures { result ≡ start root }
     {
         Checker {
-            root,
+            trail: Trail::new(root),
             known: Vec::new(alloc),
             verdict: None,
         }
@@ -59,13 +59,22 @@ impl Checker {
         ensures kept { OnErr result (self.new ≡ self.old) }
         ensures cause { IfErr result (λ stop. StopsAt at stop (line_refusal self.old (line_of line.now)) (line_of line.now)) }
     {
+        self.add_view(at, line.view())
+    }
+
+    /// As `add`, of a line that is lent.
+    pub fn add_view(&mut self, at: u64, line: LineView<'_>) -> Result<(), AddStop>
+        ensures accepted { OnOk result ((line_refusal self.old (viewed line.entry) ≡ None) × (self.new ≡ with_line self.old (viewed line.entry))) }
+        ensures kept { OnErr result (self.new ≡ self.old) }
+        ensures cause { IfErr result (λ stop. StopsAt at stop (line_refusal self.old (viewed line.entry)) (viewed line.entry)) }
+    {
         if self.verdict.is_some() {
             return Err(refused(at, Why::BadLine));
         }
         match line {
-            Line::Lemma(lemma) => self.add_lemma(at, lemma),
-            Line::Remark => Ok(()),
-            Line::Verdict(verdict) => self.add_verdict(at, *verdict),
+            LineView::Lemma(lemma) => self.add_lemma(at, lemma),
+            LineView::Remark => Ok(()),
+            LineView::Verdict(verdict) => self.add_verdict(at, verdict),
         }
     }
 
@@ -75,7 +84,7 @@ impl Checker {
         ensures kept { OnErr result (self.new ≡ self.old) }
         ensures cause { IfErr result (λ stop. StopsAt at stop (line_refusal self.old (ALemma (lemma_of lemma.now))) (ALemma (lemma_of lemma.now))) }
     {
-        let shown = match check_lemma(&self.root, self.known.as_slice(), lemma) {
+        let shown = match check_lemma(&mut self.trail, self.known.as_slice(), lemma) {
             Ok(shown) => shown,
             Err(why) => return Err(refused(at, why)),
         };
@@ -97,7 +106,7 @@ impl Checker {
         ensures kept { OnErr result (self.new ≡ self.old) }
         ensures cause { IfErr result (λ stop. StopsAt at stop (line_refusal self.old (AVerdict verdict)) (AVerdict verdict)) }
     {
-        if !verdict_stands(self.known.as_slice(), &self.root, verdict) {
+        if !verdict_stands(self.known.as_slice(), self.trail.root(), verdict) {
             return Err(refused(at, Why::BadVerdict));
         }
         self.verdict = Some(verdict);
@@ -125,18 +134,22 @@ impl Checker {
 }
 
 /// What the lemma shows, where it is right behind the lemmas known, and else the first name of what is wrong with it.
-fn check_lemma(root: &Position, known: &[Known], lemma: &Lemma) -> Result<Known, Why>
-    ensures refusal { Finds result (lemma_refusal root.now (map shown_of known.now) (lemma_of lemma.now)) }
-    ensures shown { IfOk result (λ shown. shown_of_lemma root.now (lemma_of lemma.now) ≡ shown_of shown ∷ []) }
+fn check_lemma(trail: &mut Trail, known: &[Known], lemma: &Lemma) -> Result<Known, Why>
+    ensures refusal { Finds result (lemma_refusal trail.old.root (map shown_of known.now) (lemma_of lemma.now)) }
+    ensures shown { IfOk result (λ shown. shown_of_lemma trail.old.root (lemma_of lemma.now) ≡ shown_of shown ∷ []) }
     ensures few { OnOk result (length known.now + 1 < 2 ^ 32) }
+    ensures root { trail.new.root ≡ trail.old.root }
 {
     if u64::from(lemma.number) != known.len() as u64 + 1 {
         return Err(Why::BadLine);
     }
-    let position = position_after(root, lemma.path.as_slice()).ok_or(Why::BadPath)?;
-    check_reason(known, &position, lemma.claim, &lemma.reason)?;
+    if !trail.follow(lemma.path.as_slice()) {
+        return Err(Why::BadPath);
+    }
+    let reached = trail.last();
+    check_reason(known, reached, lemma.claim, &lemma.reason)?;
     Ok(Known {
-        position,
+        position: *reached.position(),
         claim: lemma.claim,
     })
 }

@@ -11,8 +11,9 @@ mod reasons;
 mod stops;
 #[cfg(test)]
 mod tests;
+mod trail;
 
-pub use cert_format::{Line, Verdict};
+pub use cert_format::{Line, LineView, Verdict};
 pub use checker::Checker;
 pub use proof_text::Why;
 pub use stops::{Accepted, AddStop, Refusal};

@@ -9,23 +9,24 @@ ghost use Rattle.cert_checker.specs.Checking.{shown_of, columns_of, Finds};
 use crate::claims::goes_by_one;
 use crate::known::{Known, check_cited, is_shown};
 use crate::moves::cites_all;
+use crate::trail::Reached;
 use board_bits::{End, Position};
 use cert_format::{Cite, Reason};
 use proof_text::{Claim, Verdict, Why};
 
-/// Tests that the reason shows the claim at the position, by the lemmas known.
+/// Tests that the reason shows the claim at the position that was reached, by the lemmas known.
 pub(crate) fn check_reason(
     known: &[Known],
-    position: &Position,
+    reached: &Reached,
     claim: Claim,
     reason: &Reason,
 ) -> Result<(), Why>
-    ensures { Finds result (reason_refusal (map shown_of known.now) position.now claim (reason_of reason.now)) }
+    ensures { Finds result (reason_refusal (map shown_of known.now) reached.now claim (reason_of reason.now)) }
 {
     match reason {
-        Reason::Ended => check_end(claim, position.ended()),
-        Reason::One(cite) => check_one(known, position, claim, *cite),
-        Reason::All(cites) => check_all(known, position, claim, cites.as_slice()),
+        Reason::Ended => check_end(claim, reached.ended()),
+        Reason::One(cite) => check_one(known, reached, claim, *cite),
+        Reason::All(cites) => check_all(known, reached, claim, cites.as_slice()),
     }
 }
 
@@ -40,19 +41,21 @@ fn check_end(claim: Claim, ended: Option<End>) -> Result<(), Why>
     }
 }
 
-fn check_one(known: &[Known], position: &Position, claim: Claim, cite: Cite) -> Result<(), Why>
-    ensures { Finds result (reason_refusal (map shown_of known.now) position.now claim (ByOne (cite_of cite))) }
+fn check_one(known: &[Known], reached: &Reached, claim: Claim, cite: Cite) -> Result<(), Why>
+    ensures { Finds result (reason_refusal (map shown_of known.now) reached.now claim (ByOne (cite_of cite))) }
 {
+    let position = reached.position();
     let serves = goes_by_one(claim, position.to_move());
-    check_moves(position, serves, position.has_room(cite.column))?;
+    check_moves(reached, serves, position.has_room(cite.column))?;
     check_cited(known, &position.after(cite.column), claim, cite.lemma)
 }
 
-fn check_all(known: &[Known], position: &Position, claim: Claim, cites: &[Cite]) -> Result<(), Why>
-    ensures { Finds result (reason_refusal (map shown_of known.now) position.now claim (ByAll (map cite_of cites.now))) }
+fn check_all(known: &[Known], reached: &Reached, claim: Claim, cites: &[Cite]) -> Result<(), Why>
+    ensures { Finds result (reason_refusal (map shown_of known.now) reached.now claim (ByAll (map cite_of cites.now))) }
 {
+    let position = reached.position();
     let serves = !goes_by_one(claim, position.to_move());
-    check_moves(position, serves, cites_all(position, cites))?;
+    check_moves(reached, serves, cites_all(position, cites))?;
     check_cites(known, position, claim, cites)
 }
 
@@ -74,13 +77,13 @@ fn check_cites(
 
 /// Tests that the claim and the side to move go with the reason, that the game goes on, and that the moves are those
 /// that the reason wants.
-fn check_moves(position: &Position, serves: bool, playable: bool) -> Result<(), Why>
-    ensures { Finds result (move_refusal position.now serves playable) }
+fn check_moves(reached: &Reached, serves: bool, playable: bool) -> Result<(), Why>
+    ensures { Finds result (move_refusal reached.now serves playable) }
 {
     if !serves {
         return Err(Why::WrongClaim);
     }
-    if position.ended().is_some() {
+    if reached.ended().is_some() {
         return Err(Why::WrongPosition);
     }
     if !playable {

@@ -8,7 +8,11 @@ use Rattle.cert_format.specs.declared.lines.Reason.TheVariants.{Ended, One, All}
 use Rattle.cert_format.specs.declared.lines.Lemma.{Lemma}
 use Rattle.cert_format.specs.declared.lines.Line.{Line}
 use Rattle.cert_format.specs.declared.lines.Line.TheVariants as lines
+use Rattle.cert_format.specs.declared.lines.LineView.{LineView}
+use Rattle.cert_format.specs.declared.lines.LineView.TheVariants as views
 use Rattle.cert_format.specs.declared.lines.LineFault.{LineFault}
+use Rattle.cert_format.specs.declared.reading.Kind.{Kind}
+use Rattle.cert_format.specs.declared.reading.Kind.TheVariants as kinds
 
 -- how many bytes a line that is made has room for, with its line feed
 abbrev pub line_room : ℕ
@@ -30,6 +34,18 @@ line_of (lines.Lemma l) = ALemma (lemma_of l)
 line_of lines.Remark = ARemark
 line_of (lines.Verdict v) = AVerdict v
 
+-- the same of a line whose lemma is lent
+abbrev pub viewed : LineView → PlainLine
+viewed (views.Lemma l) = ALemma (lemma_of l.now)
+viewed views.Remark = ARemark
+viewed (views.Verdict v) = AVerdict v
+
+-- and of one whose lemma is in the room that it was read into
+abbrev pub kept_in : Lemma → Kind → PlainLine
+kept_in room kinds.Lemma = ALemma (lemma_of room)
+kept_in room kinds.Remark = ARemark
+kept_in room (kinds.Verdict v) = AVerdict v
+
 -- words with a space before each
 abbrev pub behind_spaces : List (List ℕ) → List ℕ
 behind_spaces words = flat_map (λ word. 32 ∷ word) words
@@ -48,3 +64,11 @@ printed (AVerdict v) = verdict_line v
 abbrev pub Reads : Result Line LineFault → Option PlainLine → Type 0
 Reads (Ok line) read = read ≡ Some (line_of line)
 Reads (Err fault) read = read ≡ None
+
+abbrev pub Views : Result LineView LineFault → Option PlainLine → Type 0
+Views (Ok line) read = read ≡ Some (viewed line)
+Views (Err fault) read = read ≡ None
+
+abbrev pub ReadsInto : Lemma → Result Kind LineFault → Option PlainLine → Type 0
+ReadsInto room (Ok kind) read = read ≡ Some (kept_in room kind)
+ReadsInto room (Err fault) read = read ≡ None

@@ -12,8 +12,8 @@ mod reading;
 mod tests;
 
 pub use line_text::{LineText, push_number, push_text};
-pub use lines::{Cite, FIRST_LINE, Lemma, Line, LineFault, Reason};
+pub use lines::{Cite, FIRST_LINE, Lemma, Line, LineFault, LineView, Reason};
 pub use number::number_between;
 pub use output::{LemmaOut, print_line};
 pub use proof_text::{Claim, Verdict};
-pub use reading::read_line;
+pub use reading::{LineBuffer, read_line};

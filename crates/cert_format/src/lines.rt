@@ -1,5 +1,8 @@
 //! What a line of a proof says. A lemma stands at the position that its path leads to from the root of the proof, and
 //! names the earlier lemmas that its claim rests on.
+ghost use Rattle.std.specs.Prelude.{◌≡◌};
+ghost use Rattle.cert_format.specs.Shape.{line_of, viewed};
+
 use arrayvec::ArrayVec;
 use board_bits::Column;
 use proof_text::{Claim, Verdict};
@@ -43,11 +46,47 @@ pub struct Lemma {
     pub reason: Reason,
 }
 
+impl Lemma {
+    /// A lemma that says nothing yet: room to read one into.
+    pub(crate) fn blank() -> Lemma {
+        Lemma {
+            number: 0,
+            path: ArrayVec::new(),
+            claim: Claim::WhiteWins,
+            reason: Reason::Ended,
+        }
+    }
+}
+
 /// A line of a proof behind its game.
 #[derive(Debug, PartialEq, Eq, Drop)]
 pub enum Line {
     /// A lemma.
     Lemma(Lemma),
+    /// A line for the reader, which says nothing.
+    Remark,
+    /// The verdict, with which a proof ends.
+    Verdict(Verdict),
+}
+
+impl Line {
+    /// What the line says, lent.
+    pub fn view(&self) -> LineView<'_>
+        ensures { viewed result ≡ line_of self.now }
+    {
+        match self {
+            Line::Lemma(lemma) => LineView::Lemma(lemma),
+            Line::Remark => LineView::Remark,
+            Line::Verdict(verdict) => LineView::Verdict(*verdict),
+        }
+    }
+}
+
+/// What a line says. Its lemma stays in the room that it was read into.
+#[derive(Clone, Copy, Debug, PartialEq, Eq)]
+pub enum LineView<'a> {
+    /// A lemma.
+    Lemma(&'a Lemma),
     /// A line for the reader, which says nothing.
     Remark,
     /// The verdict, with which a proof ends.

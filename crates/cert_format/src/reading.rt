@@ -7,9 +7,11 @@ ghost use Rattle.proof_text.specs.Spelling.{is_printable, is_remark};
 ghost use Rattle.proof_text.specs.declared.Verdict.TheVariants.{Draw};
 ghost use Rattle.proof_text.specs.Reading.{words_of, number_of, is_letter, column_of, path_of, claim_of, letter_word, cite_of, one_of, all_of, reason_of, lemma_of, with_two, verdict_of, read_line};
 ghost use Rattle.cert_format.specs.Shape as shape;
-ghost use Rattle.cert_format.specs.Shape.{Reads};
+ghost use Rattle.cert_format.specs.Shape.{Reads, Views, ReadsInto};
 
-use crate::lines::{Cite, LONGEST_LINE, LONGEST_PATH, Lemma, Line, LineFault, MOST_CITES, Reason};
+use crate::lines::{
+    Cite, LONGEST_LINE, LONGEST_PATH, Lemma, Line, LineFault, LineView, MOST_CITES, Reason,
+};
 use crate::number::number_between;
 use arrayvec::ArrayVec;
 use board_bits::{Column, Size};
@@ -24,14 +26,61 @@ const GREATEST_NUMBER: u32 = 10_000_000;
 pub fn read_line(bytes: &[u8], size: Size) -> Result<Line, LineFault>
     ensures { Reads result (read_line size.cols bytes.now) }
 {
+    let mut lemma = Lemma::blank();
+    match read_into(&mut lemma, bytes, size)? {
+        Kind::Lemma => Ok(Line::Lemma(lemma)),
+        Kind::Remark => Ok(Line::Remark),
+        Kind::Verdict(verdict) => Ok(Line::Verdict(verdict)),
+    }
+}
+
+/// Room for one line, kept from line to line, so that no lemma is moved where it is read and looked at.
+#[derive(Drop)]
+pub struct LineBuffer {
+    lemma: Lemma,
+}
+
+impl LineBuffer {
+    /// Room in which no line was read yet.
+    pub fn new() -> LineBuffer {
+        LineBuffer {
+            lemma: Lemma::blank(),
+        }
+    }
+
+    /// What `read_line` answers of the bytes, read into this room.
+    pub fn read(&mut self, bytes: &[u8], size: Size) -> Result<LineView<'_>, LineFault>
+        ensures { Views result (read_line size.cols bytes.now) }
+    {
+        match read_into(&mut self.lemma, bytes, size)? {
+            Kind::Lemma => Ok(LineView::Lemma(&self.lemma)),
+            Kind::Remark => Ok(LineView::Remark),
+            Kind::Verdict(verdict) => Ok(LineView::Verdict(verdict)),
+        }
+    }
+}
+
+/// Which kind of line was read. A lemma is in the room that it was read into.
+#[derive(Clone, Copy)]
+enum Kind {
+    Lemma,
+    Remark,
+    Verdict(Verdict),
+}
+
+/// Reads a line, a lemma into this room.
+fn read_into(lemma: &mut Lemma, bytes: &[u8], size: Size) -> Result<Kind, LineFault>
+    ensures { ReadsInto lemma.new result (read_line size.cols bytes.now) }
+{
     if is_remark(bytes) {
-        return Ok(Line::Remark);
+        return Ok(Kind::Remark);
     }
     let (word, rest) = split_word(bytes);
     if is_word(word, b"value") {
-        return Ok(Line::Verdict(verdict_of(rest.ok_or(LineFault)?).ok_or(LineFault)?));
+        return Ok(Kind::Verdict(verdict_of(rest.ok_or(LineFault)?).ok_or(LineFault)?));
     }
-    Ok(Line::Lemma(lemma_of(bytes, size).ok_or(LineFault)?))
+    read_lemma(lemma, bytes, size).ok_or(LineFault)?;
+    Ok(Kind::Lemma)
 }
 
 /// Whether the bytes are `#` and printable bytes behind it, and no more than a line may have.
@@ -52,27 +101,26 @@ fn are_printable(bytes: &[u8]) -> bool
     bytes.iter().all(|byte| (b' '..=b'~').contains(byte))
 }
 
-fn lemma_of(bytes: &[u8], size: Size) -> Option<Lemma>
-    ensures { option_map shape.lemma_of result ≡ lemma_of size.cols (words_of bytes.now) }
+fn read_lemma(lemma: &mut Lemma, bytes: &[u8], size: Size) -> Option<()>
+    ensures { option_map (λ _. shape.lemma_of lemma.new) result ≡ lemma_of size.cols (words_of bytes.now) }
 {
     let (number, rest) = split_word(bytes);
     let (path, rest) = split_word(rest?);
     let (claim, rest) = split_word(rest?);
-    Some(Lemma {
-        number: number_of(number)?,
-        path: path_of(path, size)?,
-        claim: claim_of(claim)?,
-        reason: reason_of(rest?, size)?,
-    })
+    lemma.number = number_of(number)?;
+    read_path(&mut lemma.path, path, size)?;
+    lemma.claim = claim_of(claim)?;
+    lemma.reason = reason_of(rest?, size)?;
+    Some(())
 }
 
 /// The letters of at most a hundred columns, or `-` for none.
-fn path_of(word: &[u8], size: Size) -> Option<ArrayVec<Column, LONGEST_PATH>>
-    ensures { option_map (λ path. path.items) result ≡ path_of size.cols word.now }
+fn read_path(path: &mut ArrayVec<Column, LONGEST_PATH>, word: &[u8], size: Size) -> Option<()>
+    ensures { option_map (λ _. path.new.items) result ≡ path_of size.cols word.now }
 {
-    let mut path = ArrayVec::new();
+    path.clear();
     if is_word(word, b"-") {
-        return Some(path);
+        return Some(());
     }
     if word.is_empty() || word.len() > LONGEST_PATH {
         return None;
@@ -80,7 +128,7 @@ fn path_of(word: &[u8], size: Size) -> Option<ArrayVec<Column, LONGEST_PATH>>
     for letter in word {
         path.push(column_of(*letter, size)?);
     }
-    Some(path)
+    Some(())
 }
 
 /// The column that a word of one letter names.

@@ -20,7 +20,7 @@ use crate::output::put_line;
 use arrayvec::ArrayVec;
 use board_bits::{InputFault, Position, Size, read_game};
 use cert_checker::{Accepted, AddStop, Checker, Refusal};
-use cert_format::{FIRST_LINE, LineText, push_number, push_text, read_line};
+use cert_format::{FIRST_LINE, LineBuffer, LineText, push_number, push_text};
 use io_ports::{Failed, LineGot, Sink, Source};
 use proof_text::Why;
 use std::alloc::Global;
@@ -172,16 +172,18 @@ fn add_lines<S: Source>(
     ensures held { length lines.new.ahead ≤ most_held }
     ensures later { S.faults source.old ≤ S.faults source.new }
 {
+    let mut room = LineBuffer::new();
     let mut at = FIRST_NUMBER;
-    while add_next(checker, size, at, lines, source)? {
+    while add_next(checker, &mut room, size, at, lines, source)? {
         at += 1;
     }
     Ok(at)
 }
 
-/// Adds the next line, which has this number, and answers whether there was one.
+/// Adds the next line, which has this number, and answers whether there was one. It is read into the room.
 fn add_next<S: Source>(
     checker: &mut Checker,
+    room: &mut LineBuffer,
     size: Size,
     at: u64,
     lines: &mut InputLines,
@@ -200,7 +202,7 @@ fn add_next<S: Source>(
 {
     match lines.next(source) {
         LineGot::Line => {
-            add_line(checker, size, at, lines.text())?;
+            add_line(checker, room, size, at, lines.text())?;
             Ok(true)
         }
         LineGot::Long => Err(bad_line(at)),
@@ -209,8 +211,14 @@ fn add_next<S: Source>(
     }
 }
 
-/// Adds the line at this number, given by its bytes.
-fn add_line(checker: &mut Checker, size: Size, at: u64, bytes: &[u8]) -> Result<(), Stop>
+/// Adds the line at this number, given by its bytes. It is read into the room.
+fn add_line(
+    checker: &mut Checker,
+    room: &mut LineBuffer,
+    size: Size,
+    at: u64,
+    bytes: &[u8],
+) -> Result<(), Stop>
     requires { length checker.old.root.columns ≡ size.cols }
     ensures answer { MatchResult result
         (λ _. (bytes_refusal checker.old at bytes.now ≡ None) × (checker.new ≡ with_bytes checker.old bytes.now))
@@ -220,10 +228,10 @@ fn add_line(checker: &mut Checker, size: Size, at: u64, bytes: &[u8]) -> Result<
     if at > MOST_LINES {
         return Err(bad_line(at));
     }
-    let Ok(line) = read_line(bytes, size) else {
+    let Ok(line) = room.read(bytes, size) else {
         return Err(bad_line(at));
     };
-    match checker.add(at, &line) {
+    match checker.add_view(at, line) {
         Ok(()) => Ok(()),
         Err(AddStop::Refused(refusal)) => Err(Stop::Refused(refusal)),
         Err(AddStop::Memory(_)) => Err(Stop::Memory),

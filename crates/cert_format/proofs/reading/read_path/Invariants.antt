@@ -1,7 +1,7 @@
 use Rattle.std.proofs.Common.{◌≡◌, true, map, take, length}
 use Rattle.std.specs.List.{list_all}
 use Rattle.proof_text.specs.Reading.{is_letter, column_of}
-use Rattle.cert_format.proofs.reading.path_of.Given as goal
+use Rattle.cert_format.proofs.reading.read_path.Given as goal
 
 abbrev pub invariant-loop-letter : goal.invariant-loop-letter
 invariant-loop-letter l = record {

@@ -1,0 +1,61 @@
+-- A path and the positions along it, one move longer.
+use Rattle.std.proofs.Common.{◌≡◌, ℕ, ◌+◌, ◌<◌, ◌≤◌, cond, List, [], ◌∷◌, ◌++◌, take, drop, set, get_or, Option, Some, None, length, sym, ap, ◌∙◌, inl, inr, arith}
+use Rattle.std.specs.List.{slice_get}
+use Rattle.std.proofs.lemmas.Bool.{cases_eq}
+use Rattle.std.proofs.lemmas.List.{take-append-drop, take_more, take-set-le, take_more_set, get_or-set_same, get_or-set_other, length-set}
+use Rattle.std.proofs.lemmas.Option.{slice_get-get_or}
+use Rattle.game_rules.specs.Position.{Position, after_move, is_legal, played}
+use Rattle.game_rules.proofs.Lists.{chosen}
+
+-- a path with a move that isn't legal leads nowhere, whatever follows
+pub barred_more : (p : Position) (xs ys : List ℕ) → played p xs ≡ None → played p (xs ++ ys) ≡ None
+barred_more p [] ys h = absurd (cc h)
+barred_more p (x ∷ xs) ys h = elim (chosen (is_legal p x) (played (after_move p x) xs) None None h) [
+  | inl legal ↦ ap (λ b. cond b (played (after_move p x) (xs ++ ys)) None) legal.0 ∙ barred_more (after_move p x) xs ys legal.1
+  | inr barred ↦ ap (λ b. cond b (played (after_move p x) (xs ++ ys)) None) barred.0
+]
+
+-- the position after one more move
+pub played_more : (p q : Position) (xs : List ℕ) (column : ℕ) → played p xs ≡ Some q → played p (xs ++ column ∷ []) ≡ cond (is_legal q column) (Some (after_move q column)) None
+played_more p q [] column h = ap (λ p. cond (is_legal p column) (Some (after_move p column)) None) (some_same h)
+  where
+    some_same : Some p ≡ Some q → p ≡ q
+    some_same h = cc
+played_more p q (x ∷ xs) column h = elim (chosen (is_legal p x) (played (after_move p x) xs) None (Some q) h) [
+  | inl legal ↦ ap (λ b. cond b (played (after_move p x) (xs ++ column ∷ [])) None) legal.0 ∙ played_more (after_move p x) q xs column legal.1
+  | inr barred ↦ absurd (cc barred.1)
+]
+
+-- one more move from the position kept after the path
+pub one_more : (root last : Position) (columns : List ℕ) (positions : List Position) (moves column : ℕ) (r : Option Position) → moves < length positions
+    → slice_get positions moves ≡ played root (take moves columns)
+    → r ≡ cond (is_legal (get_or positions moves last) column) (Some (after_move (get_or positions moves last) column)) None → played root (take moves columns ++ column ∷ []) ≡ r
+one_more root last columns positions moves column r within kept is =
+    played_more root (get_or positions moves last) (take moves columns) column (sym kept ∙ slice_get-get_or positions moves last within) ∙ sym is
+
+-- a path of which a prefix with one move more isn't legal
+pub barred_at : (root : Position) (path : List ℕ) (i column : ℕ) → i < length path → column ≡ get_or path i column → played root (take i path ++ column ∷ []) ≡ None → played root path ≡ None
+barred_at root path i column within is barred =
+    ap (played root) (sym (take-append-drop (i + 1) path) ∙ ap (λ xs. xs ++ drop (i + 1) path) (take_more path i column within ∙ ap (λ c. take i path ++ c ∷ []) (sym is)))
+    ∙ barred_more root (take i path ++ column ∷ []) (drop (i + 1) path) barred
+
+-- with one move more each position is still that after so many moves
+pub reached_more : (root next : Position) (columns : List ℕ) (positions : List Position) (moves column : ℕ) → moves < length columns → moves + 1 < length positions
+    → ((i : ℕ) → i ≤ moves → slice_get positions i ≡ played root (take i columns)) → played root (take moves columns ++ column ∷ []) ≡ Some next
+    → (i : ℕ) → i ≤ moves + 1 → slice_get (set positions (moves + 1) next) i ≡ played root (take i (set columns moves column))
+reached_more root next columns positions moves column room place before legal i low = elim (cases_eq i (moves + 1)) [
+  | inl here ↦
+      ap (slice_get (set positions (moves + 1) next)) here
+      ∙ slice_get-get_or (set positions (moves + 1) next) (moves + 1) next (omega (arith, length-set positions (moves + 1) next))
+      ∙ ap Some (get_or-set_same positions (moves + 1) next next place)
+      ∙ sym legal
+      ∙ ap (played root) (sym (take_more_set columns moves column room) ∙ ap (λ n. take n (set columns moves column)) (sym here))
+  | inr apart ↦
+      let below : i ≤ moves = omega arith in
+      let kept : i < length positions = omega arith in
+      slice_get-get_or (set positions (moves + 1) next) i next (omega (arith, length-set positions (moves + 1) next))
+      ∙ ap Some (get_or-set_other positions (moves + 1) i next next apart)
+      ∙ sym (slice_get-get_or positions i next kept)
+      ∙ before i below
+      ∙ ap (played root) (sym (take-set-le i columns moves column below))
+]
