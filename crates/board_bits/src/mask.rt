@@ -4,7 +4,7 @@ ghost use Rattle.std.specs.Prelude.{◌≡◌, ◌⊎◌, ◌+◌, ◌-◌, ◌*
 ghost use Rattle.std.specs.List.{list_any, list_all};
 ghost use Rattle.game_rules.specs.Board.{on_board};
 ghost use Rattle.game_rules.specs.Squares.{same_square, has_square, widest, IsSetOf};
-ghost use Rattle.board_bits.specs.Words.{place_of, word_of};
+ghost use Rattle.board_bits.specs.Words.{place_of, squares_of, word_of};
 ghost use Rattle.board_bits.specs.Runs.{has_run};
 
 use crate::Square;
@@ -57,6 +57,7 @@ impl Mask {
     /// rows from 1. Sets with one number are the same.
     pub fn bits(&self) -> u128
         ensures value { result ≡ sum_by (λ s. 2 ^ (11 * s.0 + s.1 - 1)) self.now }
+        ensures squares { squares_of result ≡ self.now }
         ensures within { result < 2 ^ 110 }
     {
         self.word
