@@ -1,9 +1,14 @@
 -- Numbers by their digits to a base that is a power of two.
-use Rattle.std.proofs.Common.{◌≡◌, ℕ, zero, suc, ◌+◌, ◌*◌, ◌/◌, ◌%◌, ◌^◌, ◌<◌, sum_by, sym, ap, ◌∙◌, subst, arith}
+use Rattle.std.proofs.Common.{◌≡◌, ℕ, zero, suc, ◌+◌, ◌*◌, ◌/◌, ◌%◌, ◌^◌, ◌<◌, sum_by, refl, sym, ap, ◌∙◌, subst, arith}
 use Rattle.std.specs.List.{range_with_len}
 use Rattle.std.proofs.Math.Nat.{mul-zero, mul-suc, mul-add, add-mul, mul_assoc}
-use Rattle.std.proofs.lemmas.Nat.{pow-add, pow_pos, shr-shr, mul-add-lt, div-mul-add, mod-mul-add}
+use Rattle.std.proofs.lemmas.Nat.{pow-add, pow_pos, shr-shr, mul-add-lt, div-mul-add, mod-mul-add, ones_cat}
+use Rattle.std.specs.Int.RustNames.{count_ones}
 use Rattle.std.proofs.lemmas.List.Sums.{sum_by-cons}
+
+pub ones_of_zero : count_ones 0 ≡ 0
+unfolding count_ones
+ones_of_zero = refl
 
 -- so many digits of k bits from the given one on, the first of them the lowest
 pub number : (k : ℕ) → (ℕ → ℕ) → ℕ → ℕ → ℕ
@@ -42,3 +47,12 @@ module _ (k : ℕ) (d : ℕ → ℕ) (small : (i : ℕ) → d i < 2 ^ k) where
       ∙ ap (λ n. n / 2 ^ (k * j)) (div-mul-add (number k d (a + 1) m) (2 ^ k) (d a) (small a)))
       ∙ digit m (a + 1) j (omega arith)
       ∙ ap d (let e : a + 1 + j ≡ a + suc j = omega arith in e)
+
+  -- the ones of a number are those of its digits
+  pub ones_number : (m a : ℕ) → count_ones (number k d a m) ≡ sum_by (λ i. count_ones (d i)) (range_with_len a m)
+  unfolding number
+  ones_number zero a = ones_of_zero
+  ones_number (suc m) a =
+      ones_cat k (number k d (a + 1) m) (d a) (small a)
+      ∙ ap (λ n. n + count_ones (d a)) (ones_number m (a + 1))
+      ∙ (let step = sum_by-cons (λ i. count_ones (d i)) a (range_with_len (a + 1) m) in omega (arith, step))

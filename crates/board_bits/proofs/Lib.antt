@@ -1,11 +1,13 @@
-pub mod Places
 pub mod Masks
 pub mod Runs
-pub mod Columns
+pub mod Positions
+pub mod Counts
 pub mod Equals
+pub mod BoardWord
+pub mod MoveWords
+pub mod Columns
 pub mod OrderTable
 pub mod Searches
-pub mod MoveFields
 pub mod Stops
 pub mod Lengths
 pub mod Digits

@@ -1,20 +1,16 @@
 -- What the number of a mask says of its squares.
-use Rattle.std.proofs.Common.{◌≡◌, ◌≢◌, ◌⊎◌, ℕ, ◌+◌, ◌-◌, ◌*◌, ◌/◌, ◌%◌, ◌^◌, ◌<◌, min, max, Bool, true, false, not, ◌&&◌, ◌||◌, ◌==◌, List, length, take, get_or, Some, refl, sym, ap, ◌∙◌, subst, inl, inr, arith}
+use Rattle.std.proofs.Common.{◌≡◌, ◌≢◌, ◌⊎◌, ℕ, ◌+◌, ◌-◌, ◌*◌, ◌/◌, ◌%◌, ◌^◌, ◌<◌, min, max, Bool, true, false, not, ◌&&◌, ◌||◌, ◌==◌, refl, sym, ap, ◌∙◌, subst, inl, inr, arith}
 use Rattle.std.specs.Int.{bit_at, bit_not, w128}
 use Rattle.std.specs.Int.RustNames.{bit_and, bit_or}
 use Rattle.std.specs.List.{list_any, list_all}
-use Rattle.std.proofs.lemmas.Bool.{cases_eq, cases_Bool, both_ways, false_from_ne_true, or_cases, and_parts, and_from, eq-eqb, eqb-true, ne_eqb}
-use Rattle.std.proofs.lemmas.Nat.{one_shl, or_lt, pow_below}
-use Rattle.std.proofs.lemmas.Nat.Bits.{bit_at-lt, bit_at-zero, bit_at_and, bit_at_or, bit_at_not, bit_at_above, bit_at_set_same, bit_at_set_other, same_from_bits}
+use Rattle.std.proofs.lemmas.Bool.{cases_eq, cases_Bool, both_ways, false_from_ne_true, or_cases, eq-eqb, eqb-true, ne_eqb}
+use Rattle.std.proofs.lemmas.Nat.{one_shl, or_lt, and_le_l, pow_below}
+use Rattle.std.proofs.lemmas.Nat.Bits.{bit_at-lt, bit_at-zero, bit_at_and, bit_at_or, bit_at_not, bit_at_above, bit_at_set_same, bit_at_set_other, shr_and_one, same_from_bits}
 use Rattle.game_rules.specs.Board.{Square, on_board}
 use Rattle.game_rules.specs.Squares.{same_square, has_square, widest, IsSetOf}
-use Rattle.game_rules.specs.Position.{Position, board_of, has_man, IsStacked}
-use Rattle.game_rules.specs.declared.Side.{Side}
 use Rattle.game_rules.proofs.Lists.{any_gives, any_from, all_gives, all_from}
 use Rattle.game_rules.proofs.Ends.{on_board_parts, on_board_from}
-use Rattle.game_rules.proofs.Passing.{one_passes, one_fails}
-use Rattle.game_rules.proofs.Squares.{agree, same_square_refl, same_square_is, has_gives, has_from, has_where, where_on, where_same, set_where, set_same, man_on_board}
-use Rattle.board_bits.specs.Held.{holds_on_board}
+use Rattle.game_rules.proofs.Squares.{agree, same_square_refl, same_square_is, has_gives, has_from, has_where, where_on, where_same, set_where}
 use Rattle.board_bits.specs.Words.{place_of, has_bit, squares_of, word_of}
 use Rattle.board_bits.proofs.Words.{IsWord, word_is_word}
 
@@ -61,6 +57,17 @@ bit_has n i set = eq-eqb (bit_at n (place_of (square_at i))) 1 (ap (bit_at n) (p
 
 pub has_set : (n : ℕ) (u : Square) → has_bit n u ≡ true → bit_at n (place_of u) ≡ 1
 has_set n u has = eqb-true (bit_at n (place_of u)) 1 has
+
+-- the test of a bit by a shift
+pub shift_has : (n : ℕ) (u : Square) → (bit_and (n / 2 ^ place_of u) 1 == 1) ≡ has_bit n u
+shift_has n u = ap (λ b. b == 1) (shr_and_one n (place_of u))
+
+pub shift_lacks : (n : ℕ) (u : Square) → (bit_and (n / 2 ^ place_of u) 1 == 0) ≡ not (has_bit n u)
+shift_lacks n u = ap (λ b. b == 0) (shr_and_one n (place_of u)) ∙ at (bit_cases n (place_of u))
+  where
+    at : (bit_at n (place_of u) ≡ 0) ⊎ (bit_at n (place_of u) ≡ 1) → (bit_at n (place_of u) == 0) ≡ not (has_bit n u)
+    at (inl none) = rw none refl
+    at (inr set) = rw set refl
 
 -- ---- sets
 
@@ -127,6 +134,22 @@ module _ (a b : ℕ) where
     where
       at : (bit_at a (place_of u) ≡ 0) ⊎ (bit_at a (place_of u) ≡ 1) → (bit_at b (place_of u) ≡ 0) ⊎ (bit_at b (place_of u) ≡ 1)
           → (max (bit_at a (place_of u)) (bit_at b (place_of u)) == 1) ≡ (has_bit a u || has_bit b u)
+      at (inl first) (inl second) = rw (first, second) refl
+      at (inl first) (inr second) = rw (first, second) refl
+      at (inr first) (inl second) = rw (first, second) refl
+      at (inr first) (inr second) = rw (first, second) refl
+
+  pub common_word : IsWord a → IsWord (bit_and a b)
+  common_word left = record {
+    low = let first = left.low in let less = and_le_l a b in omega (arith, first, less);
+    gaps = λ c. let none = left.gaps c in bit_at_and a b (11 * c + 10) ∙ omega (arith, none);
+  }
+
+  pub common_bit : (u : Square) → has_bit (bit_and a b) u ≡ (has_bit a u && has_bit b u)
+  common_bit u = ap (λ n. n == 1) (bit_at_and a b (place_of u)) ∙ at (bit_cases a (place_of u)) (bit_cases b (place_of u))
+    where
+      at : (bit_at a (place_of u) ≡ 0) ⊎ (bit_at a (place_of u) ≡ 1) → (bit_at b (place_of u) ≡ 0) ⊎ (bit_at b (place_of u) ≡ 1)
+          → (min (bit_at a (place_of u)) (bit_at b (place_of u)) == 1) ≡ (has_bit a u && has_bit b u)
       at (inl first) (inl second) = rw (first, second) refl
       at (inl first) (inr second) = rw (first, second) refl
       at (inr first) (inl second) = rw (first, second) refl
@@ -200,23 +223,3 @@ module _ (a b : ℕ) (left : IsWord a) (low : b < 2 ^ 128) where
 
   pub within_word : (bit_and a (bit_not w128 b) == 0) ≡ list_all (has_square (squares_of b)) (squares_of a)
   within_word = agree _ _ (λ h. all_within (eqb-true _ 0 h)) (λ all. eq-eqb (bit_and a (bit_not w128 b)) 0 (within_all all))
-
--- ---- going through a list, and keeping the squares that pass a test
-
-module _ (us : List Square) (i : ℕ) (s : Square) (test : Square → Bool) (within : i < length us) (here : s ≡ get_or us i s) where
-  pub more_passes : (mask next : List Square) → test s ≡ true → IsSetOf (λ u. has_square (take i us) u && test u) mask
-      → IsSetOf (λ u. same_square u s || has_square mask u) next → IsSetOf (λ u. has_square (take (i + 1) us) u && test u) next
-  more_passes mask next passes set one = set_same _ (λ u. has_square (take (i + 1) us) u && test u) next one (λ u.
-      ap (λ b. same_square u s || b) (set.has u) ∙ one_passes same_square same_square_is us i s within here test passes u)
-
-  pub more_fails : (mask : List Square) → test s ≡ false → IsSetOf (λ u. has_square (take i us) u && test u) mask
-      → IsSetOf (λ u. has_square (take (i + 1) us) u && test u) mask
-  more_fails mask fails set = set_same _ (λ u. has_square (take (i + 1) us) u && test u) mask set (one_fails same_square same_square_is us i s within here test fails)
-
--- ---- the squares that hold a side's man
-
--- where no column is higher than the board, the side's men on the board are all its men
-pub held_men : (p : Position) (side : Side) (us : List Square) → IsStacked p → IsSetOf (holds_on_board p (Some side)) us → IsSetOf (has_man p side) us
-held_men p side us stacked set = set_same (holds_on_board p (Some side)) (has_man p side) us set (λ u. agree _ _
-    (λ h. (and_parts (on_board (board_of p) u) (has_man p side u) h).1)
-    (λ h. and_from _ _ (man_on_board p side u stacked h) h))

@@ -1,21 +1,21 @@
 -- A word has a run exactly where its squares do.
-use Rattle.std.proofs.Common.{◌≡◌, ◌⊎◌, ℕ, zero, suc, ◌+◌, ◌-◌, ◌*◌, ◌/◌, ◌%◌, ◌^◌, ◌<◌, ◌≤◌, ◌≢◌, min, Bool, true, false, not, ◌==◌, List, map, refl, sym, ap, ◌∙◌, subst, inl, inr, arith, bit_and}
+use Rattle.std.proofs.Common.{◌≡◌, ◌⊎◌, ℕ, zero, suc, ◌+◌, ◌-◌, ◌*◌, ◌/◌, ◌%◌, ◌^◌, ◌<◌, ◌≤◌, ◌≢◌, min, Bool, true, false, not, ◌==◌, map, refl, sym, ap, ◌∙◌, subst, inl, inr, arith, bit_and}
 use Rattle.std.specs.Int.{bit_at, trailing_zeros, w128}
-use Rattle.std.specs.List.{list_any, list_all}
-use Rattle.std.proofs.lemmas.Bool.{cases_eq, cases_lt, false_from_ne_true, eq-eqb, ne_eqb, not-true}
-use Rattle.std.proofs.lemmas.Nat.{shr-shr, and_le_l, or_lt}
+use Rattle.std.specs.List.{list_any}
+use Rattle.std.proofs.lemmas.Bool.{cases_eq, cases_lt, eq-eqb, ne_eqb}
+use Rattle.std.proofs.lemmas.Nat.{shr-shr, and_le_l}
 use Rattle.std.proofs.lemmas.Nat.Bits.{bit_at-zero, bit_at_and, bit_at-trailing_zeros}
 use Rattle.game_rules.specs.Board.{Square, below, on_board, step_of, ways}
-use Rattle.game_rules.specs.Squares.{has_square, widest, squares_where}
+use Rattle.game_rules.specs.Squares.{has_square, widest, IsSetOf}
 use Rattle.game_rules.specs.declared.Way.{Way}
 use Rattle.game_rules.specs.declared.Way.TheVariants.{H, V, U, D}
 use Rattle.game_rules.proofs.Lists.{any_gives, any_from, all_gives, all_from, Among-map, Among-map_gives, Among-below, Among-below_gives}
 use Rattle.game_rules.proofs.Ends.{on_board_parts, Among-ways, step_none}
 use Rattle.game_rules.proofs.Squares.{agree, has_gives, has_where, where_on}
-use Rattle.board_bits.specs.Words.{place_of, has_bit, squares_of, word_of}
+use Rattle.board_bits.specs.Words.{place_of, has_bit, squares_of}
 use Rattle.board_bits.specs.Runs.{IsLength, runs_from, has_run, shift_of, pairs_in, fours_in, starts_in, word_runs}
 use Rattle.board_bits.proofs.Words.{IsWord}
-use Rattle.board_bits.proofs.Masks.{square_at, bit_on, bit_has, has_set}
+use Rattle.board_bits.proofs.Masks.{bit_cases, word_set, square_at, bit_on, bit_has, has_set}
 
 -- ---- bits at one distance
 
@@ -43,9 +43,6 @@ module _ (n step i : ℕ) where
   five_bit : bit_at (bit_and (fours_in n step) (n / 2 ^ (4 * step))) i ≡ min (bit_at (fours_in n step) i) (bit_at n (4 * step + i))
   five_bit = bit_at_and (fours_in n step) (n / 2 ^ (4 * step)) i ∙ ap (min (bit_at (fours_in n step) i)) (shifted n (4 * step) i)
 
-  abbrev IsSet : ℕ → Type 0
-  IsSet k = bit_at n k ≡ 1
-
   four_follow : bit_at (fours_in n step) i ≡ 1 → Follow n step 4 i
   four_follow set j low =
       let all = four_bit in
@@ -66,12 +63,6 @@ module _ (n step i : ℕ) where
       let c : bit_at n (2 * step + i) ≡ 1 = ap (bit_at n) (omega arith) ∙ all 2 (omega arith) in
       let d : bit_at n (step + (2 * step + i)) ≡ 1 = ap (bit_at n) (omega arith) ∙ all 3 (omega arith) in
       four_bit ∙ omega (arith, a, b, c, d)
-
-  starts_four : starts_in n step 4 ≡ fours_in n step
-  starts_four = refl
-
-  starts_five : starts_in n step 5 ≡ bit_and (fours_in n step) (n / 2 ^ (4 * step))
-  starts_five = refl
 
   starts_follow : (len : ℕ) → IsLength len → bit_at (starts_in n step len) i ≡ 1 → Follow n step len i
   starts_follow len (inl four) set = subst (λ m. Follow n step m i) (sym four) (four_follow (sym (ap (λ m. bit_at (starts_in n step m) i) four) ∙ set))
@@ -172,8 +163,8 @@ module _ (test : Square → Bool) (n : ℕ) (shows : Shows test n) (len : ℕ) (
         way = found.0;
         anchor = square_at (trailing_zeros w128 starts);
         each = λ j within.
-          ap test (sym (square_along found.0 (trailing_zeros w128 starts) j within follow))
-          ∙ passes_where_set (trailing_zeros w128 starts + j * shift_of found.0) (follow j within);
+            ap test (sym (square_along found.0 (trailing_zeros w128 starts) j within follow))
+            ∙ passes_where_set (trailing_zeros w128 starts + j * shift_of found.0) (follow j within);
       }
 
   pub run_from : Run test len → word_runs n len ≡ true
@@ -182,8 +173,8 @@ module _ (test : Square → Bool) (n : ℕ) (shows : Shows test n) (len : ℕ) (
       let set : bit_at starts (place_of run.anchor) ≡ 1 = starts_from n (shift_of run.way) (place_of run.anchor) len some (follow_from run.way run.anchor run.each) in
       any_from (λ way. not (starts_in n (shift_of way) len == 0)) ways run.way (Among-ways run.way)
       (ap not (ne_eqb starts 0 (λ none.
-        let gone : bit_at starts (place_of run.anchor) ≡ 0 = ap (λ m. bit_at m (place_of run.anchor)) none ∙ bit_at-zero (place_of run.anchor) in
-        omega (arith, gone, set))))
+      let gone : bit_at starts (place_of run.anchor) ≡ 0 = ap (λ m. bit_at m (place_of run.anchor)) none ∙ bit_at-zero (place_of run.anchor) in
+      omega (arith, gone, set))))
 
 -- ---- the run of a set
 
@@ -199,8 +190,8 @@ set_runs n len word some = agree _ _ (λ runs. from (run_gives (has_square (squa
         any_from (λ way. list_any (runs_from (squares_of n) len way) (squares_of n)) ways run.way (Among-ways run.way)
         (any_from (runs_from (squares_of n) len run.way) (squares_of n) run.anchor (has_gives (squares_of n) run.anchor first)
         (all_from (has_square (squares_of n)) (map (step_of run.way run.anchor) (below len)) (λ u among.
-          let place = Among-map_gives (step_of run.way run.anchor) (below len) u among in
-          subst (λ v. has_square (squares_of n) v ≡ true) place.2 (run.each place.0 (Among-below_gives len place.0 place.1)))))
+        let place = Among-map_gives (step_of run.way run.anchor) (below len) u among in
+        subst (λ v. has_square (squares_of n) v ≡ true) place.2 (run.each place.0 (Among-below_gives len place.0 place.1)))))
 
     to : has_run (squares_of n) len ≡ true → Run (has_square (squares_of n)) len
     to h =
@@ -210,5 +201,46 @@ set_runs n len word some = agree _ _ (λ runs. from (run_gives (has_square (squa
           way = way.0;
           anchor = anchor.0;
           each = λ i low. all_gives (has_square (squares_of n)) (map (step_of way.0 anchor.0) (below len)) (step_of way.0 anchor.0 i) anchor.2
-            (Among-map (step_of way.0 anchor.0) (below len) i (Among-below len i low));
+              (Among-map (step_of way.0 anchor.0) (below len) i (Among-below len i low));
         }
+
+-- ---- the squares that a run starts from
+
+square_back : (u : Square) → on_board widest u ≡ true → square_at (place_of u) ≡ u
+square_back (c, r) on =
+    let parts = on_board_parts widest c r on in
+    let column : (11 * c + r - 1) / 11 ≡ c = omega arith in let row : (11 * c + r - 1) % 11 + 1 ≡ r = omega arith in rw (column, row) refl
+
+module _ (n : ℕ) (word : IsWord n) (way : Way) (len : ℕ) (some : IsLength len) where
+  pub starts_word : IsWord (starts_in n (shift_of way) len)
+  starts_word = record {
+    low = let low = word.low in let less = starts_below n (shift_of way) len some in omega (arith, low, less);
+    gaps = λ c. elim (bit_cases (starts_in n (shift_of way) len) (11 * c + 10)) [
+      | inl none ↦ none
+      | inr set ↦
+          let first : bit_at n (11 * c + 10) ≡ 1 = ap (bit_at n) (omega arith) ∙ starts_follow n (shift_of way) (11 * c + 10) len some set 0 (length_small len some).0 in
+          let none = word.gaps c in absurd (omega (arith, first, none))
+    ];
+  }
+
+  starts_bit : (s : Square) → on_board widest s ≡ true → has_bit (starts_in n (shift_of way) len) s ≡ runs_from (squares_of n) len way s
+  starts_bit s on = agree _ _
+      (λ h.
+      let follow = starts_follow n (shift_of way) (place_of s) len some (has_set (starts_in n (shift_of way) len) s h) in
+      all_from (has_square (squares_of n)) (map (step_of way s) (below len)) (λ u among.
+      let step = Among-map_gives (step_of way s) (below len) u among in
+      let low = Among-below_gives len step.0 step.1 in
+      ap (has_square (squares_of n))
+      (sym step.2 ∙ ap (λ v. step_of way v step.0) (sym (square_back s on))
+      ∙ sym (square_along (has_square (squares_of n)) n (shows_squares n word) len some way (place_of s) step.0 low follow))
+      ∙ passes_where_set (has_square (squares_of n)) n (shows_squares n word) len some (place_of s + step.0 * shift_of way) (follow step.0 low)))
+      (λ all.
+      let follow = follow_from (has_square (squares_of n)) n (shows_squares n word) len some way s (λ i low.
+      all_gives (has_square (squares_of n)) (map (step_of way s) (below len)) (step_of way s i) all (Among-map (step_of way s) (below len) i (Among-below len i low))) in
+      eq-eqb (bit_at (starts_in n (shift_of way) len) (place_of s)) 1 (starts_from n (shift_of way) (place_of s) len some follow))
+
+  pub starts_set : IsSetOf (runs_from (squares_of n) len way) (squares_of (starts_in n (shift_of way) len))
+  starts_set = word_set (runs_from (squares_of n) len way) (starts_in n (shift_of way) len)
+      (λ s all. where_on (has_bit n) s (ap (has_square (squares_of n)) (sym (step_none way s))
+      ∙ all_gives (has_square (squares_of n)) (map (step_of way s) (below len)) (step_of way s 0) all (Among-map (step_of way s) (below len) 0 (Among-below len 0 (length_small len some).0))))
+      starts_bit

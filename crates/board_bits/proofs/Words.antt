@@ -1,40 +1,38 @@
 -- Which bits the number of a set of squares has, and that they give the set back.
-use Rattle.std.proofs.Common.{◌≡◌, ℕ, zero, suc, ◌+◌, ◌-◌, ◌*◌, ◌/◌, ◌%◌, ◌^◌, ◌<◌, Bool, cond, ◌==◌, List, [], ◌∷◌, map, filter, sum_by, refl, sym, ap, ◌∙◌, subst, inl, inr, arith}
+use Rattle.std.proofs.Common.{◌≡◌, ℕ, zero, suc, ◌+◌, ◌-◌, ◌*◌, ◌/◌, ◌%◌, ◌^◌, ◌<◌, Bool, true, false, cond, ◌==◌, List, [], ◌∷◌, map, filter, sum_by, refl, sym, ap, ◌∙◌, subst, inl, inr, arith, add-one}
 use Rattle.std.specs.List.{range_with_len, flat_map}
 use Rattle.std.specs.Int.{bit_at}
+use Rattle.std.specs.Int.RustNames.{count_ones}
 use Rattle.std.proofs.Math.Nat.{add-mul, mul_assoc}
 use Rattle.std.proofs.lemmas.Nat.{pow-add, shr-shr, shr_split}
 use Rattle.std.proofs.lemmas.Nat.Bits.{bit_at-lt, bit_at_above, bit_at_cat_low, same_from_bits_below}
 use Rattle.std.proofs.lemmas.List.Sums.{sum_by-cons, sum_by-append}
 use Rattle.std.proofs.lemmas.List.Elements.{filter-append}
 use Rattle.std.proofs.lemmas.Bool.{cases_Bool, cases_lt}
-use Rattle.game_rules.specs.Board.{Square, below}
-use Rattle.game_rules.specs.Squares.{squares_in_column, squares_of_board, squares_where}
+use Rattle.game_rules.specs.Board.{Square, below, on_board}
+use Rattle.game_rules.specs.Squares.{squares_in_column, squares_of_board, squares_where, widest}
+use Rattle.game_rules.proofs.Ends.{on_board_parts}
 use Rattle.board_bits.specs.Words.{has_bit, squares_of, word_of}
-use Rattle.board_bits.proofs.Digits.{number, sum_number, number_below, digit}
+use Rattle.board_bits.proofs.Digits.{number, sum_number, number_below, digit, ones_number}
 
 abbrev power : Square → ℕ
 power s = 2 ^ (11 * s.0 + s.1 - 1)
 
-sum_same : (f g : ℕ → ℕ) → ((i : ℕ) → f i ≡ g i) → (xs : List ℕ) → sum_by f xs ≡ sum_by g xs
-sum_same f g same [] = refl
-sum_same f g same (x ∷ xs) = sum_by-cons f x xs ∙ ap (λ n. f x + n) (sum_same f g same xs) ∙ ap (λ n. n + sum_by g xs) (same x) ∙ sym (sum_by-cons g x xs)
-
 -- the eleven bits of a column
-column_of : (n c i : ℕ) → i < 11 → bit_at n (11 * c + i) ≡ bit_at (n / 2 ^ (11 * c) % 2 ^ 11) i
+pub column_of : (n c i : ℕ) → i < 11 → bit_at n (11 * c + i) ≡ bit_at (n / 2 ^ (11 * c) % 2 ^ 11) i
 column_of n c i low =
     ap (λ m. m % 2) (sym (shr-shr n (11 * c) i))
     ∙ ap (λ m. bit_at m i) (sym (shr_split (n / 2 ^ (11 * c)) 11))
     ∙ bit_at_cat_low (n / 2 ^ (11 * c) / 2 ^ 11) 11 (n / 2 ^ (11 * c) % 2 ^ 11) i low
 
 module _ (test : Square → Bool) where
-  abbrev row_bit : ℕ → ℕ → ℕ
+  abbrev pub row_bit : ℕ → ℕ → ℕ
   row_bit c i = cond (test (c, i + 1)) 1 0
 
   row_bit_small : (c i : ℕ) → row_bit c i < 2 ^ 1
   row_bit_small c i = elim (cases_Bool (test (c, i + 1))) [ inl passes ↦ rw passes (omega arith) | inr fails ↦ rw fails (omega arith) ]
 
-  column : ℕ → ℕ
+  pub column : ℕ → ℕ
   column c = number 1 (row_bit c) 0 10
 
   column_low : (c : ℕ) → column c < 2 ^ 10
@@ -100,6 +98,18 @@ module _ (test : Square → Bool) where
       ∙ ap (λ n. bit_at n i) (word_column c within)
       ∙ column_bit c i low
 
+  pub word_has : (u : Square) → on_board widest u ≡ true → has_bit (word_of (squares_where test)) u ≡ test u
+  word_has (c, zero) on = absurd (let parts = on_board_parts widest c 0 on in omega arith)
+  word_has (c, suc i) on =
+      let parts = on_board_parts widest c (suc i) on in
+      ap (λ b. b == 1) (ap (bit_at (word_of (squares_where test))) (let e : 11 * c + suc i - 1 ≡ 11 * c + i = omega arith in e) ∙ word_bit c i (omega arith) (omega arith))
+      ∙ ap (λ r. cond (test (c, r)) 1 0 == 1) (add-one i)
+      ∙ one_where (test (c, suc i))
+    where
+      one_where : (b : Bool) → (cond b 1 0 == 1) ≡ b
+      one_where true = refl
+      one_where false = refl
+
   word_gap : (c : ℕ) → bit_at (word_of (squares_where test)) (11 * c + 10) ≡ 0
   word_gap c = elim (cases_lt c 10) [
     | inl within ↦
@@ -138,3 +148,10 @@ word_back n word = same_from_bits_below 110 (word_of (squares_of n)) n (word_low
           let last : 11 * c + r ≡ 11 * c + 10 = omega arith in
           ap (bit_at (word_of (squares_of n))) last ∙ word_gap (has_bit n) c ∙ sym (word.gaps c) ∙ ap (bit_at n) (sym last)
     ]
+
+-- the ones of a word, column by column
+pub word_ones : (n : ℕ) → IsWord n → count_ones n ≡ sum_by (λ c. count_ones (column (has_bit n) c)) (below 10)
+word_ones n word = ap count_ones (sym (word_back n word) ∙ word_number (has_bit n)) ∙ ones_number 11 (column (has_bit n)) (column_small (has_bit n)) 10 0
+
+pub own_column : (n : ℕ) → IsWord n → (c : ℕ) → c < 10 → column (has_bit n) c ≡ n / 2 ^ (11 * c) % 2 ^ 11
+own_column n word c within = sym (word_column (has_bit n) c within) ∙ ap (λ m. m / 2 ^ (11 * c) % 2 ^ 11) (word_back n word)

@@ -1,10 +1,7 @@
 pub mod Size
 pub mod Order
-pub mod Padded
-pub mod StackFields
 pub mod PositionFields
 pub mod Move
 pub mod Reading
-pub mod Held
 pub mod Words
 pub mod Runs

@@ -2,7 +2,7 @@
 -- stands above every board, so it is never set, and no line goes on from one column's top into the next column.
 use Rattle.std.specs.Prelude.{ℕ, ◌+◌, ◌-◌, ◌*◌, ◌^◌, Bool, ◌==◌, List, sum_by}
 use Rattle.std.specs.Int.{bit_at}
-use Rattle.game_rules.specs.Board.{Square}
+use Rattle.game_rules.specs.Board.{Board, Square, on_board}
 use Rattle.game_rules.specs.Squares.{squares_where}
 
 abbrev pub place_of : Square → ℕ
@@ -18,3 +18,7 @@ squares_of n = squares_where (has_bit n)
 -- the number of a set of squares
 abbrev pub word_of : List Square → ℕ
 word_of us = sum_by (λ s. 2 ^ (11 * s.0 + s.1 - 1)) us
+
+-- the number of a board's squares
+abbrev pub board_word : Board → ℕ
+board_word b = word_of (squares_where (on_board b))

@@ -10,7 +10,6 @@ mod order;
 mod position;
 mod run;
 mod size;
-mod stack;
 
 pub use game_rules::{End, InputFault, InputKind, Length, Question, Side, Way};
 pub use game_text::read_game;

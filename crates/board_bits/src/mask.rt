@@ -2,14 +2,18 @@
 //! order, and says of each square whether the set has it.
 ghost use Rattle.std.specs.Prelude.{◌≡◌, ◌⊎◌, ◌+◌, ◌-◌, ◌*◌, ◌^◌, ◌<◌, ◌||◌, true, false, sum_by};
 ghost use Rattle.std.specs.List.{list_any, list_all};
-ghost use Rattle.game_rules.specs.Board.{on_board};
+ghost use Rattle.game_rules.specs.Board.{on_board, line_at};
 ghost use Rattle.game_rules.specs.Squares.{same_square, has_square, widest, IsSetOf};
-ghost use Rattle.board_bits.specs.Words.{place_of, squares_of, word_of};
+ghost use Rattle.board_bits.specs.Words.{place_of, squares_of, word_of, board_word};
 ghost use Rattle.board_bits.specs.Runs.{has_run};
 
-use crate::Square;
-use crate::run::has_run;
+use crate::line::squares_in;
+use crate::run::{has_run, starts};
+use crate::{Length, Size, Square, Way};
 use std::marker::Model;
+
+/// The lowest square of each of ten columns.
+const LOWEST_SQUARES: u128 = 0x8010020040080100200400801;
 
 /// A set of squares.
 #[derive(Clone, Copy, Debug, PartialEq, Eq, Hash)]
@@ -40,6 +44,14 @@ impl Mask {
         ensures { IsSetOf (λ _. false) result }
     {
         Mask { word: 0 }
+    }
+
+    /// The set with this number.
+    pub(crate) fn of_word(word: u128) -> Mask
+        requires { word_of (squares_of word) ≡ word }
+        ensures { result ≡ squares_of word }
+    {
+        Mask { word }
     }
 
     /// The set of a list's squares.
@@ -110,15 +122,32 @@ impl Mask {
     {
         has_run(self.word, len)
     }
+
+    /// The squares from which a whole line of this length in this direction lies in the set.
+    pub fn line_starts(&self, way: Way, len: Length) -> Mask
+        ensures { IsSetOf (λ s. list_all (has_square self.now) (line_at len way s)) result }
+    {
+        Mask {
+            word: starts(self.word, way, squares_in(len)),
+        }
+    }
 }
 
 /// Which bit is a square's.
-fn place_of(s: Square) -> u32
+pub(crate) fn place_of(s: Square) -> u32
     ensures value { result ≡ place_of s }
     ensures on { on_board widest s ≡ true }
     ensures within { result < 110 }
 {
     11 * u32::from(s.column().index()) + u32::from(s.row()) - 1
+}
+
+/// The word of a board's squares: the lowest bits of its columns, moved upwards row by row.
+pub(crate) fn board_word(size: Size) -> u128
+    ensures { result ≡ board_word size }
+{
+    let column = (1u128 << size.rows()) - 1;
+    column * (LOWEST_SQUARES >> (11 * u32::from(10 - size.cols())))
 }
 
 /// Sets with the same number are the same set.

@@ -1,19 +1,16 @@
-//! Positions and moves. A position is kept as its board's size and ten stacks of men, of which those beyond the board
-//! are empty; a contract sees the men of each column. All lines are looked at for the end of a game, so nothing about
-//! the last move has to be kept.
-ghost use Rattle.std.specs.Prelude.{◌≡◌, ◌+◌, ◌<◌, ◌≤◌, true, not, length, IsTrue};
-ghost use Rattle.std.specs.List.{list_any, list_all};
-ghost use Rattle.game_rules.specs.Board.{is_board, line_at};
-ghost use Rattle.game_rules.specs.Position.{board_of, empty_position, men_in, height, man_at, has_man, side_to_move, man_count, has_room, lowest_empty, empty_count, after_move, has_line_at, has_line_in_column, has_line_along, has_line, is_full, end_of, is_legal, IsStacked, same_position};
+//! Positions and moves. A position is kept as its board's size and the words of both sides' men; a contract sees the
+//! men of each column. All lines are looked at for the end of a game, so nothing about the last move has to be kept.
+ghost use Rattle.std.specs.Prelude.{◌≡◌, ◌≢◌, ◌+◌, ◌*◌, ◌<◌, ◌≤◌, true, not, length, IsTrue, bit_or};
+ghost use Rattle.game_rules.specs.Board.{is_board};
+ghost use Rattle.game_rules.specs.Position.{board_of, empty_position, height, has_man, side_to_move, has_room, lowest_empty, after_move, has_line, is_full, end_of, IsStacked, same_position};
 ghost use Rattle.game_rules.specs.Squares.{IsSetOf, is_empty, is_playable};
 ghost use Rattle.game_rules.specs.declared.Side.TheVariants as sides;
-ghost use Rattle.board_bits.specs.Held.{is_held, holds_on_board};
 ghost use Rattle.board_bits.specs.Move.{moved_into};
+ghost use Rattle.board_bits.specs.PositionFields.{side_word};
 
-use crate::line::{is_line, step_of};
-use crate::size::MOST_COLS;
-use crate::stack::Stack;
-use crate::{Column, End, Mask, Side, Size, Square, Way};
+use crate::mask::{board_word, place_of};
+use crate::run::has_run;
+use crate::{Column, End, Mask, Side, Size, Square};
 use std::hash::Hash;
 use std::marker::Model;
 
@@ -30,25 +27,24 @@ pub enum MoveFault {
 #[derive(Clone, Copy, Debug, PartialEq, Eq, Hash)]
 pub struct Position {
     size: Size,
-    columns: [Stack; MOST_COLS],
+    white: u128,
+    black: u128,
 }
 
 impl Model for Position {
-    ghost use Rattle.std.specs.Prelude.{[]};
-    ghost use Rattle.game_rules.specs.Position.{Position as Men, board_of};
-    ghost use Rattle.board_bits.specs.Padded.{padded};
+    ghost use Rattle.game_rules.specs.Position.{Position as Men};
 
     ghost Value = { Men };
 
-    ghost use Rattle.board_bits.specs.PositionFields.{men_of, IsSound, men_determine_the_fields};
+    ghost use Rattle.board_bits.specs.PositionFields.{men_of, fields_of, IsSound};
 
     ghost view = { men_of };
 
     ghost invariant = { IsSound };
 
-    ghost inverse = { λ p. record { size = board_of p; columns = padded 10 [] p.columns } };
+    ghost inverse = { fields_of };
 
-    ghost inverse_ok = { men_determine_the_fields };
+    ghost inverse_ok = { λ a sound. sound.told };
 }
 
 impl Position {
@@ -60,7 +56,8 @@ impl Position {
         let _board = size.cols();
         Position {
             size,
-            columns: [Stack::empty(); MOST_COLS],
+            white: 0,
+            black: 0,
         }
     }
 
@@ -78,19 +75,15 @@ impl Position {
         ensures value { result ≡ height self.now c }
         ensures most { result ≤ 10 }
     {
-        let men = self.columns[c.index() as usize];
-        men.height()
+        let column = (self.all_men() >> (11 * u32::from(c.index()))) & 2047;
+        column.count_ones() as u8
     }
 
     /// White exactly where the number of men is even, ended or not.
     pub fn to_move(&self) -> Side
         ensures { result ≡ side_to_move self.now }
     {
-        let mut men = 0;
-        for index in 0..self.size().cols() {
-            men += u32::from(self.height(self.size().nth_column(index)));
-        }
-        if men % 2 == 0 {
+        if self.all_men().count_ones() % 2 == 0 {
             Side::White
         } else {
             Side::Black
@@ -120,7 +113,7 @@ impl Position {
     pub fn men(&self, side: Side) -> Mask
         ensures { IsSetOf (has_man self.now side) result }
     {
-        self.squares_with(Some(side))
+        Mask::of_word(self.word(side))
     }
 
     /// The squares with a man of White's.
@@ -141,39 +134,14 @@ impl Position {
     pub fn empties(&self) -> Mask
         ensures { IsSetOf (is_empty self.now) result }
     {
-        self.squares_with(None)
-    }
-
-    /// The squares of the board that hold a man of this side, or none.
-    fn squares_with(&self, held: Option<Side>) -> Mask
-        ensures squares { IsSetOf (holds_on_board self.now held) result }
-        ensures stacked { IsStacked self.now }
-    {
-        let squares = self.size().squares();
-        let mut mask = Mask::empty();
-        for square in squares.as_slice() {
-            if self.holds(held, *square) {
-                mask = mask.with(*square);
-            }
-        }
-        mask
-    }
-
-    /// Whether a square holds a man of this side, or none.
-    fn holds(&self, held: Option<Side>, s: Square) -> bool
-        ensures { result ≡ is_held held (man_at self.now s) }
-    {
-        match held {
-            Some(side) => self.has_man(side, s),
-            None => self.man_on(s).is_none(),
-        }
+        Mask::of_word(board_word(self.size()) & !self.all_men())
     }
 
     /// Whether the square is on the board and has no man.
     pub fn is_empty(&self, s: Square) -> bool
         ensures { result ≡ is_empty self.now s }
     {
-        self.size().has(s) && self.man_on(s).is_none()
+        self.size().has(s) && (self.all_men() >> place_of(s)) & 1 == 0
     }
 
     /// Whether a man could be dropped onto the square: it is on the board and empty, and every square below it is
@@ -188,13 +156,7 @@ impl Position {
     pub fn has_man(&self, side: Side, s: Square) -> bool
         ensures { result ≡ has_man self.now side s }
     {
-        self.man_on(s) == Some(side)
-    }
-
-    fn man_on(&self, s: Square) -> Option<Side>
-        ensures { result ≡ man_at self.now s }
-    {
-        self.man_at((s.column().index(), s.row()))
+        (self.word(side) >> place_of(s)) & 1 == 1
     }
 
     /// Whether the boards are of one size and their lines of one length, and White's men and Black's stand on the same
@@ -204,6 +166,9 @@ impl Position {
         ensures equal { result ≡ ⟦<Position as PartialEq>⟧.eq self.now other.now }
         ensures hash { IsTrue result → ⟦<Position as Hash>⟧.hash_input self.now ≡ ⟦<Position as Hash>⟧.hash_input other.now }
     {
+        // their contracts say that no column is higher than its board
+        let _own = self.all_men();
+        let _others = other.all_men();
         self == other
     }
 
@@ -212,12 +177,16 @@ impl Position {
         requires { has_room self.now c ≡ true }
         ensures { result ≡ after_move self.now c }
     {
-        let side = self.to_move();
-        let mut men = self.columns[c.index() as usize];
-        men.push(side);
-        let mut next = *self;
-        next.columns[c.index() as usize] = men;
-        next
+        let man = 1 << (11 * u32::from(c.index()) + u32::from(self.height(c)));
+        let (white, black) = match self.to_move() {
+            Side::White => (self.white | man, self.black),
+            Side::Black => (self.white, self.black | man),
+        };
+        Position {
+            size: self.size,
+            white,
+            black,
+        }
     }
 
     /// The position after a move. `GameOver` comes exactly where the game has ended, else `ColumnFull` exactly where
@@ -255,82 +224,33 @@ impl Position {
     fn is_full(&self) -> bool
         ensures { result ≡ is_full self.now }
     {
-        for index in 0..self.size().cols() {
-            if self.has_room(self.size().nth_column(index)) {
-                return false;
-            }
-        }
-        true
+        self.all_men().count_ones() == u32::from(self.size().cols()) * u32::from(self.size().rows())
     }
 
     fn has_line(&self, side: Side) -> bool
         ensures { result ≡ has_line self.now side }
     {
-        self.has_line_along(side, Way::H)
-            || self.has_line_along(side, Way::V)
-            || self.has_line_along(side, Way::U)
-            || self.has_line_along(side, Way::D)
+        has_run(self.word(side), self.size().line())
     }
 
-    fn has_line_along(&self, side: Side, way: Way) -> bool
-        ensures { result ≡ has_line_along self.now side way }
+    /// The word of a side's men.
+    fn word(&self, side: Side) -> u128
+        ensures value { result ≡ side_word self.now side }
+        ensures board { is_board (board_of self.now) ≡ true }
+        ensures stacked { IsStacked self.now }
     {
-        for index in 0..self.size().cols() {
-            if self.has_line_in_column(side, way, index) {
-                return true;
-            }
+        match side {
+            Side::White => self.white,
+            Side::Black => self.black,
         }
-        false
     }
 
-    fn has_line_in_column(&self, side: Side, way: Way, index: u8) -> bool
-        requires { index < 10 }
-        ensures { result ≡ has_line_in_column self.now side way index }
+    /// The word of all men.
+    fn all_men(&self) -> u128
+        ensures value { result ≡ bit_or (side_word self.now sides.White) (side_word self.now sides.Black) }
+        ensures board { is_board (board_of self.now) ≡ true }
+        ensures stacked { IsStacked self.now }
     {
-        for i in 0..self.size().rows() {
-            if self.has_line_at(side, way, (index, i + 1)) {
-                return true;
-            }
-        }
-        false
-    }
-
-    /// A line of the board from the anchor whose squares are all the side's.
-    fn has_line_at(&self, side: Side, way: Way, anchor: (u8, u8)) -> bool
-        requires column { anchor.0 < 10 }
-        requires row { anchor.1 ≤ 10 }
-        ensures { result ≡ has_line_at self.now side way anchor }
-    {
-        is_line(self.size(), way, anchor) && self.owns_line(side, way, anchor)
-    }
-
-    fn owns_line(&self, side: Side, way: Way, anchor: (u8, u8)) -> bool
-        requires column { anchor.0 < 10 }
-        requires row { anchor.1 ≤ 10 }
-        ensures { result ≡ list_all (has_man self.now side) (line_at self.now.len way anchor) }
-    {
-        for i in 0..self.size().line() {
-            if !self.has_man_at(side, step_of(way, anchor, i)) {
-                return false;
-            }
-        }
-        true
-    }
-
-    fn has_man_at(&self, side: Side, square: (u8, u8)) -> bool
-        ensures { result ≡ has_man self.now side square }
-    {
-        self.man_at(square) == Some(side)
-    }
-
-    fn man_at(&self, square: (u8, u8)) -> Option<Side>
-        ensures { result ≡ man_at self.now square }
-    {
-        if square.0 < self.size().cols() {
-            let men = self.columns[square.0 as usize];
-            men.man(square.1)
-        } else {
-            None
-        }
+        self.white | self.black
     }
 }

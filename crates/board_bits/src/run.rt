@@ -1,36 +1,44 @@
 //! Squares that follow one another in a direction, found in a whole word at once.
-ghost use Rattle.std.specs.Prelude.{◌≡◌, ◌≤◌, ◌<◌, ◌^◌};
-ghost use Rattle.board_bits.specs.Runs.{IsLength, starts_in, word_runs};
+ghost use Rattle.std.specs.Prelude.{◌≡◌, ◌≤◌};
+ghost use Rattle.board_bits.specs.Runs.{IsLength, shift_of, starts_in, word_runs};
 
-/// How many bits lie between two squares that follow one another: upwards, to the right, and to the right upwards and
-/// downwards.
-const UPRIGHT: u32 = 1;
-const LEVEL: u32 = 11;
-const RISING: u32 = 12;
-const FALLING: u32 = 10;
+use game_rules::Way;
 
 /// Whether some bits of the word are those of so many squares that follow one another.
 pub(crate) fn has_run(word: u128, len: u8) -> bool
     requires { IsLength len }
     ensures { result ≡ word_runs word len }
 {
-    starts(word, LEVEL, len) != 0
-        || starts(word, UPRIGHT, len) != 0
-        || starts(word, RISING, len) != 0
-        || starts(word, FALLING, len) != 0
+    starts(word, Way::H, len) != 0
+        || starts(word, Way::V, len) != 0
+        || starts(word, Way::U, len) != 0
+        || starts(word, Way::D, len) != 0
 }
 
-/// The bits from which so many follow one another at this distance.
-fn starts(word: u128, step: u32, len: u8) -> u128
-    requires length { IsLength len }
-    requires near { step ≤ 12 }
-    ensures { result ≡ starts_in word step len }
+/// The bits from which so many follow one another in this direction.
+pub(crate) fn starts(word: u128, way: Way, len: u8) -> u128
+    requires { IsLength len }
+    ensures { result ≡ starts_in word (shift_of way) len }
 {
+    let step = shift_of(way);
     let pairs = word & (word >> step);
     let fours = pairs & (pairs >> (2 * step));
     if len == 4 {
         fours
     } else {
         fours & (word >> (4 * step))
+    }
+}
+
+/// How many bits lie between a square and the next one in this direction.
+fn shift_of(way: Way) -> u32
+    ensures value { result ≡ shift_of way }
+    ensures most { result ≤ 12 }
+{
+    match way {
+        Way::H => 11,
+        Way::V => 1,
+        Way::U => 12,
+        Way::D => 10,
     }
 }

@@ -215,7 +215,7 @@ empty_men board c = elim (cases_lt c board.cols) [
   | inr past ↦ get_or_past (replicate board.cols []) c [] (omega (arith, length-replicate {A = List Side} board.cols []))
 ]
 
-empty_no_man : (board : Board) (side : Side) (s : Square) → has_man (empty_position board) side s ≡ false
+pub empty_no_man : (board : Board) (side : Side) (s : Square) → has_man (empty_position board) side s ≡ false
 empty_no_man board side (c, r) = ap (λ men. is_man side (man_in men r)) (empty_men board c) ∙ ap (is_man side) (nobody r)
   where
     nobody : (r : ℕ) → man_in [] r ≡ None

@@ -1,31 +1,62 @@
--- The groups that a side can still fill.
-use Rattle.std.proofs.Common.{◌≡◌, ℕ, ◌+◌, ◌<◌, Bool, true, false, ◌&&◌, ◌||◌, List, length, take, get_or, sym, ap, ◌∙◌, subst}
-use Rattle.std.specs.List.{list_any}
-use Rattle.game_rules.specs.Board.{Board, Square}
-use Rattle.game_rules.specs.Position.{Position, other, has_man}
-use Rattle.game_rules.specs.Squares.{has_square, IsSetOf}
-use Rattle.game_rules.specs.Groups.{Group, GroupsOn, squares_of, lies_on, groups_of, same_group, has_group, IsGroupSetOf}
-use Rattle.game_rules.proofs.Passing.{one_passes, one_fails}
-use Rattle.game_rules.proofs.Lists.{Among, Among-at, any_same}
-use Rattle.game_rules.proofs.Groups.{Among-groups_gives, same_group_is, group_set_same}
+-- The groups that a side can still fill: those whose squares are on the board and hold no man of the other side, found
+-- by their anchors.
+use Rattle.std.proofs.Common.{◌≡◌, ◌⊎◌, Bool, true, false, not, ◌&&◌, ◌||◌, List, [], ◌∷◌, Option, Some, None, is_none, refl, sym, ap, ◌∙◌, inl, inr}
+use Rattle.std.specs.List.{list_any, list_all}
+use Rattle.std.proofs.lemmas.Bool.{cases_Bool, both_ways, false_from_ne_true, and_parts}
+use Rattle.game_rules.specs.Board.{Square, on_board, line_at}
+use Rattle.game_rules.specs.Position.{Position, board_of, other, man_at, is_man, has_man, IsStacked}
+use Rattle.game_rules.specs.Squares.{has_square, is_empty, IsSetOf}
+use Rattle.game_rules.specs.Groups.{Group, lies_on, group_on, is_free_for}
+use Rattle.game_rules.proofs.Moves.{same_length_refl}
+use Rattle.game_rules.proofs.Squares.{man_on_board, set_same}
 use Rattle.game_rules.specs.declared.Side.{Side}
+use Rattle.game_rules.specs.declared.Side.TheVariants.{White, Black}
+use Rattle.game_rules.specs.declared.Way.{Way}
+use Rattle.game_rules.specs.declared.Way.TheVariants.{H, V, U, D}
+use Rattle.open_groups.specs.AnchorFields.{anchors_along}
 
--- the squares of the other side's men say whether the group is free
-pub others_are : (p : Position) (side : Side) (g : Group) (others : List Square) → IsSetOf (has_man p (other side)) others
-    → list_any (has_square others) (squares_of g) ≡ list_any (has_man p (other side)) (squares_of g)
-others_are p side g others men = any_same (has_square others) (has_man p (other side)) (squares_of g) (λ u _. men.has u)
+and_shared : (a b c d : Bool) → ((a && not b) && (c && not d)) ≡ ((a && c) && not (b || d))
+and_shared false b c d = refl
+and_shared true true true d = refl
+and_shared true true false d = refl
+and_shared true false c d = refl
 
--- an element of the list of a board's groups is one
-pub listed_lies : (b : Board) (gs : List Group) (i : ℕ) (g : Group) → gs ≡ groups_of b → i < length gs → g ≡ get_or gs i g → lies_on b g ≡ true
-listed_lies b gs i g all within here = Among-groups_gives b g (subst (λ hs. Among g hs) all (subst (λ h. Among h gs) (sym here) (Among-at gs i g within)))
+all_apart : {X : Type 0} (f g h : X → Bool) → ((x : X) → f x ≡ (g x && not (h x))) → (xs : List X) → list_all f xs ≡ (list_all g xs && not (list_any h xs))
+all_apart f g h each [] = refl
+all_apart f g h each (x ∷ xs) = ap (λ b. b && list_all f xs) (each x) ∙ ap (λ b. (g x && not (h x)) && b) (all_apart f g h each xs) ∙ and_shared (g x) (h x) (list_all g xs) (list_any h xs)
 
-module _ (b : Board) (gs : List Group) (i : ℕ) (g : Group) (test : Group → Bool) (within : i < length gs) (here : g ≡ get_or gs i g) where
-  pub group_passes : (set next : GroupsOn) → test g ≡ true → IsGroupSetOf b (λ h. has_group (take i gs) h && test h) set
-      → IsGroupSetOf set.board (λ h. same_group h g || has_group set.groups h) next → IsGroupSetOf b (λ h. has_group (take (i + 1) gs) h && test h) next
-  group_passes set next passes old one = group_set_same b _ (λ h. has_group (take (i + 1) gs) h && test h) next
-      (subst (λ b. IsGroupSetOf b (λ h. same_group h g || has_group set.groups h) next) old.on one) (λ h.
-      ap (λ b. same_group h g || b) (old.has h) ∙ one_passes same_group same_group_is gs i g within here test passes h)
+abbrev pub is_open : Position → Side → Group → Bool
+is_open p side g = lies_on (board_of p) g && is_free_for side p g
 
-  pub group_fails : (set : GroupsOn) → test g ≡ false → IsGroupSetOf b (λ h. has_group (take i gs) h && test h) set
-      → IsGroupSetOf b (λ h. has_group (take (i + 1) gs) h && test h) set
-  group_fails set fails old = group_set_same b _ (λ h. has_group (take (i + 1) gs) h && test h) set old (one_fails same_group same_group_is gs i g within here test fails)
+pub open_lies : (p : Position) (side : Side) (g : Group) → is_open p side g ≡ true → lies_on (board_of p) g ≡ true
+open_lies p side g h = (and_parts (lies_on (board_of p) g) (is_free_for side p g) h).0
+
+-- the squares without a man of the other side
+module _ (p : Position) (side : Side) (stacked : IsStacked p) (clear : List Square) (is_clear : (u : Square) → has_square clear u ≡ (is_empty p u || has_man p side u)) where
+  clear_square : (u : Square) → has_square clear u ≡ (on_board (board_of p) u && not (has_man p (other side) u))
+  clear_square u = is_clear u ∙ at (cases_Bool (on_board (board_of p) u))
+    where
+      whose : (side : Side) (m : Option Side) → (is_none m || is_man side m) ≡ not (is_man (other side) m)
+      whose White None = refl
+      whose White (Some White) = refl
+      whose White (Some Black) = refl
+      whose Black None = refl
+      whose Black (Some White) = refl
+      whose Black (Some Black) = refl
+
+      at : (on_board (board_of p) u ≡ true) ⊎ (on_board (board_of p) u ≡ false) → (is_empty p u || has_man p side u) ≡ (on_board (board_of p) u && not (has_man p (other side) u))
+      at (inl on) = rw on (whose side (man_at p u))
+      at (inr off) = rw off (false_from_ne_true (has_man p side u) (λ man. both_ways (on_board (board_of p) u) off (man_on_board p side u stacked man)))
+
+  open_anchors : (way : Way) (starts : List Square) → IsSetOf (λ s. list_all (has_square clear) (line_at p.len way s)) starts → IsSetOf (λ s. is_open p side (group_on (board_of p) way s)) starts
+  open_anchors way starts set = set_same (λ s. list_all (has_square clear) (line_at p.len way s)) (λ s. is_open p side (group_on (board_of p) way s)) starts set (λ s.
+      all_apart (has_square clear) (on_board (board_of p)) (has_man p (other side)) clear_square (line_at p.len way s)
+      ∙ ap (λ b. (b && list_all (on_board (board_of p)) (line_at p.len way s)) && not (list_any (has_man p (other side)) (line_at p.len way s))) (sym (same_length_refl p.len)))
+
+  pub each_open : (h v u d : List Square) → IsSetOf (λ s. list_all (has_square clear) (line_at p.len H s)) h → IsSetOf (λ s. list_all (has_square clear) (line_at p.len V s)) v
+      → IsSetOf (λ s. list_all (has_square clear) (line_at p.len U s)) u → IsSetOf (λ s. list_all (has_square clear) (line_at p.len D s)) d
+      → (way : Way) → IsSetOf (λ s. is_open p side (group_on (board_of p) way s)) (anchors_along (h ∷ v ∷ u ∷ d ∷ []) way)
+  each_open h v u d level upright rising falling H = open_anchors H h level
+  each_open h v u d level upright rising falling V = open_anchors V v upright
+  each_open h v u d level upright rising falling U = open_anchors U u rising
+  each_open h v u d level upright rising falling D = open_anchors D d falling

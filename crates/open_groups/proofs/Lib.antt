@@ -1,3 +1,4 @@
 pub mod Anchors
 pub mod Along
 pub mod Free
+pub mod Numbers

@@ -1,1 +1,2 @@
 pub mod AnchorFields
+pub mod GroupBits

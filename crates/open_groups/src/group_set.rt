@@ -1,16 +1,19 @@
 //! Sets of groups, and the groups that a side can still fill. A set is of groups of one board, and is kept as the
 //! anchors of its groups in each direction; a contract sees the board, and the list of the groups in group order.
-ghost use Rattle.std.specs.Prelude.{◌≡◌, ◌&&◌, ◌||◌, true, false, not};
-ghost use Rattle.std.specs.List.{list_any};
+ghost use Rattle.std.specs.Prelude.{◌≡◌, ◌≤◌, ◌&&◌, ◌||◌, true, false, map, length};
+ghost use Rattle.std.specs.Simd.Lanes.{mask_l};
 ghost use Rattle.game_rules.specs.Board.{same_length};
-ghost use Rattle.game_rules.specs.Position.{board_of, has_man, other};
-ghost use Rattle.game_rules.specs.Squares.{has_square, IsSetOf};
-ghost use Rattle.game_rules.specs.Groups.{squares_of, lies_on, rank, same_group, has_group, is_free_for, IsGroupSetOf};
+ghost use Rattle.game_rules.specs.Position.{board_of};
+ghost use Rattle.open_groups.specs.GroupBits.{group_bits};
+ghost use Rattle.game_rules.specs.Groups.{lies_on, rank, same_group, has_group, is_free_for, IsGroupSetOf};
 
-use crate::{GroupId, group_anchor, group_length, group_mask, group_way, groups};
+use crate::{GroupId, group_anchor, group_length, group_way, groups};
 use board_bits::{Length, Mask, Position, Side, Size};
 use game_rules::Way;
 use std::marker::Model;
+
+/// How many bits a word has.
+const WORD: usize = 128;
 
 /// How many directions there are.
 const WAYS: usize = 4;
@@ -75,6 +78,36 @@ impl GroupSet {
     }
 }
 
+impl GroupSet {
+    /// The set as numbers: the groups of its board are numbered from 0 in group order, and the group with number n is
+    /// bit n of the first word, or bit n - 128 of the second.
+    pub fn bits(&self) -> (u128, u128)
+        ensures { result ≡ group_bits self.now }
+    {
+        let groups = groups(self.size);
+        let groups = groups.as_slice();
+        let first = groups.len().min(WORD);
+        (self.word(&groups[..first]), self.word(&groups[first..]))
+    }
+
+    /// Which of these groups the set has, the first of them as the lowest bit.
+    fn word(&self, groups: &[GroupId]) -> u128
+        requires { length groups.now ≤ 128 }
+        ensures { result ≡ mask_l (map (has_group self.now.groups) groups.now) }
+    {
+        let mut word = 0;
+        let mut left = groups.len();
+        while left > 0 {
+            left -= 1;
+            word *= 2;
+            if self.has(groups[left]) {
+                word += 1;
+            }
+        }
+        word
+    }
+}
+
 /// Whether the lengths are the same.
 fn same_length(a: Length, b: Length) -> bool
     ensures { result ≡ same_length a b }
@@ -98,21 +131,16 @@ fn place_of(way: Way) -> usize
 pub fn free_for(p: &Position, side: Side) -> GroupSet
     ensures { IsGroupSetOf (board_of p.now) (λ g. lies_on (board_of p.now) g && is_free_for side p.now g) result }
 {
-    let others = p.men(side.other());
+    let clear = p.empties().union(p.men(side));
     let size = p.size();
-    let groups = groups(size);
-    let mut free = GroupSet::empty(size);
-    for group in groups.as_slice() {
-        if is_clear_of(*group, others) {
-            free = free.with(*group);
-        }
+    let len = size.length();
+    GroupSet {
+        size,
+        anchors: [
+            clear.line_starts(Way::H, len),
+            clear.line_starts(Way::V, len),
+            clear.line_starts(Way::U, len),
+            clear.line_starts(Way::D, len),
+        ],
     }
-    free
-}
-
-/// Whether the group has none of these squares.
-fn is_clear_of(group: GroupId, others: Mask) -> bool
-    ensures { result ≡ not (list_any (has_square others) (squares_of group)) }
-{
-    !group_mask(group).meets(others)
 }

@@ -10,6 +10,24 @@ fn square_of(size: Size, index: u8, row: u8) -> Option<Square> {
     size.square(size.column(index)?, row)
 }
 
+/// The set without a square.
+fn without(mask: Mask, square: Square) -> Mask {
+    let mut rest = Mask::empty();
+    for index in 0..10 {
+        for row in 1..=10 {
+            if let Some(other) = Size::new(10, 10)
+                .ok()
+                .and_then(|size| square_of(size, index, row))
+            {
+                if other != square && mask.has(other) {
+                    rest = rest.with(other);
+                }
+            }
+        }
+    }
+    rest
+}
+
 fn count_in(set: &GroupSet, list: &[GroupId]) -> usize {
     list.iter().filter(|group| set.has(**group)).count()
 }
@@ -146,5 +164,60 @@ fn a_game_without_moves_is_the_empty_position(rt: HostRuntime) -> Result<(), Fai
     assert!(rt; read_game(b"board 4 4\nmoves -")?.same(&empty));
     assert!(rt; !read_game(b"board 4 6\nmoves -")?.same(&empty));
     assert!(rt; !read_game(b"board 4 4\nmoves a")?.same(&empty));
+    Ok(())
+}
+
+#[test]
+fn sets_give_their_numbers(rt: HostRuntime) -> Result<(), Fail> {
+    let position = read_game(b"board 4 4\nmoves a\n")?;
+    let corner = square_of(position.size(), 0, 1).ok_or("no a1")?;
+    let level = group_mask(group_at(position.size(), corner, Way::H).ok_or("no group")?);
+    assert_eq!(rt; level.bits(), 8_594_130_945);
+    assert!(rt; level.run_of(4) && !level.run_of(5));
+    let rest = without(level, corner);
+    assert_eq!(rt; rest.bits(), 8_594_130_944);
+    assert!(rt; !rest.run_of(4));
+    assert_eq!(rt; free_for(&position, Side::Black).bits(), (750, 0));
+    assert_eq!(rt; free_for(&position, Side::White).bits(), (1023, 0));
+    Ok(())
+}
+
+#[test]
+fn each_group_is_a_run_and_none_with_a_square_less(rt: HostRuntime) -> Result<(), Fail> {
+    for (len, want) in [(4, 238), (5, 192)] {
+        let groups = groups(Size::with_line(10, 10, len)?);
+        assert_eq!(rt; groups.len(), want);
+        for group in groups.as_slice() {
+            let mask = group_mask(*group);
+            assert!(rt; mask.run_of(len), "{group:?}");
+            for square in group.squares().as_slice() {
+                assert!(rt;
+                    !without(mask, *square).run_of(len),
+                    "{group:?} without {square:?}"
+                );
+            }
+        }
+    }
+    Ok(())
+}
+
+#[test]
+fn each_group_has_its_number(rt: HostRuntime) -> Result<(), Fail> {
+    let size = Size::with_line(10, 10, 4)?;
+    let mut number = 0;
+    for group in groups(size).as_slice() {
+        let want = if number < 128 {
+            (1 << number, 0)
+        } else {
+            (0, 1 << (number - 128))
+        };
+        assert_eq!(rt;
+            GroupSet::empty(size).with(*group).bits(),
+            want,
+            "{group:?}"
+        );
+        number += 1;
+    }
+    assert_eq!(rt; number, 238);
     Ok(())
 }

@@ -1,22 +1,23 @@
-use Rattle.std.proofs.Common.{◌≡◌, true, [], ◌∷◌, ◌++◌, get_or, sym, ap, ◌∙◌, subst}
-use Rattle.game_rules.specs.Position.{has_room, after_move, side_to_move, men_in}
-use Rattle.board_bits.specs.PositionFields.{men_of}
-use Rattle.board_bits.proofs.MoveFields.{men_at_place, men_after, sound_after}
+use Rattle.std.proofs.Common.{◌≡◌, ◌+◌, ◌*◌, sym, ap, ◌∙◌}
+use Rattle.game_rules.specs.Position.{height}
+use Rattle.board_bits.proofs.MoveWords.{white_sound, white_men, black_sound, black_men}
 use Rattle.board_bits.proofs.position.Position.after.Goals as goal
-use Rattle.board_bits.proofs.position.Position.after.Goals.{After-index-next-index}
+use Rattle.board_bits.proofs.position.Position.after.Goals.{in-White, in-Black}
 
-room : (c : After-index-next-index) → has_room (men_of c.self.inside) c.args.c ≡ true
-room c = subst (λ p. has_room p c.args.c ≡ true) (sym c.self.view_is) c.requires
-
-pushed : (c : After-index-next-index) → c.push.new.self ≡ men_in (men_of c.self.inside) c.args.c ++ side_to_move (men_of c.self.inside) ∷ []
-pushed c =
-    c.push.ensures
-    ∙ ap (λ i. get_or c.self.inside.columns i c.index-self-index.result ++ c.to_move-side.result ∷ []) c.index.ensures.value
-    ∙ ap (λ men. men ++ c.to_move-side.result ∷ []) (men_at_place c.self.inside c.args.c c.index-self-index.result c.self.invariant (room c))
-    ∙ ap (λ side. men_in (men_of c.self.inside) c.args.c ++ side ∷ []) (c.to_move-side.ensures ∙ ap side_to_move (sym c.self.view_is))
-
-pub invariant_of-next : goal.invariant_of-next
-invariant_of-next c = rw c.index-2.ensures.value (sound_after c.self.inside c.args.c c.push.new.self c.self.invariant (room c) (pushed c))
+pub invariant_of-result : goal.invariant_of-result
+invariant_of-result c =
+    let place : 11 * c.from.result + c.from-2.result ≡ 11 * c.args.c + height c.args.self.now c.args.c
+    = ap (λ i. 11 * i + c.from-2.result) (c.from.ensures ∙ c.index.ensures.value) ∙ ap (λ h. 11 * c.args.c + h) (c.from-2.ensures ∙ c.height.ensures.value) in
+    elim c.match-to_move.branch [
+      | in-White w ↦ rw w.white-is (white_sound c.self.inside c.args.self.now c.self.view_is c.self.invariant c.args.c _ c.requires place (sym c.to_move.ensures ∙ w.in-White.is))
+      | in-Black w ↦ rw w.white-is (black_sound c.self.inside c.args.self.now c.self.view_is c.self.invariant c.args.c _ c.requires place (sym c.to_move.ensures ∙ w.in-Black.is))
+    ]
 
 pub returns : goal.returns
-returns c = rw c.index-2.ensures.value (men_after c.self.inside c.args.c c.push.new.self c.self.invariant (room c) (pushed c) ∙ ap (λ p. after_move p c.args.c) c.self.view_is)
+returns c =
+    let place : 11 * c.from.result + c.from-2.result ≡ 11 * c.args.c + height c.args.self.now c.args.c
+    = ap (λ i. 11 * i + c.from-2.result) (c.from.ensures ∙ c.index.ensures.value) ∙ ap (λ h. 11 * c.args.c + h) (c.from-2.ensures ∙ c.height.ensures.value) in
+    elim c.match-to_move.branch [
+      | in-White w ↦ rw w.white-is (white_men c.self.inside c.args.self.now c.self.view_is c.self.invariant c.args.c _ c.requires place (sym c.to_move.ensures ∙ w.in-White.is))
+      | in-Black w ↦ rw w.white-is (black_men c.self.inside c.args.self.now c.self.view_is c.self.invariant c.args.c _ c.requires place (sym c.to_move.ensures ∙ w.in-Black.is))
+    ]

@@ -1,16 +1,14 @@
-use Rattle.std.proofs.Common.{◌<◌, ◌≤◌, length, not, sym, ◌∙◌, ap, arith}
+use Rattle.std.proofs.Common.{◌*◌, ◌==◌, length, ap, ◌∙◌}
+use Rattle.std.specs.Int.RustNames.{count_ones}
 use Rattle.game_rules.specs.Board.{Board}
-use Rattle.game_rules.specs.Position.{has_room}
-use Rattle.board_bits.proofs.Searches.{none_found, found_at}
+use Rattle.board_bits.proofs.Counts.{full_ones}
+use Rattle.board_bits.proofs.Positions.{all_men}
 use Rattle.board_bits.proofs.position.Position.is_full.Goals as goal
-
-pub returns-then-has_room : goal.returns-then-has_room
-returns-then-has_room c =
-    let within : c.loop-index.index < length c.args.self.now.columns = omega (arith, c.loop-index-test.true, c.cols-index-end.ensures.value, ap (λ (b : Board). b.cols) c.size.ensures.value) in
-    ap not (sym (found_at (has_room c.args.self.now) (length c.args.self.now.columns) c.loop-index.index within
-    (ap (has_room c.args.self.now) (sym c.nth_column.ensures) ∙ sym c.has_room.ensures ∙ c.if-has_room.true)))
 
 pub returns : goal.returns
 returns c =
-    let all : length c.args.self.now.columns ≤ c.loop-index.index = omega (arith, c.loop-index-test.false, c.cols-index-end.ensures.value, ap (λ (b : Board). b.cols) c.size.ensures.value) in
-    ap not (sym (none_found (has_room c.args.self.now) (length c.args.self.now.columns) c.loop-index.index all c.loop-index.invariant))
+    let men = all_men c.args.self.now c.all_men.ensures.board c.all_men.ensures.stacked in
+    ap (λ n. count_ones n == c.from.result * c.from-2.result) c.all_men.ensures.value
+    ∙ ap (λ n. count_ones men == n * c.from-2.result) (c.from.ensures ∙ c.cols.ensures.value ∙ ap (λ (b : Board). b.cols) c.size.ensures.value)
+    ∙ ap (λ n. count_ones men == length c.args.self.now.columns * n) (c.from-2.ensures ∙ c.rows.ensures.value ∙ ap (λ (b : Board). b.rows) c.size-2.ensures.value)
+    ∙ full_ones c.args.self.now c.all_men.ensures.board c.all_men.ensures.stacked
