@@ -69,6 +69,7 @@ impl Mask {
     /// rows from 1. Sets with one number are the same.
     pub fn bits(&self) -> u128
         ensures value { result ≡ sum_by (λ s. 2 ^ (11 * s.0 + s.1 - 1)) self.now }
+        ensures squares { squares_of result ≡ self.now }
         ensures within { result < 2 ^ 110 }
     {
         self.word

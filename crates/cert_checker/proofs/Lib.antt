@@ -1,3 +1,3 @@
 pub mod Columns
-pub mod Lent
+pub mod Shown
 pub mod Trails

@@ -4,8 +4,9 @@ use Rattle.std.specs.List.{slice_get}
 use Rattle.std.proofs.lemmas.Bool.{cases_eq}
 use Rattle.std.proofs.lemmas.List.{take-append-drop, take_more, take-set-le, take_more_set, get_or-set_same, get_or-set_other, length-set}
 use Rattle.std.proofs.lemmas.Option.{slice_get-get_or}
-use Rattle.game_rules.specs.Position.{Position, after_move, is_legal, played}
+use Rattle.game_rules.specs.Position.{Position, board_of, after_move, is_legal, played}
 use Rattle.game_rules.proofs.Lists.{chosen}
+use Rattle.game_rules.proofs.Moves.{board_moved}
 
 -- a path with a move that isn't legal leads nowhere, whatever follows
 pub barred_more : (p : Position) (xs ys : List ℕ) → played p xs ≡ None → played p (xs ++ ys) ≡ None
@@ -59,3 +60,15 @@ reached_more root next columns positions moves column room place before legal i 
       ∙ before i below
       ∙ ap (played root) (sym (take-set-le i columns moves column below))
 ]
+
+-- legal moves keep the board
+board_played : (p q : Position) (path : List ℕ) → played p path ≡ Some q → board_of q ≡ board_of p
+board_played p q [] h = let same : p ≡ q = cc in ap board_of (sym same)
+board_played p q (x ∷ xs) h = elim (chosen (is_legal p x) (played (after_move p x) xs) None (Some q) h) [
+  | inl legal ↦ board_played (after_move p x) q xs legal.1 ∙ board_moved p x
+  | inr barred ↦ absurd (cc barred.1)
+]
+
+pub board_kept : (root last : Position) (columns : List ℕ) (positions : List Position) (moves : ℕ) → moves < length positions → slice_get positions moves ≡ played root (take moves columns)
+    → board_of (get_or positions moves last) ≡ board_of root
+board_kept root last columns positions moves within kept = board_played root (get_or positions moves last) (take moves columns) (sym kept ∙ slice_get-get_or positions moves last within)

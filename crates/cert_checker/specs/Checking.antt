@@ -1,16 +1,11 @@
--- What the checker keeps of a lemma, and how it stops.
+-- What the checker finds, and how it stops.
 use Rattle.std.specs.Prelude.{◌≡◌, ℕ, List, map, Option, Some, None, Result, Ok, Err, ⊤}
 use Rattle.proof_text.specs.Lemma.{Line, ALemma, ARemark, AVerdict}
-use Rattle.proof_text.specs.Right.{Shown}
 use Rattle.proof_text.specs.declared.Why.{Why}
 use Rattle.cert_format.specs.Shape.{cite_of}
 use Rattle.cert_format.specs.declared.lines.Cite.{Cite}
-use Rattle.cert_checker.specs.declared.known.Known.{Known}
 use Rattle.cert_checker.specs.declared.stops.AddStop.{AddStop}
 use Rattle.cert_checker.specs.declared.stops.AddStop.TheVariants.{Refused, Memory}
-
-abbrev pub shown_of : Known → Shown
-shown_of lemma = (lemma.position, lemma.claim)
 
 -- the columns cited, in order
 abbrev pub columns_of : List Cite → List ℕ

@@ -1,11 +1,12 @@
 //! The checker: what stands after the lines so far, and the tests of the next.
 ghost use Rattle.std.specs.Prelude.{◌≡◌, ◌+◌, ◌^◌, ◌<◌, [], ◌∷◌, ◌++◌, Some, None, map, length, MatchResult, IfOk, OnOk, OnErr, IfErr};
+ghost use Rattle.game_rules.specs.Position.{board_of};
 ghost use Rattle.proof_text.specs.Lemma.{ALemma, AVerdict};
-ghost use Rattle.proof_text.specs.Checked.{lemma_refusal, shown_of as shown_of_lemma, line_refusal, with_line};
+ghost use Rattle.proof_text.specs.Checked.{lemma_refusal, line_refusal, with_line};
 ghost use Rattle.proof_text.specs.Texts.{start};
 ghost use Rattle.proof_text.specs.declared.Why.TheVariants.{EndedEarly};
 ghost use Rattle.cert_format.specs.Shape.{lemma_of, line_of, viewed};
-ghost use Rattle.cert_checker.specs.Checking.{shown_of, Finds, StopsAt};
+ghost use Rattle.cert_checker.specs.Checking.{Finds, StopsAt};
 ghost use Rattle.cert_checker.specs.declared.stops.AddStop.TheVariants.{Refused};
 
 use crate::known::Known;
@@ -15,7 +16,7 @@ use crate::trail::Trail;
 use board_bits::Position;
 use cert_format::{Lemma, Line, LineView};
 use proof_text::{Verdict, Why};
-use std::alloc::{AllocError, Global};
+use std::alloc::Global;
 use std::marker::Model;
 
 /// What stands after the lines of a proof that were added: the root, what each lemma shows, and the verdict if there
@@ -23,20 +24,20 @@ use std::marker::Model;
 #[derive(Drop)]
 pub struct Checker {
     trail: Trail,
-    known: Vec<Known>,
+    known: Known,
     verdict: Option<Verdict>,
 }
 
 impl Model for Checker {
-    ghost use Rattle.std.specs.Prelude.{map, length, ◌<◌, ◌^◌};
+    ghost use Rattle.std.specs.Prelude.{◌≡◌};
+    ghost use Rattle.game_rules.specs.Position.{board_of};
     ghost use Rattle.proof_text.specs.Checked.{CheckerState};
-    ghost use Rattle.cert_checker.specs.Checking.{shown_of};
 
     ghost Value = { CheckerState };
 
-    ghost view = { λ a. record { root = a.trail.root; known = map shown_of a.known.items; verdict = a.verdict } };
+    ghost view = { λ a. record { root = a.trail.root; known = a.known.shown; verdict = a.verdict } };
 
-    ghost invariant = { λ a. length a.known.items < 2 ^ 32 };
+    ghost invariant = { λ a. board_of a.trail.root ≡ a.known.board };
 }
 
 impl Checker {
@@ -46,7 +47,7 @@ impl Checker {
     {
         Checker {
             trail: Trail::new(root),
-            known: Vec::new(alloc),
+            known: Known::new(alloc, root.size()),
             verdict: None,
         }
     }
@@ -84,20 +85,13 @@ impl Checker {
         ensures kept { OnErr result (self.new ≡ self.old) }
         ensures cause { IfErr result (λ stop. StopsAt at stop (line_refusal self.old (ALemma (lemma_of lemma.now))) (ALemma (lemma_of lemma.now))) }
     {
-        let shown = match check_lemma(&mut self.trail, self.known.as_slice(), lemma) {
-            Ok(shown) => shown,
-            Err(why) => return Err(refused(at, why)),
-        };
-        self.keep(shown).map_err(AddStop::Memory)
-    }
-
-    fn keep(&mut self, shown: Known) -> Result<(), AllocError>
-        requires { length self.old.known + 1 < 2 ^ 32 }
-        ensures kept { OnOk result (self.new ≡ record self.old { known = self.old.known ++ shown_of shown ∷ [] }) }
-        ensures none { OnErr result (self.new ≡ self.old) }
-    {
-        self.known.push(shown)?;
-        Ok(())
+        if let Err(why) = check_lemma(&mut self.trail, &self.known, lemma) {
+            return Err(refused(at, why));
+        }
+        let reached = self.trail.last();
+        self.known
+            .push(reached.position(), lemma.claim)
+            .map_err(AddStop::Memory)
     }
 
     fn add_verdict(&mut self, at: u64, verdict: Verdict) -> Result<(), AddStop>
@@ -106,7 +100,7 @@ impl Checker {
         ensures kept { OnErr result (self.new ≡ self.old) }
         ensures cause { IfErr result (λ stop. StopsAt at stop (line_refusal self.old (AVerdict verdict)) (AVerdict verdict)) }
     {
-        if !verdict_stands(self.known.as_slice(), self.trail.root(), verdict) {
+        if !verdict_stands(&self.known, self.trail.root(), verdict) {
             return Err(refused(at, Why::BadVerdict));
         }
         self.verdict = Some(verdict);
@@ -123,7 +117,7 @@ impl Checker {
         match self.verdict {
             Some(verdict) => Ok(Accepted {
                 verdict,
-                lemmas: self.known.len() as u32,
+                lemmas: self.known.len(),
             }),
             None => Err(Refusal {
                 at,
@@ -133,25 +127,22 @@ impl Checker {
     }
 }
 
-/// What the lemma shows, where it is right behind the lemmas known, and else the first name of what is wrong with it.
-fn check_lemma(trail: &mut Trail, known: &[Known], lemma: &Lemma) -> Result<Known, Why>
-    ensures refusal { Finds result (lemma_refusal trail.old.root (map shown_of known.now) (lemma_of lemma.now)) }
-    ensures shown { IfOk result (λ shown. shown_of_lemma trail.old.root (lemma_of lemma.now) ≡ shown_of shown ∷ []) }
-    ensures few { OnOk result (length known.now + 1 < 2 ^ 32) }
+/// Tests that the lemma is right behind the lemmas known, and else answers the first name of what is wrong with it. The
+/// trail is then at its path.
+fn check_lemma(trail: &mut Trail, known: &Known, lemma: &Lemma) -> Result<(), Why>
+    requires { board_of trail.old.root ≡ known.now.board }
+    ensures refusal { Finds result (lemma_refusal trail.old.root known.now.shown (lemma_of lemma.now)) }
+    ensures path { OnOk result (trail.new.path ≡ lemma.now.path.items) }
+    ensures few { OnOk result (length known.now.shown + 1 < 2 ^ 32) }
     ensures root { trail.new.root ≡ trail.old.root }
 {
-    if u64::from(lemma.number) != known.len() as u64 + 1 {
+    if u64::from(lemma.number) != u64::from(known.len()) + 1 {
         return Err(Why::BadLine);
     }
     if !trail.follow(lemma.path.as_slice()) {
         return Err(Why::BadPath);
     }
-    let reached = trail.last();
-    check_reason(known, reached, lemma.claim, &lemma.reason)?;
-    Ok(Known {
-        position: *reached.position(),
-        claim: lemma.claim,
-    })
+    check_reason(known, trail.last(), lemma.claim, &lemma.reason)
 }
 
 fn refused(at: u64, why: Why) -> AddStop

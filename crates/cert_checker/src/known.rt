@@ -1,39 +1,109 @@
 //! What the lemmas so far show.
-ghost use Rattle.std.specs.Prelude.{◌≡◌, map, option_map};
+ghost use Rattle.std.specs.Prelude.{◌≡◌, ◌+◌, ◌<◌, ◌^◌, [], ◌∷◌, ◌++◌, length, option_map, IfSome, OnOk, OnErr};
+ghost use Rattle.game_rules.specs.Position.{board_of, same_position};
 ghost use Rattle.proof_text.specs.Right.{lemma_at};
 ghost use Rattle.proof_text.specs.Checked.{shown_refusal, is_shown};
-ghost use Rattle.cert_checker.specs.Checking.{shown_of, Finds};
+ghost use Rattle.cert_checker.specs.Checking.{Finds};
+ghost use Rattle.cert_checker.specs.Shown.{words_of, position_in, AreWords};
 
-use board_bits::Position;
+use board_bits::{Position, Size};
 use proof_text::{Claim, Why};
+use std::alloc::{AllocError, Global};
+use std::marker::Model;
 
-/// What a lemma shows: a claim at a position. The path to it is forgotten.
+/// What a lemma shows: a claim at a position, by the numbers of White's men and of Black's.
 #[derive(Clone, Copy)]
-pub(crate) struct Known {
-    pub(crate) position: Position,
-    pub(crate) claim: Claim,
+struct Shown {
+    words: (u128, u128),
+    claim: Claim,
 }
 
-/// What the lemma with this number, counted from 1, shows.
-fn lemma_at(known: &[Known], lemma: u32) -> Option<&Known>
-    ensures { option_map (λ shown. shown_of shown.now) result ≡ lemma_at (map shown_of known.now) lemma }
-{
-    known.get(lemma.checked_sub(1)? as usize)
+/// What each lemma shows, at positions of one board. Their paths are forgotten. The words of the positions stand apart
+/// from the claims, so that a lemma takes 33 bytes.
+#[derive(Drop)]
+pub(crate) struct Known {
+    size: Size,
+    words: Vec<(u128, u128)>,
+    claims: Vec<Claim>,
+}
+
+impl Model for Known {
+    ghost use Rattle.cert_checker.specs.Shown.{AllShown};
+
+    ghost Value = { AllShown };
+
+    ghost use Rattle.cert_checker.specs.KnownFields.{all_shown, IsInStep};
+
+    ghost view = { all_shown };
+
+    ghost invariant = { IsInStep };
+}
+
+impl Known {
+    /// No lemma. No memory is taken.
+    pub(crate) fn new(alloc: Global, size: Size) -> Known
+        ensures { result ≡ record { board = size; shown = [] } }
+    {
+        Known {
+            size,
+            words: Vec::new(alloc),
+            claims: Vec::new(alloc),
+        }
+    }
+
+    /// How many lemmas there are.
+    pub(crate) fn len(&self) -> u32
+        ensures { result ≡ length self.now.shown }
+    {
+        self.claims.len() as u32
+    }
+
+    /// One more lemma, which shows this claim at the position. Where no memory is found nothing has changed.
+    pub(crate) fn push(&mut self, position: &Position, claim: Claim) -> Result<(), AllocError>
+        requires board { board_of position.now ≡ self.old.board }
+        requires few { length self.old.shown + 1 < 2 ^ 32 }
+        ensures kept { OnOk result (self.new ≡ record self.old { shown = self.old.shown ++ (position.now, claim) ∷ [] }) }
+        ensures none { OnErr result (self.new ≡ self.old) }
+    {
+        self.words.push(words_of(position))?;
+        if let Err(error) = self.claims.push(claim) {
+            self.words.pop();
+            return Err(error.into());
+        }
+        Ok(())
+    }
+
+    /// What the lemma with this number, counted from 1, shows.
+    fn get(&self, lemma: u32) -> Option<Shown>
+        ensures found { option_map (λ shown. (position_in self.now.board shown.words, shown.claim)) result ≡ lemma_at self.now.shown lemma }
+        ensures words { IfSome result (λ shown. AreWords self.now.board shown.words) }
+    {
+        let index = lemma.checked_sub(1)? as usize;
+        if index < self.words.len() {
+            Some(Shown {
+                words: self.words[index],
+                claim: self.claims[index],
+            })
+        } else {
+            None
+        }
+    }
 }
 
 /// Tests that a cited lemma stands before, at this position, and makes this claim.
 pub(crate) fn check_cited(
-    known: &[Known],
+    known: &Known,
     position: &Position,
     claim: Claim,
     lemma: u32,
 ) -> Result<(), Why>
-    ensures { Finds result (shown_refusal position.now claim (lemma_at (map shown_of known.now) lemma)) }
+    requires { board_of position.now ≡ known.now.board }
+    ensures { Finds result (shown_refusal position.now claim (lemma_at known.now.shown lemma)) }
 {
-    let Some(shown) = lemma_at(known, lemma) else {
+    let Some(shown) = known.get(lemma) else {
         return Err(Why::NoSuchLemma);
     };
-    if !shown.position.same(position) {
+    if !stands_at(shown.words, position) {
         return Err(Why::WrongPosition);
     }
     if shown.claim != claim {
@@ -43,11 +113,31 @@ pub(crate) fn check_cited(
 }
 
 /// Whether the lemma with this number shows the claim at the position.
-pub(crate) fn is_shown(known: &[Known], position: &Position, claim: Claim, lemma: u32) -> bool
-    ensures { result ≡ is_shown position.now claim (lemma_at (map shown_of known.now) lemma) }
+pub(crate) fn is_shown(known: &Known, position: &Position, claim: Claim, lemma: u32) -> bool
+    requires { board_of position.now ≡ known.now.board }
+    ensures { result ≡ is_shown position.now claim (lemma_at known.now.shown lemma) }
 {
-    match lemma_at(known, lemma) {
-        Some(shown) => shown.position.same(position) && shown.claim == claim,
+    match known.get(lemma) {
+        Some(shown) => stands_at(shown.words, position) && shown.claim == claim,
         None => false,
     }
+}
+
+/// Whether these words of a position on the same board are those of the position.
+fn stands_at(words: (u128, u128), position: &Position) -> bool
+    requires { AreWords (board_of position.now) words }
+    ensures { result ≡ same_position (position_in (board_of position.now) words) position.now }
+{
+    let own = words_of(position);
+    words.0 == own.0 && words.1 == own.1
+}
+
+/// The numbers of White's men and of Black's.
+fn words_of(position: &Position) -> (u128, u128)
+    ensures value { result ≡ words_of position.now }
+    ensures read { position_in (board_of position.now) result ≡ position.now }
+{
+    // its contract says that no column is higher than the board
+    let _size = position.size();
+    (position.white().bits(), position.black().bits())
 }

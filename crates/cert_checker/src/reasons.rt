@@ -1,10 +1,10 @@
 //! The tests of a lemma's reason and of a verdict, in the order in which their names are given.
 ghost use Rattle.std.specs.Prelude.{◌≡◌, map};
-ghost use Rattle.game_rules.specs.Position.{open_columns};
+ghost use Rattle.game_rules.specs.Position.{board_of, open_columns};
 ghost use Rattle.proof_text.specs.Lemma.{ByOne, ByAll};
 ghost use Rattle.proof_text.specs.Checked.{end_refusal, cites_refusal, move_refusal, reason_refusal, verdict_stands};
 ghost use Rattle.cert_format.specs.Shape.{cite_of, reason_of};
-ghost use Rattle.cert_checker.specs.Checking.{shown_of, columns_of, Finds};
+ghost use Rattle.cert_checker.specs.Checking.{columns_of, Finds};
 
 use crate::claims::goes_by_one;
 use crate::known::{Known, check_cited, is_shown};
@@ -16,12 +16,13 @@ use proof_text::{Claim, Verdict, Why};
 
 /// Tests that the reason shows the claim at the position that was reached, by the lemmas known.
 pub(crate) fn check_reason(
-    known: &[Known],
+    known: &Known,
     reached: &Reached,
     claim: Claim,
     reason: &Reason,
 ) -> Result<(), Why>
-    ensures { Finds result (reason_refusal (map shown_of known.now) reached.now claim (reason_of reason.now)) }
+    requires { board_of reached.now ≡ known.now.board }
+    ensures { Finds result (reason_refusal known.now.shown reached.now claim (reason_of reason.now)) }
 {
     match reason {
         Reason::Ended => check_end(claim, reached.ended()),
@@ -41,8 +42,9 @@ fn check_end(claim: Claim, ended: Option<End>) -> Result<(), Why>
     }
 }
 
-fn check_one(known: &[Known], reached: &Reached, claim: Claim, cite: Cite) -> Result<(), Why>
-    ensures { Finds result (reason_refusal (map shown_of known.now) reached.now claim (ByOne (cite_of cite))) }
+fn check_one(known: &Known, reached: &Reached, claim: Claim, cite: Cite) -> Result<(), Why>
+    requires { board_of reached.now ≡ known.now.board }
+    ensures { Finds result (reason_refusal known.now.shown reached.now claim (ByOne (cite_of cite))) }
 {
     let position = reached.position();
     let serves = goes_by_one(claim, position.to_move());
@@ -50,8 +52,9 @@ fn check_one(known: &[Known], reached: &Reached, claim: Claim, cite: Cite) -> Re
     check_cited(known, &position.after(cite.column), claim, cite.lemma)
 }
 
-fn check_all(known: &[Known], reached: &Reached, claim: Claim, cites: &[Cite]) -> Result<(), Why>
-    ensures { Finds result (reason_refusal (map shown_of known.now) reached.now claim (ByAll (map cite_of cites.now))) }
+fn check_all(known: &Known, reached: &Reached, claim: Claim, cites: &[Cite]) -> Result<(), Why>
+    requires { board_of reached.now ≡ known.now.board }
+    ensures { Finds result (reason_refusal known.now.shown reached.now claim (ByAll (map cite_of cites.now))) }
 {
     let position = reached.position();
     let serves = !goes_by_one(claim, position.to_move());
@@ -60,14 +63,10 @@ fn check_all(known: &[Known], reached: &Reached, claim: Claim, cites: &[Cite]) -
 }
 
 /// Tests each cite from the left, the columns cited being those that have room.
-fn check_cites(
-    known: &[Known],
-    position: &Position,
-    claim: Claim,
-    cites: &[Cite],
-) -> Result<(), Why>
-    requires { columns_of cites.now ≡ open_columns position.now }
-    ensures { Finds result (cites_refusal (map shown_of known.now) position.now claim (map cite_of cites.now)) }
+fn check_cites(known: &Known, position: &Position, claim: Claim, cites: &[Cite]) -> Result<(), Why>
+    requires board { board_of position.now ≡ known.now.board }
+    requires room { columns_of cites.now ≡ open_columns position.now }
+    ensures { Finds result (cites_refusal known.now.shown position.now claim (map cite_of cites.now)) }
 {
     for cite in cites {
         check_cited(known, &position.after(cite.column), claim, cite.lemma)?;
@@ -93,8 +92,9 @@ fn check_moves(reached: &Reached, serves: bool, playable: bool) -> Result<(), Wh
 }
 
 /// Whether the lemmas that the verdict names show it at the root.
-pub(crate) fn verdict_stands(known: &[Known], root: &Position, verdict: Verdict) -> bool
-    ensures { result ≡ verdict_stands root.now (map shown_of known.now) verdict }
+pub(crate) fn verdict_stands(known: &Known, root: &Position, verdict: Verdict) -> bool
+    requires { board_of root.now ≡ known.now.board }
+    ensures { result ≡ verdict_stands root.now known.now.shown verdict }
 {
     match verdict {
         Verdict::Win(lemma) => is_shown(known, root, Claim::of(root.to_move(), true), lemma),

@@ -1,6 +1,6 @@
 //! The path of the last lemma and the positions along it, so that the next lemma only plays the moves that differ.
 ghost use Rattle.std.specs.Prelude.{◌≡◌, ◌+◌, ◌<◌, ◌≤◌, true, false, [], ◌∷◌, ◌++◌, Some, None, if◌then◌else◌, length, take};
-ghost use Rattle.game_rules.specs.Position.{after_move, end_of, is_legal, played};
+ghost use Rattle.game_rules.specs.Position.{board_of, after_move, end_of, is_legal, played};
 
 use board_bits::{Column, End, MOST_SQUARES, Position};
 use std::marker::Model;
@@ -106,7 +106,8 @@ impl Trail {
 
     /// The position after the path.
     pub(crate) fn last(&self) -> &Reached
-        ensures { played self.now.root self.now.path ≡ Some result.now }
+        ensures reached { played self.now.root self.now.path ≡ Some result.now }
+        ensures board { board_of result.now ≡ board_of self.now.root }
     {
         &self.positions[self.moves]
     }

@@ -1,10 +1,9 @@
 use Rattle.std.proofs.Common.{◌≡◌, map, drop}
 use Rattle.proof_text.specs.Checked.{cites_refusal}
 use Rattle.cert_format.specs.Shape.{cite_of}
-use Rattle.cert_checker.specs.Checking.{shown_of}
 use Rattle.cert_checker.proofs.reasons.check_cites.Given as goal
 
 abbrev pub invariant-loop-cite : goal.invariant-loop-cite
 invariant-loop-cite l =
-    let known = map shown_of l.known in
+    let known = l.known.shown in
     cites_refusal known l.position l.claim (map cite_of (drop l.cite-index l.cites)) ≡ cites_refusal known l.position l.claim (map cite_of l.cites)
