@@ -137,8 +137,10 @@ impl Trail {
         ensures same { take result self.now.path ≡ take result path.now }
     {
         let most = self.moves.min(path.len());
+        let kept = &self.columns[..most];
+        let wanted = &path[..most];
         for index in 0..most {
-            if self.columns[index] != path[index] {
+            if kept[index] != wanted[index] {
                 return index;
             }
         }

@@ -10,7 +10,7 @@ use itoa::Buffer;
 pub fn number_between(low: u32, high: u32, bytes: &[u8]) -> Option<u32>
     ensures { result ≡ number_between low high bytes.now }
 {
-    let number = parsed(bytes)?;
+    let number = digits_value(bytes);
     if low <= number && number <= high && is_spelling(number, bytes) {
         Some(number)
     } else {
@@ -18,14 +18,16 @@ pub fn number_between(low: u32, high: u32, bytes: &[u8]) -> Option<u32>
     }
 }
 
-/// The number that the bytes spell, also where a sign or zeros stand before its digits.
-fn parsed(bytes: &[u8]) -> Option<u32>
-    ensures { (n : ℕ) → n < 2 ^ 32 → bytes.now ≡ decimal n → result ≡ Some n }
+/// The number that the bytes spell. Of bytes that spell none it is any number.
+fn digits_value(bytes: &[u8]) -> u32
+    ensures { (n : ℕ) → n < 2 ^ 32 → bytes.now ≡ decimal n → result ≡ n }
 {
-    match str::from_utf8(bytes) {
-        Ok(text) => text.parse().ok(),
-        Err(_) => None,
+    let mut value = 0_u32;
+    for byte in bytes {
+        let digit = byte.saturating_sub(b'0');
+        value = value.saturating_mul(10).saturating_add(u32::from(digit));
     }
+    value
 }
 
 fn is_spelling(number: u32, bytes: &[u8]) -> bool
