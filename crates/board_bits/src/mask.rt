@@ -1,5 +1,5 @@
-//! Sets of squares, each kept as a number: the bits of its squares. A contract sees the list of the squares in square
-//! order, and says of each square whether the set has it.
+//! Sets of squares, each kept as one word: eleven bits for each column, of which the highest stands above every board and
+//! is never set. A contract sees the list of the squares in square order, and says of each square whether the set has it.
 ghost use Rattle.std.specs.Prelude.{◌≡◌, ◌⊎◌, ◌+◌, ◌-◌, ◌*◌, ◌^◌, ◌<◌, ◌||◌, true, false, sum_by};
 ghost use Rattle.std.specs.List.{list_any, list_all};
 ghost use Rattle.game_rules.specs.Board.{on_board, line_at};
@@ -13,7 +13,7 @@ use crate::{Length, Size, Square, Way};
 use std::marker::Model;
 
 /// The lowest square of each of ten columns.
-const LOWEST_SQUARES: u128 = 0x8010020040080100200400801;
+const LOWEST_SQUARES: u128 = 0x8_0100_2004_0080_1002_0040_0801;
 
 /// A set of squares.
 #[derive(Clone, Copy, Debug, PartialEq, Eq, Hash)]
@@ -22,7 +22,7 @@ pub struct Mask {
 }
 
 impl Model for Mask {
-    ghost use Rattle.std.specs.Prelude.{◌≡◌, ◌⊎◌, List, ℕ};
+    ghost use Rattle.std.specs.Prelude.{◌≡◌, List, ℕ};
     ghost use Rattle.std.proofs.Common.{ap};
 
     ghost Value = { List (ℕ × ℕ) };

@@ -14,6 +14,9 @@ use crate::{Column, End, Mask, Side, Size, Square};
 use std::hash::Hash;
 use std::marker::Model;
 
+/// The bits of the first column.
+const COLUMN: u128 = 2047;
+
 /// Why a man can't be dropped into a column.
 #[derive(Clone, Copy, Debug, PartialEq, Eq, Hash)]
 pub enum MoveFault {
@@ -75,7 +78,7 @@ impl Position {
         ensures value { result ≡ height self.now c }
         ensures most { result ≤ 10 }
     {
-        let column = (self.all_men() >> (11 * u32::from(c.index()))) & 2047;
+        let column = (self.all_men() >> (11 * u32::from(c.index()))) & COLUMN;
         column.count_ones() as u8
     }
 

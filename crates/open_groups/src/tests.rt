@@ -179,6 +179,12 @@ fn sets_give_their_numbers(rt: HostRuntime) -> Result<(), Fail> {
     assert!(rt; !rest.run_of(4));
     assert_eq!(rt; free_for(&position, Side::Black).bits(), (750, 0));
     assert_eq!(rt; free_for(&position, Side::White).bits(), (1023, 0));
+    // 128 groups, and 110 more
+    let widest = Position::empty(Size::new(10, 10)?);
+    assert_eq!(rt;
+        free_for(&widest, Side::White).bits(),
+        (u128::MAX, (1 << 110) - 1)
+    );
     Ok(())
 }
 
@@ -198,26 +204,5 @@ fn each_group_is_a_run_and_none_with_a_square_less(rt: HostRuntime) -> Result<()
             }
         }
     }
-    Ok(())
-}
-
-#[test]
-fn each_group_has_its_number(rt: HostRuntime) -> Result<(), Fail> {
-    let size = Size::with_line(10, 10, 4)?;
-    let mut number = 0;
-    for group in groups(size).as_slice() {
-        let want = if number < 128 {
-            (1 << number, 0)
-        } else {
-            (0, 1 << (number - 128))
-        };
-        assert_eq!(rt;
-            GroupSet::empty(size).with(*group).bits(),
-            want,
-            "{group:?}"
-        );
-        number += 1;
-    }
-    assert_eq!(rt; number, 238);
     Ok(())
 }

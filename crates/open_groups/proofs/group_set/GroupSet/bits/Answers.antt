@@ -1,4 +1,4 @@
-use Rattle.std.proofs.Common.{sym, ap, ◌∙◌}
+use Rattle.std.proofs.Common.{ap, ◌∙◌}
 use Rattle.game_rules.specs.Groups.{GroupsOn, groups_of}
 use Rattle.open_groups.proofs.Numbers.{both_words}
 use Rattle.open_groups.proofs.group_set.GroupSet.bits.Goals as goal
