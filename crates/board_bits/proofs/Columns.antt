@@ -1,12 +1,17 @@
 -- The squares of a board, column by column.
-use Rattle.std.proofs.Common.{◌≡◌, ℕ, zero, suc, ◌+◌, ◌*◌, ◌<◌, ◌≤◌, List, [], ◌∷◌, ◌++◌, length, ap, ◌∙◌, arith, add-one, length-append}
+use Rattle.std.proofs.Common.{◌≡◌, ℕ, zero, suc, ◌+◌, ◌*◌, ◌<◌, ◌≤◌, List, [], ◌∷◌, ◌++◌, cond, length, filter, Some, None, inl, inr, ap, ◌∙◌, arith, add-one, length-append}
 use Rattle.std.specs.List.{flat_map, range_with_len}
 use Rattle.std.proofs.lemmas.List.{append-nil}
 use Rattle.std.proofs.lemmas.List.FromFn.{length-map-range_with_len}
 use Rattle.std.proofs.Math.Nat.{add-mul, mul-le-mul}
 use Rattle.std.proofs.lemmas.Grind.{flat_map-append}
+use Rattle.std.proofs.lemmas.List.Elements.{filter-append}
+use Rattle.std.proofs.lemmas.Option.{cond_some}
+use Rattle.std.proofs.lemmas.Bool.{cases_Bool}
 use Rattle.game_rules.specs.Board.{Board, Square, below}
-use Rattle.game_rules.specs.Squares.{squares_in_column, squares_of_board}
+use Rattle.game_rules.specs.Position.{Position, height, has_room, lowest_empty}
+use Rattle.game_rules.specs.Squares.{is_playable, squares_in_column, squares_of_board}
+use Rattle.game_rules.proofs.Playable.{column_playables}
 
 range_more : (a n j : ℕ) → a + n ≡ j → range_with_len a (n + 1) ≡ range_with_len a n ++ j ∷ []
 range_more a n j e = rw (add-one n) (at a n e)
@@ -35,3 +40,26 @@ pub rows_room : (i cols rows : ℕ) → i < cols → cols ≤ 10 → rows ≤ 10
 rows_room i cols rows within wide high =
     let most : (i + 1) * rows ≤ 10 * 10 = mul-le-mul {n₁ = i + 1} {m₁ = rows} {n₂ = 10} {m₂ = 10} (omega arith) high in
     omega (arith, add-mul i 1 rows)
+
+module _ (p : Position) (i : ℕ) (within : i < length p.columns) where
+  abbrev pub playables_below : ℕ → List Square
+  playables_below n = filter (is_playable p) (flat_map (squares_in_column p.rows) (below n))
+
+  playables_more : playables_below (i + 1) ≡ playables_below i ++ cond (has_room p i) ((i, height p i + 1) ∷ []) []
+  playables_more =
+      ap (filter (is_playable p)) (columns_more p.rows i)
+      ∙ filter-append (is_playable p) (flat_map (squares_in_column p.rows) (below i)) (squares_in_column p.rows i)
+      ∙ ap (λ us. playables_below i ++ us) (column_playables p i within)
+
+  -- one more column has room
+  pub playables_some : (u : Square) → lowest_empty p i ≡ Some u → playables_below (i + 1) ≡ playables_below i ++ u ∷ []
+  playables_some u h =
+      let got = cond_some (has_room p i) (i, height p i + 1) u h in
+      playables_more ∙ ap (λ b. playables_below i ++ cond b ((i, height p i + 1) ∷ []) []) got.0 ∙ ap (λ v. playables_below i ++ v ∷ []) got.1
+
+  -- it has none
+  pub playables_none : lowest_empty p i ≡ None → playables_below (i + 1) ≡ playables_below i
+  playables_none h = elim (cases_Bool (has_room p i)) [
+    | inl room ↦ absurd (cc (rw room at h))
+    | inr full ↦ playables_more ∙ ap (λ b. playables_below i ++ cond b ((i, height p i + 1) ∷ []) []) full ∙ append-nil (playables_below i)
+  ]

@@ -12,3 +12,5 @@ pub mod Stops
 pub mod Lengths
 pub mod Digits
 pub mod Words
+pub mod Rows
+pub mod Takes

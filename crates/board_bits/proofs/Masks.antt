@@ -1,18 +1,18 @@
 -- What the number of a mask says of its squares.
-use Rattle.std.proofs.Common.{◌≡◌, ◌≢◌, ◌⊎◌, ℕ, ◌+◌, ◌-◌, ◌*◌, ◌/◌, ◌%◌, ◌^◌, ◌<◌, min, max, Bool, true, false, not, ◌&&◌, ◌||◌, ◌==◌, refl, sym, ap, ◌∙◌, subst, inl, inr, arith}
+use Rattle.std.proofs.Common.{◌≡◌, ◌≢◌, ◌⊎◌, ℕ, ◌+◌, ◌-◌, ◌*◌, ◌/◌, ◌%◌, ◌^◌, ◌<◌, min, max, Bool, true, false, not, ◌&&◌, ◌||◌, ◌==◌, List, [], ◌∷◌, length, refl, sym, ap, ◌∙◌, subst, inl, inr, arith}
 use Rattle.std.specs.Int.{bit_at, bit_not, w128}
 use Rattle.std.specs.Int.RustNames.{bit_and, bit_or}
 use Rattle.std.specs.List.{list_any, list_all}
-use Rattle.std.proofs.lemmas.Bool.{cases_eq, cases_Bool, both_ways, false_from_ne_true, or_cases, eq-eqb, eqb-true, ne_eqb}
+use Rattle.std.proofs.lemmas.Bool.{cases_eq, cases_Bool, both_ways, false_from_ne_true, or_cases, and_parts, eq-eqb, eqb-true, ne_eqb}
 use Rattle.std.proofs.lemmas.Nat.{one_shl, or_lt, and_le_l, pow_below}
 use Rattle.std.proofs.lemmas.Nat.Bits.{bit_at-lt, bit_at-zero, bit_at_and, bit_at_or, bit_at_not, bit_at_above, bit_at_set_same, bit_at_set_other, shr_and_one, same_from_bits}
 use Rattle.game_rules.specs.Board.{Square, on_board}
-use Rattle.game_rules.specs.Squares.{same_square, has_square, widest, IsSetOf}
+use Rattle.game_rules.specs.Squares.{same_square, has_square, widest, squares_of_board, squares_where, IsSetOf}
 use Rattle.game_rules.proofs.Lists.{any_gives, any_from, all_gives, all_from}
 use Rattle.game_rules.proofs.Ends.{on_board_parts, on_board_from}
 use Rattle.game_rules.proofs.Squares.{agree, same_square_refl, same_square_is, has_gives, has_from, has_where, where_on, where_same, set_where}
-use Rattle.board_bits.specs.Words.{place_of, has_bit, squares_of, word_of}
-use Rattle.board_bits.proofs.Words.{IsWord, word_is_word}
+use Rattle.board_bits.specs.Words.{place_of, square_at, has_bit, squares_of, word_of}
+use Rattle.board_bits.proofs.Words.{IsWord, word_is_word, word_back}
 
 -- ---- places
 
@@ -27,9 +27,6 @@ place_determines : (u v : Square) → on_board widest u ≡ true → on_board wi
 place_determines (a, b) (c, d) left right same =
     let first = on_board_parts widest a b left in let second = on_board_parts widest c d right in
     let column : a ≡ c = omega arith in let row : b ≡ d = omega arith in rw (column, row) refl
-
-abbrev pub square_at : ℕ → Square
-square_at i = (i / 11, i % 11 + 1)
 
 pub place_at : (i : ℕ) → place_of (square_at i) ≡ i
 place_at i = omega arith
@@ -88,6 +85,24 @@ zero_word = record { low = omega arith; gaps = λ c. bit_at-zero (11 * c + 10) }
 
 pub zero_set : IsSetOf (λ _. false) (squares_of 0)
 zero_set = word_set (λ _. false) 0 (λ u h. cc) (λ u on. no_bit u)
+
+no_squares_where : squares_where (λ _. false) ≡ []
+unfolding squares_where squares_of_board
+no_squares_where = refl
+
+-- 0 is the number of no square
+pub no_squares : squares_of 0 ≡ []
+no_squares = zero_set.in_order ∙ no_squares_where
+
+-- a set has no square exactly where its number is 0
+pub none_word : (n : ℕ) → IsWord n → (n == 0) ≡ (length (squares_of n) == 0)
+none_word n word = agree _ _
+    (λ none. eq-eqb (length (squares_of n)) 0 (ap (λ m. length (squares_of m)) (eqb-true n 0 none) ∙ ap length no_squares))
+    (λ none. eq-eqb n 0 (sym (word_back n word) ∙ of_none (squares_of n) (eqb-true (length (squares_of n)) 0 none)))
+  where
+    of_none : (us : List Square) → length us ≡ 0 → word_of us ≡ 0
+    of_none [] none = refl
+    of_none (u ∷ us) none = absurd (omega arith)
 
 -- ---- one more square
 
@@ -162,6 +177,14 @@ module _ (a b : ℕ) where
       ∙ ap (λ x. x || has_bit b u) (sym (has_where (has_bit a) u on))
       ∙ ap (λ y. has_square (squares_of a) u || y) (sym (has_where (has_bit b) u on)))
 
+  -- the common bits are those of the common squares
+  pub common_set : IsSetOf (λ u. has_square (squares_of a) u && has_square (squares_of b) u) (squares_of (bit_and a b))
+  common_set = word_set (λ u. has_square (squares_of a) u && has_square (squares_of b) u) (bit_and a b)
+      (λ u h. where_on (has_bit a) u (and_parts _ _ h).0)
+      (λ u on. common_bit u
+      ∙ ap (λ x. x && has_bit b u) (sym (has_where (has_bit a) u on))
+      ∙ ap (λ y. has_square (squares_of a) u && y) (sym (has_where (has_bit b) u on)))
+
   -- no common bit
   pub zero_from_apart : IsWord a → ((u : Square) → on_board widest u ≡ true → has_bit a u ≡ true → has_bit b u ≡ false) → bit_and a b ≡ 0
   zero_from_apart word apart = same_from_bits (bit_and a b) 0 (λ i. bit_at_and a b i ∙ at i (bit_cases a i) (bit_cases b i) ∙ sym (bit_at-zero i))
@@ -204,6 +227,24 @@ not_bit n u low on = ap (λ b. b == 1) (bit_at_not w128 n (place_of u) low (let 
     at : (bit_at n (place_of u) ≡ 0) ⊎ (bit_at n (place_of u) ≡ 1) → ((1 - bit_at n (place_of u)) == 1) ≡ not (has_bit n u)
     at (inl none) = rw none refl
     at (inr set) = rw set refl
+
+-- the bits of a number that another doesn't have
+abbrev pub without : ℕ → ℕ → ℕ
+without a b = bit_and a (bit_not w128 b)
+
+pub without_word : (a b : ℕ) → IsWord a → IsWord (without a b)
+without_word a b = common_word a (bit_not w128 b)
+
+pub without_bit : (a b : ℕ) (u : Square) → b < 2 ^ 128 → on_board widest u ≡ true → has_bit (without a b) u ≡ (has_bit a u && not (has_bit b u))
+without_bit a b u low on = common_bit a (bit_not w128 b) u ∙ ap (λ x. has_bit a u && x) (not_bit b u low on)
+
+-- they are those of the squares that the other set doesn't have
+pub without_set : (a b : ℕ) → b < 2 ^ 128 → IsSetOf (λ u. has_square (squares_of a) u && not (has_square (squares_of b) u)) (squares_of (without a b))
+without_set a b low = word_set (λ u. has_square (squares_of a) u && not (has_square (squares_of b) u)) (without a b)
+    (λ u h. where_on (has_bit a) u (and_parts _ _ h).0)
+    (λ u on. without_bit a b u low on
+    ∙ ap (λ x. x && not (has_bit b u)) (sym (has_where (has_bit a) u on))
+    ∙ ap (λ y. has_square (squares_of a) u && not y) (sym (has_where (has_bit b) u on)))
 
 module _ (a b : ℕ) (left : IsWord a) (low : b < 2 ^ 128) where
   pub all_within : bit_and a (bit_not w128 b) ≡ 0 → list_all (has_square (squares_of b)) (squares_of a) ≡ true

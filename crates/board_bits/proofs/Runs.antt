@@ -12,10 +12,10 @@ use Rattle.game_rules.specs.declared.Way.TheVariants.{H, V, U, D}
 use Rattle.game_rules.proofs.Lists.{any_gives, any_from, all_gives, all_from, Among-map, Among-map_gives, Among-below, Among-below_gives}
 use Rattle.game_rules.proofs.Ends.{on_board_parts, Among-ways, step_none}
 use Rattle.game_rules.proofs.Squares.{agree, has_gives, has_where, where_on}
-use Rattle.board_bits.specs.Words.{place_of, has_bit, squares_of}
+use Rattle.board_bits.specs.Words.{place_of, square_at, has_bit, squares_of}
 use Rattle.board_bits.specs.Runs.{IsLength, runs_from, has_run, shift_of, pairs_in, fours_in, starts_in, word_runs}
 use Rattle.board_bits.proofs.Words.{IsWord}
-use Rattle.board_bits.proofs.Masks.{bit_cases, word_set, square_at, bit_on, bit_has, has_set}
+use Rattle.board_bits.proofs.Masks.{bit_cases, word_set, bit_on, bit_has, has_set}
 
 -- ---- bits at one distance
 

@@ -1,12 +1,16 @@
 -- Sets of squares as numbers: a square is the bit of its column's eleven bits that its row says. The highest of them
 -- stands above every board, so it is never set, and no line goes on from one column's top into the next column.
-use Rattle.std.specs.Prelude.{ℕ, ◌+◌, ◌-◌, ◌*◌, ◌^◌, Bool, ◌==◌, List, sum_by}
+use Rattle.std.specs.Prelude.{ℕ, ◌+◌, ◌-◌, ◌*◌, ◌/◌, ◌%◌, ◌^◌, Bool, ◌==◌, List, sum_by}
 use Rattle.std.specs.Int.{bit_at}
 use Rattle.game_rules.specs.Board.{Board, Square, on_board}
 use Rattle.game_rules.specs.Squares.{squares_where}
 
 abbrev pub place_of : Square → ℕ
 place_of u = 11 * u.0 + u.1 - 1
+
+-- the square at a place
+abbrev pub square_at : ℕ → Square
+square_at place = (place / 11, place % 11 + 1)
 
 abbrev pub has_bit : ℕ → Square → Bool
 has_bit n u = bit_at n (place_of u) == 1

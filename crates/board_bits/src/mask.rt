@@ -1,6 +1,7 @@
 //! Sets of squares, each kept as one word: eleven bits for each column, of which the highest stands above every board and
 //! is never set. A contract sees the list of the squares in square order, and says of each square whether the set has it.
-ghost use Rattle.std.specs.Prelude.{◌≡◌, ◌⊎◌, ◌+◌, ◌-◌, ◌*◌, ◌^◌, ◌<◌, ◌||◌, true, false, sum_by};
+//! Each answer is found in the word as a whole; only `of` and `squares` go from square to square.
+ghost use Rattle.std.specs.Prelude.{◌≡◌, ◌⊎◌, ◌+◌, ◌-◌, ◌*◌, ◌%◌, ◌^◌, ◌<◌, ◌&&◌, ◌||◌, ◌==◌, true, false, not, nat_le, length, sum_by};
 ghost use Rattle.std.specs.List.{list_any, list_all};
 ghost use Rattle.game_rules.specs.Board.{on_board, line_at};
 ghost use Rattle.game_rules.specs.Squares.{same_square, has_square, widest, IsSetOf};
@@ -9,11 +10,15 @@ ghost use Rattle.board_bits.specs.Runs.{has_run};
 
 use crate::line::squares_in;
 use crate::run::{has_run, starts};
-use crate::{Length, Size, Square, Way};
+use crate::{Length, MOST_SQUARES, Size, Square, Way};
+use arrayvec::ArrayVec;
 use std::marker::Model;
 
 /// The lowest square of each of ten columns.
 const LOWEST_SQUARES: u128 = 0x8_0100_2004_0080_1002_0040_0801;
+
+/// The squares of odd rows of ten columns with ten rows.
+const ODD_ROWS: u128 = 0xaa9_552a_a554_aa95_52aa_554a_a955;
 
 /// A set of squares.
 #[derive(Clone, Copy, Debug, PartialEq, Eq, Hash)]
@@ -98,6 +103,72 @@ impl Mask {
         Mask {
             word: self.word | other.word,
         }
+    }
+
+    /// The set of the squares that both sets have.
+    pub fn intersection(&self, other: Mask) -> Mask
+        ensures { IsSetOf (λ u. has_square self.now u && has_square other u) result }
+    {
+        Mask {
+            word: self.word & other.word,
+        }
+    }
+
+    /// The set of this one's squares that the other doesn't have.
+    pub fn without(&self, other: Mask) -> Mask
+        ensures { IsSetOf (λ u. has_square self.now u && not (has_square other u)) result }
+    {
+        Mask {
+            word: self.word & !other.word,
+        }
+    }
+
+    /// The set of the squares directly below this one's: those whose square above is in the set. Below the lowest row
+    /// there is none.
+    pub fn lowered(&self) -> Mask
+        ensures { IsSetOf (λ u. nat_le 1 u.1 && has_square self.now (u.0, u.1 + 1)) result }
+    {
+        Mask {
+            word: (self.word & !LOWEST_SQUARES) >> 1,
+        }
+    }
+
+    /// The squares of the first square's column from its row up to the second one's row, both counted in; the empty set
+    /// where that row is lower. The second square's column doesn't matter.
+    pub fn column_part(bottom: Square, top: Square) -> Mask
+        ensures { IsSetOf (λ u. (u.0 == bottom.0) && (nat_le bottom.1 u.1 && nat_le u.1 top.1)) result }
+    {
+        let rows = ((1u128 << top.row()) - 1) >> (bottom.row() - 1);
+        Mask {
+            word: rows << place_of(bottom),
+        }
+    }
+
+    /// The squares of odd rows, on the board with ten columns and ten rows.
+    pub fn odd_rows() -> Mask
+        ensures { IsSetOf (λ u. on_board widest u && ((u.1 % 2) == 1)) result }
+    {
+        Mask { word: ODD_ROWS }
+    }
+
+    /// Whether the set has no square.
+    pub fn is_empty(&self) -> bool
+        ensures { result ≡ (length self.now == 0) }
+    {
+        self.word == 0
+    }
+
+    /// The set's squares in square order: by column, then by row. The cost is that of its squares alone.
+    pub fn squares(&self) -> ArrayVec<Square, MOST_SQUARES>
+        ensures { result.items ≡ self.now }
+    {
+        let mut squares = ArrayVec::new();
+        let mut rest = self.word;
+        while rest != 0 {
+            squares.push(Square::at_place(rest.trailing_zeros()));
+            rest &= rest - 1;
+        }
+        squares
     }
 
     /// Whether the other set has each square of this one.

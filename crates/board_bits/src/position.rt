@@ -1,16 +1,17 @@
 //! Positions and moves. A position is kept as its board's size and the words of both sides' men; a contract sees the
 //! men of each column. All lines are looked at for the end of a game, so nothing about the last move has to be kept.
-ghost use Rattle.std.specs.Prelude.{◌≡◌, ◌≢◌, ◌+◌, ◌*◌, ◌<◌, ◌≤◌, true, not, length, IsTrue, bit_or};
+ghost use Rattle.std.specs.Prelude.{◌≡◌, ◌≢◌, ◌+◌, ◌*◌, ◌<◌, ◌≤◌, true, not, filter, length, IsTrue, bit_or};
 ghost use Rattle.game_rules.specs.Board.{is_board};
 ghost use Rattle.game_rules.specs.Position.{board_of, empty_position, height, has_man, side_to_move, has_room, lowest_empty, after_move, has_line, is_full, end_of, IsStacked, same_position};
-ghost use Rattle.game_rules.specs.Squares.{IsSetOf, is_empty, is_playable};
+ghost use Rattle.game_rules.specs.Squares.{IsSetOf, squares_of_board, is_empty, is_playable};
 ghost use Rattle.game_rules.specs.declared.Side.TheVariants as sides;
 ghost use Rattle.board_bits.specs.Move.{moved_into};
 ghost use Rattle.board_bits.specs.PositionFields.{side_word};
 
 use crate::mask::{board_word, place_of};
 use crate::run::has_run;
-use crate::{Column, End, Mask, Side, Size, Square};
+use crate::{Column, End, MOST_COLS, Mask, Side, Size, Square};
+use arrayvec::ArrayVec;
 use std::hash::Hash;
 use std::marker::Model;
 
@@ -110,6 +111,21 @@ impl Position {
         } else {
             None
         }
+    }
+
+    /// The playable squares, column by column from the left: the lowest empty one of each column that isn't full. The
+    /// end of the game doesn't matter.
+    pub fn playables(&self) -> ArrayVec<Square, MOST_COLS>
+        ensures { result.items ≡ filter (is_playable self.now) (squares_of_board (board_of self.now)) }
+    {
+        let size = self.size();
+        let mut squares = ArrayVec::new();
+        for index in 0..size.cols() {
+            if let Some(square) = self.playable(size.nth_column(index)) {
+                squares.push(square);
+            }
+        }
+        squares
     }
 
     /// The squares with a man of the side's.

@@ -9,6 +9,20 @@ pub(crate) fn has_run(word: u128, len: u8) -> bool
     requires { IsLength len }
     ensures { result ≡ word_runs word len }
 {
+    // so that the length is asked for once, and not in each direction
+    if len == 4 {
+        has_starts(word, 4)
+    } else {
+        has_starts(word, 5)
+    }
+}
+
+/// As `has_run`, for a length that the call names.
+#[inline(always)]
+fn has_starts(word: u128, len: u8) -> bool
+    requires { IsLength len }
+    ensures { result ≡ word_runs word len }
+{
     starts(word, Way::H, len) != 0
         || starts(word, Way::V, len) != 0
         || starts(word, Way::U, len) != 0

@@ -4,6 +4,7 @@ ghost use Rattle.std.specs.Prelude.{◌≡◌, ◌+◌, ◌<◌, ◌≤◌, ◌+
 ghost use Rattle.game_rules.specs.Board.{is_board, is_cols, is_rows, on_board, is_line, line_at, line_length, step_of};
 ghost use Rattle.game_rules.specs.Squares.{squares_of_board, squares_in_column, widest, widest_with};
 ghost use Rattle.board_bits.specs.Size.{sized};
+ghost use Rattle.board_bits.specs.Words.{square_at};
 ghost use Rattle.game_rules.specs.declared.Length.TheVariants.{Four};
 ghost use Rattle.arrayvec.specs.ArrayVec.{array_vec_len};
 
@@ -301,6 +302,19 @@ impl Square {
         ensures most { result ≤ 10 }
     {
         self.row
+    }
+
+    /// The square with this bit in the number of a set of squares.
+    pub(crate) fn at_place(place: u32) -> Square
+        requires { on_board widest (square_at place) ≡ true }
+        ensures { result ≡ square_at place }
+    {
+        Square {
+            column: Column {
+                index: (place / 11) as u8,
+            },
+            row: (place % 11) as u8 + 1,
+        }
     }
 
     /// The squares of a line of this length from this anchor. They are all on the board with ten columns and ten rows,

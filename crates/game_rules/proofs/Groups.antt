@@ -152,46 +152,46 @@ groups_fit b h = leb-true (length (groups_of b)) 238 (on_each_size (λ b. nat_le
 -- ---- order
 
 -- each element stands before each later one
-abbrev Ordered : {X : Type 0} → (X → X → Type 0) → List X → Type 0
+abbrev pub Ordered : {X : Type 0} → (X → X → Type 0) → List X → Type 0
 Ordered R [] = ⊤
 Ordered R (x ∷ xs) = ((y : _) → Among y xs → R x y) × Ordered R xs
 
-Ordered-append : {X : Type 0} (R : X → X → Type 0) (xs ys : List X) → Ordered R xs → Ordered R ys → ((x y : X) → Among x xs → Among y ys → R x y) → Ordered R (xs ++ ys)
+pub Ordered-append : {X : Type 0} (R : X → X → Type 0) (xs ys : List X) → Ordered R xs → Ordered R ys → ((x y : X) → Among x xs → Among y ys → R x y) → Ordered R (xs ++ ys)
 Ordered-append R [] ys left right between = right
 Ordered-append R (x ∷ xs) ys left right between = (
   (λ y among. elim (Among-append_cases y xs ys among) [ inl here ↦ left.0 y here | inr later ↦ between x y (inl refl) later ]),
   Ordered-append R xs ys left.1 right (λ a b here later. between a b (inr here) later),
 )
 
-Ordered-filter : {X : Type 0} (R : X → X → Type 0) (p : X → Bool) (xs : List X) → Ordered R xs → Ordered R (filter p xs)
+pub Ordered-filter : {X : Type 0} (R : X → X → Type 0) (p : X → Bool) (xs : List X) → Ordered R xs → Ordered R (filter p xs)
 Ordered-filter R p [] h = h
 Ordered-filter R p (x ∷ xs) h = elim (cases_Bool (p x)) [
   | inl passes ↦ rw passes ((λ y among. h.0 y (Among-filter_gives p xs y among).0), Ordered-filter R p xs h.1)
   | inr fails ↦ rw fails (Ordered-filter R p xs h.1)
 ]
 
-Ordered-map : {X Y : Type 0} (R : X → X → Type 0) (S : Y → Y → Type 0) (f : X → Y) (xs : List X) → ((a b : X) → R a b → S (f a) (f b)) → Ordered R xs → Ordered S (map f xs)
+pub Ordered-map : {X Y : Type 0} (R : X → X → Type 0) (S : Y → Y → Type 0) (f : X → Y) (xs : List X) → ((a b : X) → R a b → S (f a) (f b)) → Ordered R xs → Ordered S (map f xs)
 Ordered-map R S f [] keeps h = tt
 Ordered-map R S f (x ∷ xs) keeps h = (
   (λ y among. let from = Among-map_gives f xs y among in subst (S (f x)) from.2 (keeps x from.0 (h.0 from.0 from.1))),
   Ordered-map R S f xs keeps h.1,
 )
 
-Ordered-flat_map : {X Y : Type 0} (R : X → X → Type 0) (S : Y → Y → Type 0) (f : X → List Y) (xs : List X) → ((x : X) → Ordered S (f x))
+pub Ordered-flat_map : {X Y : Type 0} (R : X → X → Type 0) (S : Y → Y → Type 0) (f : X → List Y) (xs : List X) → ((x : X) → Ordered S (f x))
     → ((a b : X) (y z : Y) → R a b → Among y (f a) → Among z (f b) → S y z) → Ordered R xs → Ordered S (flat_map f xs)
 Ordered-flat_map R S f [] each between h = tt
 Ordered-flat_map R S f (x ∷ xs) each between h = rw flat_map-cons (Ordered-append S (f x) (flat_map f xs) (each x) (Ordered-flat_map R S f xs each between h.1)
     (λ y z here later. let from = Among-flat_map_gives f xs z later in between x from.0 y z (h.0 from.0 from.1) here from.2))
 
-Ordered-range : (a n : ℕ) → Ordered (λ i j. i < j) (range_with_len a n)
+pub Ordered-range : (a n : ℕ) → Ordered (λ i j. i < j) (range_with_len a n)
 Ordered-range a zero = tt
 Ordered-range a (suc n) = ((λ j among. let within = Among-range_gives (a + 1) n j among in omega arith), Ordered-range (a + 1) n)
 
-pairs_from_ordered : {X : Type 0} (R : X → X → Type 0) (xs : List X) → Ordered R xs → AllPairs R xs
+pub pairs_from_ordered : {X : Type 0} (R : X → X → Type 0) (xs : List X) → Ordered R xs → AllPairs R xs
 pairs_from_ordered R [] h = λ i j d before within. absurd (omega arith)
 pairs_from_ordered R (x ∷ xs) h = AllPairs-cons R x xs (λ k d within. h.0 (slice_index_or xs k d) (Among-at xs k d within)) (pairs_from_ordered R xs h.1)
 
-squares_in_order : (b : Board) → Ordered SquarePrecedes (squares_of_board b)
+pub squares_in_order : (b : Board) → Ordered SquarePrecedes (squares_of_board b)
 unfolding squares_of_board
 squares_in_order b = Ordered-flat_map (λ i j. i < j) SquarePrecedes (squares_in_column b.rows) (below b.cols)
     (λ c. Ordered-map (λ i j. i < j) SquarePrecedes (λ i. (c, i + 1)) (below b.rows) (λ i j less. inr (refl, omega arith)) (Ordered-range 0 b.rows))
@@ -219,10 +219,10 @@ ranks = (after_h, (after_v, (after_u, ((λ w among. absurd among), tt))))
 pub squares_ordered : (b : Board) → AllPairs SquarePrecedes (squares_of_board b)
 squares_ordered b = pairs_from_ordered SquarePrecedes (squares_of_board b) (squares_in_order b)
 
--- each group once, in group order
-pub groups_ordered : (b : Board) → AllPairs Precedes (groups_of b)
+pub groups_in_order : (b : Board) → Ordered Precedes (groups_of b)
 unfolding groups_of
-groups_ordered b = pairs_from_ordered Precedes (groups_of b) ordered
+groups_in_order b = Ordered-flat_map (λ v w. rank v < rank w) Precedes (groups_along b) ways along
+    (λ v w g h less in_v in_w. inl (subst (λ way. rank way < rank h.way) (way_is v g in_v) (subst (λ way. rank v < rank way) (way_is w h in_w) less))) ranks
   where
     way_is : (way : Way) (g : Group) → Among g (groups_along b way) → way ≡ g.way
     way_is way g among = let from = Among-map_gives (group_on b way) (filter (is_line b way) (squares_of_board b)) g among in ap (λ (g : Group). g.way) from.2
@@ -230,9 +230,9 @@ groups_ordered b = pairs_from_ordered Precedes (groups_of b) ordered
     along : (way : Way) → Ordered Precedes (groups_along b way)
     along way = Ordered-map SquarePrecedes Precedes (group_on b way) (filter (is_line b way) (squares_of_board b)) (λ u v less. inr (refl, less)) (Ordered-filter SquarePrecedes (is_line b way) (squares_of_board b) (squares_in_order b))
 
-    ordered : Ordered Precedes (groups_of b)
-    ordered = Ordered-flat_map (λ v w. rank v < rank w) Precedes (groups_along b) ways along
-        (λ v w g h less in_v in_w. inl (subst (λ way. rank way < rank h.way) (way_is v g in_v) (subst (λ way. rank v < rank way) (way_is w h in_w) less))) ranks
+-- each group once, in group order
+pub groups_ordered : (b : Board) → AllPairs Precedes (groups_of b)
+groups_ordered b = pairs_from_ordered Precedes (groups_of b) (groups_in_order b)
 
 -- ---- whole groups
 

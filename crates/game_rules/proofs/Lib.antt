@@ -15,3 +15,5 @@ pub mod FaultReaders
 pub mod Faults
 pub mod Squares
 pub mod Groups
+pub mod Narrowed
+pub mod Playable
