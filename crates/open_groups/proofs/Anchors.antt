@@ -62,12 +62,12 @@ at_rank anchors way d size = get_or_default anchors (rank way) d [] (subst (λ n
 
 -- the groups of a set that is kept
 module _ (a : Inside) (sound : IsSound a) where
-  anchored_on : (g : Group) → has_group (groups_anchored a.size a.anchors) g ≡ true → lies_on a.size g ≡ true
+  pub anchored_on : (g : Group) → has_group (groups_anchored a.size a.anchors) g ≡ true → lies_on a.size g ≡ true
   unfolding groups_anchored
   anchored_on g h = group_where_on a.size (is_anchored a.anchors) g h
 
   -- the anchors of a direction are those of the groups
-  old_along : (way : Way) → IsSetOf (λ s. has_group (groups_anchored a.size a.anchors) (group_on a.size way s)) (anchors_along a.anchors way)
+  pub old_along : (way : Way) → IsSetOf (λ s. has_group (groups_anchored a.size a.anchors) (group_on a.size way s)) (anchors_along a.anchors way)
   unfolding anchors_of
   old_along way =
       subst (IsSetOf (λ s. has_group (groups_anchored a.size a.anchors) (group_on a.size way s))) (at way ∙ ap (λ xs. anchors_along xs way) sound.determined)

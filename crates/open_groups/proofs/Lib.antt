@@ -2,3 +2,4 @@ pub mod Anchors
 pub mod Along
 pub mod Free
 pub mod Numbers
+pub mod Members

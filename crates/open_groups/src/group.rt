@@ -1,8 +1,8 @@
 //! One group, and all groups of a board. A group has the length of the lines of its board.
 ghost use Rattle.std.specs.Prelude.{◌≡◌, ◌+◌, ◌≤◌, ◌++◌, true, Some, None, if◌then◌else◌, length};
-ghost use Rattle.game_rules.specs.Board.{is_line};
+ghost use Rattle.game_rules.specs.Board.{is_line, same_length};
 ghost use Rattle.game_rules.specs.Squares.{has_square, squares_of_board, widest_with, IsSetOf};
-ghost use Rattle.game_rules.specs.Groups.{squares_of, group_on, groups_along, groups_of};
+ghost use Rattle.game_rules.specs.Groups.{squares_of, lies_on, group_on, groups_along, groups_of};
 ghost use Rattle.arrayvec.specs.ArrayVec.{array_vec_len};
 
 use arrayvec::ArrayVec;
@@ -11,7 +11,7 @@ use game_rules::Way;
 use std::marker::Model;
 
 /// No board has more groups, of either length.
-const MOST_GROUPS: usize = 238;
+pub(crate) const MOST_GROUPS: usize = 238;
 
 /// A group of squares in a line, by its anchor, its direction and its length.
 #[derive(Clone, Copy, Debug, PartialEq, Eq, Hash)]
@@ -55,6 +55,21 @@ impl Default for GroupId {
 }
 
 impl GroupId {
+    /// The group from this anchor, whose squares are all on the widest board.
+    pub(crate) fn from_anchor(anchor: Square, way: Way, len: Length) -> GroupId
+        requires { is_line (widest_with len) way anchor ≡ true }
+        ensures { result ≡ record { anchor = anchor; way = way; len = len } }
+    {
+        GroupId { anchor, way, len }
+    }
+
+    /// Whether the group has the length of the board's lines, and its squares are all on the board.
+    pub fn lies_on(&self, size: Size) -> bool
+        ensures { result ≡ lies_on size self.now }
+    {
+        same_length(self.len, size.length()) && size.has_line(self.anchor, self.way)
+    }
+
     /// The group's squares, from its anchor on: as many as its length says.
     pub fn squares(&self) -> ArrayVec<Square, MOST_IN_LINE>
         ensures value { result.items ≡ squares_of self.now }
@@ -135,4 +150,11 @@ pub fn group_length(g: GroupId) -> Length
     ensures { result ≡ g.len }
 {
     g.len
+}
+
+/// Whether the lengths are the same.
+pub(crate) fn same_length(a: Length, b: Length) -> bool
+    ensures { result ≡ same_length a b }
+{
+    a == b
 }

@@ -1,13 +1,16 @@
 //! Sets of groups, and the groups that a side can still fill. A set is of groups of one board, and is kept as the
 //! anchors of its groups in each direction; a contract sees the board, and the list of the groups in group order.
-ghost use Rattle.std.specs.Prelude.{◌≡◌, ◌≤◌, ◌&&◌, ◌||◌, true, false, map, length};
+ghost use Rattle.std.specs.Prelude.{◌≡◌, ◌+◌, ◌≤◌, ◌++◌, ◌&&◌, ◌||◌, true, false, map, length};
 ghost use Rattle.std.specs.Simd.Lanes.{mask_l};
 ghost use Rattle.game_rules.specs.Board.{same_length};
 ghost use Rattle.game_rules.specs.Position.{board_of};
-ghost use Rattle.open_groups.specs.GroupBits.{group_bits};
+ghost use Rattle.open_groups.specs.GroupBits.{group_bits, those_along};
+ghost use Rattle.arrayvec.specs.ArrayVec.{array_vec_len};
 ghost use Rattle.game_rules.specs.Groups.{lies_on, rank, same_group, has_group, is_free_for, IsGroupSetOf};
 
+use crate::group::{MOST_GROUPS, same_length};
 use crate::{GroupId, group_anchor, group_length, group_way, groups};
+use arrayvec::ArrayVec;
 use board_bits::{Length, Mask, Position, Side, Size};
 use game_rules::Way;
 use std::marker::Model;
@@ -62,6 +65,31 @@ impl GroupSet {
         same_length(group_length(g), self.size.length()) && anchors.has(group_anchor(g))
     }
 
+    /// The set's groups in group order. The cost is that of those groups alone.
+    pub fn groups(&self) -> ArrayVec<GroupId, MOST_GROUPS>
+        ensures { result.items ≡ self.now.groups }
+    {
+        // so the proof sees the anchors
+        let _anchors = &self.anchors;
+        let mut groups = ArrayVec::new();
+        self.push_along(Way::H, &mut groups);
+        self.push_along(Way::V, &mut groups);
+        self.push_along(Way::U, &mut groups);
+        self.push_along(Way::D, &mut groups);
+        groups
+    }
+
+    /// Puts the set's groups of one direction behind the others.
+    fn push_along(&self, way: Way, groups: &mut ArrayVec<GroupId, MOST_GROUPS>)
+        requires { array_vec_len groups.old + length (those_along self.now way) ≤ 238 }
+        ensures { groups.new.items ≡ groups.old.items ++ those_along self.now way }
+    {
+        let anchors = self.anchors[place_of(way)].squares();
+        for anchor in anchors.as_slice() {
+            groups.push(GroupId::from_anchor(*anchor, way, self.size.length()));
+        }
+    }
+
     /// The set with one more group of its board.
     pub fn with(&self, g: GroupId) -> GroupSet
         requires { lies_on self.now.board g ≡ true }
@@ -106,13 +134,6 @@ impl GroupSet {
         }
         word
     }
-}
-
-/// Whether the lengths are the same.
-fn same_length(a: Length, b: Length) -> bool
-    ensures { result ≡ same_length a b }
-{
-    a == b
 }
 
 /// Where the anchors of a direction are kept.

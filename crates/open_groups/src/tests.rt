@@ -12,20 +12,7 @@ fn square_of(size: Size, index: u8, row: u8) -> Option<Square> {
 
 /// The set without a square.
 fn without(mask: Mask, square: Square) -> Mask {
-    let mut rest = Mask::empty();
-    for index in 0..10 {
-        for row in 1..=10 {
-            if let Some(other) = Size::new(10, 10)
-                .ok()
-                .and_then(|size| square_of(size, index, row))
-            {
-                if other != square && mask.has(other) {
-                    rest = rest.with(other);
-                }
-            }
-        }
-    }
-    rest
+    mask.without(Mask::of(&[square]))
 }
 
 fn count_in(set: &GroupSet, list: &[GroupId]) -> usize {
