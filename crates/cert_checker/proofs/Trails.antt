@@ -1,6 +1,7 @@
 -- A path and the positions along it, one move longer.
-use Rattle.std.proofs.Common.{◌≡◌, ℕ, ◌+◌, ◌<◌, ◌≤◌, cond, List, [], ◌∷◌, ◌++◌, take, drop, set, get_or, Option, Some, None, length, sym, ap, ◌∙◌, inl, inr, arith}
+use Rattle.std.proofs.Common.{◌≡◌, ℕ, ◌+◌, ◌-◌, ◌<◌, ◌≤◌, cond, List, [], ◌∷◌, ◌++◌, take, drop, set, get_or, Option, Some, None, length, sym, ap, ◌∙◌, subst, inl, inr, arith}
 use Rattle.std.specs.List.{slice_get}
+use Rattle.std.proofs.Math.Seq.{take-add}
 use Rattle.std.proofs.lemmas.Bool.{cases_eq}
 use Rattle.std.proofs.lemmas.List.{take-append-drop, take_more, take-set-le, take_more_set, get_or-set_same, get_or-set_other, length-set}
 use Rattle.std.proofs.lemmas.Option.{slice_get-get_or}
@@ -72,3 +73,9 @@ board_played p q (x ∷ xs) h = elim (chosen (is_legal p x) (played (after_move 
 pub board_kept : (root last : Position) (columns : List ℕ) (positions : List Position) (moves : ℕ) → moves < length positions → slice_get positions moves ≡ played root (take moves columns)
     → board_of (get_or positions moves last) ≡ board_of root
 board_kept root last columns positions moves within kept = board_played root (get_or positions moves last) (take moves columns) (sym kept ∙ slice_get-get_or positions moves last within)
+
+-- two paths that are the same up to one place, and then up to another
+pub same_up_to : (at end : ℕ) (xs ys : List ℕ) → at ≤ end → take at xs ≡ take at ys → take (end - at) (drop at xs) ≡ take (end - at) (drop at ys) → take end xs ≡ take end ys
+same_up_to at end xs ys ordered first rest =
+    let parts : at + (end - at) ≡ end = omega arith in
+    subst (λ n. take n xs ≡ take n ys) parts (take-add at (end - at) xs ∙ ap (λ a. a ++ take (end - at) (drop at xs)) first ∙ ap (λ b. take at ys ++ b) rest ∙ sym (take-add at (end - at) ys))

@@ -8,6 +8,7 @@ mod claims;
 mod known;
 mod moves;
 mod reasons;
+mod shared_moves;
 mod stops;
 #[cfg(test)]
 mod tests;

@@ -2,6 +2,7 @@
 ghost use Rattle.std.specs.Prelude.{◌≡◌, ◌+◌, ◌<◌, ◌≤◌, true, false, [], ◌∷◌, ◌++◌, Some, None, if◌then◌else◌, length, take};
 ghost use Rattle.game_rules.specs.Position.{board_of, after_move, end_of, is_legal, played};
 
+use crate::shared_moves::shared_moves;
 use board_bits::{Column, End, MOST_SQUARES, Position};
 use std::marker::Model;
 
@@ -137,14 +138,7 @@ impl Trail {
         ensures same { take result self.now.path ≡ take result path.now }
     {
         let most = self.moves.min(path.len());
-        let kept = &self.columns[..most];
-        let wanted = &path[..most];
-        for index in 0..most {
-            if kept[index] != wanted[index] {
-                return index;
-            }
-        }
-        most
+        shared_moves(&self.columns[..most], &path[..most])
     }
 
     /// Takes back the moves behind the first so many.

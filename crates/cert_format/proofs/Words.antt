@@ -1,6 +1,7 @@
 -- Words as they are read: one is cut off at the first space, and a number is a word of its own.
-use Rattle.std.proofs.Common.{◌≡◌, ℕ, ◌+◌, ◌-◌, ◌<◌, ◌≤◌, ◌⊎◌, Bool, true, false, not, cond, ◌==◌, ◌&&◌, nat_le, nat_lt, List, [], ◌∷◌, take, drop, length, Option, Some, None, codes, Bor, refl, sym, ap, ◌∙◌, subst, inl, inr, arith}
+use Rattle.std.proofs.Common.{◌≡◌, ◌≢◌, ℕ, ◌+◌, ◌-◌, ◌<◌, ◌≤◌, ◌⊎◌, Bool, true, false, not, cond, ◌==◌, ◌&&◌, nat_le, nat_lt, List, [], ◌∷◌, ◌++◌, take, drop, length, Option, Some, None, codes, Bor, refl, sym, ap, ◌∙◌, subst, inl, inr, arith}
 use Rattle.std.specs.List.{position, position_or_len, onto_first}
+use Rattle.std.specs.Cmp.Lexicographic.{same_text}
 use Rattle.std.specs.Option.{option_map}
 use Rattle.std.specs.Str.{bytes_eq}
 use Rattle.std.specs.Fmt.{decimal}
@@ -12,11 +13,13 @@ use Rattle.std.proofs.Math.Bool.{and-false}
 use Rattle.std.proofs.lemmas.Bool.Decides.{nat_tests}
 use Rattle.bstr.specs.Find.{IsFirstByte, is_byte}
 use Rattle.io_ports.proofs.FirstByte.{first_none, first_found}
-use Rattle.proof_text.specs.Lemma.{Cite, ByEnd, ByOne, ByAll}
+use Rattle.proof_text.specs.Lemma.{Cite, Reason, ByEnd, ByOne, ByAll}
 use Rattle.proof_text.specs.Spelling.{spaced, most_cites}
-use Rattle.proof_text.specs.Reading.{◌>>=◌, words_of, only, number_of, letter_word, cites_of, one_of, all_of, reason_of, with_one, with_two, verdict_of}
+use Rattle.proof_text.specs.Reading.{◌>>=◌, words_of, number_of, letter_word, cites_of, one_of, all_of, reason_of, with_one, with_two, verdict_of}
+use Rattle.proof_text.specs.declared.Claim.TheVariants.{WhiteWins, WhiteFails, BlackWins, BlackFails}
 use Rattle.proof_text.specs.declared.Verdict.{Verdict}
 use Rattle.proof_text.specs.declared.Verdict.TheVariants.{Win, Loss, Draw, Unknown}
+use Rattle.cert_format.specs.Words.{HasNoClaim}
 use Rattle.proof_text.proofs.Words.{number_read}
 use Rattle.proof_text.proofs.Spelled.{plain_decimal, words_of_spaced}
 
@@ -91,13 +94,6 @@ last_word bytes = by_words (words_of bytes) refl
 pub words_some : (bytes : List ℕ) → 1 ≤ length (words_of bytes)
 words_some bytes = omega (arith, length-slice_split is_space bytes)
 
-pub only_none : {X : Type 0} (x : X) (bytes : List ℕ) → only x (words_of bytes) ≡ None
-only_none x bytes = by_words (words_of bytes) refl
-  where
-    by_words : (words : List (List ℕ)) → words_of bytes ≡ words → only x words ≡ None
-    by_words [] h = absurd (omega (arith, length-slice_split is_space bytes, ap length h))
-    by_words (word ∷ more) h = refl
-
 -- ---- numbers at the end of a line
 
 pub one_number : (verdict : ℕ → Verdict) (bytes : List ℕ) (n : Option ℕ) → number_of bytes ≡ n → with_one verdict (words_of bytes) ≡ option_map verdict n
@@ -139,23 +135,6 @@ letter_and_number cols bytes letter rest c n cut h k = elim (last_word rest) [
     none None = refl
     none (Some c) = refl
 
--- ---- the kind of a verdict
-
-pub verdict_win : (bytes word rest : List ℕ) (n : Option ℕ) → words_of bytes ≡ word ∷ words_of rest → true ≡ bytes_eq word (codes "win") → number_of rest ≡ n → verdict_of (words_of bytes) ≡ option_map Win n
-verdict_win bytes word rest n cut win h = ap verdict_of cut ∙ rw (← win) (one_number Win rest n h)
-
-pub verdict_loss : (bytes word rest : List ℕ) (n : Option ℕ) → words_of bytes ≡ word ∷ words_of rest → false ≡ bytes_eq word (codes "win") → true ≡ bytes_eq word (codes "loss") → number_of rest ≡ n
-    → verdict_of (words_of bytes) ≡ option_map Loss n
-verdict_loss bytes word rest n cut win loss h = ap verdict_of cut ∙ rw (← win, ← loss) (one_number Loss rest n h)
-
-pub verdict_none : (bytes word rest : List ℕ) → words_of bytes ≡ word ∷ words_of rest → false ≡ bytes_eq word (codes "win") → false ≡ bytes_eq word (codes "loss") → false ≡ bytes_eq word (codes "draw")
-    → verdict_of (words_of bytes) ≡ None
-verdict_none bytes word rest cut win loss draw = ap verdict_of cut ∙ rw (← win, ← loss, ← draw) (unknown (bytes_eq word (codes "unknown")))
-  where
-    unknown : (b : Bool) → cond b (only Unknown (words_of rest)) None ≡ None
-    unknown true = only_none Unknown rest
-    unknown false = refl
-
 -- ---- what is left of a row of words
 
 abbrev pub words_left : Option (Bor (List ℕ)) → List (List ℕ)
@@ -177,19 +156,89 @@ pub all_read : (cols : ℕ) (bytes : List ℕ) (cites : List Cite) → length (w
 all_read cols bytes cites few h =
     ap (λ b. cond b (option_map ByAll (cites_of cols (words_of bytes))) None) (and_from _ _ (le-leb 1 _ (words_some bytes)) (le-leb _ most_cites few)) ∙ ap (option_map ByAll) h
 
+-- ---- the first word, where others follow
+
+-- bytes that don't begin with this text and a space have another first word
+other_first : (text bytes word next : List ℕ) (more : List (List ℕ)) → ((rest : List ℕ) → bytes ≢ text ++ 32 ∷ rest) → words_of bytes ≡ word ∷ next ∷ more → bytes_eq word text ≡ true → ⊥
+other_first text bytes word next more never cut same =
+    never (spaced (next ∷ more)) (sym (join_with_byte-slice_split 32 bytes) ∙ ap spaced cut ∙ ap (λ word. word ++ 32 ∷ spaced (next ∷ more)) (same_text word text (sym same)))
+
+-- ---- the claim
+
+-- bytes that begin with no claim and a space
+pub claim_none : (bytes : List ℕ) → ((rest : List ℕ) → bytes ≢ codes "W+ " ++ rest) → ((rest : List ℕ) → bytes ≢ codes "W- " ++ rest) → ((rest : List ℕ) → bytes ≢ codes "B+ " ++ rest)
+    → ((rest : List ℕ) → bytes ≢ codes "B- " ++ rest) → HasNoClaim bytes
+claim_none bytes a b c d word next more cut =
+    at _ _ _ _ (other_first (codes "W+") bytes word next more a cut) (other_first (codes "W-") bytes word next more b cut) (other_first (codes "B+") bytes word next more c cut)
+    (other_first (codes "B-") bytes word next more d cut)
+  where
+    at : (p q r s : Bool) → (p ≡ true → ⊥) → (q ≡ true → ⊥) → (r ≡ true → ⊥) → (s ≡ true → ⊥) → cond p (Some WhiteWins) (cond q (Some WhiteFails) (cond r (Some BlackWins) (cond s (Some BlackFails) None))) ≡ None
+    at true q r s a b c d = absurd (a refl)
+    at false true r s a b c d = absurd (b refl)
+    at false false true s a b c d = absurd (c refl)
+    at false false false true a b c d = absurd (d refl)
+    at false false false false a b c d = refl
+
 -- ---- the kind of a reason
 
-pub reason_short : (cols : ℕ) (bytes word : List ℕ) → words_of bytes ≡ word ∷ [] → false ≡ bytes_eq word (codes "end") → reason_of cols (words_of bytes) ≡ None
-reason_short cols bytes word cut end = ap (reason_of cols) cut ∙ rw (← end) (other (bytes_eq word (codes "one")) (bytes_eq word (codes "all")))
+-- bytes that aren't `end`, and don't begin with another kind and a space
+pub reason_none : (cols : ℕ) (bytes : List ℕ) → bytes_eq bytes (codes "end") ≡ false → ((rest : List ℕ) → bytes ≢ codes "one " ++ rest) → ((rest : List ℕ) → bytes ≢ codes "all " ++ rest)
+    → reason_of cols (words_of bytes) ≡ None
+reason_none cols bytes end one all = by_words (words_of bytes) refl
   where
-    other : (one all : Bool) → cond one (one_of cols []) (cond all (all_of cols []) None) ≡ None
-    other true all = refl
-    other false true = refl
-    other false false = refl
+    alone : (e o a : Bool) → e ≡ false → cond e (Some ByEnd) (cond o None (cond a None None)) ≡ None
+    alone true o a h = cc
+    alone false true a h = refl
+    alone false false true h = refl
+    alone false false false h = refl
 
-pub reason_none : (cols : ℕ) (bytes word rest : List ℕ) → words_of bytes ≡ word ∷ words_of rest → false ≡ bytes_eq word (codes "one") → false ≡ bytes_eq word (codes "all") → reason_of cols (words_of bytes) ≡ None
-reason_none cols bytes word rest cut one all = ap (reason_of cols) cut ∙ rw (← one, ← all) (end (bytes_eq word (codes "end")))
+    first : (e o a : Bool) (x y : Option Reason) → (o ≡ true → ⊥) → (a ≡ true → ⊥) → cond e None (cond o x (cond a y None)) ≡ None
+    first true o a x y one all = refl
+    first false true a x y one all = absurd (one refl)
+    first false false true x y one all = absurd (all refl)
+    first false false false x y one all = refl
+
+    by_words : (words : List (List ℕ)) → words_of bytes ≡ words → reason_of cols (words_of bytes) ≡ None
+    by_words [] h = ap (reason_of cols) h
+    by_words (word ∷ []) h =
+        let same : bytes ≡ word = sym (join_with_byte-slice_split 32 bytes) ∙ ap spaced h in
+        ap (reason_of cols) h ∙ alone (bytes_eq word (codes "end")) (bytes_eq word (codes "one")) (bytes_eq word (codes "all")) (ap (λ word. bytes_eq word (codes "end")) (sym same) ∙ end)
+    by_words (word ∷ next ∷ more) h =
+        ap (reason_of cols) h ∙ first (bytes_eq word (codes "end")) (bytes_eq word (codes "one")) (bytes_eq word (codes "all")) _ _ (other_first (codes "one") bytes word next more one h)
+        (other_first (codes "all") bytes word next more all h)
+
+-- ---- the kind of a verdict
+
+pub verdict_win : (bytes rest : List ℕ) (n : Option ℕ) → bytes ≡ codes "win " ++ rest → number_of rest ≡ n → verdict_of (words_of bytes) ≡ option_map Win n
+verdict_win bytes rest n h is = ap (λ bytes. verdict_of (words_of bytes)) h ∙ one_number Win rest n is
+
+pub verdict_loss : (bytes rest : List ℕ) (n : Option ℕ) → bytes ≡ codes "loss " ++ rest → number_of rest ≡ n → verdict_of (words_of bytes) ≡ option_map Loss n
+verdict_loss bytes rest n h is = ap (λ bytes. verdict_of (words_of bytes)) h ∙ one_number Loss rest n is
+
+-- bytes that aren't `unknown`, and don't begin with another kind and a space
+pub verdict_none : (bytes : List ℕ) → bytes_eq bytes (codes "unknown") ≡ false → ((rest : List ℕ) → bytes ≢ codes "win " ++ rest) → ((rest : List ℕ) → bytes ≢ codes "loss " ++ rest)
+    → ((rest : List ℕ) → bytes ≢ codes "draw " ++ rest) → verdict_of (words_of bytes) ≡ None
+verdict_none bytes unknown win loss draw = by_words (words_of bytes) refl
   where
-    end : (b : Bool) → cond b (only ByEnd (words_of rest)) None ≡ None
-    end true = only_none ByEnd rest
-    end false = refl
+    alone : (w l d u : Bool) → u ≡ false → cond w None (cond l None (cond d None (cond u (Some Unknown) None))) ≡ None
+    alone true l d u h = refl
+    alone false true d u h = refl
+    alone false false true u h = refl
+    alone false false false true h = cc
+    alone false false false false h = refl
+
+    first : (w l d u : Bool) (x y z : Option Verdict) → (w ≡ true → ⊥) → (l ≡ true → ⊥) → (d ≡ true → ⊥) → cond w x (cond l y (cond d z (cond u None None))) ≡ None
+    first true l d u x y z win loss draw = absurd (win refl)
+    first false true d u x y z win loss draw = absurd (loss refl)
+    first false false true u x y z win loss draw = absurd (draw refl)
+    first false false false true x y z win loss draw = refl
+    first false false false false x y z win loss draw = refl
+
+    by_words : (words : List (List ℕ)) → words_of bytes ≡ words → verdict_of (words_of bytes) ≡ None
+    by_words [] h = ap verdict_of h
+    by_words (word ∷ []) h =
+        let same : bytes ≡ word = sym (join_with_byte-slice_split 32 bytes) ∙ ap spaced h in
+        ap verdict_of h ∙ alone (bytes_eq word (codes "win")) (bytes_eq word (codes "loss")) (bytes_eq word (codes "draw")) (bytes_eq word (codes "unknown")) (ap (λ word. bytes_eq word (codes "unknown")) (sym same) ∙ unknown)
+    by_words (word ∷ next ∷ more) h =
+        ap verdict_of h ∙ first (bytes_eq word (codes "win")) (bytes_eq word (codes "loss")) (bytes_eq word (codes "draw")) (bytes_eq word (codes "unknown")) _ _ _ (other_first (codes "win") bytes word next more win h) (other_first (codes "loss") bytes word next more loss h)
+        (other_first (codes "draw") bytes word next more draw h)

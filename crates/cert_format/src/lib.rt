@@ -5,6 +5,7 @@
 mod back_line;
 mod line_text;
 mod lines;
+mod named_moves;
 mod number;
 mod output;
 mod reading;

@@ -73,6 +73,7 @@ impl LemmaOut {
 
     /// Puts the line of the next lemma, and answers its number. On `Failed`, which comes only where the sink's count of
     /// faults rose, a prefix of the line was written, and the number is given to the lemma that is put next.
+    #[inline(always)]
     pub fn put<O: Sink>(
         &mut self,
         out: &mut O,

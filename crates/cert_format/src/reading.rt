@@ -1,17 +1,20 @@
-//! The reading of a line, word by word. Each reader gives what the definition of the same name gives of its words.
-ghost use Rattle.std.specs.Prelude.{◌≡◌, ◌<◌, ◌∷◌, [], Some, None, if◌then◌else◌, IfSome, MatchOption, length, map, option_map, position, ◌==◌};
+//! The reading of a line, word by word. Each reader gives what the definition of the same name gives of its words. A word
+//! that only a few can be is compared where it stands, with the space behind it; of any other the end is looked for.
+ghost use Rattle.std.specs.Prelude.{◌≡◌, ◌≢◌, ℕ, ◌<◌, List, ◌∷◌, ◌++◌, [], Some, None, if◌then◌else◌, IfSome, MatchOption, length, map, option_map, position, ◌==◌};
 ghost use Rattle.std.specs.Str.{bytes_eq};
 ghost use Rattle.std.specs.List.{list_all};
 ghost use Rattle.proof_text.specs.Lemma.{ByOne, ByAll};
-ghost use Rattle.proof_text.specs.Spelling.{is_printable, is_remark};
+ghost use Rattle.proof_text.specs.Spelling.{is_printable, is_remark, claim_word};
 ghost use Rattle.proof_text.specs.declared.Verdict.TheVariants.{Draw};
-ghost use Rattle.proof_text.specs.Reading.{words_of, number_of, is_letter, column_of, path_of, claim_of, letter_word, cite_of, one_of, all_of, reason_of, lemma_of, with_two, verdict_of, read_line};
+ghost use Rattle.proof_text.specs.Reading.{words_of, number_of, is_letter, column_of, path_of, letter_word, cite_of, one_of, all_of, reason_of, lemma_of, with_two, verdict_of, read_line};
 ghost use Rattle.cert_format.specs.Shape as shape;
 ghost use Rattle.cert_format.specs.Shape.{Reads, Views, ReadsInto};
+ghost use Rattle.cert_format.specs.Words.{HasNoClaim};
 
 use crate::lines::{
     Cite, LONGEST_LINE, LONGEST_PATH, Lemma, Line, LineFault, LineView, MOST_CITES, Reason,
 };
+use crate::named_moves::named_moves;
 use crate::number::number_between;
 use arrayvec::ArrayVec;
 use board_bits::{Column, Size};
@@ -76,10 +79,11 @@ fn read_into(lemma: &mut Lemma, bytes: &[u8], size: Size) -> Result<Kind, LineFa
         return Ok(Kind::Remark);
     }
     let (word, rest) = split_word(bytes);
+    let rest = rest.ok_or(LineFault)?;
     if is_word(word, b"value") {
-        return Ok(Kind::Verdict(verdict_of(rest.ok_or(LineFault)?).ok_or(LineFault)?));
+        return Ok(Kind::Verdict(verdict_of(rest).ok_or(LineFault)?));
     }
-    read_lemma(lemma, bytes, size).ok_or(LineFault)?;
+    read_lemma(lemma, word, rest, size).ok_or(LineFault)?;
     Ok(Kind::Lemma)
 }
 
@@ -101,31 +105,34 @@ fn are_printable(bytes: &[u8]) -> bool
     bytes.iter().all(|byte| (b' '..=b'~').contains(byte))
 }
 
-fn read_lemma(lemma: &mut Lemma, bytes: &[u8], size: Size) -> Option<()>
-    ensures { option_map (λ _. shape.lemma_of lemma.new) result ≡ lemma_of size.cols (words_of bytes.now) }
+/// Reads a lemma's number and what stands behind it into this room.
+fn read_lemma(lemma: &mut Lemma, number: &[u8], rest: &[u8], size: Size) -> Option<()>
+    ensures { option_map (λ _. shape.lemma_of lemma.new) result ≡ lemma_of size.cols (number.now ∷ words_of rest.now) }
 {
-    let (number, rest) = split_word(bytes);
-    let (path, rest) = split_word(rest?);
-    let (claim, rest) = split_word(rest?);
+    let (path, rest) = split_word(rest);
     lemma.number = number_of(number)?;
     read_path(&mut lemma.path, path, size)?;
-    lemma.claim = claim_of(claim)?;
-    lemma.reason = reason_of(rest?, size)?;
+    let (claim, rest) = split_claim(rest?)?;
+    lemma.claim = claim;
+    lemma.reason = reason_of(rest, size)?;
     Some(())
 }
 
-/// The letters of at most a hundred columns, or `-` for none.
+/// The letters of at most a hundred columns, or `-` for none. The moves of the path before that are named by the same
+/// letters stay, so that only the letters behind them are read.
 fn read_path(path: &mut ArrayVec<Column, LONGEST_PATH>, word: &[u8], size: Size) -> Option<()>
     ensures { option_map (λ _. path.new.items) result ≡ path_of size.cols word.now }
 {
-    path.clear();
     if is_word(word, b"-") {
+        path.clear();
         return Some(());
     }
     if word.is_empty() || word.len() > LONGEST_PATH {
         return None;
     }
-    for letter in word {
+    let kept = named_moves(path.as_slice(), word, size.cols());
+    path.truncate(kept);
+    for letter in &word[kept..] {
         path.push(column_of(*letter, size)?);
     }
     Some(())
@@ -148,28 +155,46 @@ fn column_of(letter: u8, size: Size) -> Option<Column>
     size.column(letter.checked_sub(b'a')?)
 }
 
-fn claim_of(word: &[u8]) -> Option<Claim>
-    ensures { result ≡ claim_of word.now }
+/// The claim that the first word makes, and what stands behind the space after it; None where the first word makes no
+/// claim, or is the last.
+fn split_claim(bytes: &[u8]) -> Option<(Claim, &[u8])>
+    ensures { MatchOption result (HasNoClaim bytes.now) (λ read. words_of bytes.now ≡ claim_word read.0 ∷ words_of read.1.now) }
 {
-    match word {
-        b"W+" => Some(Claim::WhiteWins),
-        b"W-" => Some(Claim::WhiteFails),
-        b"B+" => Some(Claim::BlackWins),
-        b"B-" => Some(Claim::BlackFails),
-        _ => None,
+    if let Some(rest) = behind(bytes, b"W+ ") {
+        return Some((Claim::WhiteWins, rest));
     }
+    if let Some(rest) = behind(bytes, b"W- ") {
+        return Some((Claim::WhiteFails, rest));
+    }
+    if let Some(rest) = behind(bytes, b"B+ ") {
+        return Some((Claim::BlackWins, rest));
+    }
+    if let Some(rest) = behind(bytes, b"B- ") {
+        return Some((Claim::BlackFails, rest));
+    }
+    None
+}
+
+/// What stands behind the text, if the bytes begin with it.
+fn behind<'a>(bytes: &'a [u8], text: &[u8]) -> Option<&'a [u8]>
+    ensures { MatchOption result ((rest : List ℕ) → bytes.now ≢ text.now ++ rest) (λ rest. bytes.now ≡ text.now ++ rest.now) }
+{
+    bytes.strip_prefix(text)
 }
 
 fn reason_of(bytes: &[u8], size: Size) -> Option<Reason>
     ensures { option_map shape.reason_of result ≡ reason_of size.cols (words_of bytes.now) }
 {
-    let (word, rest) = split_word(bytes);
-    match rest {
-        None if is_word(word, b"end") => Some(Reason::Ended),
-        Some(rest) if is_word(word, b"one") => Some(Reason::One(one_of(rest, size)?)),
-        Some(rest) if is_word(word, b"all") => Some(Reason::All(all_of(rest, size)?)),
-        _ => None,
+    if is_word(bytes, b"end") {
+        return Some(Reason::Ended);
     }
+    if let Some(rest) = behind(bytes, b"one ") {
+        return Some(Reason::One(one_of(rest, size)?));
+    }
+    if let Some(rest) = behind(bytes, b"all ") {
+        return Some(Reason::All(all_of(rest, size)?));
+    }
+    None
 }
 
 /// A letter and a number, as two words.
@@ -217,14 +242,19 @@ fn cite_of(word: &[u8], size: Size) -> Option<Cite>
 fn verdict_of(bytes: &[u8]) -> Option<Verdict>
     ensures { result ≡ verdict_of (words_of bytes.now) }
 {
-    let (word, rest) = split_word(bytes);
-    match rest {
-        None if is_word(word, b"unknown") => Some(Verdict::Unknown),
-        Some(rest) if is_word(word, b"win") => Some(Verdict::Win(number_of(rest)?)),
-        Some(rest) if is_word(word, b"loss") => Some(Verdict::Loss(number_of(rest)?)),
-        Some(rest) if is_word(word, b"draw") => draw_of(rest),
-        _ => None,
+    if is_word(bytes, b"unknown") {
+        return Some(Verdict::Unknown);
     }
+    if let Some(rest) = behind(bytes, b"win ") {
+        return Some(Verdict::Win(number_of(rest)?));
+    }
+    if let Some(rest) = behind(bytes, b"loss ") {
+        return Some(Verdict::Loss(number_of(rest)?));
+    }
+    if let Some(rest) = behind(bytes, b"draw ") {
+        return draw_of(rest);
+    }
+    None
 }
 
 /// A draw with its two numbers.

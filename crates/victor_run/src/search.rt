@@ -97,6 +97,7 @@ pub(crate) fn solve<O: Sink>(
 }
 
 /// Puts a lemma, and answers with its number.
+#[inline(always)]
 fn put_lemma<O: Sink>(
     path: &[Column],
     side: Side,
