@@ -1,34 +1,39 @@
-//! The type of Claimevens, and its calls as a rule.
-ghost use Rattle.std.specs.Prelude.{◌≡◌, ◌&&◌, true, Some, None, if◌then◌else◌, is_some};
+//! The type of Claimevens, its calls as a rule, and the list of those that fit.
+ghost use Rattle.std.specs.Prelude.{◌≡◌, ◌+◌, ◌≤◌, ◌++◌, ◌&&◌, true, map, length, Some, None, if◌then◌else◌, is_some};
 ghost use Rattle.game_rules.specs.Board.{on_board};
+ghost use Rattle.game_rules.specs.Squares.{widest, IsSetOf};
 ghost use Rattle.plan_rules.specs.Squares.{above, is_odd};
-ghost use Rattle.plan_rules.specs.Rules.{claimeven, is_shaped};
+ghost use Rattle.plan_rules.specs.Rules.{claimeven, is_shaped, fits};
+ghost use Rattle.plan_rules.specs.Listing.{listed};
+ghost use Rattle.plan_rules.specs.declared.Kind.TheVariants as kinds;
 
+use arrayvec::ArrayVec;
 use board_bits::{Mask, Position, Size, Square, Way};
-use rule_law::{Kept, Kind, Rule};
+use rule_law::{Kept, Kind, Listed, Rule, Taker, list_fitting};
 use std::marker::Model;
 
-/// A square on an odd row, and the square above it. The rule is a part of this project's own profile "after Allis".
+/// No board has more squares on odd rows.
+const MOST_CLAIMEVENS: usize = 50;
+
+/// A square on an odd row, which owns the square above it too. The rule is a part of this project's own profile "after
+/// Allis".
 #[derive(Clone, Copy, Debug, PartialEq, Eq, Hash)]
 pub struct Claimeven {
     lower: Square,
-    upper: Square,
 }
 
 impl Model for Claimeven {
-    ghost use Rattle.std.specs.Prelude.{ℕ};
-    ghost use Rattle.plan_rules.specs.Squares.{above};
-    ghost use Rattle.claimeven.specs.Inside.{IsPaired, lower_determines_the_fields};
+    ghost use Rattle.std.specs.Prelude.{◌≡◌, ℕ, true};
+    ghost use Rattle.game_rules.specs.Squares.{widest};
+    ghost use Rattle.plan_rules.specs.Rules.{claimeven, is_shaped};
 
     ghost Value = { ℕ × ℕ };
 
     ghost view = { λ a. a.lower };
 
-    ghost invariant = { IsPaired };
+    ghost invariant = { λ a. is_shaped (claimeven a.lower) widest ≡ true };
 
-    ghost inverse = { λ s. record { lower = s; upper = above s } };
-
-    ghost inverse_ok = { lower_determines_the_fields };
+    ghost inverse = { λ s. record { lower = s } };
 }
 
 impl Default for Claimeven {
@@ -36,12 +41,10 @@ impl Default for Claimeven {
 
     ghost is_default = { λ x. x ≡ (0, 1) };
 
-    /// The two lowest squares of the first column, which every board has.
+    /// That of the two lowest squares of the first column, which every board has.
     fn default() -> Self {
-        let lower = Square::default();
         Claimeven {
-            lower,
-            upper: lower.step(Way::V, 1),
+            lower: Square::default(),
         }
     }
 }
@@ -53,19 +56,19 @@ impl Claimeven {
         ensures value { result ≡ (if is_shaped (claimeven lower) size then Some lower else None) }
         ensures odd { is_some result ≡ (on_board size lower && is_odd lower.1) }
     {
-        if !size.has(lower) || lower.row() % 2 == 0 {
-            return None;
-        }
         // its contract says that the size is a board's, which has an even number of rows
         let _board = size.cols();
-        let upper = size.square(lower.column(), lower.row() + 1)?;
-        Some(Claimeven { lower, upper })
+        if size.has(lower) && lower.row() % 2 == 1 {
+            Some(Claimeven { lower })
+        } else {
+            None
+        }
     }
 
     /// The lower square.
     pub fn lower(&self) -> Square
         ensures value { result ≡ self.now }
-        ensures odd { is_odd self.now.1 ≡ true }
+        ensures shaped { is_shaped (claimeven self.now) widest ≡ true }
     {
         self.lower
     }
@@ -74,7 +77,7 @@ impl Claimeven {
     fn upper_square(&self) -> Square
         ensures { result ≡ above self.now }
     {
-        self.upper
+        self.lower().step(Way::V, 1)
     }
 }
 
@@ -116,7 +119,7 @@ impl Rule for Claimeven {
 
     fn fits(&self, p: &Position) -> bool {
         // its contract says that the row is odd
-        let _odd = self.lower();
+        let _shaped = self.lower();
         p.is_empty(self.lower()) && p.is_empty(self.upper_square())
     }
 
@@ -158,4 +161,55 @@ impl Rule for Claimeven {
     ghost bar = { claimeven_bars };
 
     ghost keeps = { claimeven_keeps };
+}
+
+impl Listed for Claimeven {
+    ghost use Rattle.plan_rules.specs.Rules.{claimeven, fits};
+
+    type Site = Square;
+
+    ghost instance = { claimeven };
+
+    ghost written = { claimeven };
+
+    ghost is_site = { λ p lower. fits (claimeven lower) p };
+
+    fn fitting_at(p: &Position, lower: Square) -> Option<Claimeven> {
+        Claimeven::new(p.size(), lower)
+    }
+}
+
+/// All Claimevens that fit at the position, in square order of their lower squares.
+pub fn list_claimeven(p: &Position) -> ArrayVec<Claimeven, MOST_CLAIMEVENS>
+    ensures { map claimeven result.items ≡ listed kinds.Claimeven p.now }
+{
+    // its contract says that the board is one with a size
+    let _board = p.size();
+    let mut list = ArrayVec::new();
+    push_claimevens(p, &mut list);
+    list
+}
+
+/// Hands over all Claimevens that fit at the position, in that order.
+pub fn push_claimevens<T: Taker<Claimeven>>(p: &Position, taker: &mut T)
+    requires { length (T.taken taker.old) + length (listed kinds.Claimeven p.now) ≤ T.room taker.old }
+    ensures taken { T.taken taker.new ≡ T.taken taker.old ++ listed kinds.Claimeven p.now }
+    ensures room { T.room taker.new ≡ T.room taker.old }
+{
+    // its contract says that the board is one with a size
+    let _board = p.size();
+    let lowers = lowers(p).squares();
+    list_fitting(p, lowers.as_slice(), taker);
+}
+
+/// The lower squares of the Claimevens that fit: those on odd rows that are empty with the square above them.
+fn lowers(p: &Position) -> Mask
+    ensures { IsSetOf (λ lower. fits (claimeven lower) p.now) result }
+{
+    // its contract says that the board is one with a size
+    let _board = p.size();
+    let empties = p.empties();
+    empties
+        .intersection(empties.lowered())
+        .intersection(Mask::odd_rows())
 }

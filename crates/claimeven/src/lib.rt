@@ -3,10 +3,8 @@
 #![tactic(auto)]
 
 mod claimeven;
-mod list;
 
-pub use crate::claimeven::Claimeven;
-pub use list::list_claimeven;
+pub use crate::claimeven::{Claimeven, list_claimeven, push_claimevens};
 
 #[cfg(test)]
 mod tests;

@@ -11,7 +11,7 @@ use Rattle.plan_rules.specs.Laws.{BarLaw}
 use Rattle.plan_rules.proofs.Grounds.{fits_more}
 use Rattle.plan_rules.proofs.Words.{no_facts}
 use Rattle.plan_rules.proofs.Lines.{each_of_gives, open_lies, line_square_on, line_black, black_under, no_step}
-use Rattle.plan_rules.proofs.Lawful.{Lawful}
+use Rattle.plan_rules.specs.Lawful.{Lawful}
 
 pub aftereven_bars : (g : Group) → BarLaw (fits (aftereven g)) (is_supported (aftereven g)) (is_calm (aftereven g)) (barred (aftereven g)) (Some g)
 aftereven_bars g p q facts set fitted empty supported calm are_true stay held owns =

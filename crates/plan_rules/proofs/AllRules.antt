@@ -1,6 +1,6 @@
 -- Each of the nine rules keeps the laws.
 use Rattle.plan_rules.specs.Rules.{RuleInstance, claimeven, baseinverse, lowinverse, highinverse, baseclaim, vertical, aftereven, before, specialbefore}
-use Rattle.plan_rules.proofs.Lawful.{Lawful}
+use Rattle.plan_rules.specs.Lawful.{Lawful}
 use Rattle.plan_rules.proofs.Claimeven.{claimeven_laws}
 use Rattle.plan_rules.proofs.Baseinverse.{baseinverse_laws}
 use Rattle.plan_rules.proofs.Lowinverse.{lowinverse_laws}

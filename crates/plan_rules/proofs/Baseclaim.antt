@@ -17,7 +17,7 @@ use Rattle.plan_rules.proofs.Squares.{other_column, other_row}
 use Rattle.plan_rules.proofs.Turns.{turn, answer_at, low_kept, low_above, low_over}
 use Rattle.plan_rules.proofs.Grounds.{fits_shape}
 use Rattle.plan_rules.proofs.Words.{narrow, are_white, is_free, is_free_over, free_from, free_over_from, words_local, zone_on_board, zone_none, foot_low, no_facts, empty_now, filled_now}
-use Rattle.plan_rules.proofs.Lawful.{Lawful}
+use Rattle.plan_rules.specs.Lawful.{Lawful}
 
 module _ (a b e : Square) where
   abbrev zone : List Square

@@ -16,7 +16,7 @@ use Rattle.plan_rules.proofs.Squares.{other_column}
 use Rattle.plan_rules.proofs.Turns.{turn, answer_at, low_kept}
 use Rattle.plan_rules.proofs.Grounds.{fits_shape}
 use Rattle.plan_rules.proofs.Words.{narrow, are_white, is_free, free_from, words_local, zone_on_board, zone_none, foot_low}
-use Rattle.plan_rules.proofs.Lawful.{Lawful}
+use Rattle.plan_rules.specs.Lawful.{Lawful}
 
 twin_is : (s t u v : Square) → slice_get (as_list (twin_of (baseinverse s t))) 0 ≡ Some (u, v) → (s ≡ u) × (t ≡ v)
 twin_is s t u v h = (ap left h, ap right h)

@@ -13,7 +13,7 @@ use Rattle.plan_rules.specs.Laws.{BarLaw, AreTrue}
 use Rattle.plan_rules.proofs.Grounds.{fits_more}
 use Rattle.plan_rules.proofs.Words.{no_facts}
 use Rattle.plan_rules.proofs.Lines.{each_of_gives, open_lies, line_square_on, line_black, black_under, no_step}
-use Rattle.plan_rules.proofs.Lawful.{Lawful}
+use Rattle.plan_rules.specs.Lawful.{Lawful}
 
 -- White doesn't own an upper square, nor a square of a pair below another one of White's
 pub not_white : (facts : Facts) (q : Position) (u : Square) → AreTrue facts.upper facts.pair facts.twin q → (facts.upper u || facts.pair u) ≡ true

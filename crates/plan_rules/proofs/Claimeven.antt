@@ -15,7 +15,7 @@ use Rattle.plan_rules.specs.Laws.{StartLaw, LocalLaw, StepLaw, FactLaw, BarLaw, 
 use Rattle.plan_rules.proofs.Squares.{other_row}
 use Rattle.plan_rules.proofs.Turns.{turn, answer_at, low_above}
 use Rattle.plan_rules.proofs.Words.{narrow, is_white, is_free, is_free_over, free_from, free_over_from, words_local, zone_on_board, zone_none}
-use Rattle.plan_rules.proofs.Lawful.{Lawful}
+use Rattle.plan_rules.specs.Lawful.{Lawful}
 
 module _ (x : Square) where
   abbrev zone : List Square

@@ -17,7 +17,7 @@ use Rattle.plan_rules.proofs.Squares.{other_column, other_row, has_append}
 use Rattle.plan_rules.proofs.Turns.{turn, answer_at, low_kept, low_above, low_over}
 use Rattle.plan_rules.proofs.Grounds.{TwoColumns, high_two}
 use Rattle.plan_rules.proofs.Words.{narrow, mapped, are_white, is_free, is_free_over, free_from, free_over_from, words_local, zone_on_board, zone_none, foot_low, empty_now, filled_now}
-use Rattle.plan_rules.proofs.Lawful.{Lawful}
+use Rattle.plan_rules.specs.Lawful.{Lawful}
 
 -- the other column first
 abbrev swap_word : Word → Word

@@ -1,9 +1,17 @@
 mod Vectors
+mod ListVectors
 pub mod Squares
 pub mod Turns
 pub mod Table
-pub mod Lawful
 pub mod Plans
+pub mod Fitting
+pub mod Sums
+pub mod Listed
+pub mod ListOrder
+pub mod Sites
+pub mod LineSites
+pub mod SpecialSites
+pub mod Room
 pub mod Grounds
 pub mod Even
 pub mod AllRules
@@ -24,3 +32,6 @@ pub mod Lowinverse
 pub mod Replies
 pub mod Theorems
 pub mod ColumnWords
+pub mod Fits
+pub mod Spans
+pub mod Bottoms

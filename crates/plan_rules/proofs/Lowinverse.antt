@@ -23,7 +23,7 @@ use Rattle.plan_rules.proofs.Grounds.{TwoColumns, low_two, fits_shape}
 use Rattle.plan_rules.proofs.Words.{zone_on_board, zone_none, foot_low}
 use Rattle.plan_rules.proofs.Columns.{man_on, length_within, length_on, length_full, same_on, beside_on, pushed_on}
 use Rattle.plan_rules.proofs.Pairs.{paired_even, shifted_odd, paired_more, paired_topped, paired_shifted, shifted_more, paired_odd, topped_odd, paired_no_two, topped_no_two, shifted_no_two, paired_not_last, shifted_not_last}
-use Rattle.plan_rules.proofs.Lawful.{Lawful}
+use Rattle.plan_rules.specs.Lawful.{Lawful}
 
 abbrev some_square : Square → Option Square
 some_square u = Some u

@@ -10,7 +10,7 @@ use Rattle.game_rules.proofs.Squares.{same_square_is, same_square_refl, has_give
 use Rattle.plan_rules.specs.Squares.{above, span, column_up}
 use Rattle.plan_rules.specs.Causes.{names_twins, is_top, is_full_beside, names_no_reply}
 use Rattle.plan_rules.specs.Rules.{RuleInstance, kind_of, claimeven, baseinverse, lowinverse, highinverse, baseclaim, vertical, aftereven, before, specialbefore, zone_of, is_low_column, has_shape, twin_of, high_reply, low_reply, reply_to, has_no_answer}
-use Rattle.plan_rules.proofs.Squares.{other_row, has_append, has_left, has_right, column_gives, column_from}
+use Rattle.plan_rules.proofs.Squares.{other_row, same_place, has_append, has_left, has_right, column_gives, column_from}
 
 -- what the rule says of each square
 abbrev IsNamed : RuleInstance → Position → Square → Type 0
@@ -155,12 +155,12 @@ any_column test b bottom (suc (suc size)) each some =
     twice true = refl
     twice false = refl
 
--- a column of a Lowinverse
+-- what a column of a Lowinverse is
 pub record IsLow (bottom top : Square) : Type 0 where
   pub column : bottom.0 ≡ top.0
   pub rows : bottom.1 + 2 ≤ top.1
 
-low_column : (bottom top : Square) → is_low_column bottom top ≡ true → IsLow bottom top
+pub low_column : (bottom top : Square) → is_low_column bottom top ≡ true → IsLow bottom top
 low_column bottom top h =
     let rows = and_parts _ _ h in
     record { column = eqb-true bottom.0 top.0 (and_parts _ _ (and_parts _ _ rows.0).0).0; rows = leb-true (bottom.1 + 2) top.1 rows.1 }
@@ -179,13 +179,10 @@ module _ (bottom top beside : Square) (beside_top : Square) (zone : List Square)
         (has_from (span bottom top) (bottom.0, bottom.1 + (i + 1)) (column_from bottom (top.1 + 1 - bottom.1) (i + 1) more))) in
         ap not over ∙ sym (other_row (bottom.0, bottom.1 + i) top (λ same. omega arith))
     | inr last ↦
-        let here : (bottom.0, bottom.1 + i) ≡ top = at_top top low.column (omega (arith, low.rows)) in
+        let here : (bottom.0, bottom.1 + i) ≡ top = same_place (bottom.0, bottom.1 + i) top low.column (omega (arith, low.rows)) in
         ap not (false_from_ne_true (has_square zone (bottom.0, bottom.1 + i + 1)) (none last)) ∙ sym (ap (λ u. same_square u top) here ∙ same_square_refl top)
   ]
     where
-      at_top : (t : Square) → bottom.0 ≡ t.0 → bottom.1 + i ≡ t.1 → (bottom.0, bottom.1 + i) ≡ t
-      at_top (c, r) column row = rw (column, row) refl
-
       none : top.1 + 1 - bottom.1 ≤ i + 1 → has_square zone (bottom.0, bottom.1 + i + 1) ≡ true → ⊥
       none last owned = elim (each (bottom.0, bottom.1 + i + 1) owned) [
         | inl own ↦ let at = in_column bottom top (bottom.0, bottom.1 + i + 1) own in omega (arith, at.1, ap (λ (u : Square). u.1) at.2)

@@ -18,7 +18,7 @@ use Rattle.plan_rules.proofs.Grounds.{fits_more}
 use Rattle.plan_rules.proofs.Words.{no_facts}
 use Rattle.plan_rules.proofs.Lines.{each_of_gives, open_lies, line_square_on, line_black, black_under, no_step}
 use Rattle.plan_rules.proofs.Before.{not_white, low_open}
-use Rattle.plan_rules.proofs.Lawful.{Lawful}
+use Rattle.plan_rules.specs.Lawful.{Lawful}
 
 -- of two twins White doesn't own the one where it owns the other
 twin_not_white : (facts : Facts) (q : Position) (u v : Square) → AreTrue facts.upper facts.pair facts.twin q → is_twin facts.twin u v ≡ true → has_man q White u ≡ true → has_man q White v ≡ false

@@ -26,6 +26,10 @@ has_left us vs u h = has_from (us ++ vs) u (Among-append_left u us vs (has_gives
 pub has_right : (us vs : List Square) (u : Square) → has_square vs u ≡ true → has_square (us ++ vs) u ≡ true
 has_right us vs u h = has_from (us ++ vs) u (Among-append_right u us vs (has_gives vs u h))
 
+-- squares of one column and one row are the same
+pub same_place : (u v : Square) → u.0 ≡ v.0 → u.1 ≡ v.1 → u ≡ v
+same_place (a, b) (c, r) column row = rw (column, row) refl
+
 -- ---- members of a list by their place
 
 pub Among-get : {X : Type 0} (xs : List X) (x : X) → Among x xs → (i : ℕ) × (slice_get xs i ≡ Some x)

@@ -27,7 +27,7 @@ use Rattle.plan_rules.specs.Plan.{empty_part, IsMember, IsPlan, plan_reply, afte
 use Rattle.plan_rules.proofs.Squares.{Among-get, get-Among, find_one}
 use Rattle.plan_rules.proofs.Turns.{man_from, has_man_from, playable_from, playable_on_board, playable_room, playable_man, beside, stays, side_after, Turned, turn}
 use Rattle.plan_rules.proofs.Table.{always_calm, zones_apart}
-use Rattle.plan_rules.proofs.Lawful.{Lawful}
+use Rattle.plan_rules.specs.Lawful.{Lawful}
 use Rattle.plan_rules.proofs.Plans.{any_member}
 use Rattle.plan_rules.proofs.Grounds.{founded, members_together, has_floors}
 use Rattle.plan_rules.proofs.Even.{calm_even}

@@ -10,7 +10,7 @@ use Rattle.plan_rules.specs.Calm.{is_calm}
 use Rattle.plan_rules.specs.Laws.{BarLaw}
 use Rattle.plan_rules.proofs.Words.{no_facts}
 use Rattle.plan_rules.proofs.Lines.{no_step}
-use Rattle.plan_rules.proofs.Lawful.{Lawful}
+use Rattle.plan_rules.specs.Lawful.{Lawful}
 
 pub vertical_bars : (e : Square) → BarLaw (fits (vertical e)) (is_supported (vertical e)) (is_calm (vertical e)) (barred (vertical e)) None
 vertical_bars e p q facts set fitted empty supported calm are_true stay held owns =

@@ -7,7 +7,7 @@ use Rattle.game_rules.specs.Position.{Position, same_side}
 use Rattle.game_rules.specs.declared.Side.{Side}
 use Rattle.game_rules.specs.declared.Side.TheVariants.{White, Black}
 use Rattle.plan_rules.specs.Squares.{span, word_at, men_on}
-use Rattle.plan_rules.specs.Rules.{RuleInstance, claimeven, baseinverse, lowinverse, highinverse, baseclaim, vertical, aftereven, before, specialbefore, zone_of}
+use Rattle.plan_rules.specs.Rules.{RuleInstance, claimeven, baseinverse, lowinverse, highinverse, baseclaim, zone_of}
 
 -- what stands on some squares, in their order
 abbrev pub Word : Type 0
@@ -106,7 +106,4 @@ is_calm (baseinverse s t) p = is_one_of inverse_words (word_at p (zone_of (basei
 is_calm (lowinverse x x_top y y_top) p = is_calm_low p (span x x_top) (span y y_top)
 is_calm (highinverse x y) p = is_one_of high_words (word_at p (zone_of (highinverse x y)))
 is_calm (baseclaim a b e) p = is_one_of claim_words (word_at p (zone_of (baseclaim a b e)))
-is_calm (vertical e) p = true
-is_calm (aftereven g) p = true
-is_calm (before g) p = true
-is_calm (specialbefore g f e0) p = true
+is_calm w p = true

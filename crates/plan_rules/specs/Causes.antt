@@ -7,19 +7,12 @@ use Rattle.game_rules.specs.Position.{Position, has_room}
 use Rattle.game_rules.specs.Squares.{has_square}
 use Rattle.plan_rules.specs.Squares.{above}
 use Rattle.plan_rules.specs.declared.Kind.{Kind}
-use Rattle.plan_rules.specs.declared.Kind.TheVariants.{Claimeven, Baseinverse, Lowinverse, Highinverse, Baseclaim, Vertical, Aftereven, Before, Specialbefore}
+use Rattle.plan_rules.specs.declared.Kind.TheVariants.{Claimeven, Baseinverse, Lowinverse}
 
 -- a Baseinverse alone names twins
 abbrev pub names_twins : Kind → Bool
-names_twins Claimeven = false
 names_twins Baseinverse = true
-names_twins Lowinverse = false
-names_twins Highinverse = false
-names_twins Baseclaim = false
-names_twins Vertical = false
-names_twins Aftereven = false
-names_twins Before = false
-names_twins Specialbefore = false
+names_twins kind = false
 
 -- the square above isn't in the zone: in a zone of columns, the square is the top of its column
 abbrev pub is_top : List Square → Square → Bool
@@ -32,14 +25,8 @@ is_full_beside zone now last = list_any (λ u. not (u.0 == last.0) && not (has_r
 -- of the squares of its zone: a Claimeven's upper square, and a Lowinverse's top while the other column is full
 abbrev pub leaves_open : Kind → List Square → Position → Square → Bool
 leaves_open Claimeven zone now last = is_top zone last
-leaves_open Baseinverse zone now last = false
 leaves_open Lowinverse zone now last = is_top zone last && is_full_beside zone now last
-leaves_open Highinverse zone now last = false
-leaves_open Baseclaim zone now last = false
-leaves_open Vertical zone now last = false
-leaves_open Aftereven zone now last = false
-leaves_open Before zone now last = false
-leaves_open Specialbefore zone now last = false
+leaves_open kind zone now last = false
 
 -- the rule names no square to reply with: the square isn't in the zone, or is one of those above
 abbrev pub names_no_reply : Kind → List Square → Position → Square → Bool

@@ -4,4 +4,6 @@ pub mod Calm
 pub mod Columns
 pub mod Causes
 pub mod Laws
+pub mod Lawful
 pub mod Plan
+pub mod Listing

@@ -10,7 +10,7 @@ use Rattle.game_rules.specs.Groups.{Group, squares_of, lies_on, group_on}
 use Rattle.game_rules.specs.declared.Side.{Side}
 use Rattle.game_rules.specs.declared.Side.TheVariants.{White, Black}
 use Rattle.plan_rules.specs.Squares.{is_even, men_on}
-use Rattle.plan_rules.specs.Rules.{RuleInstance, claimeven, baseinverse, lowinverse, highinverse, baseclaim, vertical, aftereven, before, specialbefore, zone_of, fits, reply_to, facts_of, barred, is_supported, together}
+use Rattle.plan_rules.specs.Rules.{RuleInstance, lowinverse, highinverse, zone_of, fits, reply_to, facts_of, barred, is_supported, together}
 use Rattle.plan_rules.specs.Calm.{is_calm}
 use Rattle.plan_rules.specs.Laws.{AreTrue}
 
@@ -115,15 +115,9 @@ after_turns ws q (column ∷ columns) = if is_legal q column then option_and_the
 
 -- the bottoms of an inverse
 abbrev pub bottoms_of : RuleInstance → Option (Square × Square)
-bottoms_of (claimeven x) = None
-bottoms_of (baseinverse s t) = None
 bottoms_of (lowinverse x x_top y y_top) = Some (x, y)
 bottoms_of (highinverse x y) = Some (x, y)
-bottoms_of (baseclaim a b e) = None
-bottoms_of (vertical e) = None
-bottoms_of (aftereven g) = None
-bottoms_of (before g) = None
-bottoms_of (specialbefore g f e0) = None
+bottoms_of w = None
 
 -- both columns are filled up to the bottoms of the zone, or neither is, and the zone has no man
 abbrev pub HasFloors : Position → List Square → Square × Square → Type 0

@@ -43,10 +43,7 @@ owns_no_zone (baseinverse s t) = false
 owns_no_zone (lowinverse x x_top y y_top) = false
 owns_no_zone (highinverse x y) = false
 owns_no_zone (baseclaim a b e) = false
-owns_no_zone (vertical e) = true
-owns_no_zone (aftereven g) = true
-owns_no_zone (before g) = true
-owns_no_zone (specialbefore g f e0) = true
+owns_no_zone w = true
 
 -- the squares that an instance owns
 abbrev pub zone_of : RuleInstance → List Square
@@ -55,22 +52,14 @@ zone_of (baseinverse s t) = s ∷ t ∷ []
 zone_of (lowinverse x x_top y y_top) = span x x_top ++ span y y_top
 zone_of (highinverse x y) = column_up x 3 ++ column_up y 3
 zone_of (baseclaim a b e) = a ∷ b ∷ e ∷ above b ∷ []
-zone_of (vertical e) = []
-zone_of (aftereven g) = []
-zone_of (before g) = []
-zone_of (specialbefore g f e0) = []
+zone_of w = []
 
 -- the line of Black's that a rule rests on
 abbrev pub line_of : RuleInstance → Option Group
-line_of (claimeven x) = None
-line_of (baseinverse s t) = None
-line_of (lowinverse x x_top y y_top) = None
-line_of (highinverse x y) = None
-line_of (baseclaim a b e) = None
-line_of (vertical e) = None
 line_of (aftereven g) = Some g
 line_of (before g) = Some g
 line_of (specialbefore g f e0) = Some g
+line_of w = None
 
 -- ---- shape and fit
 
@@ -153,24 +142,15 @@ reply_to (baseclaim a b e) now last =
     else (if same_square last b then (if is_empty now e then Some e else Some (above b))
     else (if same_square last e then Some b
     else (if same_square last (above b) then Some a else None)))
-reply_to (vertical e) now last = None
-reply_to (aftereven g) now last = None
-reply_to (before g) now last = None
-reply_to (specialbefore g f e0) now last = None
+reply_to w now last = None
 
 -- the squares of its zone to which a rule names no answer: a Claimeven's upper square, and a Lowinverse's top while the
 -- other column is full
 abbrev pub has_no_answer : RuleInstance → Position → Square → Bool
 has_no_answer (claimeven x) now last = same_square last (above x)
-has_no_answer (baseinverse s t) now last = false
 has_no_answer (lowinverse x x_top y y_top) now last =
     if has_square (span x x_top) last then same_square last x_top && not (has_room now y.0) else same_square last y_top && not (has_room now x.0)
-has_no_answer (highinverse x y) now last = false
-has_no_answer (baseclaim a b e) now last = false
-has_no_answer (vertical e) now last = false
-has_no_answer (aftereven g) now last = false
-has_no_answer (before g) now last = false
-has_no_answer (specialbefore g f e0) now last = false
+has_no_answer w now last = false
 
 -- ---- what instances give to others
 
@@ -186,38 +166,18 @@ pub record Facts : Type 0 where
 -- what an instance itself gives: the upper square of a Claimeven
 abbrev pub upper_of : RuleInstance → List Square
 upper_of (claimeven x) = above x ∷ []
-upper_of (baseinverse s t) = []
-upper_of (lowinverse x x_top y y_top) = []
-upper_of (highinverse x y) = []
-upper_of (baseclaim a b e) = []
-upper_of (vertical e) = []
-upper_of (aftereven g) = []
-upper_of (before g) = []
-upper_of (specialbefore g f e0) = []
+upper_of w = []
 
 -- a Lowinverse gives all its squares but the two tops, a Highinverse its two middles
 abbrev pub pair_of : RuleInstance → List Square
-pair_of (claimeven x) = []
-pair_of (baseinverse s t) = []
 pair_of (lowinverse x x_top y y_top) = span x (under x_top) ++ span y (under y_top)
 pair_of (highinverse x y) = above x ∷ above y ∷ []
-pair_of (baseclaim a b e) = []
-pair_of (vertical e) = []
-pair_of (aftereven g) = []
-pair_of (before g) = []
-pair_of (specialbefore g f e0) = []
+pair_of w = []
 
 -- a Baseinverse gives its two squares as twins
 abbrev pub twin_of : RuleInstance → Option (Square × Square)
-twin_of (claimeven x) = None
 twin_of (baseinverse s t) = Some (s, t)
-twin_of (lowinverse x x_top y y_top) = None
-twin_of (highinverse x y) = None
-twin_of (baseclaim a b e) = None
-twin_of (vertical e) = None
-twin_of (aftereven g) = None
-twin_of (before g) = None
-twin_of (specialbefore g f e0) = None
+twin_of w = None
 
 abbrev pub as_list : Option (Square × Square) → List (Square × Square)
 as_list None = []
@@ -262,15 +222,11 @@ is_twin twins u v = list_any (λ twin. (same_square u twin.0 && same_square v tw
 
 -- what a standing rule rests on; a zone rule rests on nothing
 abbrev pub is_supported : RuleInstance → Facts → Bool
-is_supported (claimeven x) facts = true
-is_supported (baseinverse s t) facts = true
-is_supported (lowinverse x x_top y y_top) facts = true
-is_supported (highinverse x y) facts = true
-is_supported (baseclaim a b e) facts = true
 is_supported (vertical e) facts = facts.pair e
 is_supported (aftereven g) facts = each_of facts.empty facts.upper (squares_of g)
 is_supported (before g) facts = each_of facts.empty (λ u. facts.upper u || facts.pair u) (squares_of g)
 is_supported (specialbefore g f e0) facts = is_twin facts.twin f e0 && each_of facts.empty (λ u. same_square u e0 || facts.upper u || facts.pair u) (squares_of g)
+is_supported w facts = true
 
 -- ---- which two may stand together
 
@@ -287,28 +243,16 @@ is_over x us = list_all (λ u. not (x.0 == u.0) || nat_lt u.1 x.1) us
 
 -- the two squares of a Baseinverse lie directly below the two bottoms
 abbrev pub rests_on : Square → Square → RuleInstance → Bool
-rests_on x y (claimeven z) = false
 rests_on x y (baseinverse s t) = same_square (above s) x && same_square (above t) y
-rests_on x y (lowinverse u u_top v v_top) = false
-rests_on x y (highinverse u v) = false
-rests_on x y (baseclaim a b e) = false
-rests_on x y (vertical e) = false
-rests_on x y (aftereven g) = false
-rests_on x y (before g) = false
-rests_on x y (specialbefore g f e0) = false
+rests_on x y w = false
 
 -- Two zone instances that share a column and no square may stand together only so: a Claimeven above the other zone
 -- in each shared column, or an inverse directly on a Baseinverse of its two columns.
 abbrev pub stands_over : RuleInstance → RuleInstance → Bool
 stands_over (claimeven x) w = is_over x (zone_of w)
-stands_over (baseinverse s t) w = false
 stands_over (lowinverse x x_top y y_top) w = rests_on x y w
 stands_over (highinverse x y) w = rests_on x y w
-stands_over (baseclaim a b e) w = false
-stands_over (vertical e) w = false
-stands_over (aftereven g) w = false
-stands_over (before g) w = false
-stands_over (specialbefore g f e0) w = false
+stands_over v w = false
 
 -- one of the two is standing; or they share no square, and either no column or as said above
 abbrev pub together : RuleInstance → RuleInstance → Bool

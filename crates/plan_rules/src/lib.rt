@@ -9,6 +9,7 @@
 #![tactic(auto)]
 
 pub mod laws;
+pub mod lists;
 
 /// The nine rules. The first five are zone rules, which own squares; the last four are standing rules, which own none
 /// and rest on the zone rules of the same plan.

@@ -5,9 +5,11 @@
 
 mod answer;
 mod kept;
+mod listing;
 mod rule;
 
 pub use answer::answer_at_start;
 pub use kept::Kept;
+pub use listing::{Listed, Taker, list_fitting, list_pairs, list_pairs_beside, list_triples};
 pub use plan_rules::Kind;
 pub use rule::Rule;
