@@ -1,0 +1,16 @@
+//! The rules that rest on a line of Black's: Aftereven, Before and Specialbefore. Where White would own a set that one
+//! of them bars, all of the line would be Black's, and the game would have ended before. A type has the line and the
+//! squares that it is written with and nothing else.
+#![tactic(auto)]
+
+mod aftereven;
+mod before;
+mod line;
+mod specialbefore;
+
+pub use crate::aftereven::{Aftereven, list_aftereven, push_afterevens};
+pub use crate::before::{Before, list_before, push_befores};
+pub use crate::specialbefore::{Specialbefore, list_specialbefore, push_specialbefores};
+
+#[cfg(test)]
+mod tests;
