@@ -7,7 +7,7 @@ ghost use Rattle.plan_rules.specs.declared.Kind.TheVariants as kinds;
 use crate::line::{has_each_above, is_chosen_within, is_low_line, is_low_where_free};
 use arrayvec::ArrayVec;
 use board_bits::{Mask, Position, Side, Square};
-use open_groups::{GroupId, free_for};
+use open_groups::{GroupId, free_for, group_mask};
 use rule_law::{Kept, Kind, Listed, Rule, Taker, list_fitting};
 use std::marker::Model;
 
@@ -155,7 +155,7 @@ impl Listed for Before {
     ghost is_site = { λ p g. lies_on (board_of p) g && is_free_for Black p g };
 
     fn fitting_at(p: &Position, g: GroupId) -> Option<Before> {
-        if is_low_where_free(p, g) {
+        if is_low_where_free(p, g, group_mask(g)) {
             Some(Before { g })
         } else {
             None

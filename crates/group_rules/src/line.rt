@@ -32,31 +32,35 @@ fn is_open(p: &Position, squares: Mask) -> bool
 pub(crate) fn is_low_line(p: &Position, g: GroupId) -> bool
     ensures { result ≡ is_low_line p.now g }
 {
-    is_open_line(p, g) && is_below_the_top(p, g)
+    is_open_line(p, g) && is_below_the_top(p, g, group_mask(g))
 }
 
 /// Whether a group that Black can still fill is an open line: whether some square of it is empty.
-pub(crate) fn is_open_where_free(p: &Position, g: GroupId) -> bool
-    requires { (lies_on (board_of p.now) g && is_free_for Black p.now g) ≡ true }
+pub(crate) fn is_open_where_free(p: &Position, g: GroupId, squares: Mask) -> bool
+    requires free { (lies_on (board_of p.now) g && is_free_for Black p.now g) ≡ true }
+    requires squares { IsSetOf (has_square (squares_of g)) squares }
     ensures { result ≡ is_open_line p.now g }
 {
-    group_mask(g).meets(p.empties())
+    squares.meets(p.empties())
 }
 
-/// Whether it is one whose empty squares all lie below the top row.
-pub(crate) fn is_low_where_free(p: &Position, g: GroupId) -> bool
-    requires { (lies_on (board_of p.now) g && is_free_for Black p.now g) ≡ true }
+/// Whether it is one whose empty squares all lie below the top row. Its squares are lent, so that a list of lines makes
+/// them once for each line.
+pub(crate) fn is_low_where_free(p: &Position, g: GroupId, squares: Mask) -> bool
+    requires free { (lies_on (board_of p.now) g && is_free_for Black p.now g) ≡ true }
+    requires squares { IsSetOf (has_square (squares_of g)) squares }
     ensures { result ≡ is_low_line p.now g }
 {
-    is_open_where_free(p, g) && is_below_the_top(p, g)
+    is_open_where_free(p, g, squares) && is_below_the_top(p, g, squares)
 }
 
 /// Whether each empty square of the group lies below the top row: there the square above it is empty too.
-fn is_below_the_top(p: &Position, g: GroupId) -> bool
+fn is_below_the_top(p: &Position, g: GroupId, squares: Mask) -> bool
+    requires { IsSetOf (has_square (squares_of g)) squares }
     ensures { result ≡ each_of (is_empty p.now) (λ u. nat_lt u.1 p.now.rows) (squares_of g) }
 {
     let empties = p.empties();
-    is_chosen_within(g, empties, empties.lowered())
+    squares.intersection(empties).within(empties.lowered())
 }
 
 /// Whether those of the group's squares that are in the first set are in the second.

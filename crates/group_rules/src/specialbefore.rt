@@ -238,8 +238,8 @@ fn push_of_group<T: Taker<Specialbefore>>(p: &Position, g: GroupId, playables: M
 {
     // its contract says that the board is one with a size
     let _board = p.size();
-    if is_low_where_free(p, g) {
-        let squares = group_mask(g);
+    let squares = group_mask(g);
+    if is_low_where_free(p, g, squares) {
         let outside = playables.without(squares).squares();
         let inside = playables.intersection(squares).squares();
         list_pairs_beside(p, g, outside.as_slice(), inside.as_slice(), taker);

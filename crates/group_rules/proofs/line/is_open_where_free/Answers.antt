@@ -8,5 +8,5 @@ pub returns : goal.returns
 returns c =
     let p = c.args.p.now in
     c.meets.ensures
-    ∙ any_same (has_square c.empties.result) (is_empty p) c.group_mask.result (λ u among. c.empties.ensures.has u)
-    ∙ sym (open_by_empty p c.args.g c.group_mask.result c.group_mask.ensures c.requires)
+    ∙ any_same (has_square c.empties.result) (is_empty p) c.args.squares (λ u among. c.empties.ensures.has u)
+    ∙ sym (open_by_empty p c.args.g c.args.squares c.requires.squares c.requires.free)
