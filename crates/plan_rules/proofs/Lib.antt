@@ -1,9 +1,19 @@
 mod Vectors
 mod ListVectors
+mod RefusalVectors
 pub mod Squares
 pub mod Turns
 pub mod Table
 pub mod Plans
+pub mod Places
+pub mod PlaceWords
+pub mod Zones
+pub mod Refusals
+pub mod FaultWords
+pub mod RefusalWords
+pub mod PlanBounds
+pub mod MoreTurns
+pub mod TableBySets
 pub mod Fitting
 pub mod Sums
 pub mod Listed

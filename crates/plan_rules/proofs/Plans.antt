@@ -7,7 +7,6 @@ use Rattle.game_rules.specs.Position.{Position, board_of, has_man, side_to_move,
 use Rattle.game_rules.specs.Squares.{has_square, is_empty}
 use Rattle.game_rules.specs.Groups.{Group, squares_of, lies_on, group_on}
 use Rattle.game_rules.specs.declared.Side.TheVariants.{White, Black}
-use Rattle.game_rules.specs.declared.End.{End}
 use Rattle.game_rules.proofs.Lists.{any_gives, any_from, all_gives, all_from, Among-below}
 use Rattle.game_rules.proofs.Moves.{same_side_is}
 use Rattle.game_rules.proofs.Ends.{on_board_parts, Among-ways}
@@ -28,10 +27,10 @@ member_of test ws h =
 pub any_member : (test : RuleInstance → Bool) (ws : List RuleInstance) → SomeMember ws (λ w. test w ≡ true) → list_any test ws ≡ true
 any_member test ws some = any_from test ws some.member (get-Among ws some.place some.member some.is_member) some.has_it
 
-each_member : (test : RuleInstance → Bool) (ws : List RuleInstance) → list_all test ws ≡ true → (i : ℕ) (w : RuleInstance) → IsMember ws i w → test w ≡ true
+pub each_member : (test : RuleInstance → Bool) (ws : List RuleInstance) → list_all test ws ≡ true → (i : ℕ) (w : RuleInstance) → IsMember ws i w → test w ≡ true
 each_member test ws h i w member = all_gives test ws w h (get-Among ws i w member)
 
-all_members : (test : RuleInstance → Bool) (ws : List RuleInstance) → ((i : ℕ) (w : RuleInstance) → IsMember ws i w → test w ≡ true) → list_all test ws ≡ true
+pub all_members : (test : RuleInstance → Bool) (ws : List RuleInstance) → ((i : ℕ) (w : RuleInstance) → IsMember ws i w → test w ≡ true) → list_all test ws ≡ true
 all_members test ws each = all_from test ws (λ w among. let at = Among-get ws w among in each at.0 w at.1)
 
 two_give : (test : RuleInstance → RuleInstance → Bool) (ws : List RuleInstance) → each_two test ws ≡ true → (i j : ℕ) (v w : RuleInstance) → i < j → IsMember ws i v → IsMember ws j w → test v w ≡ true
@@ -81,9 +80,9 @@ every_line_from board test each =
 
 -- ---- the plan
 
-none_end : (e : Option End) → is_none e ≡ true → e ≡ None
-none_end None h = refl
-none_end (Some e) h = cc
+pub none_is : {X : Type 0} (o : Option X) → is_none o ≡ true → o ≡ None
+none_is None h = refl
+none_is (Some x) h = absurd (cc h)
 
 pub plan_gives : (p : Position) (ws : List RuleInstance) → is_plan p ws ≡ true → IsPlan p ws
 plan_gives p ws h =
@@ -91,7 +90,7 @@ plan_gives p ws h =
     let compatible = and_parts _ _ covered.0 in let fitting = and_parts _ _ compatible.0 in let going = and_parts _ _ fitting.0 in
     record {
       white = sym (same_side_is White (side_to_move p) going.0);
-      going = none_end (end_of p) going.1;
+      going = none_is (end_of p) going.1;
       fitting = each_member (λ w. fits w p) ws fitting.1;
       compatible = two_give together ws compatible.1;
       covered = λ u empty. elim (or_cases _ _ (every_square_gives (board_of p) (λ u. not (is_empty p u) || has_owner ws u) covered.1 u (empty_parts p u empty).0)) [

@@ -78,14 +78,14 @@ sum_swap f (x ∷ xs) ys =
 
 -- ---- over a range, and over the squares of a board
 
-none_passes : (test : ℕ → Bool) (m : ℕ) (xs : List ℕ) → ((i : ℕ) → Among i xs → test i ≡ false) → sum_by (where_passes test (λ i. m)) xs ≡ 0
-none_passes test m [] none = refl
-none_passes test m (x ∷ xs) none =
+pub none_passes : {X : Type 0} (test : X → Bool) (f : X → ℕ) (xs : List X) → ((x : X) → Among x xs → test x ≡ false) → sum_by (where_passes test f) xs ≡ 0
+none_passes test f [] none = refl
+none_passes test f (x ∷ xs) none =
     omega (
       arith,
-      sum_by-cons (where_passes test (λ i. m)) x xs,
-      ap (λ b. cond b m 0) (none x (inl refl)),
-      none_passes test m xs (λ i among. none i (inr among)),
+      sum_by-cons (where_passes test f) x xs,
+      ap (λ b. cond b (f x) 0) (none x (inl refl)),
+      none_passes test f xs (λ y among. none y (inr among)),
     )
 
 -- at most one number of a range passes
@@ -93,7 +93,7 @@ one_passes : (test : ℕ → Bool) (m a n : ℕ) → ((i j : ℕ) → test i ≡
 one_passes test m a zero one = omega arith
 one_passes test m a (suc n) one = elim (cases_Bool (test a)) [
   | inl passes ↦
-      let rest = none_passes test m (range_with_len (a + 1) n) (λ i among. false_from_ne_true (test i) (λ too. later i (Among-range_gives (a + 1) n i among).0 (one a i passes too))) in
+      let rest = none_passes test (λ i. m) (range_with_len (a + 1) n) (λ i among. false_from_ne_true (test i) (λ too. later i (Among-range_gives (a + 1) n i among).0 (one a i passes too))) in
       omega (arith, rest, sum_by-cons (where_passes test (λ i. m)) a (range_with_len (a + 1) n), ap (λ b. cond b m 0) passes)
   | inr fails ↦ omega (arith, one_passes test m (a + 1) n one, sum_by-cons (where_passes test (λ i. m)) a (range_with_len (a + 1) n), ap (λ b. cond b m 0) fails)
 ]

@@ -38,13 +38,13 @@ always_calm (specialbefore h f e0) g line q = refl
 
 -- ---- sets that share no square or column
 
-no_shared : (us vs : List Square) (u : Square) → no_shared_square us vs ≡ true → has_square us u ≡ true → has_square vs u ≡ true → ⊥
+pub no_shared : (us vs : List Square) (u : Square) → no_shared_square us vs ≡ true → has_square us u ≡ true → has_square vs u ≡ true → ⊥
 no_shared us vs u none left right = both_ways (has_square vs u) (not-true _ (all_gives (λ u. not (has_square vs u)) us u none (has_gives us u left))) right
 
 no_shared_sym : (us vs : List Square) → no_shared_square us vs ≡ true → no_shared_square vs us ≡ true
 no_shared_sym us vs none = all_from (λ v. not (has_square us v)) vs (λ v among. not_from_false _ (false_from_ne_true _ (λ left. no_shared us vs v none left (has_from vs v among))))
 
-no_column : (us vs : List Square) (u v : Square) → no_shared_column us vs ≡ true → has_square us u ≡ true → has_square vs v ≡ true → u.0 ≡ v.0 → ⊥
+pub no_column : (us vs : List Square) (u v : Square) → no_shared_column us vs ≡ true → has_square us u ≡ true → has_square vs v ≡ true → u.0 ≡ v.0 → ⊥
 no_column us vs u v none left right same =
     let of_u = all_gives (λ u. list_all (λ v. not (u.0 == v.0)) vs) us u none (has_gives us u left) in
     let of_v = all_gives (λ v. not (u.0 == v.0)) vs v of_u (has_gives vs v right) in
@@ -74,7 +74,7 @@ apart_gives v w h = elim (or_cases _ _ h) [
   ]
 ]
 
-apart_from : (v w : RuleInstance) → Apart v w → together v w ≡ true
+pub apart_from : (v w : RuleInstance) → Apart v w → together v w ≡ true
 apart_from v w (left_zoneless h) = or_left _ _ (or_left _ _ h)
 apart_from v w (right_zoneless h) = or_left _ _ (or_right _ _ h)
 apart_from v w (columns_apart squares h) = or_right _ _ (and_from _ _ squares (or_left _ _ (or_left _ _ h)))

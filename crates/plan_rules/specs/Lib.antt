@@ -7,3 +7,5 @@ pub mod Laws
 pub mod Lawful
 pub mod Plan
 pub mod Listing
+pub mod Zones
+pub mod Refusal

@@ -10,6 +10,7 @@
 
 pub mod laws;
 pub mod lists;
+pub mod plan_laws;
 
 /// The nine rules. The first five are zone rules, which own squares; the last four are standing rules, which own none
 /// and rest on the zone rules of the same plan.
