@@ -1,0 +1,22 @@
+//! Plans: an instance of any of the nine rules, why a list of them is no plan, and a plan with its answers.
+#![tactic(auto)]
+
+mod check;
+mod columns;
+mod facts;
+mod fault;
+mod instance;
+mod lines;
+mod members;
+mod plan;
+mod strategy;
+mod table;
+#[cfg(test)]
+mod tests;
+mod zone;
+
+pub use crate::fault::PlanFault;
+pub use crate::instance::Instance;
+pub use crate::plan::Plan;
+pub use crate::strategy::a_plan_keeps_white_from_a_line;
+pub use crate::table::may_stand;

@@ -1,0 +1,308 @@
+//! Lists and what each answers, and every game in which Black plays by a small plan.
+ghost use Rattle.std.specs.Prelude.{◌≡◌, ◌<◌, true, None, IfSome};
+ghost use Rattle.game_rules.specs.Position.{end_of, has_room, empty_count};
+ghost use Rattle.rule_compat.specs.Planned.{IsReached};
+
+use crate::{Instance, Plan, PlanFault, may_stand};
+use arrayvec::ArrayVec;
+use base_rules::{Baseclaim, Baseinverse};
+use board_bits::{Column, End, Position, Size, Square, read_game};
+use claimeven::Claimeven;
+use group_rules::{Aftereven, Before, Specialbefore};
+use inverse_rules::{Highinverse, Lowinverse, Vertical};
+use open_groups::{GroupId, Way, group_at};
+use std::test::Fail;
+
+/// More than any list here has.
+const MOST_MEMBERS: usize = 24;
+
+const SMALL: &[u8] = b"board 4 4\nmoves -\n";
+
+const SIX_ZONES: &str = "CE:a1 CE:a3 CE:b1 CE:b3 BI:c1,d1 LI:c2-c4,d2-d4";
+
+const WITH_AFTEREVEN: &[u8] = b"board 4 4\nmoves cccdcd\n";
+
+const AFTEREVEN: &str = "CE:a1 CE:a3 CE:b1 CE:b3 CE:d3 AE:a2h";
+
+const WITH_BASECLAIM: &[u8] = b"board 4 4\nmoves daddcd\n";
+
+const BASECLAIM: &str = "BC:a2,b1,c2 CE:a3 CE:b3 CE:c3";
+
+const WITH_SPECIALBEFORE: &[u8] = b"board 5 4\nmoves abbaabbaddceedee\n";
+
+const SPECIALBEFORE: &str = "BI:c2,d4 CE:c3 SB:b1u,d4,c2";
+
+const WITH_VERTICAL: &[u8] = b"board 4 6\nmoves dccdcd\n";
+
+const VERTICAL: &str = "CE:a1 CE:a3 CE:a5 CE:b1 CE:b3 CE:b5 LI:c4-c6,d4-d6 VE:c4";
+
+const LARGE: &[u8] = b"board 6 6\nmoves -\n";
+
+const LARGE_ZONES: &str =
+    "CE:a1 CE:a3 CE:a5 CE:b1 CE:b3 CE:b5 CE:e1 CE:e3 CE:e5 CE:f1 CE:f3 CE:f5 BI:c1,d1 LI:c2-c6,d2-d6";
+
+const LARGE_WITH_VERTICALS: &str =
+    "CE:a1 CE:a3 CE:a5 CE:b1 CE:b3 CE:b5 CE:e1 CE:e3 CE:e5 CE:f1 CE:f3 CE:f5 BI:c1,d1 LI:c2-c6,d2-d6 VE:c2 VE:c4 VE:d2 VE:d4";
+
+const BLACK_TO_MOVE: &[u8] = b"board 4 4\nmoves a\n";
+
+const FULL: &[u8] = b"board 4 4\nmoves cdccddcdaaaabbbb\n";
+
+/// The square of a letter and a digit.
+fn square_of(size: Size, letter: u8, digit: u8) -> Option<Square> {
+    let column = size.column(letter.checked_sub(b'a')?)?;
+    size.square(column, digit.checked_sub(b'0')?)
+}
+
+/// The squares that a text names, one after another.
+fn squares_in(size: Size, text: &[u8]) -> ArrayVec<Square, MOST_MEMBERS> {
+    let mut squares = ArrayVec::new();
+    for pair in text.windows(2) {
+        if let Some(square) = square_of(size, pair[0], pair[1]) {
+            let _room = squares.try_push(square);
+        }
+    }
+    squares
+}
+
+/// The group of a text as `a2h`.
+fn group_in(size: Size, text: &[u8]) -> Option<GroupId> {
+    let [letter, digit, way, ..] = text else {
+        return None;
+    };
+    let way = match way {
+        b'h' => Way::H,
+        b'v' => Way::V,
+        b'u' => Way::U,
+        b'd' => Way::D,
+        _ => return None,
+    };
+    group_at(size, square_of(size, *letter, *digit)?, way)
+}
+
+/// The instance of a text as `LI:c2-c4,d2-d4`, by the two letters of its rule and its squares.
+fn instance_in(size: Size, text: &[u8]) -> Option<Instance> {
+    let squares = squares_in(size, text);
+    let group = group_in(size, text.get(3..)?);
+    let instance = match (text.get(..2)?, squares.as_slice()) {
+        (b"CE", [lower]) => Instance::Claimeven(Claimeven::new(size, *lower)?),
+        (b"BI", [s, t]) => Instance::Baseinverse(Baseinverse::new(size, *s, *t)?),
+        (b"LI", [x, x_top, y, y_top]) => {
+            Instance::Lowinverse(Lowinverse::new(size, *x, *x_top, *y, *y_top)?)
+        }
+        (b"HI", [x, y]) => Instance::Highinverse(Highinverse::new(size, *x, *y)?),
+        (b"BC", [a, b, e]) => Instance::Baseclaim(Baseclaim::new(size, *a, *b, *e)?),
+        (b"VE", [e]) => Instance::Vertical(Vertical::new(size, *e)?),
+        (b"AE", [_]) => Instance::Aftereven(Aftereven::new(group?)),
+        (b"BE", [_]) => Instance::Before(Before::new(group?)),
+        (b"SB", [_, f, e0]) => Instance::Specialbefore(Specialbefore::new(size, group?, *f, *e0)?),
+        _ => return None,
+    };
+    Some(instance)
+}
+
+/// The instances of a text, with a space between two.
+fn list_in(size: Size, text: &str) -> Result<ArrayVec<Instance, MOST_MEMBERS>, Fail> {
+    let mut list = ArrayVec::new();
+    for item in text.split(' ') {
+        let instance = instance_in(size, item.as_bytes()).ok_or("no instance")?;
+        list.try_push(instance).ok().ok_or("too many members")?;
+    }
+    Ok(list)
+}
+
+/// The answer to a list at the position of a game.
+fn checked(game: &[u8], text: &str) -> Result<Result<Plan, PlanFault>, Fail> {
+    let position = read_game(game)?;
+    let list = list_in(position.size(), text)?;
+    Ok(Plan::check(&position, list.as_slice()))
+}
+
+#[test]
+fn each_list_has_its_answer(rt: HostRuntime) -> Result<(), Fail> {
+    let widest = Size::new(10, 10)?;
+    let a1 = square_of(widest, b'a', b'1').ok_or("no a1")?;
+    let a3 = square_of(widest, b'a', b'3').ok_or("no a3")?;
+    let c1 = square_of(widest, b'c', b'1').ok_or("no c1")?;
+    let a1h = group_in(widest, b"a1h").ok_or("no a1h")?;
+    let a1u = group_in(widest, b"a1u").ok_or("no a1u")?;
+    let a3h = group_in(widest, b"a3h").ok_or("no a3h")?;
+    let c2v = group_in(widest, b"c2v").ok_or("no c2v")?;
+    for (game, list, fault) in [
+        (BLACK_TO_MOVE, SIX_ZONES, PlanFault::NotWhiteToMove),
+        (FULL, SIX_ZONES, PlanFault::Ended),
+        (WITH_AFTEREVEN, "CE:a1 CE:a1 CE:c1", PlanFault::Misfit(3)),
+        (
+            SMALL,
+            "BI:a1,c1 BI:b1,d1 LI:a2-a4,b2-b4 LI:c2-c4,d2-d4",
+            PlanFault::Clash(1, 3),
+        ),
+        (SMALL, "CE:a1 HI:a2,b2", PlanFault::Clash(1, 2)),
+        (SMALL, "VE:a2", PlanFault::Uncovered(a1)),
+        (SMALL, "CE:a1", PlanFault::Uncovered(a3)),
+        (
+            SMALL,
+            "CE:a1 CE:a3 CE:b1 CE:b3 LI:c2-c4,d2-d4",
+            PlanFault::Uncovered(c1),
+        ),
+        (
+            SMALL,
+            "CE:a1 CE:a3 CE:b1 CE:b3 BI:c1,d1 LI:c2-c4,d2-d4 AE:a2h",
+            PlanFault::Unsupported(7),
+        ),
+        (
+            SMALL,
+            "CE:a1 CE:a3 CE:b1 CE:b3 CE:c1 CE:c3 CE:d1 CE:d3",
+            PlanFault::Unanswered(a1h),
+        ),
+        (
+            WITH_AFTEREVEN,
+            "CE:a1 CE:a3 CE:b1 CE:b3 CE:d3",
+            PlanFault::Unanswered(a3h),
+        ),
+        (
+            WITH_SPECIALBEFORE,
+            "BI:c2,d4 CE:c3",
+            PlanFault::Unanswered(a1u),
+        ),
+        (
+            WITH_VERTICAL,
+            "CE:a1 CE:a3 CE:a5 CE:b1 CE:b3 CE:b5 LI:c4-c6,d4-d6",
+            PlanFault::Unanswered(c2v),
+        ),
+    ] {
+        assert_eq!(rt; checked(game, list)?.err(), Some(fault), "{list}");
+    }
+    Ok(())
+}
+
+/// Lists that are plans, beside those of which all games are played.
+const PLANS: [(&[u8], &str); 4] = [
+    (
+        SMALL,
+        "CE:a1 CE:a3 CE:b1 CE:b3 BI:c1,d1 LI:c2-c4,d2-d4 BE:a2h",
+    ),
+    (WITH_VERTICAL, VERTICAL),
+    (LARGE, LARGE_ZONES),
+    (LARGE, LARGE_WITH_VERTICALS),
+];
+
+#[test]
+fn a_plan_lends_what_was_checked(rt: HostRuntime) -> Result<(), Fail> {
+    for (game, text) in PLANS {
+        let position = read_game(game)?;
+        let list = list_in(position.size(), text)?;
+        let plan = Plan::check(&position, list.as_slice()).ok().ok_or(text)?;
+        assert!(rt; plan.at().same(&position), "{text}");
+        assert!(rt; plan.list() == list.as_slice(), "{text}");
+    }
+    Ok(())
+}
+
+/// The member that answers a line; none where the board hasn't the line.
+fn answering(plan: &Plan, text: &str) -> Option<Option<u32>> {
+    let size = plan.at().size();
+    let line = group_in(size, text.as_bytes())?;
+    if line.lies_on(size) {
+        Some(plan.answered_by(line))
+    } else {
+        None
+    }
+}
+
+#[test]
+fn each_line_has_the_first_member_that_answers_it(rt: HostRuntime) -> Result<(), Fail> {
+    for (game, list, group, member) in [
+        (SMALL, SIX_ZONES, "a1h", Some(5)),
+        (SMALL, SIX_ZONES, "a2h", Some(1)),
+        (SMALL, SIX_ZONES, "a3h", Some(6)),
+        (SMALL, SIX_ZONES, "a4h", Some(2)),
+        (SMALL, SIX_ZONES, "a1v", Some(1)),
+        (SMALL, SIX_ZONES, "b1v", Some(3)),
+        (SMALL, SIX_ZONES, "c1v", Some(6)),
+        (SMALL, SIX_ZONES, "d1v", Some(6)),
+        (SMALL, SIX_ZONES, "a1u", Some(3)),
+        (SMALL, SIX_ZONES, "a4d", Some(2)),
+        (WITH_AFTEREVEN, AFTEREVEN, "a1h", None),
+        (WITH_AFTEREVEN, AFTEREVEN, "a2h", None),
+        (WITH_AFTEREVEN, AFTEREVEN, "a3h", Some(6)),
+        (WITH_SPECIALBEFORE, SPECIALBEFORE, "a1u", Some(3)),
+        (WITH_VERTICAL, VERTICAL, "c2v", Some(8)),
+    ] {
+        let plan = checked(game, list)?.ok().ok_or(list)?;
+        let answering = answering(&plan, group).ok_or(group)?;
+        assert_eq!(rt; answering, member, "{group} by {list}");
+    }
+    Ok(())
+}
+
+/// The position after a move of White's and the plan's answer; none where the move ends the game.
+fn after_turn(plan: &Plan, now: &Position, column: Column) -> Option<Position>
+    requires reached { IsReached plan.now now.now }
+    requires going { end_of now.now ≡ None }
+    requires room { has_room now.now column ≡ true }
+    ensures reached { IfSome result (λ next. IsReached plan.now next) }
+    ensures fewer { IfSome result (λ next. empty_count next < empty_count now.now) }
+{
+    let last = now.playable(column)?;
+    let answered = now.after(column);
+    if answered.ended().is_some() {
+        return None;
+    }
+    let reply = plan.reply(&answered, last);
+    Some(answered.after(reply.column()))
+}
+
+/// How many games White can play from here, where Black replies by the plan; none where White gets a line in one of
+/// them, or fills the board.
+fn games_from(plan: &Plan, now: &Position) -> Option<u32>
+    requires reached { IsReached plan.now now.now }
+    requires going { end_of now.now ≡ None }
+{
+    let mut games: u32 = 0;
+    for index in 0..now.size().cols() {
+        let column = now.size().nth_column(index);
+        if now.has_room(column) {
+            let next = after_turn(plan, now, column)?;
+            let further = match next.ended() {
+                Some(End::White) => return None,
+                Some(_) => 1,
+                None => games_from(plan, &next)?,
+            };
+            games = games.checked_add(further)?;
+        }
+    }
+    Some(games)
+}
+
+/// The same from the plan's own position.
+fn games_of(plan: &Plan) -> Option<u32> {
+    games_from(plan, plan.at())
+}
+
+#[test]
+fn white_has_no_line_whatever_it_plays(rt: HostRuntime) -> Result<(), Fail> {
+    for (game, list, games) in [
+        (SMALL, SIX_ZONES, 5_040),
+        (SMALL, "CE:a1 CE:a3 CE:b1 CE:b3 BI:c1,d1 HI:c2,d2", 3_360),
+        (WITH_BASECLAIM, BASECLAIM, 44),
+        (WITH_AFTEREVEN, AFTEREVEN, 14),
+        (WITH_SPECIALBEFORE, SPECIALBEFORE, 2),
+    ] {
+        let plan = checked(game, list)?.ok().ok_or(list)?;
+        assert_eq!(rt; games_of(&plan), Some(games), "{list}");
+    }
+    Ok(())
+}
+
+#[test]
+fn an_inverse_stands_over_a_baseinverse_of_its_columns_alone(rt: HostRuntime) -> Result<(), Fail> {
+    let list = list_in(Size::new(4, 4)?, "BI:a1,c1 BI:c1,d1 LI:c2-c4,d2-d4")?;
+    let [beside, below, inverse] = list.as_slice() else {
+        return Err("no three members".into());
+    };
+    assert!(rt; may_stand(below, inverse) && may_stand(inverse, below));
+    assert!(rt; !may_stand(beside, inverse) && !may_stand(inverse, beside));
+    assert!(rt; !may_stand(beside, below));
+    Ok(())
+}
