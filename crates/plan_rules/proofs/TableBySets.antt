@@ -6,10 +6,9 @@ use Rattle.std.proofs.lemmas.Bool.{cases_Bool, cases_lt, both_ways, and_parts, a
 use Rattle.game_rules.specs.Board.{Square, on_board}
 use Rattle.game_rules.specs.Squares.{has_square, widest, IsSetOf}
 use Rattle.game_rules.proofs.Ends.{on_board_parts}
-use Rattle.game_rules.proofs.Lists.{all_any, any_gives, any_from, all_gives, all_from}
-use Rattle.game_rules.proofs.Squares.{agree, has_gives, has_from, set_on, any_in_same}
+use Rattle.game_rules.proofs.Lists.{any_gives, any_from, all_gives, all_from}
+use Rattle.game_rules.proofs.Squares.{agree, has_gives, has_from, set_on}
 use Rattle.plan_rules.specs.Rules.{RuleInstance, zone_of, no_shared_square, no_shared_column, is_over, stands_over, together}
-use Rattle.plan_rules.proofs.Refusals.{all_same}
 use Rattle.plan_rules.proofs.Table.{Apart, left_zoneless, right_zoneless, columns_apart, left_over, right_over, apart_gives, apart_from, no_shared, no_column, zoneless_owns_none}
 
 -- ---- by columns first
@@ -119,24 +118,13 @@ over_by_sets x us a up top set part high = agree _ _ to from
       ]
     ])
 
--- ---- as the squares of the sets
+-- ---- the table
 
--- whether all pass depends on the squares alone, and not on their order
-all_in_same : (p : Square → Bool) (us a : List Square) → ((u : Square) → has_square us u ≡ has_square a u) → list_all p us ≡ list_all p a
-all_in_same p us a same = all_any p us ∙ ap not (any_in_same (λ u. not (p u)) us a same) ∙ sym (all_any p a)
-
-pub columns_in_same : (us vs a b : List Square) → IsSetOf (has_square us) a → IsSetOf (has_square vs) b → no_shared_column us vs ≡ no_shared_column a b
-columns_in_same us vs a b left right =
-    all_same _ _ us (λ u. all_in_same (λ v. not (u.0 == v.0)) vs b (λ v. sym (right.has v)))
-    ∙ all_in_same (λ u. list_all (λ v. not (u.0 == v.0)) b) us a (λ u. sym (left.has u))
-
-pub over_in_same : (x : Square) (us a : List Square) → IsSetOf (has_square us) a → is_over x us ≡ is_over x a
-over_in_same x us a set = all_in_same (λ u. not (x.0 == u.0) || nat_lt u.1 x.1) us a (λ u. sym (set.has u))
-
--- the table, of two instances with the sets of squares that they own
-pub together_of_sets : (v w : RuleInstance) (a b : List Square) → IsSetOf (has_square (zone_of v)) a → IsSetOf (has_square (zone_of w)) b
-    → together v w ≡ (no_shared_column a b || (not (list_any (has_square b) a) && (stands_over v w || stands_over w v)))
-together_of_sets v w a b left right =
+-- of two instances with the sets of squares that they own, and the columns of the first one
+pub together_of_sets : (v w : RuleInstance) (a b columns : List Square) → IsSetOf (has_square (zone_of v)) a → IsSetOf (has_square (zone_of w)) b
+    → IsSetOf (λ u. on_board widest u && list_any (λ s. s.0 == u.0) a) columns
+    → together v w ≡ (not (list_any (has_square b) columns) || (not (list_any (has_square b) a) && (stands_over v w || stands_over w v)))
+together_of_sets v w a b columns left right whole =
     together_by_columns v w
-    ∙ ap (λ apart. apart || (no_shared_square (zone_of v) (zone_of w) && (stands_over v w || stands_over w v))) (columns_in_same (zone_of v) (zone_of w) a b left right)
-    ∙ ap (λ apart. no_shared_column a b || (apart && (stands_over v w || stands_over w v))) (squares_by_sets (zone_of v) (zone_of w) a b left right)
+    ∙ ap (λ apart. apart || (no_shared_square (zone_of v) (zone_of w) && (stands_over v w || stands_over w v))) (columns_by_sets (zone_of v) (zone_of w) a b columns left right whole)
+    ∙ ap (λ apart. not (list_any (has_square b) columns) || (apart && (stands_over v w || stands_over w v))) (squares_by_sets (zone_of v) (zone_of w) a b left right)

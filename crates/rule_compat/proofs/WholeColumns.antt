@@ -1,5 +1,5 @@
--- The columns of some squares, with those of one square more; and the table by them.
-use Rattle.std.proofs.Common.{◌≡◌, ◌<◌, Bool, true, false, not, ◌&&◌, ◌||◌, ◌==◌, nat_le, List, ◌∷◌, [], ◌++◌, refl, sym, ap, ◌∙◌, inl, inr, subst}
+-- The columns of some squares, with those of one square more.
+use Rattle.std.proofs.Common.{◌≡◌, ◌<◌, Bool, true, false, ◌&&◌, ◌||◌, ◌==◌, nat_le, List, ◌∷◌, [], ◌++◌, refl, sym, ap, ◌∙◌, inl, inr, subst}
 use Rattle.std.specs.List.{list_any}
 use Rattle.std.proofs.lemmas.Bool.{cases_Bool, lt-ltb, eqb-true, eq-eqb, false_from_ne_true, both_ways}
 use Rattle.std.proofs.lemmas.List.Folds.{list_any-append}
@@ -8,8 +8,6 @@ use Rattle.game_rules.specs.Squares.{has_square, widest, IsSetOf}
 use Rattle.game_rules.proofs.Lists.{any_gives}
 use Rattle.game_rules.proofs.Squares.{has_from, set_same}
 use Rattle.rule_compat.specs.WholeColumns.{in_columns_of}
-use Rattle.plan_rules.specs.Rules.{RuleInstance, zone_of, no_shared_square, stands_over, together}
-use Rattle.plan_rules.proofs.TableBySets.{together_by_columns, columns_by_sets, squares_by_sets}
 
 in_column : (rows before : Bool) → ((rows && before) || rows) ≡ (rows && (before || true))
 in_column true true = refl
@@ -46,12 +44,3 @@ no_columns us none = set_same _ _ us none (λ u. sym (ap (λ b. on_board widest 
 
     no_one : (u : Square) → list_any (λ v. v.0 == u.0) us ≡ false
     no_one u = false_from_ne_true _ (λ h. let found = any_gives (λ v. v.0 == u.0) us h in both_ways (has_square us found.0) (none.has found.0) (has_from us found.0 found.1))
-
--- the table, of two instances with the sets of squares that they own, and of the columns of one
-pub together_of_sets : (v w : RuleInstance) (a b columns : List Square) → IsSetOf (has_square (zone_of v)) a → IsSetOf (has_square (zone_of w)) b
-    → IsSetOf (λ u. on_board widest u && list_any (λ s. s.0 == u.0) a) columns
-    → together v w ≡ (not (list_any (has_square b) columns) || (not (list_any (has_square b) a) && (stands_over v w || stands_over w v)))
-together_of_sets v w a b columns left right whole =
-    together_by_columns v w
-    ∙ ap (λ apart. apart || (no_shared_square (zone_of v) (zone_of w) && (stands_over v w || stands_over w v))) (columns_by_sets (zone_of v) (zone_of w) a b columns left right whole)
-    ∙ ap (λ apart. not (list_any (has_square b) columns) || (apart && (stands_over v w || stands_over w v))) (squares_by_sets (zone_of v) (zone_of w) a b left right)

@@ -72,10 +72,11 @@ impl Plan {
         }
     }
 
-    /// The position at which the list is a plan.
+    /// The position at which the list is a plan. Play by the plan starts there.
     pub fn at(&self) -> &Position
         ensures value { result.now ≡ self.now.at }
         ensures plan { is_plan self.now.at (members self.now) ≡ true }
+        ensures start { IsReached self.now self.now.at }
     {
         &self.at
     }

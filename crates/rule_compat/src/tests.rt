@@ -119,15 +119,7 @@ fn checked(game: &[u8], text: &str) -> Result<Result<Plan, PlanFault>, Fail> {
 }
 
 #[test]
-fn each_list_has_its_answer(rt: HostRuntime) -> Result<(), Fail> {
-    let widest = Size::new(10, 10)?;
-    let a1 = square_of(widest, b'a', b'1').ok_or("no a1")?;
-    let a3 = square_of(widest, b'a', b'3').ok_or("no a3")?;
-    let c1 = square_of(widest, b'c', b'1').ok_or("no c1")?;
-    let a1h = group_in(widest, b"a1h").ok_or("no a1h")?;
-    let a1u = group_in(widest, b"a1u").ok_or("no a1u")?;
-    let a3h = group_in(widest, b"a3h").ok_or("no a3h")?;
-    let c2v = group_in(widest, b"c2v").ok_or("no c2v")?;
+fn members_are_refused(rt: HostRuntime) -> Result<(), Fail> {
     for (game, list, fault) in [
         (BLACK_TO_MOVE, SIX_ZONES, PlanFault::NotWhiteToMove),
         (FULL, SIX_ZONES, PlanFault::Ended),
@@ -138,40 +130,58 @@ fn each_list_has_its_answer(rt: HostRuntime) -> Result<(), Fail> {
             PlanFault::Clash(1, 3),
         ),
         (SMALL, "CE:a1 HI:a2,b2", PlanFault::Clash(1, 2)),
-        (SMALL, "VE:a2", PlanFault::Uncovered(a1)),
-        (SMALL, "CE:a1", PlanFault::Uncovered(a3)),
-        (
-            SMALL,
-            "CE:a1 CE:a3 CE:b1 CE:b3 LI:c2-c4,d2-d4",
-            PlanFault::Uncovered(c1),
-        ),
         (
             SMALL,
             "CE:a1 CE:a3 CE:b1 CE:b3 BI:c1,d1 LI:c2-c4,d2-d4 AE:a2h",
             PlanFault::Unsupported(7),
         ),
+    ] {
+        assert_eq!(rt; checked(game, list)?.err(), Some(fault), "{list}");
+    }
+    Ok(())
+}
+
+#[test]
+fn squares_without_a_zone_are_told(rt: HostRuntime) -> Result<(), Fail> {
+    let board = Size::new(4, 4)?;
+    for (list, column, row) in [
+        ("VE:a2", b'a', b'1'),
+        ("CE:a1", b'a', b'3'),
+        ("CE:a1 CE:a3 CE:b1 CE:b3 LI:c2-c4,d2-d4", b'c', b'1'),
+    ] {
+        let square = square_of(board, column, row).ok_or(list)?;
+        assert_eq!(rt;
+            checked(SMALL, list)?.err(),
+            Some(PlanFault::Uncovered(square)),
+            "{list}"
+        );
+    }
+    Ok(())
+}
+
+#[test]
+fn lines_without_an_answer_are_told(rt: HostRuntime) -> Result<(), Fail> {
+    let widest = Size::new(10, 10)?;
+    for (game, list, line) in [
         (
             SMALL,
             "CE:a1 CE:a3 CE:b1 CE:b3 CE:c1 CE:c3 CE:d1 CE:d3",
-            PlanFault::Unanswered(a1h),
+            "a1h",
         ),
-        (
-            WITH_AFTEREVEN,
-            "CE:a1 CE:a3 CE:b1 CE:b3 CE:d3",
-            PlanFault::Unanswered(a3h),
-        ),
-        (
-            WITH_SPECIALBEFORE,
-            "BI:c2,d4 CE:c3",
-            PlanFault::Unanswered(a1u),
-        ),
+        (WITH_AFTEREVEN, "CE:a1 CE:a3 CE:b1 CE:b3 CE:d3", "a3h"),
+        (WITH_SPECIALBEFORE, "BI:c2,d4 CE:c3", "a1u"),
         (
             WITH_VERTICAL,
             "CE:a1 CE:a3 CE:a5 CE:b1 CE:b3 CE:b5 LI:c4-c6,d4-d6",
-            PlanFault::Unanswered(c2v),
+            "c2v",
         ),
     ] {
-        assert_eq!(rt; checked(game, list)?.err(), Some(fault), "{list}");
+        let group = group_in(widest, line.as_bytes()).ok_or(line)?;
+        assert_eq!(rt;
+            checked(game, list)?.err(),
+            Some(PlanFault::Unanswered(group)),
+            "{list}"
+        );
     }
     Ok(())
 }

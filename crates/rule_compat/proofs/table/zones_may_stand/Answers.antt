@@ -1,7 +1,7 @@
 use Rattle.std.proofs.Common.{◌≡◌, Bool, false, not, ◌&&◌, ◌||◌, refl, sym, ap, ◌∙◌}
 use Rattle.std.proofs.lemmas.Bool.{and_from, and_left, or_left, or_right, or_from, not_from_true, not_from_false}
+use Rattle.plan_rules.proofs.TableBySets.{together_of_sets}
 use Rattle.rule_compat.specs.Written.{written}
-use Rattle.rule_compat.proofs.WholeColumns.{together_of_sets}
 use Rattle.rule_compat.proofs.table.zones_may_stand.Goals as goal
 
 -- where no column is apart and no square shared, and the one isn't over the other, the other way decides
