@@ -8,7 +8,8 @@ pub record Streams : Type 0 where
   pub old : Option (List ℕ)
   pub new : Option (List ℕ)
 
--- There are bytes that the source gave, at most so many, of which this holds. A source that tells its bytes determines them.
+-- There are bytes, at most so many, which the source gave as far as it tells, and this holds of them. A source that
+-- tells its bytes determines them; one that tells nothing doesn't.
 pub record Took (s : Streams) (most : ℕ) (Holds : List ℕ → Type 0) : Type 0 where
   pub taken : List ℕ
   pub gave : Consumes s.input s.left taken

@@ -38,7 +38,7 @@ pub fn run<S: Source, O: Sink, E: Sink>(
     err: &mut E,
 ) -> u8
     // Every status has its cause here: the arguments, the bytes that were taken of the source, the cost, or a count of faults.
-    // These bytes are those that the source gave, and few; one that tells its bytes determines them.
+    // These bytes are few, and those that the source gave as far as it tells: one that tells its bytes determines them.
     ensures outcome { (ending : Ending) × (result ≡ status_of ending) × Outcome (form_of (map string_bytes words.now))
         (record { input = S.left source.old; left = S.left source.new; old = O.written out.old; new = O.written out.new }) ending
         × Reports (E.faults err.old) (E.faults err.new) (E.written err.old) (E.written err.new) (fault_text ending) }
