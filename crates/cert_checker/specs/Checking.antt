@@ -1,7 +1,11 @@
 -- What the checker finds, and how it stops.
 use Rattle.std.specs.Prelude.{◌≡◌, ℕ, List, map, Option, Some, None, Result, Ok, Err, ⊤}
 use Rattle.proof_text.specs.Lemma.{Line, ALemma, ARemark, AVerdict}
-use Rattle.proof_text.specs.declared.Why.{Why}
+use Rattle.proof_text.specs.Checked.{Why}
+use Rattle.proof_text.specs.declared.Why.{Why as WhyOf}
+use Rattle.proof_text.specs.declared.Why.TheVariants as whys
+use Rattle.rule_compat.specs.Faults.{fault_of}
+use Rattle.rule_compat.specs.declared.fault.PlanFault.{PlanFault}
 use Rattle.cert_format.specs.Shape.{cite_of}
 use Rattle.cert_format.specs.declared.lines.Cite.{Cite}
 use Rattle.cert_checker.specs.declared.stops.AddStop.{AddStop}
@@ -11,10 +15,22 @@ use Rattle.cert_checker.specs.declared.stops.AddStop.TheVariants.{Refused, Memor
 abbrev pub columns_of : List Cite → List ℕ
 columns_of cites = map (λ cite. cite.column) (map cite_of cites)
 
+-- why a line is refused, in the words of the definitions
+abbrev pub why_of : WhyOf PlanFault → Why
+why_of whys.BadLine = whys.BadLine
+why_of whys.BadPath = whys.BadPath
+why_of whys.NoSuchLemma = whys.NoSuchLemma
+why_of whys.WrongPosition = whys.WrongPosition
+why_of whys.WrongClaim = whys.WrongClaim
+why_of whys.MissingMove = whys.MissingMove
+why_of (whys.BadPlan fault) = whys.BadPlan (fault_of fault)
+why_of whys.BadVerdict = whys.BadVerdict
+why_of whys.EndedEarly = whys.EndedEarly
+
 -- a test of the code and the refusal that the definitions give: the same name, or none
-abbrev pub Finds : {X : Type 0} → Result X Why → Option Why → Type 0
+abbrev pub Finds : {X : Type 0} → Result X (WhyOf PlanFault) → Option Why → Type 0
 Finds (Ok x) refusal = refusal ≡ None
-Finds (Err why) refusal = refusal ≡ Some why
+Finds (Err why) refusal = refusal ≡ Some (why_of why)
 
 abbrev pub IsLemma : Line → Type 0
 IsLemma (ALemma l) = ⊤
@@ -24,5 +40,5 @@ IsLemma (AVerdict v) = ⊥
 -- A line is refused by the name that the definitions give it, with its number; or, being a lemma that isn't refused,
 -- found no memory.
 abbrev pub StopsAt : ℕ → AddStop → Option Why → Line → Type 0
-StopsAt at (Refused refused) refusal line = (refusal ≡ Some refused.why) × (refused.at ≡ at)
+StopsAt at (Refused refused) refusal line = (refusal ≡ Some (why_of refused.why)) × (refused.at ≡ at)
 StopsAt at (Memory e) refusal line = (refusal ≡ None) × IsLemma line

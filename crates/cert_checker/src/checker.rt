@@ -5,17 +5,17 @@ ghost use Rattle.proof_text.specs.Lemma.{ALemma, AVerdict};
 ghost use Rattle.proof_text.specs.Checked.{lemma_refusal, line_refusal, with_line};
 ghost use Rattle.proof_text.specs.Texts.{start};
 ghost use Rattle.proof_text.specs.declared.Why.TheVariants.{EndedEarly};
-ghost use Rattle.cert_format.specs.Shape.{lemma_of, line_of, viewed};
+ghost use Rattle.cert_format.specs.Shape.{lemma_viewed, line_of, viewed};
 ghost use Rattle.cert_checker.specs.Checking.{Finds, StopsAt};
 ghost use Rattle.cert_checker.specs.declared.stops.AddStop.TheVariants.{Refused};
 
 use crate::known::Known;
 use crate::reasons::{check_reason, verdict_stands};
-use crate::stops::{Accepted, AddStop, Refusal};
+use crate::stops::{Accepted, AddStop, Refusal, Why};
 use crate::trail::Trail;
 use board_bits::Position;
-use cert_format::{Lemma, Line, LineView};
-use proof_text::{Verdict, Why};
+use cert_format::{LemmaView, Line, LineView};
+use proof_text::Verdict;
 use std::alloc::Global;
 use std::marker::Model;
 
@@ -60,14 +60,18 @@ impl Checker {
         ensures kept { OnErr result (self.new ≡ self.old) }
         ensures cause { IfErr result (λ stop. StopsAt at stop (line_refusal self.old (line_of line.now)) (line_of line.now)) }
     {
-        self.add_view(at, line.view())
+        match line {
+            Line::Lemma(lemma) => self.add_view(at, &LineView::Lemma(lemma.view())),
+            Line::Remark => self.add_view(at, &LineView::Remark),
+            Line::Verdict(verdict) => self.add_view(at, &LineView::Verdict(*verdict)),
+        }
     }
 
     /// As `add`, of a line that is lent.
-    pub fn add_view(&mut self, at: u64, line: LineView<'_>) -> Result<(), AddStop>
-        ensures accepted { OnOk result ((line_refusal self.old (viewed line.entry) ≡ None) × (self.new ≡ with_line self.old (viewed line.entry))) }
+    pub fn add_view(&mut self, at: u64, line: &LineView<'_>) -> Result<(), AddStop>
+        ensures accepted { OnOk result ((line_refusal self.old (viewed line.now) ≡ None) × (self.new ≡ with_line self.old (viewed line.now))) }
         ensures kept { OnErr result (self.new ≡ self.old) }
-        ensures cause { IfErr result (λ stop. StopsAt at stop (line_refusal self.old (viewed line.entry)) (viewed line.entry)) }
+        ensures cause { IfErr result (λ stop. StopsAt at stop (line_refusal self.old (viewed line.now)) (viewed line.now)) }
     {
         if self.verdict.is_some() {
             return Err(refused(at, Why::BadLine));
@@ -75,15 +79,15 @@ impl Checker {
         match line {
             LineView::Lemma(lemma) => self.add_lemma(at, lemma),
             LineView::Remark => Ok(()),
-            LineView::Verdict(verdict) => self.add_verdict(at, verdict),
+            LineView::Verdict(verdict) => self.add_verdict(at, *verdict),
         }
     }
 
-    fn add_lemma(&mut self, at: u64, lemma: &Lemma) -> Result<(), AddStop>
+    fn add_lemma(&mut self, at: u64, lemma: &LemmaView<'_>) -> Result<(), AddStop>
         requires { self.old.verdict ≡ None }
-        ensures accepted { OnOk result ((line_refusal self.old (ALemma (lemma_of lemma.now)) ≡ None) × (self.new ≡ with_line self.old (ALemma (lemma_of lemma.now)))) }
+        ensures accepted { OnOk result ((line_refusal self.old (ALemma (lemma_viewed lemma.now)) ≡ None) × (self.new ≡ with_line self.old (ALemma (lemma_viewed lemma.now)))) }
         ensures kept { OnErr result (self.new ≡ self.old) }
-        ensures cause { IfErr result (λ stop. StopsAt at stop (line_refusal self.old (ALemma (lemma_of lemma.now))) (ALemma (lemma_of lemma.now))) }
+        ensures cause { IfErr result (λ stop. StopsAt at stop (line_refusal self.old (ALemma (lemma_viewed lemma.now))) (ALemma (lemma_viewed lemma.now))) }
     {
         if let Err(why) = check_lemma(&mut self.trail, &self.known, lemma) {
             return Err(refused(at, why));
@@ -129,10 +133,10 @@ impl Checker {
 
 /// Tests that the lemma is right behind the lemmas known, and else answers the first name of what is wrong with it. The
 /// trail is then at its path.
-fn check_lemma(trail: &mut Trail, known: &Known, lemma: &Lemma) -> Result<(), Why>
+fn check_lemma(trail: &mut Trail, known: &Known, lemma: &LemmaView<'_>) -> Result<(), Why>
     requires { board_of trail.old.root ≡ known.now.board }
-    ensures refusal { Finds result (lemma_refusal trail.old.root known.now.shown (lemma_of lemma.now)) }
-    ensures path { OnOk result (trail.new.path ≡ lemma.now.path.items) }
+    ensures refusal { Finds result (lemma_refusal trail.old.root known.now.shown (lemma_viewed lemma.now)) }
+    ensures path { OnOk result (trail.new.path ≡ lemma.now.path.now.items) }
     ensures few { OnOk result (length known.now.shown + 1 < 2 ^ 32) }
     ensures root { trail.new.root ≡ trail.old.root }
 {

@@ -6,8 +6,9 @@ ghost use Rattle.proof_text.specs.Checked.{shown_refusal, is_shown};
 ghost use Rattle.cert_checker.specs.Checking.{Finds};
 ghost use Rattle.cert_checker.specs.Shown.{words_of, position_in, AreWords};
 
+use crate::stops::Why;
 use board_bits::{Position, Size};
-use proof_text::{Claim, Why};
+use proof_text::Claim;
 use std::alloc::{AllocError, Global};
 use std::marker::Model;
 

@@ -16,5 +16,5 @@ mod trail;
 
 pub use cert_format::{Line, LineView, Verdict};
 pub use checker::Checker;
-pub use proof_text::Why;
-pub use stops::{Accepted, AddStop, Refusal};
+pub use rule_compat::PlanFault;
+pub use stops::{Accepted, AddStop, Refusal, Why};

@@ -1,33 +1,38 @@
 //! The tests of a lemma's reason and of a verdict, in the order in which their names are given.
-ghost use Rattle.std.specs.Prelude.{◌≡◌, map};
+ghost use Rattle.std.specs.Prelude.{◌≡◌, ◌≤◌, map, length};
 ghost use Rattle.game_rules.specs.Position.{board_of, open_columns};
 ghost use Rattle.proof_text.specs.Lemma.{ByOne, ByAll};
-ghost use Rattle.proof_text.specs.Checked.{end_refusal, cites_refusal, move_refusal, reason_refusal, verdict_stands};
-ghost use Rattle.cert_format.specs.Shape.{cite_of, reason_of};
+ghost use Rattle.proof_text.specs.Checked.{end_refusal, cites_refusal, move_refusal, list_refusal, reason_refusal, verdict_stands};
+ghost use Rattle.plan_text.specs.PlanLine.{most_members};
+ghost use Rattle.rule_compat.specs.Written.{written_list};
+ghost use Rattle.cert_format.specs.Shape.{cite_of, reason_viewed};
 ghost use Rattle.cert_checker.specs.Checking.{columns_of, Finds};
 
 use crate::claims::goes_by_one;
 use crate::known::{Known, check_cited, is_shown};
 use crate::moves::cites_all;
+use crate::stops::Why;
 use crate::trail::Reached;
 use board_bits::{End, Position};
-use cert_format::{Cite, Reason};
-use proof_text::{Claim, Verdict, Why};
+use cert_format::{Cite, ReasonView};
+use proof_text::{Claim, Verdict};
+use rule_compat::{Instance, Plan};
 
 /// Tests that the reason shows the claim at the position that was reached, by the lemmas known.
 pub(crate) fn check_reason(
     known: &Known,
     reached: &Reached,
     claim: Claim,
-    reason: &Reason,
+    reason: &ReasonView<'_>,
 ) -> Result<(), Why>
     requires { board_of reached.now ≡ known.now.board }
-    ensures { Finds result (reason_refusal known.now.shown reached.now claim (reason_of reason.now)) }
+    ensures { Finds result (reason_refusal known.now.shown reached.now claim (reason_viewed reason.now)) }
 {
     match reason {
-        Reason::Ended => check_end(claim, reached.ended()),
-        Reason::One(cite) => check_one(known, reached, claim, *cite),
-        Reason::All(cites) => check_all(known, reached, claim, cites.as_slice()),
+        ReasonView::Ended => check_end(claim, reached.ended()),
+        ReasonView::One(cite) => check_one(known, reached, claim, *cite),
+        ReasonView::All(cites) => check_all(known, reached, claim, cites.as_slice()),
+        ReasonView::Plan(members) => check_plan(reached, claim, members.as_slice()),
     }
 }
 
@@ -60,6 +65,20 @@ fn check_all(known: &Known, reached: &Reached, claim: Claim, cites: &[Cite]) -> 
     let serves = !goes_by_one(claim, position.to_move());
     check_moves(reached, serves, cites_all(position, cites))?;
     check_cites(known, position, claim, cites)
+}
+
+/// Tests that the claim is that White doesn't win, and that the instances are a plan at the position.
+fn check_plan(reached: &Reached, claim: Claim, members: &[Instance]) -> Result<(), Why>
+    requires { length members.now ≤ most_members }
+    ensures { Finds result (list_refusal reached.now claim (written_list members.now)) }
+{
+    if claim != Claim::WhiteFails {
+        return Err(Why::WrongClaim);
+    }
+    match Plan::check(reached.position(), members) {
+        Ok(_) => Ok(()),
+        Err(fault) => Err(Why::BadPlan(fault)),
+    }
 }
 
 /// Tests each cite from the left, the columns cited being those that have room.

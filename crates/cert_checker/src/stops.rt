@@ -1,6 +1,10 @@
 //! The answers of a checker.
-use proof_text::{Verdict, Why};
+use proof_text::Verdict;
+use rule_compat::PlanFault;
 use std::alloc::AllocError;
+
+/// Why a line is refused; where its list of instances is no plan, with the first reason for that.
+pub type Why = proof_text::Why<PlanFault>;
 
 /// Which line of a text is refused, counted from 1, and why.
 #[derive(Clone, Copy, Debug, PartialEq, Eq)]

@@ -1,6 +1,6 @@
 //! Proofs as lists of lines: one in which two paths lead to one position is accepted, and with a line changed it is
 //! refused there by its name.
-use crate::{Accepted, AddStop, Checker, Refusal, Verdict, Why};
+use crate::{Accepted, AddStop, Checker, PlanFault, Refusal, Verdict, Why};
 use board_bits::read_game;
 use cert_format::read_line;
 use std::alloc::Global;
@@ -50,28 +50,18 @@ fn checked(alloc: Global, lines: &[&str]) -> Result<Result<Accepted, Refusal>, F
 }
 
 #[test]
-fn two_paths_to_one_position_are_accepted(rt: HostRuntime) -> Result<(), Fail> {
+fn right_lines_are_accepted_and_others_refused_by_their_names(rt: HostRuntime) -> Result<(), Fail> {
     let accepted = Accepted {
         verdict: Verdict::Draw(8, 16),
         lemmas: 16,
     };
     assert_eq!(rt; checked(rt.alloc(), &PROOF)?, Ok(accepted));
-    Ok(())
-}
-
-#[test]
-fn a_remark_says_nothing(rt: HostRuntime) -> Result<(), Fail> {
     let accepted = Accepted {
         verdict: Verdict::Unknown,
         lemmas: 1,
     };
-    let lines = ["# one", PROOF[0], "# two", "value unknown"];
-    assert_eq!(rt; checked(rt.alloc(), &lines)?, Ok(accepted));
-    Ok(())
-}
-
-#[test]
-fn a_line_that_is_not_right_is_refused_by_its_name(rt: HostRuntime) -> Result<(), Fail> {
+    let remarked = ["# one", PROOF[0], "# two", "value unknown"];
+    assert_eq!(rt; checked(rt.alloc(), &remarked)?, Ok(accepted));
     let rows = [
         (0, "1 aaaa W- end", 4, Why::BadPath),
         (0, "2 aabb W- end", 4, Why::BadLine),
@@ -93,6 +83,20 @@ fn a_line_that_is_not_right_is_refused_by_its_name(rt: HostRuntime) -> Result<()
         (16, "value win 8", 20, Why::BadVerdict),
         (16, "# no verdict", 21, Why::EndedEarly),
         (3, "value unknown", 8, Why::BadLine),
+        (
+            0,
+            "1 - W- plan CE:a1",
+            4,
+            Why::BadPlan(PlanFault::Misfit(1)),
+        ),
+        (0, "1 - B- plan CE:b3", 4, Why::WrongClaim),
+        (0, "1 aabb W- plan CE:b3", 4, Why::BadPlan(PlanFault::Ended)),
+        (
+            1,
+            "2 a W- plan CE:b3",
+            5,
+            Why::BadPlan(PlanFault::NotWhiteToMove),
+        ),
     ];
     for (index, text, at, why) in rows {
         let mut lines = PROOF;

@@ -1,4 +1,7 @@
 pub mod Digits
+pub mod Marks
+pub mod Members
+pub mod Rows
 pub mod Names
 pub mod Spaced
 pub mod Words

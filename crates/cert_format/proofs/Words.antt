@@ -21,7 +21,9 @@ use Rattle.proof_text.specs.declared.Verdict.{Verdict}
 use Rattle.proof_text.specs.declared.Verdict.TheVariants.{Win, Loss, Draw, Unknown}
 use Rattle.cert_format.specs.Words.{HasNoClaim}
 use Rattle.proof_text.proofs.Words.{number_read}
-use Rattle.proof_text.proofs.Spelled.{plain_decimal, words_of_spaced}
+use Rattle.proof_text.proofs.Spelled.{plain_decimal}
+use Rattle.plan_text.proofs.Spaced.{words_of_spaced}
+use Rattle.game_rules.specs.Board.{Board}
 
 abbrev is_space : ℕ → Bool
 is_space byte = byte == 32
@@ -182,30 +184,32 @@ claim_none bytes a b c d word next more cut =
 -- ---- the kind of a reason
 
 -- bytes that aren't `end`, and don't begin with another kind and a space
-pub reason_none : (cols : ℕ) (bytes : List ℕ) → bytes_eq bytes (codes "end") ≡ false → ((rest : List ℕ) → bytes ≢ codes "one " ++ rest) → ((rest : List ℕ) → bytes ≢ codes "all " ++ rest)
-    → reason_of cols (words_of bytes) ≡ None
-reason_none cols bytes end one all = by_words (words_of bytes) refl
+pub reason_none : (board : Board) (bytes : List ℕ) → bytes_eq bytes (codes "end") ≡ false → ((rest : List ℕ) → bytes ≢ codes "one " ++ rest) → ((rest : List ℕ) → bytes ≢ codes "all " ++ rest)
+    → ((rest : List ℕ) → bytes ≢ codes "plan " ++ rest) → reason_of board (words_of bytes) ≡ None
+reason_none board bytes end one all plan = by_words (words_of bytes) refl
   where
-    alone : (e o a : Bool) → e ≡ false → cond e (Some ByEnd) (cond o None (cond a None None)) ≡ None
-    alone true o a h = cc
-    alone false true a h = refl
-    alone false false true h = refl
-    alone false false false h = refl
+    alone : (e o a p : Bool) → e ≡ false → cond e (Some ByEnd) (cond o None (cond a None (cond p None None))) ≡ None
+    alone true o a p h = cc
+    alone false true a p h = refl
+    alone false false true p h = refl
+    alone false false false true h = refl
+    alone false false false false h = refl
 
-    first : (e o a : Bool) (x y : Option Reason) → (o ≡ true → ⊥) → (a ≡ true → ⊥) → cond e None (cond o x (cond a y None)) ≡ None
-    first true o a x y one all = refl
-    first false true a x y one all = absurd (one refl)
-    first false false true x y one all = absurd (all refl)
-    first false false false x y one all = refl
+    first : (e o a p : Bool) (x y z : Option Reason) → (o ≡ true → ⊥) → (a ≡ true → ⊥) → (p ≡ true → ⊥) → cond e None (cond o x (cond a y (cond p z None))) ≡ None
+    first true o a p x y z one all plan = refl
+    first false true a p x y z one all plan = absurd (one refl)
+    first false false true p x y z one all plan = absurd (all refl)
+    first false false false true x y z one all plan = absurd (plan refl)
+    first false false false false x y z one all plan = refl
 
-    by_words : (words : List (List ℕ)) → words_of bytes ≡ words → reason_of cols (words_of bytes) ≡ None
-    by_words [] h = ap (reason_of cols) h
+    by_words : (words : List (List ℕ)) → words_of bytes ≡ words → reason_of board (words_of bytes) ≡ None
+    by_words [] h = ap (reason_of board) h
     by_words (word ∷ []) h =
         let same : bytes ≡ word = sym (join_with_byte-slice_split 32 bytes) ∙ ap spaced h in
-        ap (reason_of cols) h ∙ alone (bytes_eq word (codes "end")) (bytes_eq word (codes "one")) (bytes_eq word (codes "all")) (ap (λ word. bytes_eq word (codes "end")) (sym same) ∙ end)
+        ap (reason_of board) h ∙ alone (bytes_eq word (codes "end")) (bytes_eq word (codes "one")) (bytes_eq word (codes "all")) (bytes_eq word (codes "plan")) (ap (λ word. bytes_eq word (codes "end")) (sym same) ∙ end)
     by_words (word ∷ next ∷ more) h =
-        ap (reason_of cols) h ∙ first (bytes_eq word (codes "end")) (bytes_eq word (codes "one")) (bytes_eq word (codes "all")) _ _ (other_first (codes "one") bytes word next more one h)
-        (other_first (codes "all") bytes word next more all h)
+        ap (reason_of board) h ∙ first (bytes_eq word (codes "end")) (bytes_eq word (codes "one")) (bytes_eq word (codes "all")) (bytes_eq word (codes "plan")) _ _ _ (other_first (codes "one") bytes word next more one h)
+        (other_first (codes "all") bytes word next more all h) (other_first (codes "plan") bytes word next more plan h)
 
 -- ---- the kind of a verdict
 

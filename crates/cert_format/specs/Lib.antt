@@ -1,3 +1,5 @@
+pub mod Items
 pub mod Names
 pub mod Shape
+pub mod Rooms
 pub mod Words

@@ -1,18 +1,21 @@
 -- The lines of the code as the plain data of the definitions.
-use Rattle.std.specs.Prelude.{◌≡◌, ℕ, List, [], ◌∷◌, map, flat_map, Option, Some, None, Result, Ok, Err}
-use Rattle.proof_text.specs.Lemma.{Cite as PlainCite, Reason as PlainReason, ByEnd, ByOne, ByAll, Lemma as PlainLemma, Line as PlainLine, ALemma, ARemark, AVerdict}
+use Rattle.std.specs.Prelude.{◌≡◌, ℕ, List, [], ◌∷◌, ◌++◌, map, flat_map, Option, Some, None, Result, Ok, Err}
+use Rattle.proof_text.specs.Lemma.{Cite as PlainCite, Reason as PlainReason, ByEnd, ByOne, ByAll, ByPlan, Lemma as PlainLemma, Line as PlainLine, ALemma, ARemark, AVerdict}
 use Rattle.proof_text.specs.Spelling.{cite_word, lemma_line, verdict_line}
+use Rattle.cert_format.specs.Items.{members_text}
 use Rattle.cert_format.specs.declared.lines.Cite.{Cite}
 use Rattle.cert_format.specs.declared.lines.Reason.{Reason}
-use Rattle.cert_format.specs.declared.lines.Reason.TheVariants.{Ended, One, All}
+use Rattle.cert_format.specs.declared.lines.Reason.TheVariants as reasons
+use Rattle.cert_format.specs.declared.lines.ReasonView.{ReasonView}
+use Rattle.cert_format.specs.declared.lines.ReasonView.TheVariants as reason_views
+use Rattle.cert_format.specs.declared.lines.LemmaView.{LemmaView}
+use Rattle.rule_compat.specs.Written.{written_list}
 use Rattle.cert_format.specs.declared.lines.Lemma.{Lemma}
 use Rattle.cert_format.specs.declared.lines.Line.{Line}
 use Rattle.cert_format.specs.declared.lines.Line.TheVariants as lines
 use Rattle.cert_format.specs.declared.lines.LineView.{LineView}
 use Rattle.cert_format.specs.declared.lines.LineView.TheVariants as views
 use Rattle.cert_format.specs.declared.lines.LineFault.{LineFault}
-use Rattle.cert_format.specs.declared.reading.Kind.{Kind}
-use Rattle.cert_format.specs.declared.reading.Kind.TheVariants as kinds
 
 -- how many bytes a line that is made has room for, with its line feed
 abbrev pub line_room : ℕ
@@ -22,12 +25,23 @@ abbrev pub cite_of : Cite → PlainCite
 cite_of cite = record { column = cite.column; lemma = cite.lemma }
 
 abbrev pub reason_of : Reason → PlainReason
-reason_of Ended = ByEnd
-reason_of (One cite) = ByOne (cite_of cite)
-reason_of (All cites) = ByAll (map cite_of cites.items)
+reason_of reasons.Ended = ByEnd
+reason_of (reasons.One cite) = ByOne (cite_of cite)
+reason_of (reasons.All cites) = ByAll (map cite_of cites.items)
+reason_of (reasons.Plan members) = ByPlan (written_list members.items)
+
+-- the same of a reason that is lent
+abbrev pub reason_viewed : ReasonView → PlainReason
+reason_viewed reason_views.Ended = ByEnd
+reason_viewed (reason_views.One cite) = ByOne (cite_of cite)
+reason_viewed (reason_views.All cites) = ByAll (map cite_of cites.now.items)
+reason_viewed (reason_views.Plan members) = ByPlan (written_list members.now.items)
 
 abbrev pub lemma_of : Lemma → PlainLemma
 lemma_of l = record { number = l.number; path = l.path.items; claim = l.claim; reason = reason_of l.reason }
+
+abbrev pub lemma_viewed : LemmaView → PlainLemma
+lemma_viewed l = record { number = l.number; path = l.path.now.items; claim = l.claim; reason = reason_viewed l.reason }
 
 abbrev pub line_of : Line → PlainLine
 line_of (lines.Lemma l) = ALemma (lemma_of l)
@@ -36,19 +50,18 @@ line_of (lines.Verdict v) = AVerdict v
 
 -- the same of a line whose lemma is lent
 abbrev pub viewed : LineView → PlainLine
-viewed (views.Lemma l) = ALemma (lemma_of l.now)
+viewed (views.Lemma l) = ALemma (lemma_viewed l)
 viewed views.Remark = ARemark
 viewed (views.Verdict v) = AVerdict v
-
--- and of one whose lemma is in the room that it was read into
-abbrev pub kept_in : Lemma → Kind → PlainLine
-kept_in room kinds.Lemma = ALemma (lemma_of room)
-kept_in room kinds.Remark = ARemark
-kept_in room (kinds.Verdict v) = AVerdict v
 
 -- words with a space before each
 abbrev pub behind_spaces : List (List ℕ) → List ℕ
 behind_spaces words = flat_map (λ word. 32 ∷ word) words
+
+-- what stands behind the first word of a plan: its members and the line feed; the lines of other reasons are made whole
+abbrev pub behind_word : PlainReason → List ℕ
+behind_word (ByPlan ws) = members_text ws ++ 10 ∷ []
+behind_word reason = []
 
 -- the words of cites, with a space before each
 abbrev pub cite_words : List Cite → List ℕ
@@ -64,11 +77,3 @@ printed (AVerdict v) = verdict_line v
 abbrev pub Reads : Result Line LineFault → Option PlainLine → Type 0
 Reads (Ok line) read = read ≡ Some (line_of line)
 Reads (Err fault) read = read ≡ None
-
-abbrev pub Views : Result LineView LineFault → Option PlainLine → Type 0
-Views (Ok line) read = read ≡ Some (viewed line)
-Views (Err fault) read = read ≡ None
-
-abbrev pub ReadsInto : Lemma → Result Kind LineFault → Option PlainLine → Type 0
-ReadsInto room (Ok kind) read = read ≡ Some (kept_in room kind)
-ReadsInto room (Err fault) read = read ≡ None

@@ -3,10 +3,10 @@
 ghost use Rattle.std.specs.Prelude.{◌≡◌, ◌+◌, ◌≤◌, [], ◌∷◌, ◌++◌, map, length, codes, decimal};
 ghost use Rattle.game_rules.specs.Grammar.{letter_of, move_list};
 ghost use Rattle.proof_text.specs.Spelling.{cite_word, reason_words, lemma_line, longest_path, most_cites};
-ghost use Rattle.cert_format.specs.Shape.{cite_of, reason_of, cite_words, behind_spaces, line_room};
+ghost use Rattle.cert_format.specs.Shape.{cite_of, reason_viewed, cite_words, behind_spaces, behind_word, line_room};
 
 use crate::line_text::{LINE_ROOM, claim_word, letter_of};
-use crate::lines::{Cite, Reason};
+use crate::lines::{Cite, ReasonView};
 use board_bits::Column;
 use itoa::Buffer;
 use proof_text::Claim;
@@ -47,13 +47,19 @@ impl BackLine {
         &self.bytes[self.start..]
     }
 
-    /// Makes the line of a lemma in place of what is there, with its line feed.
-    pub(crate) fn make_lemma(&mut self, number: u32, path: &[Column], claim: Claim, reason: &Reason)
+    /// Makes the line of a lemma in place of what is there, with its line feed; of a line with a plan what stands before
+    /// the plan's members.
+    pub(crate) fn make_lemma(
+        &mut self,
+        number: u32,
+        path: &[Column],
+        claim: Claim,
+        reason: &ReasonView<'_>,
+    )
         requires { length path.now ≤ longest_path }
-        ensures { self.new ≡ lemma_line (record { number = number; path = path.now; claim = claim; reason = reason_of reason.now }) }
+        ensures { self.new ++ behind_word (reason_viewed reason.now) ≡ lemma_line (record { number = number; path = path.now; claim = claim; reason = reason_viewed reason.now }) }
     {
         self.clear();
-        self.put_byte(b'\n');
         self.put_reason(reason);
         self.put_text(claim_word(claim));
         self.put_byte(b' ');
@@ -68,24 +74,26 @@ impl BackLine {
         self.start = LINE_ROOM;
     }
 
-    /// The words of a reason, with a space before each.
-    fn put_reason(&mut self, reason: &Reason)
-        requires { length self.old + 140 ≤ line_room }
-        ensures line { self.new ≡ behind_spaces (reason_words (reason_of reason.now)) ++ self.old }
-        ensures bound { length self.new ≤ length self.old + 140 }
+    /// The words of a reason, with a space before each, and the line feed; of a plan its first word alone.
+    fn put_reason(&mut self, reason: &ReasonView<'_>)
+        requires { self.old ≡ [] }
+        ensures line { self.new ++ behind_word (reason_viewed reason.now) ≡ behind_spaces (reason_words (reason_viewed reason.now)) ++ 10 ∷ [] }
+        ensures bound { length self.new ≤ 141 }
     {
         match reason {
-            Reason::Ended => self.put_text(b" end"),
-            Reason::One(cite) => self.put_one(*cite),
-            Reason::All(cites) => self.put_all(cites.as_slice()),
+            ReasonView::Ended => self.put_text(b" end\n"),
+            ReasonView::One(cite) => self.put_one(*cite),
+            ReasonView::All(cites) => self.put_all(cites.as_slice()),
+            ReasonView::Plan(_) => self.put_text(b" plan"),
         }
     }
 
     fn put_one(&mut self, cite: Cite)
-        requires { length self.old + 18 ≤ line_room }
-        ensures line { self.new ≡ codes " one " ++ (letter_of cite.column ∷ (32 ∷ decimal cite.lemma)) ++ self.old }
-        ensures bound { length self.new ≤ length self.old + 18 }
+        requires { self.old ≡ [] }
+        ensures line { self.new ≡ codes " one " ++ (letter_of cite.column ∷ (32 ∷ (decimal cite.lemma ++ 10 ∷ []))) }
+        ensures bound { length self.new ≤ 18 }
     {
+        self.put_byte(b'\n');
         self.put_number(cite.lemma);
         self.put_byte(b' ');
         self.put_byte(letter_of(cite.column));
@@ -94,10 +102,11 @@ impl BackLine {
 
     fn put_all(&mut self, cites: &[Cite])
         requires few { length cites.now ≤ most_cites }
-        requires room { length self.old + 140 ≤ line_room }
-        ensures line { self.new ≡ codes " all" ++ (cite_words cites.now ++ self.old) }
-        ensures bound { length self.new ≤ length self.old + 140 }
+        requires empty { self.old ≡ [] }
+        ensures line { self.new ≡ codes " all" ++ (cite_words cites.now ++ 10 ∷ []) }
+        ensures bound { length self.new ≤ 141 }
     {
+        self.put_byte(b'\n');
         let mut index = cites.len();
         while index > 0 {
             index -= 1;

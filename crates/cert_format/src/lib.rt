@@ -1,20 +1,32 @@
-//! The lines of a proof's text, written and read. What a line says, how it is spelled and how it is read is defined in
-//! `proof_text`, whose definitions each contract here cites. No call takes memory.
+//! The lines of a proof's text and the lines of plans, written and read, and the texts of squares, groups, instances
+//! and plan faults for reports. What each text says, how it is spelled and how it is read is defined in `proof_text`
+//! and `plan_text`, whose definitions each contract here cites. No call takes memory.
 #![tactic(auto)]
 
 mod back_line;
+mod instance_text;
+mod items;
 mod line_text;
 mod lines;
 mod named_moves;
 mod number;
 mod output;
+mod plan_line;
+#[cfg(test)]
+mod plan_tests;
 mod reading;
+mod room;
 #[cfg(test)]
 mod tests;
 
+pub use items::{Item, print_item, push_group, push_plan_fault, push_square};
 pub use line_text::{LineText, push_number, push_text};
-pub use lines::{Cite, FIRST_LINE, Lemma, Line, LineFault, LineView, Reason};
+pub use lines::{
+    Cite, FIRST_LINE, Lemma, LemmaView, Line, LineFault, LineView, Reason, ReasonView,
+};
 pub use number::number_between;
 pub use output::{LemmaOut, print_line};
+pub use plan_line::{print_plan, read_plan};
 pub use proof_text::{Claim, Verdict};
-pub use reading::{LineBuffer, read_line};
+pub use reading::read_line;
+pub use room::LineBuffer;

@@ -1,11 +1,13 @@
 //! What a line of a proof says. A lemma stands at the position that its path leads to from the root of the proof, and
 //! names the earlier lemmas that its claim rests on.
 ghost use Rattle.std.specs.Prelude.{◌≡◌};
-ghost use Rattle.cert_format.specs.Shape.{line_of, viewed};
+ghost use Rattle.cert_format.specs.Shape.{reason_of, reason_viewed, lemma_of, lemma_viewed};
 
+use crate::plan_line::MOST_MEMBERS;
 use arrayvec::ArrayVec;
 use board_bits::Column;
 use proof_text::{Claim, Verdict};
+use rule_compat::Instance;
 
 /// The first line of each proof, which names the format.
 pub const FIRST_LINE: &[u8] = b"victor 1";
@@ -35,6 +37,35 @@ pub enum Reason {
     One(Cite),
     /// All moves together show it.
     All(ArrayVec<Cite, MOST_CITES>),
+    /// The instances are a plan of Black's, by which White doesn't win.
+    Plan(ArrayVec<Instance, MOST_MEMBERS>),
+}
+
+impl Reason {
+    /// The same reason, lent.
+    pub fn view(&self) -> ReasonView<'_>
+        ensures { reason_viewed result ≡ reason_of self.now }
+    {
+        match self {
+            Reason::Ended => ReasonView::Ended,
+            Reason::One(cite) => ReasonView::One(*cite),
+            Reason::All(cites) => ReasonView::All(cites),
+            Reason::Plan(members) => ReasonView::Plan(members),
+        }
+    }
+}
+
+/// A reason whose cites and instances stay where they are, so that a reason is small to hand on.
+#[derive(Clone, Copy, Debug)]
+pub enum ReasonView<'a> {
+    /// The game has ended, and the claim is true of its end.
+    Ended,
+    /// One move shows it.
+    One(Cite),
+    /// All moves together show it.
+    All(&'a ArrayVec<Cite, MOST_CITES>),
+    /// The instances are a plan of Black's, by which White doesn't win.
+    Plan(&'a ArrayVec<Instance, MOST_MEMBERS>),
 }
 
 /// A lemma of a proof: its number, its position as the moves from the root, and what it claims there and why.
@@ -47,15 +78,26 @@ pub struct Lemma {
 }
 
 impl Lemma {
-    /// A lemma that says nothing yet: room to read one into.
-    pub(crate) fn blank() -> Lemma {
-        Lemma {
-            number: 0,
-            path: ArrayVec::new(),
-            claim: Claim::WhiteWins,
-            reason: Reason::Ended,
+    /// The same lemma, lent.
+    pub fn view(&self) -> LemmaView<'_>
+        ensures { lemma_viewed result ≡ lemma_of self.now }
+    {
+        LemmaView {
+            number: self.number,
+            path: &self.path,
+            claim: self.claim,
+            reason: self.reason.view(),
         }
     }
+}
+
+/// A lemma whose path and reason stay where they are.
+#[derive(Clone, Copy, Debug)]
+pub struct LemmaView<'a> {
+    pub number: u32,
+    pub path: &'a ArrayVec<Column, LONGEST_PATH>,
+    pub claim: Claim,
+    pub reason: ReasonView<'a>,
 }
 
 /// A line of a proof behind its game.
@@ -69,24 +111,11 @@ pub enum Line {
     Verdict(Verdict),
 }
 
-impl Line {
-    /// What the line says, lent.
-    pub fn view(&self) -> LineView<'_>
-        ensures { viewed result ≡ line_of self.now }
-    {
-        match self {
-            Line::Lemma(lemma) => LineView::Lemma(lemma),
-            Line::Remark => LineView::Remark,
-            Line::Verdict(verdict) => LineView::Verdict(*verdict),
-        }
-    }
-}
-
-/// What a line says. Its lemma stays in the room that it was read into.
-#[derive(Clone, Copy, Debug, PartialEq, Eq)]
+/// What a line says. The parts of a lemma stay in the room that it was read into.
+#[derive(Clone, Copy, Debug)]
 pub enum LineView<'a> {
     /// A lemma.
-    Lemma(&'a Lemma),
+    Lemma(LemmaView<'a>),
     /// A line for the reader, which says nothing.
     Remark,
     /// The verdict, with which a proof ends.

@@ -3,11 +3,12 @@ ghost use Rattle.std.specs.Prelude.{◌≡◌, ◌≢◌, ◌+◌, ◌<◌, ◌�
 ghost use Rattle.device_rules.specs.Devices.{HasCause, AppendsPrefix};
 ghost use Rattle.proof_text.specs.Lemma.{ARemark};
 ghost use Rattle.proof_text.specs.Spelling.{lemma_line, greatest_number, longest_path};
-ghost use Rattle.cert_format.specs.Shape.{reason_of, line_of, printed};
+ghost use Rattle.cert_format.specs.Shape.{reason_of, reason_viewed, line_of, printed};
 
 use crate::back_line::BackLine;
 use crate::line_text::verdict_line;
-use crate::lines::{Line, Reason};
+use crate::lines::{Line, Reason, ReasonView};
+use crate::plan_line::put_plan_end;
 use board_bits::Column;
 use io_ports::{Failed, Sink, put_all};
 use proof_text::Claim;
@@ -15,21 +16,50 @@ use std::marker::Model;
 
 /// Writes the spelling of a lemma or a verdict, and a line feed. A remark can't be written, since what it says isn't
 /// kept. The line is one of a proof, and read again as it was, where its numbers are from 1 to 10,000,000, `All` has at
-/// least one cite, and its columns are those of one board. On `Failed`, which comes only where the sink's count of
-/// faults rose, a prefix was written.
+/// least one cite and `Plan` one instance, and its columns and instances are those of one board. On `Failed`, which comes
+/// only where the sink's count of faults rose, a prefix was written.
 pub fn print_line<O: Sink>(line: &Line, out: &mut O) -> Result<(), Failed>
     requires { line_of line.now ≢ ARemark }
     ensures written { AppendsPrefix (is_ok result) (O.written out.old) (O.written out.new) (printed (line_of line.now)) }
     ensures cause { HasCause (O.faults out.old) (O.faults out.new) result }
 {
     match line {
-        Line::Lemma(l) => {
+        Line::Lemma(lemma) => {
             let mut line = BackLine::new();
-            line.make_lemma(l.number, l.path.as_slice(), l.claim, &l.reason);
-            put_all(out, line.bytes())
+            put_lemma(
+                &mut line,
+                lemma.number,
+                lemma.path.as_slice(),
+                lemma.claim,
+                &lemma.reason.view(),
+                out,
+            )
         }
         Line::Verdict(verdict) => put_all(out, verdict_line(*verdict).as_slice()),
         Line::Remark => unreachable!(),
+    }
+}
+
+/// Writes the line of a lemma, which is made in this buffer. The members of a plan follow piece by piece.
+#[inline(always)]
+fn put_lemma<O: Sink>(
+    line: &mut BackLine,
+    number: u32,
+    path: &[Column],
+    claim: Claim,
+    reason: &ReasonView<'_>,
+    out: &mut O,
+) -> Result<(), Failed>
+    requires { length path.now ≤ longest_path }
+    ensures written { AppendsPrefix (is_ok result) (O.written out.old) (O.written out.new)
+        (lemma_line (record { number = number; path = path.now; claim = claim; reason = reason_viewed reason.now })) }
+    ensures cause { HasCause (O.faults out.old) (O.faults out.new) result }
+{
+    line.make_lemma(number, path, claim, reason);
+    put_all(out, line.bytes())?;
+    match reason {
+        ReasonView::Plan(members) => put_plan_end(members.as_slice(), out),
+        _ => Ok(()),
     }
 }
 
@@ -73,7 +103,6 @@ impl LemmaOut {
 
     /// Puts the line of the next lemma, and answers its number. On `Failed`, which comes only where the sink's count of
     /// faults rose, a prefix of the line was written, and the number is given to the lemma that is put next.
-    #[inline(always)]
     pub fn put<O: Sink>(
         &mut self,
         out: &mut O,
@@ -90,9 +119,29 @@ impl LemmaOut {
             (lemma_line (record { number = self.old + 1; path = path.now; claim = claim; reason = reason_of reason })) }
         ensures cause { HasCause (O.faults out.old) (O.faults out.new) result }
     {
+        self.put_view(out, path, claim, &reason.view())
+    }
+
+    /// As `put`, of a reason that is lent.
+    #[inline(always)]
+    pub fn put_view<O: Sink>(
+        &mut self,
+        out: &mut O,
+        path: &[Column],
+        claim: Claim,
+        reason: &ReasonView<'_>,
+    ) -> Result<u32, Failed>
+        requires room { self.old < greatest_number }
+        requires short { length path.now ≤ longest_path }
+        ensures number { IfOk result (λ n. n ≡ self.old + 1) }
+        ensures counted { OnOk result (self.new ≡ self.old + 1) }
+        ensures kept { OnErr result (self.new ≡ self.old) }
+        ensures written { AppendsPrefix (is_ok result) (O.written out.old) (O.written out.new)
+            (lemma_line (record { number = self.old + 1; path = path.now; claim = claim; reason = reason_viewed reason.now })) }
+        ensures cause { HasCause (O.faults out.old) (O.faults out.new) result }
+    {
         let number = self.count + 1;
-        self.line.make_lemma(number, path, claim, &reason);
-        put_all(out, self.line.bytes())?;
+        put_lemma(&mut self.line, number, path, claim, reason, out)?;
         self.count = number;
         Ok(number)
     }

@@ -8,14 +8,15 @@ ghost use Rattle.proof_text.specs.Spelling.{is_printable, is_remark, claim_word}
 ghost use Rattle.proof_text.specs.declared.Verdict.TheVariants.{Draw};
 ghost use Rattle.proof_text.specs.Reading.{words_of, number_of, is_letter, column_of, path_of, letter_word, cite_of, one_of, all_of, reason_of, lemma_of, with_two, verdict_of, read_line};
 ghost use Rattle.cert_format.specs.Shape as shape;
-ghost use Rattle.cert_format.specs.Shape.{Reads, Views, ReadsInto};
+ghost use Rattle.cert_format.specs.Shape.{Reads};
+ghost use Rattle.cert_format.specs.Rooms.{reason_in, lemma_in, ReadsInto};
 ghost use Rattle.cert_format.specs.Words.{HasNoClaim};
 
-use crate::lines::{
-    Cite, LONGEST_LINE, LONGEST_PATH, Lemma, Line, LineFault, LineView, MOST_CITES, Reason,
-};
+use crate::lines::{Cite, LONGEST_LINE, LONGEST_PATH, Line, LineFault, MOST_CITES};
 use crate::named_moves::named_moves;
 use crate::number::number_between;
+use crate::plan_line::members_of;
+use crate::room::{Kind, LemmaRoom, ReasonKind, ReasonRoom};
 use arrayvec::ArrayVec;
 use board_bits::{Column, Size};
 use bstr::ByteSlice;
@@ -27,53 +28,19 @@ const GREATEST_NUMBER: u32 = 10_000_000;
 /// What the bytes say as a line of a proof on a board of this size, without their line feed. `LineFault` comes exactly
 /// where they are no line: where no lemma, remark or verdict is spelled so, or they are more than 8,192 bytes.
 pub fn read_line(bytes: &[u8], size: Size) -> Result<Line, LineFault>
-    ensures { Reads result (read_line size.cols bytes.now) }
+    ensures { Reads result (read_line size bytes.now) }
 {
-    let mut lemma = Lemma::blank();
-    match read_into(&mut lemma, bytes, size)? {
-        Kind::Lemma => Ok(Line::Lemma(lemma)),
+    let mut room = LemmaRoom::new();
+    match read_into(&mut room, bytes, size)? {
+        Kind::Lemma => Ok(Line::Lemma(room.into_lemma())),
         Kind::Remark => Ok(Line::Remark),
         Kind::Verdict(verdict) => Ok(Line::Verdict(verdict)),
     }
 }
 
-/// Room for one line, kept from line to line, so that no lemma is moved where it is read and looked at.
-#[derive(Drop)]
-pub struct LineBuffer {
-    lemma: Lemma,
-}
-
-impl LineBuffer {
-    /// Room in which no line was read yet.
-    pub fn new() -> LineBuffer {
-        LineBuffer {
-            lemma: Lemma::blank(),
-        }
-    }
-
-    /// What `read_line` answers of the bytes, read into this room.
-    pub fn read(&mut self, bytes: &[u8], size: Size) -> Result<LineView<'_>, LineFault>
-        ensures { Views result (read_line size.cols bytes.now) }
-    {
-        match read_into(&mut self.lemma, bytes, size)? {
-            Kind::Lemma => Ok(LineView::Lemma(&self.lemma)),
-            Kind::Remark => Ok(LineView::Remark),
-            Kind::Verdict(verdict) => Ok(LineView::Verdict(verdict)),
-        }
-    }
-}
-
-/// Which kind of line was read. A lemma is in the room that it was read into.
-#[derive(Clone, Copy)]
-enum Kind {
-    Lemma,
-    Remark,
-    Verdict(Verdict),
-}
-
 /// Reads a line, a lemma into this room.
-fn read_into(lemma: &mut Lemma, bytes: &[u8], size: Size) -> Result<Kind, LineFault>
-    ensures { ReadsInto lemma.new result (read_line size.cols bytes.now) }
+pub(crate) fn read_into(room: &mut LemmaRoom, bytes: &[u8], size: Size) -> Result<Kind, LineFault>
+    ensures { ReadsInto room.new result (read_line size bytes.now) }
 {
     if is_remark(bytes) {
         return Ok(Kind::Remark);
@@ -83,7 +50,7 @@ fn read_into(lemma: &mut Lemma, bytes: &[u8], size: Size) -> Result<Kind, LineFa
     if is_word(word, b"value") {
         return Ok(Kind::Verdict(verdict_of(rest).ok_or(LineFault)?));
     }
-    read_lemma(lemma, word, rest, size).ok_or(LineFault)?;
+    read_lemma(room, word, rest, size).ok_or(LineFault)?;
     Ok(Kind::Lemma)
 }
 
@@ -106,16 +73,15 @@ fn are_printable(bytes: &[u8]) -> bool
 }
 
 /// Reads a lemma's number and what stands behind it into this room.
-fn read_lemma(lemma: &mut Lemma, number: &[u8], rest: &[u8], size: Size) -> Option<()>
-    ensures { option_map (λ _. shape.lemma_of lemma.new) result ≡ lemma_of size.cols (number.now ∷ words_of rest.now) }
+fn read_lemma(room: &mut LemmaRoom, number: &[u8], rest: &[u8], size: Size) -> Option<()>
+    ensures { option_map (λ _. lemma_in room.new) result ≡ lemma_of size (number.now ∷ words_of rest.now) }
 {
     let (path, rest) = split_word(rest);
-    lemma.number = number_of(number)?;
-    read_path(&mut lemma.path, path, size)?;
+    room.number = number_of(number)?;
+    read_path(&mut room.path, path, size)?;
     let (claim, rest) = split_claim(rest?)?;
-    lemma.claim = claim;
-    lemma.reason = reason_of(rest, size)?;
-    Some(())
+    room.claim = claim;
+    read_reason(&mut room.reason, rest, size)
 }
 
 /// The letters of at most a hundred columns, or `-` for none. The moves of the path before that are named by the same
@@ -149,7 +115,7 @@ fn letter_word(word: &[u8], size: Size) -> Option<Column>
 }
 
 /// The column that the letter names, if it is one of the board's.
-fn column_of(letter: u8, size: Size) -> Option<Column>
+pub(crate) fn column_of(letter: u8, size: Size) -> Option<Column>
     ensures { result ≡ (if is_letter size.cols letter then Some (column_of letter) else None) }
 {
     size.column(letter.checked_sub(b'a')?)
@@ -182,17 +148,25 @@ fn behind<'a>(bytes: &'a [u8], text: &[u8]) -> Option<&'a [u8]>
     bytes.strip_prefix(text)
 }
 
-fn reason_of(bytes: &[u8], size: Size) -> Option<Reason>
-    ensures { option_map shape.reason_of result ≡ reason_of size.cols (words_of bytes.now) }
+/// Reads the words of a reason into this room.
+fn read_reason(room: &mut ReasonRoom, bytes: &[u8], size: Size) -> Option<()>
+    ensures { option_map (λ _. reason_in room.new) result ≡ reason_of size (words_of bytes.now) }
 {
     if is_word(bytes, b"end") {
-        return Some(Reason::Ended);
+        room.kind = ReasonKind::Ended;
+        return Some(());
     }
     if let Some(rest) = behind(bytes, b"one ") {
-        return Some(Reason::One(one_of(rest, size)?));
+        room.kind = ReasonKind::One(one_of(rest, size)?);
+        return Some(());
     }
     if let Some(rest) = behind(bytes, b"all ") {
-        return Some(Reason::All(all_of(rest, size)?));
+        room.kind = ReasonKind::All;
+        return all_of(rest, size, &mut room.cites);
+    }
+    if let Some(rest) = behind(bytes, b"plan ") {
+        room.kind = ReasonKind::Plan;
+        return members_of(rest, size, &mut room.members);
     }
     None
 }
@@ -209,10 +183,10 @@ fn one_of(bytes: &[u8], size: Size) -> Option<Cite>
 }
 
 /// At most ten cites, each a word.
-fn all_of(bytes: &[u8], size: Size) -> Option<ArrayVec<Cite, MOST_CITES>>
-    ensures { option_map (λ cites. ByAll (map shape.cite_of cites.items)) result ≡ all_of size.cols (words_of bytes.now) }
+fn all_of(bytes: &[u8], size: Size, cites: &mut ArrayVec<Cite, MOST_CITES>) -> Option<()>
+    ensures { option_map (λ _. ByAll (map shape.cite_of cites.new.items)) result ≡ all_of size.cols (words_of bytes.now) }
 {
-    let mut cites = ArrayVec::new();
+    cites.clear();
     let mut left = Some(bytes);
     while let Some(words) = left {
         if cites.is_full() {
@@ -222,7 +196,7 @@ fn all_of(bytes: &[u8], size: Size) -> Option<ArrayVec<Cite, MOST_CITES>>
         cites.push(cite_of(word, size)?);
         left = rest;
     }
-    Some(cites)
+    Some(())
 }
 
 /// A letter, a colon and a number.
@@ -273,7 +247,7 @@ fn number_of(word: &[u8]) -> Option<u32>
 }
 
 /// The first word, and what stands behind the space after it, if there is one.
-fn split_word(bytes: &[u8]) -> (&[u8], Option<&[u8]>)
+pub(crate) fn split_word(bytes: &[u8]) -> (&[u8], Option<&[u8]>)
     ensures words { MatchOption result.1 (words_of bytes.now ≡ result.0.now ∷ []) (λ rest. words_of bytes.now ≡ result.0.now ∷ words_of rest.now) }
     ensures shorter { IfSome result.1 (λ rest. length rest.now < length bytes.now) }
 {

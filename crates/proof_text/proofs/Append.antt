@@ -4,17 +4,14 @@ use Rattle.std.proofs.lemmas.List.{length-append}
 use Rattle.std.proofs.lemmas.Option.{some_pair_parts}
 use Rattle.std.specs.List.{slice_get, AllByRecursion}
 use Rattle.game_rules.specs.Position.{Position}
-use Rattle.proof_text.specs.Lemma.{Reason, ByEnd, ByOne, ByAll, Lemma}
+use Rattle.plan_text.proofs.Spaced.{all_each}
+use Rattle.proof_text.specs.Lemma.{Reason, ByEnd, ByOne, ByAll, ByPlan, Lemma}
 use Rattle.proof_text.specs.Right.{Shown, Shows, IsCited, HasReason, IsRight, AreRight, IsVerdict}
 use Rattle.proof_text.specs.declared.Claim.{Claim}
 use Rattle.proof_text.specs.declared.Verdict.{Verdict}
 use Rattle.proof_text.specs.declared.Verdict.TheVariants.{Win, Loss, Draw, Unknown}
 
 -- ---- all elements
-
-pub all_append : {X : Type 0} (P : X → Type 0) (xs ys : List X) → AllByRecursion P xs → AllByRecursion P ys → AllByRecursion P (xs ++ ys)
-all_append P [] ys left right = right
-all_append P (x ∷ xs) ys left right = (left.0, all_append P xs ys left.1 right)
 
 pub all_left : {X : Type 0} (P : X → Type 0) (xs ys : List X) → AllByRecursion P (xs ++ ys) → AllByRecursion P xs
 all_left P [] ys h = tt
@@ -23,10 +20,6 @@ all_left P (x ∷ xs) ys h = (h.0, all_left P xs ys h.1)
 pub all_right : {X : Type 0} (P : X → Type 0) (xs ys : List X) → AllByRecursion P (xs ++ ys) → AllByRecursion P ys
 all_right P [] ys h = h
 all_right P (x ∷ xs) ys h = all_right P xs ys h.1
-
-pub all_each : {X : Type 0} (P Q : X → Type 0) (xs : List X) → ((x : X) → P x → Q x) → AllByRecursion P xs → AllByRecursion Q xs
-all_each P Q [] each h = tt
-all_each P Q (x ∷ xs) each h = (each x h.0, all_each P Q xs each h.1)
 
 -- ---- what is shown
 
@@ -70,6 +63,7 @@ HasReason_more known more p claim (ByAll cites) h =
       playable = h.playable;
       cited = all_each (IsCited known p claim) (IsCited (known ++ more) p claim) cites (λ cite cited. Shows_more known more cite.lemma _ claim cited) h.cited;
     }
+HasReason_more known more p claim (ByPlan ws) h = h
 
 pub IsVerdict_more : (root : Position) (known more : List Shown) (v : Verdict) → IsVerdict root known v → IsVerdict root (known ++ more) v
 IsVerdict_more root known more (Win n) h = Shows_more known more n root _ h

@@ -2,11 +2,10 @@
 use Rattle.std.proofs.Common.{◌≡◌, ℕ, ◌+◌, List, [], ◌∷◌, ◌++◌, length, Option, Some, None, Result, Ok, refl, sym, ap, ◌∙◌, subst, arith}
 use Rattle.proof_text.specs.Lemma.{Line, ALemma, ARemark, AVerdict}
 use Rattle.proof_text.specs.Right.{AreRight, IsVerdict}
-use Rattle.proof_text.specs.Checked.{CheckerState, line_refusal, shown_of, with_line, checked_on, checked, lemmas_in, IsStateAfter}
+use Rattle.proof_text.specs.Checked.{Why, CheckerState, line_refusal, shown_of, with_line, checked_on, checked, lemmas_in, IsStateAfter}
 use Rattle.proof_text.proofs.Refusals.{line_of_none, right_of_none, verdict_of_none}
 use Rattle.proof_text.proofs.Accepted.{shown_along}
 use Rattle.proof_text.specs.declared.Verdict.{Verdict}
-use Rattle.proof_text.specs.declared.Why.{Why}
 
 checked_parts : (r : Option Why) (at : ℕ) (later : Result CheckerState (ℕ × Why)) (t : CheckerState) → checked_on r at later ≡ Ok t → (r ≡ None) × (later ≡ Ok t)
 checked_parts None at later t h = (refl, h)

@@ -6,11 +6,11 @@ use Rattle.std.proofs.lemmas.List.{length-append, length-take-le, take-append-dr
 use Rattle.std.proofs.lemmas.Slice.Eq.{bytes_eq-Decides}
 use Rattle.std.proofs.lemmas.Bool.{cases_lt, cases_eq, lt-leb, false_from_ne_true}
 use Rattle.game_rules.specs.Board.{below}
-use Rattle.game_rules.specs.Position.{Position}
+use Rattle.game_rules.specs.Position.{Position, board_of}
 use Rattle.game_rules.specs.Text.{game_at}
 use Rattle.game_rules.proofs.Prefix.{same_prefix}
 use Rattle.game_rules.specs.declared.InputFault.{InputFault}
-use Rattle.proof_text.specs.Checked.{unless, or_then, CheckerState}
+use Rattle.proof_text.specs.Checked.{Why, unless, or_then, CheckerState}
 use Rattle.proof_text.specs.Spelling.{as_line}
 use Rattle.proof_text.specs.Reading.{read_line}
 use Rattle.proof_text.specs.Texts.{pieces, lines_in, longest_line, most_lines, game_prefix, first_number, game_of, whole_game_of, behind_game, said_refusal, bytes_refusal, refusal_at, first_or, first_some, state_after, NoGame, Refused, verdict_answer, lines_answer, line_answer, with_bytes, check_from, start, answer_of, game_answer, first_line, pieces_answer, check_of}
@@ -20,7 +20,6 @@ use Rattle.proof_text.proofs.Fitting.{long_unread}
 use Rattle.std.proofs.lemmas.Option.{some_pair_parts}
 use Rattle.game_rules.proofs.Lists.{chosen}
 use Rattle.proof_text.specs.declared.Verdict.{Verdict}
-use Rattle.proof_text.specs.declared.Why.{Why}
 use Rattle.proof_text.specs.declared.Why.TheVariants.{BadLine, EndedEarly}
 
 -- ---- the first place
@@ -108,7 +107,7 @@ refused_first root lines at why h = of_first (first_some (refusal_at root lines)
 -- ---- line by line
 
 -- what is no line is refused so
-pub unread : (s : CheckerState) (at : ℕ) (bytes : List ℕ) → read_line (length s.root.columns) bytes ≡ None → bytes_refusal s at bytes ≡ Some BadLine
+pub unread : (s : CheckerState) (at : ℕ) (bytes : List ℕ) → read_line (board_of s.root) bytes ≡ None → bytes_refusal s at bytes ≡ Some BadLine
 unread s at bytes h = rw h (either (nat_le at most_lines))
   where
     either : (b : Bool) → or_then (unless b BadLine) (Some BadLine) ≡ Some BadLine
@@ -119,9 +118,9 @@ unread s at bytes h = rw h (either (nat_le at most_lines))
 pub out_of_bounds : (s : CheckerState) (at : ℕ) (bytes : List ℕ) → (most_lines < at) ⊎ (longest_line < length bytes) → bytes_refusal s at bytes ≡ Some BadLine
 out_of_bounds s at bytes (inl late) = failed (nat_le at most_lines) (lt-leb at most_lines late)
   where
-    failed : (b : Bool) → b ≡ false → or_then (unless b BadLine) (said_refusal s (read_line (length s.root.columns) bytes)) ≡ Some BadLine
+    failed : (b : Bool) → b ≡ false → or_then (unless b BadLine) (said_refusal s (read_line (board_of s.root) bytes)) ≡ Some BadLine
     failed b e = rw e refl
-out_of_bounds s at bytes (inr long) = unread s at bytes (long_unread (length s.root.columns) bytes long)
+out_of_bounds s at bytes (inr long) = unread s at bytes (long_unread (board_of s.root) bytes long)
 
 -- a text goes on with its first line
 pub check_line : (s : CheckerState) (at : ℕ) (line rest : List ℕ) → IsFeedless line

@@ -1,23 +1,23 @@
 -- Every right lemma behind a game has a spelling, while its number has one; and no spelling is long.
-use Rattle.std.proofs.Common.{◌≡◌, ℕ, ◌+◌, ◌*◌, ◌<◌, ◌≤◌, true, ◌&&◌, ◌==◌, nat_le, List, [], ◌∷◌, ◌++◌, map, filter, length, Option, Some, None, refl, sym, ap, ◌∙◌, subst, inl, inr, arith, lit<}
+use Rattle.std.proofs.Common.{◌≡◌, ℕ, ◌+◌, ◌*◌, ◌<◌, ◌≤◌, true, ◌&&◌, ◌==◌, nat_le, List, [], ◌∷◌, ◌++◌, map, filter, length, Option, Some, None, refl, sym, ap, ◌∙◌, subst, inl, inr, arith, lit<, flat_map, zero, suc}
 use Rattle.std.specs.List.{AllByRecursion, list_all}
 use Rattle.std.specs.Fmt.{decimal}
 use Rattle.std.proofs.lemmas.List.{length-append, length-map}
 use Rattle.std.proofs.lemmas.List.FromFn.{length-range_with_len}
 use Rattle.std.proofs.lemmas.Fmt.{length-decimal-le}
-use Rattle.std.proofs.lemmas.Bool.{cases_Bool, and_parts, leb-true}
+use Rattle.std.proofs.lemmas.Bool.{cases_Bool, and_parts, leb-true, and_from, lt-ltb, le-leb, eq-eqb}
 use Rattle.game_rules.specs.Board.{Board, is_board, is_cols, is_rows, below}
-use Rattle.game_rules.specs.Position.{Position, board_of, has_room, after_move, end_of, empty_count, is_legal, played, open_columns}
+use Rattle.game_rules.specs.Position.{Position, board_of, has_room, after_move, end_of, empty_count, is_legal, played, open_columns, height}
 use Rattle.game_rules.specs.Grammar.{letter_of, move_list}
 use Rattle.game_rules.proofs.Lists.{Among, any_gives, Among-filter, Among-filter_gives, Among-below_gives, chosen}
-use Rattle.game_rules.proofs.Moves.{empty_count_moved, cols_moved, room_column}
+use Rattle.game_rules.proofs.Moves.{empty_count_moved, cols_moved, room_column, room_height}
 use Rattle.game_rules.proofs.Values.{goes_on_room}
 use Rattle.game_rules.proofs.Ends.{legal_parts}
 use Rattle.game_rules.proofs.BoardLine.{empty_count_within}
 use Rattle.game_rules.proofs.Grammar.{board_along}
-use Rattle.proof_text.specs.Lemma.{Cite, Reason, ByEnd, ByOne, ByAll, Lemma, Line, ALemma, ARemark, AVerdict}
+use Rattle.proof_text.specs.Lemma.{Cite, Reason, ByEnd, ByOne, ByAll, ByPlan, Lemma, Line, ALemma, ARemark, AVerdict}
 use Rattle.proof_text.specs.Right.{Shown, IsCited, HasReason, IsRight, AreRight, IsVerdict}
-use Rattle.proof_text.specs.Spelling.{spaced, claim_word, cite_word, reason_words, lemma_text, verdict_text, greatest_number, longest_path, most_cites, IsNumber, CiteFits, ReasonFits, Fits, VerdictFits, longest_line, is_printable, IsLine}
+use Rattle.proof_text.specs.Spelling.{claim_word, cite_word, reason_words, lemma_text, verdict_text, greatest_number, longest_path, most_cites, IsNumber, CiteFits, ReasonFits, Fits, VerdictFits, longest_line, is_printable, IsLine, members_in, IsShort}
 use Rattle.proof_text.specs.Reading.{read_line}
 use Rattle.proof_text.proofs.Append.{Shows_number}
 use Rattle.proof_text.proofs.Spelled.{line_read}
@@ -25,6 +25,16 @@ use Rattle.proof_text.specs.declared.Claim.{Claim}
 use Rattle.proof_text.specs.declared.Claim.TheVariants.{WhiteWins, WhiteFails, BlackWins, BlackFails}
 use Rattle.proof_text.specs.declared.Verdict.{Verdict}
 use Rattle.proof_text.specs.declared.Verdict.TheVariants.{Win, Loss, Draw, Unknown}
+use Rattle.plan_text.specs.Words.{spaced}
+use Rattle.plan_text.specs.Items.{instance_text, is_named}
+use Rattle.plan_text.specs.PlanLine.{most_members, PlanFits}
+use Rattle.game_rules.specs.Squares.{is_playable}
+use Rattle.game_rules.proofs.Squares.{playable_is}
+use Rattle.plan_rules.specs.Rules.{RuleInstance}
+use Rattle.plan_rules.specs.Plan.{IsMember, is_plan}
+use Rattle.plan_rules.proofs.Plans.{plan_gives}
+use Rattle.std.proofs.lemmas.List.Concat.{flat_map-cons}
+use Rattle.plan_text.proofs.PlanLines.{members_length, fitting_named}
 
 -- ---- paths
 
@@ -78,12 +88,45 @@ cites_fit known p claim cols few (cite ∷ cites) within cited =
 
 -- ---- lemmas and verdicts
 
-reason_fits : (known : List Shown) (p : Position) (claim : Claim) (reason : Reason) → length p.columns ≤ most_cites → length known ≤ greatest_number → HasReason known p claim reason → ReasonFits (length p.columns) reason
-reason_fits known p claim ByEnd narrow few h = tt
-reason_fits known p claim (ByOne cite) narrow few h =
+-- the boards have at most ten columns
+narrow_board : (board : Board) → is_board board ≡ true → board.cols ≤ most_cites
+narrow_board board h =
+    let both = and_parts (is_cols board.cols) (is_rows board.rows) h in
+    let wide = and_parts (nat_le 4 board.cols) (nat_le board.cols 10) both.0 in
+    leb-true board.cols 10 wide.1
+
+-- where a column has room, the square on top of its men is playable
+room_playable : (p : Position) (column : ℕ) → has_room p column ≡ true → is_playable p (column, height p column + 1) ≡ true
+room_playable p column room =
+    let wide : column < length p.columns = room_column p column room in
+    let high : height p column < p.rows = room_height p column room in
+    and_from _ _ (and_from _ _ (lt-ltb column (length p.columns) wide) (and_from _ _ (le-leb 1 (height p column + 1) (omega arith)) (le-leb (height p column + 1) p.rows (omega arith)))) (eq-eqb (height p column + 1) (height p column + 1) refl)
+
+-- the members of a plan have texts, and there is one at least, since some square is empty
+plan_fits : (p : Position) (ws : List RuleInstance) → is_board (board_of p) ≡ true → length ws ≤ most_members → is_plan p ws ≡ true → PlanFits (board_of p) ws
+plan_fits p ws board short h =
+    let plan = plan_gives p ws h in
+    let found = any_gives (has_room p) (below (length p.columns)) (goes_on_room p plan.going) in
+    let owner = plan.covered (found.0, height p found.0 + 1) (((playable_is p (found.0, height p found.0 + 1)).0 (room_playable p found.0 found.2)).0) in
+    (some ws owner.place owner.member owner.is_member, short, named ws (λ i w member. fitting_named p w board (plan.fitting i w member)))
+  where
+    some : (ws : List RuleInstance) (i : ℕ) (w : RuleInstance) → IsMember ws i w → 1 ≤ length ws
+    some [] i w member = cc
+    some (w ∷ ws) i v member = omega arith
+
+    named : (ws : List RuleInstance) → ((i : ℕ) (w : RuleInstance) → IsMember ws i w → is_named (board_of p) w ≡ true) → AllByRecursion (λ w. is_named (board_of p) w ≡ true) ws
+    named [] each = tt
+    named (w ∷ ws) each = (each zero w refl, named ws (λ i v member. each (suc i) v member))
+
+reason_fits : (known : List Shown) (p : Position) (claim : Claim) (reason : Reason) → is_board (board_of p) ≡ true → length known ≤ greatest_number → length (members_in reason) ≤ most_members
+    → HasReason known p claim reason → ReasonFits (board_of p) reason
+reason_fits known p claim ByEnd board few short h = tt
+reason_fits known p claim (ByPlan ws) board few short h = plan_fits p ws board short h.plan
+reason_fits known p claim (ByOne cite) board few short h =
     let number = Shows_number known cite.lemma (after_move p cite.column) claim h.cited in
     (room_column p cite.column h.playable, (number.0, omega arith))
-reason_fits known p claim (ByAll cites) narrow few h =
+reason_fits known p claim (ByAll cites) board few short h =
+    let narrow : length p.columns ≤ most_cites = narrow_board (board_of p) board in
     let count : length cites ≡ length (open_columns p) = sym (length-map cites (λ (cite : Cite). cite.column)) ∙ ap length h.playable in
     let some : 1 ≤ length (open_columns p) = some_open p h.goes_on in
     let within : length (open_columns p) ≤ length (below (length p.columns)) = open_within (below (length p.columns)) p in
@@ -93,33 +136,25 @@ reason_fits known p claim (ByAll cites) narrow few h =
       cites_fit known p claim (length p.columns) few cites (subst (AllByRecursion (λ column. column < length p.columns)) (sym h.playable) (open_columns_within p)) h.cited,
     )
 
--- the boards have at most ten columns
-narrow_board : (board : Board) → is_board board ≡ true → board.cols ≤ most_cites
-narrow_board board h =
-    let both = and_parts (is_cols board.cols) (is_rows board.rows) h in
-    let wide = and_parts (nat_le 4 board.cols) (nat_le board.cols 10) both.0 in
-    leb-true board.cols 10 wide.1
-
 -- a right lemma has a spelling while its number has one
-pub right_fits : (root : Position) (known : List Shown) (l : Lemma) (p : Position) → is_board (board_of root) ≡ true → length known < greatest_number → IsRight root known l p → Fits (length root.columns) l
-right_fits root known l p board few right =
+pub right_fits : (root : Position) (known : List Shown) (l : Lemma) (p : Position) → is_board (board_of root) ≡ true → length known < greatest_number → IsShort l → IsRight root known l p → Fits (board_of root) l
+right_fits root known l p board few short right =
     let fills : empty_count p + length l.path ≡ empty_count root = path_fills l.path root p right.along in
     let empty : empty_count root ≤ 100 = empty_count_within root board in
-    let cols : length p.columns ≡ length root.columns = ap (λ (b : Board). b.cols) (board_along l.path root p right.along) in
-    let narrow : length root.columns ≤ most_cites = narrow_board (board_of root) board in
+    let same : board_of p ≡ board_of root = board_along l.path root p right.along in
     let next : l.number ≡ length known + 1 = right.next in
     record {
       number = (omega arith, omega arith);
       short = omega arith;
       columns = path_within l.path root p (length root.columns) refl right.along;
-      reason = subst (λ cols. ReasonFits cols l.reason) cols (reason_fits known p l.claim l.reason (omega arith) (omega arith) right.reason);
+      reason = subst (λ board. ReasonFits board l.reason) same (reason_fits known p l.claim l.reason (ap is_board same ∙ board) (omega arith) short right.reason);
     }
 
-pub right_all_fit : (root : Position) (known : List Shown) (ls : List Lemma) (after : List Shown) → is_board (board_of root) ≡ true → length known + length ls ≤ greatest_number → AreRight root known ls after → AllByRecursion (Fits (length root.columns)) ls
-right_all_fit root known [] after board few right = tt
-right_all_fit root known (l ∷ ls) after board few (p, one, rest) =
+pub right_all_fit : (root : Position) (known : List Shown) (ls : List Lemma) (after : List Shown) → is_board (board_of root) ≡ true → length known + length ls ≤ greatest_number → AllByRecursion IsShort ls → AreRight root known ls after → AllByRecursion (Fits (board_of root)) ls
+right_all_fit root known [] after board few short right = tt
+right_all_fit root known (l ∷ ls) after board few short (p, one, rest) =
     let longer : length (known ++ (p, l.claim) ∷ []) ≡ length known + 1 = length-append known ((p, l.claim) ∷ []) in
-    (right_fits root known l p board (omega arith) one, right_all_fit root (known ++ (p, l.claim) ∷ []) ls after board (omega arith) rest)
+    (right_fits root known l p board (omega arith) short.0 one, right_all_fit root (known ++ (p, l.claim) ∷ []) ls after board (omega arith) short.1 rest)
 
 pub right_verdict_fits : (root : Position) (known : List Shown) (v : Verdict) → length known ≤ greatest_number → IsVerdict root known v → VerdictFits v
 right_verdict_fits root known (Win n) few h = let number = Shows_number known n root _ h in (number.0, omega arith)
@@ -136,6 +171,10 @@ right_verdict_fits root known Unknown few h = tt
 abbrev further : List (List ℕ) → ℕ
 further [] = 0
 further (word ∷ words) = 1 + (length word + further words)
+
+further_is : (words : List (List ℕ)) → length (flat_map (λ word. 32 ∷ word) words) ≡ further words
+further_is [] = refl
+further_is (word ∷ words) = ap length (flat_map-cons (λ word. 32 ∷ word) word words) ∙ omega (arith, length-append (32 ∷ word) (flat_map (λ word. 32 ∷ word) words), further_is words)
 
 length_spaced : (word : List ℕ) (words : List (List ℕ)) → length (spaced (word ∷ words)) ≡ length word + further words
 length_spaced word [] = omega arith
@@ -161,19 +200,20 @@ cites_length cols (cite ∷ cites) h =
     let rest : further (map cite_word cites) ≤ length cites * 11 = cites_length cols cites h.1 in
     omega arith
 
-reason_length : (cols : ℕ) (reason : Reason) → ReasonFits cols reason → further (reason_words reason) ≤ 114
-reason_length cols ByEnd h = omega arith
-reason_length cols (ByOne cite) h = let number : length (decimal cite.lemma) ≤ 8 = number_length cite.lemma h.1 in omega arith
-reason_length cols (ByAll cites) h = let rest : further (map cite_word cites) ≤ length cites * 11 = cites_length cols cites h.2 in omega (arith, h.1)
+reason_length : (board : Board) (reason : Reason) → ReasonFits board reason → further (reason_words reason) ≤ 5105
+reason_length board ByEnd h = omega arith
+reason_length board (ByOne cite) h = let number : length (decimal cite.lemma) ≤ 8 = number_length cite.lemma h.1 in omega arith
+reason_length board (ByAll cites) h = let rest : further (map cite_word cites) ≤ length cites * 11 = cites_length board.cols cites h.2 in omega (arith, h.1)
+reason_length board (ByPlan ws) h = omega (arith, members_length board ws h, further_is (map instance_text ws), h.1)
 
--- a lemma's text has at most 226 bytes, and a verdict's at most 28
-pub lemma_length : (cols : ℕ) (l : Lemma) → Fits cols l → length (lemma_text l) ≤ 226
-lemma_length cols l h =
+-- a lemma's text has at most 5,217 bytes, and a verdict's at most 28
+pub lemma_length : (board : Board) (l : Lemma) → Fits board l → length (lemma_text l) ≤ 5217
+lemma_length board l h =
     let all : length (lemma_text l) ≡ length (decimal l.number) + further (move_list l.path ∷ claim_word l.claim ∷ reason_words l.reason) = length_spaced (decimal l.number) (move_list l.path ∷ claim_word l.claim ∷ reason_words l.reason) in
     let number : length (decimal l.number) ≤ 8 = number_length l.number h.number in
     let path : length (move_list l.path) ≤ longest_path = moves_length l.path h.short in
     let claim : length (claim_word l.claim) ≡ 2 = claim_length l.claim in
-    let reason : further (reason_words l.reason) ≤ 114 = reason_length cols l.reason h.reason in
+    let reason : further (reason_words l.reason) ≤ 5105 = reason_length board l.reason h.reason in
     omega arith
 
 pub verdict_length : (v : Verdict) → VerdictFits v → length (verdict_text v) ≤ 28
@@ -186,17 +226,17 @@ verdict_length (Draw n m) h =
 verdict_length Unknown h = omega arith
 
 -- no line has more bytes than a line may have
-pub line_short : (cols : ℕ) (bytes : List ℕ) (line : Line) → IsLine cols bytes line → length bytes ≤ longest_line
-line_short cols bytes (ALemma l) h = omega (arith, ap length h.1, lemma_length cols l h.0)
-line_short cols bytes (AVerdict v) h = omega (arith, ap length h.1, verdict_length v h.0)
-line_short cols [] ARemark h = omega arith
-line_short cols (byte ∷ bytes) ARemark h =
+pub line_short : (board : Board) (bytes : List ℕ) (line : Line) → IsLine board bytes line → length bytes ≤ longest_line
+line_short board bytes (ALemma l) h = omega (arith, ap length h.1, lemma_length board l h.0)
+line_short board bytes (AVerdict v) h = omega (arith, ap length h.1, verdict_length v h.0)
+line_short board [] ARemark h = omega arith
+line_short board (byte ∷ bytes) ARemark h =
     leb-true (length (byte ∷ bytes)) longest_line (and_parts (byte == 35 && list_all is_printable bytes) (nat_le (length (byte ∷ bytes)) longest_line) h).1
 
 -- so what is longer isn't read
-pub long_unread : (cols : ℕ) (bytes : List ℕ) → longest_line < length bytes → read_line cols bytes ≡ None
-long_unread cols bytes long = of (read_line cols bytes) refl
+pub long_unread : (board : Board) (bytes : List ℕ) → longest_line < length bytes → read_line board bytes ≡ None
+long_unread board bytes long = of (read_line board bytes) refl
   where
-    of : (found : Option Line) → read_line cols bytes ≡ found → found ≡ None
+    of : (found : Option Line) → read_line board bytes ≡ found → found ≡ None
     of None e = refl
-    of (Some line) e = absurd (omega (arith, line_short cols bytes line (line_read cols bytes line e)))
+    of (Some line) e = absurd (omega (arith, line_short board bytes line (line_read board bytes line e)))

@@ -4,15 +4,14 @@ use Rattle.std.specs.List.{range_with_len, filter_map, slice_index_or}
 use Rattle.std.proofs.lemmas.List.{length-append}
 use Rattle.std.proofs.lemmas.List.Elements.{filter_map-append}
 use Rattle.std.proofs.Math.Seq.{take-append_seam}
-use Rattle.game_rules.specs.Position.{Position}
+use Rattle.game_rules.specs.Position.{Position, board_of}
 use Rattle.proof_text.specs.Lemma.{Line, ALemma, ARemark, AVerdict}
 use Rattle.proof_text.specs.Right.{Shown}
-use Rattle.proof_text.specs.Checked.{first_verdict, unless, CheckerState, line_refusal, shown_of, with_line}
+use Rattle.proof_text.specs.Checked.{Why, first_verdict, unless, CheckerState, line_refusal, shown_of, with_line}
 use Rattle.proof_text.specs.Reading.{read_line}
 use Rattle.proof_text.specs.Texts.{most_lines, first_number, shown_by, state_after, said_refusal, bytes_refusal, refusal_at, first_or, first_some, verdict_answer, lines_answer, with_said, with_bytes, line_answer, check_from, start, answer_of}
 use Rattle.proof_text.proofs.Refusals.{or_none, line_of_none}
 use Rattle.proof_text.specs.declared.Verdict.{Verdict}
-use Rattle.proof_text.specs.declared.Why.{Why}
 use Rattle.proof_text.specs.declared.Why.TheVariants.{BadLine}
 
 -- ---- what stands after one more line
@@ -46,26 +45,26 @@ said_push root said line h =
 
 -- a line that isn't refused is one, within the bounds, and stands behind no verdict
 pub bytes_of_none : (s : CheckerState) (at : ℕ) (bytes : List ℕ) → bytes_refusal s at bytes ≡ None
-    → (line : Line) × (read_line (length s.root.columns) bytes ≡ Some line) × (line_refusal s line ≡ None) × (nat_le at most_lines ≡ true)
+    → (line : Line) × (read_line (board_of s.root) bytes ≡ Some line) × (line_refusal s line ≡ None) × (nat_le at most_lines ≡ true)
 bytes_of_none s at bytes h =
-    let both = or_none (unless (nat_le at most_lines) BadLine) (said_refusal s (read_line (length s.root.columns) bytes)) h in
-    said (read_line (length s.root.columns) bytes) refl both.1 (bound (nat_le at most_lines) both.0)
+    let both = or_none (unless (nat_le at most_lines) BadLine) (said_refusal s (read_line (board_of s.root) bytes)) h in
+    said (read_line (board_of s.root) bytes) refl both.1 (bound (nat_le at most_lines) both.0)
   where
     bound : (b : Bool) → unless b BadLine ≡ None → b ≡ true
     bound true h = refl
     bound false h = cc
 
-    said : (line : Option Line) → read_line (length s.root.columns) bytes ≡ line → said_refusal s line ≡ None → nat_le at most_lines ≡ true
-        → (line : Line) × (read_line (length s.root.columns) bytes ≡ Some line) × (line_refusal s line ≡ None) × (nat_le at most_lines ≡ true)
+    said : (line : Option Line) → read_line (board_of s.root) bytes ≡ line → said_refusal s line ≡ None → nat_le at most_lines ≡ true
+        → (line : Line) × (read_line (board_of s.root) bytes ≡ Some line) × (line_refusal s line ≡ None) × (nat_le at most_lines ≡ true)
     said None e h bounds = cc
     said (Some line) e h bounds = (line, e, h, bounds)
 
 state_after_push : (root : Position) (before : List (List ℕ)) (at : ℕ) (bytes : List ℕ) → bytes_refusal (state_after root before) at bytes ≡ None → state_after root (before ++ bytes ∷ []) ≡ with_bytes (state_after root before) bytes
 state_after_push root before at bytes h =
     let found = bytes_of_none (state_after root before) at bytes h in
-    let cols = length root.columns in
-    let said = filter_map (read_line cols) before in
-    let more : filter_map (read_line cols) (before ++ bytes ∷ []) ≡ said ++ found.0 ∷ [] = filter_map-append (read_line cols) before (bytes ∷ []) ∙ ap (λ more. said ++ more) (one (read_line cols bytes) found.0 found.1) in
+    let board = board_of root in
+    let said = filter_map (read_line board) before in
+    let more : filter_map (read_line board) (before ++ bytes ∷ []) ≡ said ++ found.0 ∷ [] = filter_map-append (read_line board) before (bytes ∷ []) ∙ ap (λ more. said ++ more) (one (read_line board bytes) found.0 found.1) in
     ap (λ said. stand root (shown_by root said) (first_verdict said)) more
     ∙ said_push root said found.0 (line_of_none (state_after root before) found.0 found.2).0
     ∙ ap (with_said (state_after root before)) (sym found.1)

@@ -8,7 +8,7 @@ use Rattle.std.proofs.lemmas.Bool.{cases_Bool, ne_eqb}
 use Rattle.game_rules.specs.Grammar.{last_feed}
 use Rattle.proof_text.specs.Spelling.{as_line}
 use Rattle.proof_text.specs.Texts.{is_feed, pieces, last_line, lines_in}
-use Rattle.proof_text.proofs.Append.{all_each}
+use Rattle.plan_text.proofs.Spaced.{all_each}
 
 -- without a line feed
 abbrev pub IsFeedless : List ℕ → Type 0

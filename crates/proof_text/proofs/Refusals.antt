@@ -1,5 +1,5 @@
 -- No refusal comes exactly where a line is right.
-use Rattle.std.proofs.Common.{◌≡◌, ◌+◌, Bool, true, false, not, ◌==◌, List, [], ◌∷◌, map, length, Option, Some, None, is_none, refl, ap, ◌∙◌}
+use Rattle.std.proofs.Common.{◌≡◌, ◌+◌, Bool, true, false, not, ◌==◌, List, [], ◌∷◌, map, length, Option, Some, None, is_none, refl, ap, ◌∙◌, option_map, sym}
 use Rattle.std.specs.List.{AllByRecursion}
 use Rattle.std.specs.Str.{bytes_eq}
 use Rattle.std.specs.Bool.{Decides}
@@ -8,15 +8,17 @@ use Rattle.std.proofs.lemmas.Bool.{and_parts, and_from, not-true, not_from_false
 use Rattle.game_rules.specs.Position.{Position, has_room, after_move, end_of, played, open_columns, same_position}
 use Rattle.game_rules.proofs.Moves.{same_position_Decides}
 use Rattle.game_rules.specs.declared.End.{End}
-use Rattle.proof_text.specs.Lemma.{same_claim, claim_of_end, Cite, Reason, ByEnd, ByOne, ByAll, Lemma, Line}
+use Rattle.proof_text.specs.Lemma.{same_claim, claim_of_end, Cite, Reason, ByEnd, ByOne, ByAll, ByPlan, Lemma, Line}
 use Rattle.proof_text.specs.Right.{Shown, lemma_at, goes_by_one, IsCited, HasReason, IsRight, IsVerdict}
-use Rattle.proof_text.specs.Checked.{unless, or_then, end_refusal, shown_refusal, cite_refusal, cites_refusal, move_refusal, reason_refusal, path_refusal, lemma_refusal, is_shown, verdict_stands, CheckerState, content_refusal, line_refusal}
+use Rattle.proof_text.specs.Checked.{Why, unless, or_then, end_refusal, shown_refusal, cite_refusal, cites_refusal, move_refusal, reason_refusal, path_refusal, lemma_refusal, is_shown, verdict_stands, CheckerState, content_refusal, line_refusal}
 use Rattle.proof_text.specs.declared.Claim.{Claim}
 use Rattle.proof_text.specs.declared.Claim.TheVariants.{WhiteWins, WhiteFails, BlackWins, BlackFails}
 use Rattle.proof_text.specs.declared.Verdict.{Verdict}
 use Rattle.proof_text.specs.declared.Verdict.TheVariants.{Win, Loss, Draw, Unknown}
-use Rattle.proof_text.specs.declared.Why.{Why}
-use Rattle.proof_text.specs.declared.Why.TheVariants.{BadLine, WrongPosition, WrongClaim, MissingMove, BadVerdict}
+use Rattle.proof_text.specs.declared.Why.TheVariants.{BadLine, WrongPosition, WrongClaim, MissingMove, BadVerdict, BadPlan}
+use Rattle.plan_rules.specs.Refusal.{PlanFault, plan_refusal}
+use Rattle.plan_rules.proofs.Refusals.{refusal_is}
+use Rattle.plan_rules.proofs.Plans.{none_is}
 
 -- ---- tests
 
@@ -61,10 +63,6 @@ or_none (Some why) later h = cc
 
 pub none_or : (first later : Option Why) → first ≡ None → later ≡ None → or_then first later ≡ None
 none_or first later one two = rw one two
-
-none_is : (e : Option End) → is_none e ≡ true → e ≡ None
-none_is None h = refl
-none_is (Some end) h = cc
 
 -- ---- cites
 
@@ -121,6 +119,16 @@ reason_of_none known p claim (ByAll cites) h =
       playable = (bytes_eq-Decides columns (open_columns p)).0 move.2;
       cited = cites_of_none known p claim cites both.1;
     }
+reason_of_none known p claim (ByPlan ws) h =
+    let both = or_none (unless (same_claim claim WhiteFails) WrongClaim) (option_map BadPlan (plan_refusal p ws)) h in
+    record {
+      claimed = (same_claim_Decides claim WhiteFails).0 (unless_none (same_claim claim WhiteFails) WrongClaim both.0);
+      plan = sym (refusal_is p ws) ∙ none (plan_refusal p ws) both.1;
+    }
+  where
+    none : (fault : Option PlanFault) → option_map BadPlan fault ≡ None → is_none fault ≡ true
+    none None h = refl
+    none (Some fault) h = cc
 
 pub none_of_reason : (known : List Shown) (p : Position) (claim : Claim) (reason : Reason) → HasReason known p claim reason → reason_refusal known p claim reason ≡ None
 none_of_reason known p claim ByEnd h = rw (h.ended, h.holds) refl
@@ -133,6 +141,10 @@ none_of_reason known p claim (ByAll cites) h =
     none_or (move_refusal p (not (goes_by_one claim p)) (bytes_eq columns (open_columns p))) (cites_refusal known p claim cites)
     (none_of_move p (not (goes_by_one claim p)) (bytes_eq columns (open_columns p)) (not_from_false (goes_by_one claim p) h.serves) h.goes_on ((bytes_eq-Decides columns (open_columns p)).1 h.playable))
     (none_of_cites known p claim cites h.cited)
+none_of_reason known p claim (ByPlan ws) h =
+    none_or (unless (same_claim claim WhiteFails) WrongClaim) (option_map BadPlan (plan_refusal p ws))
+    (none_unless (same_claim claim WhiteFails) WrongClaim ((same_claim_Decides claim WhiteFails).1 h.claimed))
+    (ap (option_map BadPlan) (none_is (plan_refusal p ws) (refusal_is p ws ∙ h.plan)))
 
 -- ---- lemmas
 

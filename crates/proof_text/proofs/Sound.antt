@@ -12,7 +12,7 @@ use Rattle.game_rules.specs.declared.Side.{Side}
 use Rattle.game_rules.specs.declared.Side.TheVariants as sides
 use Rattle.game_rules.specs.declared.End.{End}
 use Rattle.game_rules.specs.declared.End.TheVariants.{White, Black, Draw}
-use Rattle.proof_text.specs.Lemma.{claim_for, claim_of_end, claim_holds, Cite, Reason, ByEnd, ByOne, ByAll, Lemma}
+use Rattle.proof_text.specs.Lemma.{claim_for, claim_of_end, claim_holds, Cite, Reason, ByEnd, ByOne, ByAll, Lemma, ByPlan}
 use Rattle.proof_text.specs.Right.{Shown, goes_by_one, IsCited, HasReason, AreRight, IsVerdict, AreTrue, IsTrueVerdict}
 use Rattle.proof_text.specs.Texts.{lemmas_among, IsRightText}
 use Rattle.proof_text.proofs.Append.{Shows_push}
@@ -20,6 +20,7 @@ use Rattle.proof_text.specs.declared.Claim.{Claim}
 use Rattle.proof_text.specs.declared.Claim.TheVariants.{WhiteWins, WhiteFails, BlackWins, BlackFails}
 use Rattle.proof_text.specs.declared.Verdict.{Verdict}
 use Rattle.proof_text.specs.declared.Verdict.TheVariants as verdicts
+use Rattle.plan_rules.proofs.Theorems.{plan_wins}
 
 -- ---- one move and all moves
 
@@ -74,6 +75,7 @@ true_reason known p claim (ByAll cites) true_before h = by_all claim p h.goes_on
     each (cite ∷ cites) (column ∷ columns) q same cited (inl here) =
         let first : cite.column ≡ column = cc in
         ap (claim_holds claim) (sym here ∙ ap (after_move p) (sym first)) ∙ true_before cite.lemma (after_move p cite.column) claim cited.0
+true_reason known p claim (ByPlan ws) true_before h = ap (λ c. claim_holds c p) h.claimed ∙ not_from_false _ (plan_wins p ws h.plan)
 
 pub AreTrue_none : AreTrue []
 AreTrue_none zero p claim h = cc

@@ -8,7 +8,12 @@ use Rattle.proof_text.specs.Reading.{read_line}
 use Rattle.proof_text.specs.Spelling.{as_line}
 use Rattle.proof_text.specs.Texts.{NoGame, Accepted, Refused, check_of}
 use Rattle.proof_text.specs.declared.Verdict.TheVariants.{Draw, Loss}
-use Rattle.proof_text.specs.declared.Why.TheVariants.{BadLine, BadPath, NoSuchLemma, WrongPosition, WrongClaim, MissingMove, BadVerdict, EndedEarly}
+use Rattle.proof_text.specs.declared.Why.TheVariants.{BadLine, BadPath, NoSuchLemma, WrongPosition, WrongClaim, MissingMove, BadPlan, BadVerdict, EndedEarly}
+use Rattle.game_rules.specs.Board.{Board}
+use Rattle.game_rules.specs.declared.Length.TheVariants.{Four}
+use Rattle.plan_rules.specs.Refusal.{not_white_to_move, ended, uncovered}
+use Rattle.game_rules.specs.Groups.{groups_of}
+use Rattle.game_rules.specs.Squares.{squares_of_board}
 
 -- a proof on the 4 by 4 board
 abbrev four : List ℕ → List (List ℕ) → List ℕ
@@ -107,10 +112,38 @@ leading_zero : check_of (four (codes "abababa") (codes "01 - W+ end" ∷ codes "
 unfolding check_of game_at read_game board_at digits
 leading_zero = refl
 
--- ---- which lines are read, on a board of four columns
+-- a plan closes a position where Black keeps White from a line, and only for the claim that White doesn't win
+abbrev plan_left : List (List ℕ)
+plan_left = codes "1 - W- plan CE:b3" ∷ codes "2 bb B- end" ∷ codes "3 b B- all b:2" ∷ codes "4 - B- one b 3" ∷ codes "value draw 1 4" ∷ []
+
+plan_at_root : check_of (four (codes "cdccddcdaaaabb") plan_left) ≡ Accepted (Draw 1 4) 4
+unfolding check_of game_at read_game board_at digits groups_of squares_of_board
+plan_at_root = refl
+
+plan_too_small : check_of (four (codes "-") (codes "1 - W- plan CE:a1" ∷ [])) ≡ Refused 4 (BadPlan (uncovered (0, 3)))
+unfolding check_of game_at read_game board_at digits groups_of squares_of_board
+plan_too_small = refl
+
+plan_for_another_claim : check_of (four (codes "cdccddcdaaaabb") (codes "1 - B- plan CE:b3" ∷ [])) ≡ Refused 4 WrongClaim
+unfolding check_of game_at read_game board_at digits
+plan_for_another_claim = refl
+
+-- the list is no plan where Black is to move, or where the game has ended
+plan_for_black_to_move : check_of (four (codes "cdccddcdaaaab") (codes "1 - W- plan CE:b3" ∷ [])) ≡ Refused 4 (BadPlan not_white_to_move)
+unfolding check_of game_at read_game board_at digits
+plan_for_black_to_move = refl
+
+plan_behind_the_end : check_of (four (codes "cdccddcdaaaabb") (codes "1 bb W- plan CE:b3" ∷ [])) ≡ Refused 4 (BadPlan ended)
+unfolding check_of game_at read_game board_at digits
+plan_behind_the_end = refl
+
+-- ---- which lines are read, on a board of four columns and four rows
+
+abbrev four_by_four : Board
+four_by_four = record { cols = 4; rows = 4; len = Four }
 
 abbrev is_read : List ℕ → Bool
-is_read bytes = is_some (read_line 4 bytes)
+is_read bytes = is_some (read_line four_by_four bytes)
 
 greatest : (is_read (codes "10000000 - W+ end") ≡ true) × (is_read (codes "10000001 - W+ end") ≡ false) × (is_read (codes "0 - W+ end") ≡ false)
 unfolding digits

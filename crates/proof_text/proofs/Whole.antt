@@ -8,7 +8,7 @@ use Rattle.std.proofs.lemmas.List.Folds.{flat_map-map}
 use Rattle.std.proofs.lemmas.Slice.Eq.{bytes_eq-Decides}
 use Rattle.std.proofs.lemmas.Bool.{and_parts, leb-true, or_cases, eqb-true}
 use Rattle.game_rules.specs.Board.{Board, is_cols, is_rows}
-use Rattle.game_rules.specs.Position.{Position, empty_position, played}
+use Rattle.game_rules.specs.Position.{Position, empty_position, played, board_of}
 use Rattle.game_rules.specs.Text.{game_at}
 use Rattle.game_rules.specs.Grammar.{move_list, is_spelled, board_line, moves_line, last_feed, game_text}
 use Rattle.game_rules.proofs.Lists.{chosen}
@@ -20,7 +20,8 @@ use Rattle.proof_text.specs.Lemma.{Lemma, ALemma, ARemark, AVerdict}
 use Rattle.proof_text.specs.Right.{Shown, AreRight}
 use Rattle.proof_text.specs.Spelling.{lemma_text, verdict_text, as_line, VerdictFits}
 use Rattle.proof_text.specs.Texts.{pieces, last_line, lines_in, game_prefix, first_number, game_of, behind_game, Refused, Accepted, answer_of, game_answer, first_line, pieces_answer, check_of, Entry, LemmaEntry, RemarkEntry, entry_text, entry_lines, lemmas_among, EntryFits, head_of, IsRightText, start, check_from}
-use Rattle.proof_text.proofs.Append.{all_append, all_each, length_shown}
+use Rattle.plan_text.proofs.Spaced.{all_append, all_each}
+use Rattle.proof_text.proofs.Append.{length_shown}
 use Rattle.proof_text.proofs.Spelled.{plain_decimal, plain_moves, line_bytes}
 use Rattle.proof_text.proofs.Pieces.{IsFeedless, feedless_high, pieces_line, pieces_last, pieces_feedless, pieces_some, joined, cut_lines, lines_append, joined_lines}
 use Rattle.proof_text.proofs.Fold.{answer_by_lines}
@@ -111,8 +112,8 @@ game_of_lines board columns root next more has_board has_moves =
     let second : take game_prefix (moves_line columns) ≡ moves_line columns = take_all game_prefix (moves_line columns) (omega arith) in
     ap game_at (ap (λ bytes. bytes ++ 10 ∷ as_line (take game_prefix (moves_line columns))) first ∙ ap (λ bytes. board_line board ++ 10 ∷ as_line bytes) second) ∙ read
 
-pub cols_of_root : (board : Board) (columns : List ℕ) (root : Position) → played (empty_position board) columns ≡ Some root → length root.columns ≡ board.cols
-cols_of_root board columns root h = ap (λ (b : Board). b.cols) (board_along columns (empty_position board) root h) ∙ length-replicate board.cols []
+pub board_of_root : (board : Board) (columns : List ℕ) (root : Position) → played (empty_position board) columns ≡ Some root → board_of root ≡ board
+board_of_root board columns root h = board_along columns (empty_position board) root h ∙ ap (λ n. record { cols = n; rows = board.rows; len = board.len }) (length-replicate board.cols [])
 
 -- each lemma shows one thing
 pub shown_count : (root : Position) (ls : List Lemma) (after : List Shown) → AreRight root [] ls after → length after ≡ length ls
@@ -160,7 +161,7 @@ whole_accepted bytes v count h =
           ended = text.0;
           has_board = read.2;
           has_moves = read.3;
-          fit = subst (λ cols. AllByRecursion (EntryFits cols) lines.entries) (cols_of_root read.0 read.1 root read.3) lines.fit;
+          fit = subst (λ board. AllByRecursion (EntryFits board) lines.entries) (board_of_root read.0 read.1 root read.3) lines.fit;
           right = lines.right;
           verdict_fits = lines.verdict_fits;
           verdict_right = lines.verdict_right;
@@ -187,20 +188,20 @@ whole_accepted bytes v count h =
 -- ---- what is right is accepted
 
 -- the lines of entries that fit have no line feed
-feedless_entries : (cols : ℕ) (entries : List Entry) → AllByRecursion (EntryFits cols) entries → AllByRecursion IsFeedless (map entry_text entries)
-feedless_entries cols [] h = tt
-feedless_entries cols (LemmaEntry l ∷ entries) h = (feedless_high (lemma_text l) (line_bytes cols (lemma_text l) (ALemma l) (h.0, refl)), feedless_entries cols entries h.1)
-feedless_entries cols (RemarkEntry bytes ∷ entries) h = (feedless_high bytes (line_bytes cols bytes ARemark h.0), feedless_entries cols entries h.1)
+feedless_entries : (board : Board) (entries : List Entry) → AllByRecursion (EntryFits board) entries → AllByRecursion IsFeedless (map entry_text entries)
+feedless_entries board [] h = tt
+feedless_entries board (LemmaEntry l ∷ entries) h = (feedless_high (lemma_text l) (line_bytes board (lemma_text l) (ALemma l) (h.0, refl)), feedless_entries board entries h.1)
+feedless_entries board (RemarkEntry bytes ∷ entries) h = (feedless_high bytes (line_bytes board bytes ARemark h.0), feedless_entries board entries h.1)
 
 -- the lines behind the game are the entries' and the verdict's, the last line feed or not
-lines_behind : (cols : ℕ) (entries : List Entry) (v : Verdict) (ended : Bool) → AllByRecursion (EntryFits cols) entries → VerdictFits v
+lines_behind : (board : Board) (entries : List Entry) (v : Verdict) (ended : Bool) → AllByRecursion (EntryFits board) entries → VerdictFits v
     → lines_in (pieces (entry_lines entries ++ (verdict_text v ++ last_feed ended))) ≡ map entry_text entries ++ verdict_text v ∷ []
-lines_behind cols entries v ended fit verdict_fits =
+lines_behind board entries v ended fit verdict_fits =
     ap (λ prefix. lines_in (pieces (prefix ++ (verdict_text v ++ last_feed ended)))) (sym (entry_lines_map entries))
-    ∙ ap lines_in (cut_lines (map entry_text entries) (verdict_text v ++ last_feed ended) (feedless_entries cols entries fit)) ∙ of_feed ended
+    ∙ ap lines_in (cut_lines (map entry_text entries) (verdict_text v ++ last_feed ended) (feedless_entries board entries fit)) ∙ of_feed ended
   where
     feedless : IsFeedless (verdict_text v)
-    feedless = feedless_high (verdict_text v) (line_bytes cols (verdict_text v) (AVerdict v) (verdict_fits, refl))
+    feedless = feedless_high (verdict_text v) (line_bytes board (verdict_text v) (AVerdict v) (verdict_fits, refl))
 
     some : (v : Verdict) → last_line (verdict_text v) ≡ verdict_text v ∷ []
     some (Win n) = refl
@@ -235,10 +236,10 @@ text_answer board columns root text has_board has_moves =
 
 pub right_accepted : (bytes : List ℕ) (v : Verdict) (count : ℕ) → IsRightText bytes v count → check_of bytes ≡ Accepted v count
 right_accepted bytes v count text =
-    let cols : length text.root.columns ≡ text.board.cols = cols_of_root text.board text.columns text.root text.has_moves in
-    let fit : AllByRecursion (EntryFits (length text.root.columns)) text.entries = subst (λ cols. AllByRecursion (EntryFits cols) text.entries) (sym cols) text.fit in
+    let same : board_of text.root ≡ text.board = board_of_root text.board text.columns text.root text.has_moves in
+    let fit : AllByRecursion (EntryFits (board_of text.root)) text.entries = subst (λ board. AllByRecursion (EntryFits board) text.entries) (sym same) text.fit in
     ap check_of text.spelled
     ∙ text_answer text.board text.columns text.root (entry_lines text.entries ++ (verdict_text v ++ last_feed text.ended)) text.has_board text.has_moves
-    ∙ ap (check_from (start text.root) first_number) (lines_behind text.board.cols text.entries v text.ended text.fit text.verdict_fits)
+    ∙ ap (check_from (start text.root) first_number) (lines_behind text.board text.entries v text.ended text.fit text.verdict_fits)
     ∙ lines_accepted text.root [] first_number text.entries text.after v fit text.right text.verdict_fits text.verdict_right text.few
     ∙ ap (Accepted v) (shown_count text.root (lemmas_among text.entries) text.after text.right ∙ sym text.counted)

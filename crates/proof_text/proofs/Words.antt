@@ -1,38 +1,28 @@
 -- The words of a line: what is read is spelled so and has a spelling, and what is spelled so is read.
-use Rattle.std.proofs.Common.{◌≡◌, ℕ, ◌+◌, ◌<◌, ◌≤◌, ◌^◌, true, false, ◌&&◌, ◌==◌, nat_le, nat_lt, List, [], ◌∷◌, ◌++◌, map, length, Option, Some, None, codes, refl, ap, ◌∙◌, subst, inl, inr, arith}
+use Rattle.std.proofs.Common.{◌≡◌, ℕ, ◌+◌, ◌<◌, ◌≤◌, ◌^◌, true, false, ◌&&◌, ◌==◌, nat_le, List, [], ◌∷◌, ◌++◌, map, length, Some, None, codes, refl, ap, ◌∙◌, subst, inl, inr, arith}
 use Rattle.std.specs.List.{AllByRecursion, list_all}
 use Rattle.std.specs.Str.{bytes_eq}
 use Rattle.std.specs.Fmt.{decimal}
 use Rattle.std.specs.Option.{option_map}
 use Rattle.std.proofs.lemmas.List.{length-map}
 use Rattle.std.specs.Bool.{if◌then◌else◌}
-use Rattle.std.proofs.lemmas.Slice.Eq.{bytes_eq-Decides}
-use Rattle.std.proofs.lemmas.Bool.{and_parts, and_from, ltb-true, lt-ltb, leb-true, le-leb, eqb-true, ne_eqb}
+use Rattle.std.proofs.lemmas.Bool.{and_parts, and_from, leb-true, le-leb, eqb-true, ne_eqb}
 use Rattle.game_rules.specs.Grammar.{letter_of, move_list}
 use Rattle.game_rules.proofs.Lists.{chosen}
 use Rattle.game_rules.proofs.Numbers as numbers
 use Rattle.game_rules.proofs.Numbers.{number_gives}
-use Rattle.proof_text.specs.Lemma.{Cite, Reason, ByEnd, ByOne, ByAll, Lemma}
+use Rattle.game_rules.specs.Board.{Board}
+use Rattle.plan_text.specs.Words.{◌>>=◌, is_letter, column_of}
+use Rattle.plan_text.specs.PlanLine.{members_of}
+use Rattle.plan_text.proofs.Spaced.{bind_some, map_some, is_text, letter_read, letter_spelled}
+use Rattle.plan_text.proofs.PlanLines.{members_read, members_spelled}
+use Rattle.proof_text.specs.Lemma.{Cite, Reason, ByEnd, ByOne, ByAll, ByPlan, Lemma}
 use Rattle.proof_text.specs.Spelling.{claim_word, cite_word, reason_words, lemma_words, verdict_words, greatest_number, longest_path, most_cites, IsNumber, CiteFits, ReasonFits, Fits, VerdictFits}
-use Rattle.proof_text.specs.Reading.{◌>>=◌, number_of, is_letter, column_of, path_of, claim_of, letter_word, cite_of, cites_of, one_of, all_of, only, reason_of, lemma_of, with_one, with_two, verdict_of}
+use Rattle.proof_text.specs.Reading.{number_of, path_of, claim_of, letter_word, cite_of, cites_of, one_of, all_of, plan_of, only, reason_of, lemma_of, with_one, with_two, verdict_of}
 use Rattle.proof_text.specs.declared.Claim.{Claim}
 use Rattle.proof_text.specs.declared.Claim.TheVariants.{WhiteWins, WhiteFails, BlackWins, BlackFails}
 use Rattle.proof_text.specs.declared.Verdict.{Verdict}
 use Rattle.proof_text.specs.declared.Verdict.TheVariants.{Win, Loss, Draw, Unknown}
-
--- ---- options
-
-pub bind_some : {A B : Type 0} (found : Option A) (next : A → Option B) (y : B) → (found >>= next) ≡ Some y → (x : A) × (found ≡ Some x) × (next x ≡ Some y)
-bind_some None next y h = cc
-bind_some (Some x) next y h = (x, refl, h)
-
-pub map_some : {A B : Type 0} (f : A → B) (found : Option A) (y : B) → option_map f found ≡ Some y → (x : A) × (found ≡ Some x) × (f x ≡ y)
-map_some f None y h = cc
-map_some f (Some x) y h = (x, refl, cc)
-
--- the word is this text, or isn't
-is_text : (word text : List ℕ) → bytes_eq word text ≡ true → word ≡ text
-is_text word text h = (bytes_eq-Decides word text).0 h
 
 -- ---- numbers
 
@@ -44,18 +34,6 @@ number_read word n h = let told = number_gives 1 greatest_number word n h in (to
 
 pub number_spelled : (n : ℕ) → IsNumber n → number_of (decimal n) ≡ Some n
 number_spelled n h = numbers.number_spelled 1 greatest_number n (decimal n) h.0 h.1 (small n h) refl
-
--- ---- letters
-
-pub letter_read : (cols byte : ℕ) → is_letter cols byte ≡ true → (byte ≡ letter_of (column_of byte)) × (column_of byte < cols)
-letter_read cols byte h =
-    let both = and_parts (nat_le 97 byte) (nat_lt byte (97 + cols)) h in
-    let low : 97 ≤ byte = leb-true 97 byte both.0 in
-    let high : byte < 97 + cols = ltb-true byte (97 + cols) both.1 in
-    (omega arith, omega arith)
-
-pub letter_spelled : (cols column : ℕ) → column < cols → (is_letter cols (letter_of column) ≡ true) × (column_of (letter_of column) ≡ column)
-letter_spelled cols column h = (and_from _ _ (le-leb 97 (97 + column) (omega arith)) (lt-ltb (97 + column) (97 + cols) (omega arith)), omega arith)
 
 -- ---- paths
 
@@ -203,51 +181,60 @@ cites_spelled cols (cite ∷ cites) h =
 
 -- ---- reasons
 
-one_read : (cols : ℕ) (words : List (List ℕ)) (reason : Reason) → one_of cols words ≡ Some reason → (codes "one" ∷ words ≡ reason_words reason) × ReasonFits cols reason
-one_read cols [] reason h = cc
-one_read cols (letter ∷ []) reason h = cc
-one_read cols (letter ∷ number ∷ more ∷ words) reason h = cc
-one_read cols (letter ∷ number ∷ []) reason h =
-    let first = bind_some (letter_word cols letter) _ reason h in
+one_read : (board : Board) (words : List (List ℕ)) (reason : Reason) → one_of board.cols words ≡ Some reason → (codes "one" ∷ words ≡ reason_words reason) × ReasonFits board reason
+one_read board [] reason h = cc
+one_read board (letter ∷ []) reason h = cc
+one_read board (letter ∷ number ∷ more ∷ words) reason h = cc
+one_read board (letter ∷ number ∷ []) reason h =
+    let first = bind_some (letter_word board.cols letter) _ reason h in
     let rest = bind_some (number_of number) (λ n. Some (ByOne (record { column = first.0; lemma = n }))) reason first.2 in
-    let column = letter_word_read cols letter first.0 first.1 in
+    let column = letter_word_read board.cols letter first.0 first.1 in
     let n = number_read number rest.0 rest.1 in
     let same : ByOne (record { column = first.0; lemma = rest.0 }) ≡ reason = cc (rest.2) in
-    subst (λ reason. (codes "one" ∷ letter ∷ number ∷ [] ≡ reason_words reason) × ReasonFits cols reason) same
+    subst (λ reason. (codes "one" ∷ letter ∷ number ∷ [] ≡ reason_words reason) × ReasonFits board reason) same
     (both (letter_of first.0 ∷ []) (decimal rest.0) column.0 n.0, (column.1, n.1))
   where
     both : (a b : List ℕ) → letter ≡ a → number ≡ b → codes "one" ∷ letter ∷ number ∷ [] ≡ codes "one" ∷ a ∷ b ∷ []
     both a b e f = rw (e, f) refl
 
-all_read : (cols : ℕ) (words : List (List ℕ)) (reason : Reason) → all_of cols words ≡ Some reason → (codes "all" ∷ words ≡ reason_words reason) × ReasonFits cols reason
-all_read cols words reason h = elim (chosen (nat_le 1 (length words) && nat_le (length words) most_cites) (option_map ByAll (cites_of cols words)) None (Some reason) h) [
+all_read : (board : Board) (words : List (List ℕ)) (reason : Reason) → all_of board.cols words ≡ Some reason → (codes "all" ∷ words ≡ reason_words reason) × ReasonFits board reason
+all_read board words reason h = elim (chosen (nat_le 1 (length words) && nat_le (length words) most_cites) (option_map ByAll (cites_of board.cols words)) None (Some reason) h) [
   | inr other ↦ absurd (cc other.1)
   | inl found ↦
       let size = and_parts (nat_le 1 (length words)) (nat_le (length words) most_cites) found.0 in
-      let cites = map_some ByAll (cites_of cols words) reason found.1 in
-      let read = cites_read cols words cites.0 cites.1 in
+      let cites = map_some ByAll (cites_of board.cols words) reason found.1 in
+      let read = cites_read board.cols words cites.0 cites.1 in
       let count : length words ≡ length cites.0 = ap length read.0 ∙ length-map cites.0 cite_word in
       let few : 1 ≤ length words = leb-true 1 (length words) size.0 in
       let many : length words ≤ most_cites = leb-true (length words) most_cites size.1 in
-      subst (λ reason. (codes "all" ∷ words ≡ reason_words reason) × ReasonFits cols reason) cites.2
+      subst (λ reason. (codes "all" ∷ words ≡ reason_words reason) × ReasonFits board reason) cites.2
       (ap (λ words. codes "all" ∷ words) read.0, (omega arith, omega arith, read.1))
 ]
+
+plan_read : (board : Board) (words : List (List ℕ)) (reason : Reason) → plan_of board words ≡ Some reason → (codes "plan" ∷ words ≡ reason_words reason) × ReasonFits board reason
+plan_read board words reason h =
+    let found = map_some ByPlan (members_of board words) reason h in
+    let read = members_read board words found.0 found.1 in
+    subst (λ reason. (codes "plan" ∷ words ≡ reason_words reason) × ReasonFits board reason) found.2 (ap (λ words. codes "plan" ∷ words) read.0, read.1)
 
 only_read : {X : Type 0} (x y : X) (words : List (List ℕ)) → only x words ≡ Some y → (words ≡ []) × (x ≡ y)
 only_read x y [] h = (refl, cc)
 only_read x y (word ∷ words) h = cc
 
-pub reason_read : (cols : ℕ) (words : List (List ℕ)) (reason : Reason) → reason_of cols words ≡ Some reason → (words ≡ reason_words reason) × ReasonFits cols reason
-reason_read cols [] reason h = cc
-reason_read cols (word ∷ words) reason h = elim (chosen (bytes_eq word (codes "end")) (only ByEnd words) _ (Some reason) h) [
+pub reason_read : (board : Board) (words : List (List ℕ)) (reason : Reason) → reason_of board words ≡ Some reason → (words ≡ reason_words reason) × ReasonFits board reason
+reason_read board [] reason h = cc
+reason_read board (word ∷ words) reason h = elim (chosen (bytes_eq word (codes "end")) (only ByEnd words) _ (Some reason) h) [
   | inl end ↦
       let nothing = only_read ByEnd reason words end.1 in
-      subst (λ reason. (word ∷ words ≡ reason_words reason) × ReasonFits cols reason) nothing.1 (both (codes "end") [] (is_text word _ end.0) nothing.0, tt)
-  | inr a ↦ elim (chosen (bytes_eq word (codes "one")) (one_of cols words) _ (Some reason) a.1) [
-    | inl one ↦ let read = one_read cols words reason one.1 in (ap (λ first. first ∷ words) (is_text word _ one.0) ∙ read.0, read.1)
-    | inr b ↦ elim (chosen (bytes_eq word (codes "all")) (all_of cols words) None (Some reason) b.1) [
-      | inl all ↦ let read = all_read cols words reason all.1 in (ap (λ first. first ∷ words) (is_text word _ all.0) ∙ read.0, read.1)
-      | inr none ↦ absurd (cc none.1)
+      subst (λ reason. (word ∷ words ≡ reason_words reason) × ReasonFits board reason) nothing.1 (both (codes "end") [] (is_text word _ end.0) nothing.0, tt)
+  | inr a ↦ elim (chosen (bytes_eq word (codes "one")) (one_of board.cols words) _ (Some reason) a.1) [
+    | inl one ↦ let read = one_read board words reason one.1 in (ap (λ first. first ∷ words) (is_text word _ one.0) ∙ read.0, read.1)
+    | inr b ↦ elim (chosen (bytes_eq word (codes "all")) (all_of board.cols words) _ (Some reason) b.1) [
+      | inl all ↦ let read = all_read board words reason all.1 in (ap (λ first. first ∷ words) (is_text word _ all.0) ∙ read.0, read.1)
+      | inr c ↦ elim (chosen (bytes_eq word (codes "plan")) (plan_of board words) None (Some reason) c.1) [
+        | inl plan ↦ let read = plan_read board words reason plan.1 in (ap (λ first. first ∷ words) (is_text word _ plan.0) ∙ read.0, read.1)
+        | inr none ↦ absurd (cc none.1)
+      ]
     ]
   ]
 ]
@@ -255,35 +242,36 @@ reason_read cols (word ∷ words) reason h = elim (chosen (bytes_eq word (codes 
     both : (first : List ℕ) (rest : List (List ℕ)) → word ≡ first → words ≡ rest → word ∷ words ≡ first ∷ rest
     both first rest e f = rw (e, f) refl
 
-pub reason_spelled : (cols : ℕ) (reason : Reason) → ReasonFits cols reason → reason_of cols (reason_words reason) ≡ Some reason
-reason_spelled cols ByEnd h = refl
-reason_spelled cols (ByOne cite) h =
-    ap (λ found. found >>= λ column. number_of (decimal cite.lemma) >>= λ n. Some (ByOne (record { column = column; lemma = n }))) (letter_word_spelled cols cite.column h.0)
+pub reason_spelled : (board : Board) (reason : Reason) → ReasonFits board reason → reason_of board (reason_words reason) ≡ Some reason
+reason_spelled board ByEnd h = refl
+reason_spelled board (ByOne cite) h =
+    ap (λ found. found >>= λ column. number_of (decimal cite.lemma) >>= λ n. Some (ByOne (record { column = column; lemma = n }))) (letter_word_spelled board.cols cite.column h.0)
     ∙ ap (λ found. found >>= λ n. Some (ByOne (record { column = cite.column; lemma = n }))) (number_spelled cite.lemma h.1)
-reason_spelled cols (ByAll cites) h =
+reason_spelled board (ByAll cites) h =
     let size : length (map cite_word cites) ≡ length cites = length-map cites cite_word in
     found (and_from _ _ (le-leb 1 (length (map cite_word cites)) (omega arith)) (le-leb (length (map cite_word cites)) most_cites (omega arith)))
   where
-    found : (nat_le 1 (length (map cite_word cites)) && nat_le (length (map cite_word cites)) most_cites) ≡ true → all_of cols (map cite_word cites) ≡ Some (ByAll cites)
-    found e = rw e (ap (option_map ByAll) (cites_spelled cols cites h.2))
+    found : (nat_le 1 (length (map cite_word cites)) && nat_le (length (map cite_word cites)) most_cites) ≡ true → all_of board.cols (map cite_word cites) ≡ Some (ByAll cites)
+    found e = rw e (ap (option_map ByAll) (cites_spelled board.cols cites h.2))
+reason_spelled board (ByPlan ws) h = ap (option_map ByPlan) (members_spelled board ws h)
 
 -- ---- lemmas
 
-pub lemma_read : (cols : ℕ) (words : List (List ℕ)) (l : Lemma) → lemma_of cols words ≡ Some l → (words ≡ lemma_words l) × Fits cols l
-lemma_read cols [] l h = cc
-lemma_read cols (number ∷ []) l h = cc
-lemma_read cols (number ∷ path ∷ []) l h = cc
-lemma_read cols (number ∷ path ∷ claim ∷ reason) l h =
+pub lemma_read : (board : Board) (words : List (List ℕ)) (l : Lemma) → lemma_of board words ≡ Some l → (words ≡ lemma_words l) × Fits board l
+lemma_read board [] l h = cc
+lemma_read board (number ∷ []) l h = cc
+lemma_read board (number ∷ path ∷ []) l h = cc
+lemma_read board (number ∷ path ∷ claim ∷ reason) l h =
     let first = bind_some (number_of number) _ l h in
-    let second = bind_some (path_of cols path) _ l first.2 in
+    let second = bind_some (path_of board.cols path) _ l first.2 in
     let third = bind_some (claim_of claim) _ l second.2 in
-    let last = bind_some (reason_of cols reason) (λ why. Some (record { number = first.0; path = second.0; claim = third.0; reason = why })) l third.2 in
+    let last = bind_some (reason_of board reason) (λ why. Some (record { number = first.0; path = second.0; claim = third.0; reason = why })) l third.2 in
     let n = number_read number first.0 first.1 in
-    let moves = path_read cols path second.0 second.1 in
+    let moves = path_read board.cols path second.0 second.1 in
     let said = claim_read claim third.0 third.1 in
-    let why = reason_read cols reason last.0 last.1 in
+    let why = reason_read board reason last.0 last.1 in
     let same : record { number = first.0; path = second.0; claim = third.0; reason = last.0 } ≡ l = cc (last.2) in
-    subst (λ l. (number ∷ path ∷ claim ∷ reason ≡ lemma_words l) × Fits cols l) same (
+    subst (λ l. (number ∷ path ∷ claim ∷ reason ≡ lemma_words l) × Fits board l) same (
       four (decimal first.0) (move_list second.0) (claim_word third.0) (reason_words last.0) n.0 moves.0 said why.0,
       record { number = n.1; short = moves.1; columns = moves.2; reason = why.1 },
     )
@@ -291,12 +279,12 @@ lemma_read cols (number ∷ path ∷ claim ∷ reason) l h =
     four : (a b c : List ℕ) (d : List (List ℕ)) → number ≡ a → path ≡ b → claim ≡ c → reason ≡ d → number ∷ path ∷ claim ∷ reason ≡ a ∷ b ∷ c ∷ d
     four a b c d e f g h = rw (e, f, g, h) refl
 
-pub lemma_spelled : (cols : ℕ) (l : Lemma) → Fits cols l → lemma_of cols (lemma_words l) ≡ Some l
-lemma_spelled cols l h =
-    ap (λ found. found >>= λ n. path_of cols (move_list l.path) >>= λ moves. claim_of (claim_word l.claim) >>= λ said. reason_of cols (reason_words l.reason) >>= λ why. Some (record { number = n; path = moves; claim = said; reason = why })) (number_spelled l.number h.number)
-    ∙ ap (λ found. found >>= λ moves. claim_of (claim_word l.claim) >>= λ said. reason_of cols (reason_words l.reason) >>= λ why. Some (record { number = l.number; path = moves; claim = said; reason = why })) (path_spelled cols l.path h.short h.columns)
-    ∙ ap (λ found. found >>= λ said. reason_of cols (reason_words l.reason) >>= λ why. Some (record { number = l.number; path = l.path; claim = said; reason = why })) (claim_spelled l.claim)
-    ∙ ap (λ found. found >>= λ why. Some (record { number = l.number; path = l.path; claim = l.claim; reason = why })) (reason_spelled cols l.reason h.reason)
+pub lemma_spelled : (board : Board) (l : Lemma) → Fits board l → lemma_of board (lemma_words l) ≡ Some l
+lemma_spelled board l h =
+    ap (λ found. found >>= λ n. path_of board.cols (move_list l.path) >>= λ moves. claim_of (claim_word l.claim) >>= λ said. reason_of board (reason_words l.reason) >>= λ why. Some (record { number = n; path = moves; claim = said; reason = why })) (number_spelled l.number h.number)
+    ∙ ap (λ found. found >>= λ moves. claim_of (claim_word l.claim) >>= λ said. reason_of board (reason_words l.reason) >>= λ why. Some (record { number = l.number; path = moves; claim = said; reason = why })) (path_spelled board.cols l.path h.short h.columns)
+    ∙ ap (λ found. found >>= λ said. reason_of board (reason_words l.reason) >>= λ why. Some (record { number = l.number; path = l.path; claim = said; reason = why })) (claim_spelled l.claim)
+    ∙ ap (λ found. found >>= λ why. Some (record { number = l.number; path = l.path; claim = l.claim; reason = why })) (reason_spelled board l.reason h.reason)
 
 -- ---- verdicts
 

@@ -1,24 +1,25 @@
 -- What may stand while a proof is written, and that a proof that stands whole is a right text.
 use Rattle.std.proofs.Common.{false, inl, inr, append-nil, ◌≡◌, ℕ, ◌+◌, ◌≤◌, true, List, [], ◌∷◌, ◌++◌, map, length, Option, Some, None, refl, sym, ap, ◌∙◌, subst, append_assoc, arith}
 use Rattle.std.specs.List.{AllByRecursion}
-use Rattle.std.proofs.lemmas.List.{length-append, length-map, length-replicate}
+use Rattle.std.proofs.lemmas.List.{length-append, length-map}
 use Rattle.std.proofs.lemmas.Grind.{flat_map-append}
 use Rattle.std.proofs.lemmas.List.Folds.{flat_map-map}
 use Rattle.std.proofs.lemmas.List.Concat.{flat_map-cons}
 use Rattle.game_rules.specs.Board.{Board, is_board}
 use Rattle.game_rules.specs.Position.{Position, board_of, empty_position, played}
-use Rattle.game_rules.proofs.Grammar.{board_along}
 use Rattle.game_rules.proofs.BoardLine.{spelled_parts}
-use Rattle.proof_text.specs.Lemma.{Lemma}
+use Rattle.proof_text.specs.Lemma.{claim_side, Lemma}
 use Rattle.proof_text.specs.Right.{Shown, AreRight}
-use Rattle.proof_text.specs.Spelling.{verdict_line, as_line, lines_of, is_remark, greatest_number, Fits}
+use Rattle.proof_text.specs.Spelling.{verdict_line, as_line, lines_of, is_remark, greatest_number, Fits, IsShort}
 use Rattle.proof_text.specs.Texts.{first_line, Accepted, check_of, Entry, LemmaEntry, RemarkEntry, entry_text, entry_lines, lemmas_among, EntryFits, head_of, IsRightText}
 use Rattle.proof_text.specs.Written.{IsAskedInTurn, IsRemarkLine, remark_line, AreSided, HasWritten, MayStand, IsProof}
 use Rattle.game_rules.specs.Grammar.{is_spelled, board_line, moves_line, game_text, IsGameText}
+use Rattle.game_rules.specs.declared.Side.{Side}
 use Rattle.game_rules.specs.declared.Side.TheVariants.{White, Black}
-use Rattle.proof_text.proofs.Append.{AreRight_append, all_append, all_left, all_right}
+use Rattle.plan_text.proofs.Spaced.{all_append, all_each}
+use Rattle.proof_text.proofs.Append.{AreRight_append, all_left, all_right}
 use Rattle.proof_text.proofs.Fitting.{right_all_fit, right_verdict_fits}
-use Rattle.proof_text.proofs.Whole.{cols_of_root, shown_count, right_accepted}
+use Rattle.proof_text.proofs.Whole.{board_of_root, shown_count, right_accepted}
 use Rattle.proof_text.specs.declared.Verdict.{Verdict}
 
 -- ---- lines as entries
@@ -113,20 +114,22 @@ each_entry P white_remark white black_remark black each one two ls =
     (all_lemmas P white (all_left (λ l. P (LemmaEntry l)) white black ls))
     (all_remark P black_remark (map LemmaEntry black) each two (all_lemmas P black (all_right (λ l. P (LemmaEntry l)) white black ls))))
 
+all_short : (side : Side) (ls : List Lemma) → AreSided side ls → AllByRecursion IsShort ls
+all_short side ls sided = all_each (λ l. (claim_side l.claim ≡ side) × IsShort l) IsShort ls (λ l one. one.1) sided
+
 -- a verdict at the end of what is written, within the number of lemmas that have a spelling
 pub proof_right : (board : Board) (columns : List ℕ) (root : Position) (text : List ℕ) (v : Verdict) (proof : IsProof root (head_of board columns) text v)
     → is_spelled board ≡ true → played (empty_position board) columns ≡ Some root → length proof.after ≤ greatest_number → IsRightText text v (length proof.after)
 proof_right board columns root text v proof has_board has_moves few =
     let w = proof.written in
     let right = AreRight_append root [] w.mid proof.after w.white w.black w.white_right w.black_right in
-    let cols : length root.columns ≡ board.cols = cols_of_root board columns root has_moves in
-    let same : board_of root ≡ board = board_along columns (empty_position board) root has_moves ∙ ap (λ n. record { cols = n; rows = board.rows; len = board.len }) (length-replicate board.cols []) in
+    let same : board_of root ≡ board = board_of_root board columns root has_moves in
     let root_board : is_board (board_of root) ≡ true = ap is_board same ∙ (spelled_parts board has_board).0 in
     let count : length proof.after ≡ length (w.white ++ w.black) = shown_count root (w.white ++ w.black) proof.after right in
     let both : length (w.white ++ w.black) ≡ length w.white + length w.black = length-append w.white w.black in
     let ls = w.white ++ w.black in
-    let spellings : AllByRecursion (Fits (length root.columns)) ls = right_all_fit root [] ls proof.after root_board (omega arith) right in
-    let fits : AllByRecursion (Fits board.cols) ls = subst (λ n. AllByRecursion (Fits n) ls) cols spellings in
+    let short : AllByRecursion IsShort ls = all_append IsShort w.white w.black (all_short White w.white w.white_sided) (all_short Black w.black w.black_sided) in
+    let fits : AllByRecursion (Fits board) ls = subst (λ board. AllByRecursion (Fits board) ls) same (right_all_fit root [] ls proof.after root_board (omega arith) short right) in
     let among : lemmas_among (entries_of w.white_remark w.white w.black_remark w.black) ≡ ls = lemmas_of w.white_remark w.white w.black_remark w.black in
     let sizes : length (entries_of w.white_remark w.white w.black_remark w.black) ≤ length w.white + length w.black + 2 = size_of w.white_remark w.white w.black_remark w.black in
     record {
@@ -138,7 +141,7 @@ proof_right board columns root text v proof has_board has_moves few =
       ended = true;
       has_board = has_board;
       has_moves = has_moves;
-      fit = each_entry (EntryFits board.cols) w.white_remark w.white w.black_remark w.black (λ bytes one. one) w.white_remarked w.black_remarked fits;
+      fit = each_entry (EntryFits board) w.white_remark w.white w.black_remark w.black (λ bytes one. one) w.white_remarked w.black_remarked fits;
       right = subst (λ ls. AreRight root [] ls proof.after) (sym among) right;
       verdict_fits = right_verdict_fits root proof.after v few proof.verdict;
       verdict_right = proof.verdict;

@@ -1,16 +1,22 @@
 -- Which line of a proof is refused, and by which name: the tests of each kind of line in their order, the first that
 -- fails giving the name.
-use Rattle.std.specs.Prelude.{◌≡◌, ℕ, ◌+◌, Bool, true, false, not, ◌==◌, List, [], ◌∷◌, ◌++◌, map, length, Option, Some, None, is_none, bytes_eq, ◌&&◌, Result, Ok, Err}
+use Rattle.std.specs.Prelude.{◌≡◌, ℕ, ◌+◌, Bool, true, false, not, ◌==◌, List, [], ◌∷◌, ◌++◌, map, length, Option, Some, None, is_none, option_map, bytes_eq, ◌&&◌, Result, Ok, Err}
 use Rattle.game_rules.specs.Position.{Position, other, side_to_move, has_room, after_move, end_of, played, open_columns, same_position}
 use Rattle.game_rules.specs.declared.End.{End}
-use Rattle.proof_text.specs.Lemma.{claim_for, same_claim, claim_of_end, Cite, Reason, ByEnd, ByOne, ByAll, Lemma, Line, ALemma, ARemark, AVerdict}
+use Rattle.proof_text.specs.Lemma.{claim_for, same_claim, claim_of_end, Cite, Reason, ByEnd, ByOne, ByAll, ByPlan, Lemma, Line, ALemma, ARemark, AVerdict}
 use Rattle.proof_text.specs.Right.{Shown, lemma_at, goes_by_one, AreRight, IsVerdict}
 use Rattle.proof_text.specs.declared.Claim.{Claim}
 use Rattle.proof_text.specs.declared.Claim.TheVariants.{WhiteFails, BlackFails}
 use Rattle.proof_text.specs.declared.Verdict.{Verdict}
 use Rattle.proof_text.specs.declared.Verdict.TheVariants.{Win, Loss, Draw, Unknown}
-use Rattle.proof_text.specs.declared.Why.{Why}
-use Rattle.proof_text.specs.declared.Why.TheVariants.{BadLine, BadPath, NoSuchLemma, WrongPosition, WrongClaim, MissingMove, BadVerdict}
+use Rattle.plan_rules.specs.Rules.{RuleInstance}
+use Rattle.plan_rules.specs.Refusal.{PlanFault, plan_refusal}
+use Rattle.proof_text.specs.declared.Why.{Why as WhyOf}
+use Rattle.proof_text.specs.declared.Why.TheVariants.{BadLine, BadPath, NoSuchLemma, WrongPosition, WrongClaim, MissingMove, BadPlan, BadVerdict}
+
+-- why a line is refused; where a list is no plan, with the reason for that
+abbrev pub Why : Type 0
+Why = WhyOf PlanFault
 
 -- the name where a test fails
 abbrev pub unless : Bool → Why → Option Why
@@ -43,11 +49,16 @@ cites_refusal known p claim (cite ∷ cites) = or_then (cite_refusal known p cla
 abbrev pub move_refusal : Position → Bool → Bool → Option Why
 move_refusal p serves playable = or_then (unless serves WrongClaim) (or_then (unless (is_none (end_of p)) WrongPosition) (unless playable MissingMove))
 
+-- a list of instances serves for the claim that White doesn't win alone, and has to be a plan
+abbrev pub list_refusal : Position → Claim → List RuleInstance → Option Why
+list_refusal p claim ws = or_then (unless (same_claim claim WhiteFails) WrongClaim) (option_map BadPlan (plan_refusal p ws))
+
 abbrev pub reason_refusal : List Shown → Position → Claim → Reason → Option Why
 reason_refusal known p claim ByEnd = end_refusal claim (end_of p)
 reason_refusal known p claim (ByOne cite) = or_then (move_refusal p (goes_by_one claim p) (has_room p cite.column)) (cite_refusal known p claim cite)
 reason_refusal known p claim (ByAll cites) =
     or_then (move_refusal p (not (goes_by_one claim p)) (bytes_eq (map (λ cite. cite.column) cites) (open_columns p))) (cites_refusal known p claim cites)
+reason_refusal known p claim (ByPlan ws) = list_refusal p claim ws
 
 -- where the path leads, the reason is looked at
 abbrev pub path_refusal : List Shown → Lemma → Option Position → Option Why

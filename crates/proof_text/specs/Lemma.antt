@@ -5,6 +5,7 @@ use Rattle.game_rules.specs.Value.{win_of, same_end, value}
 use Rattle.game_rules.specs.declared.Side.{Side}
 use Rattle.game_rules.specs.declared.Side.TheVariants.{White, Black}
 use Rattle.game_rules.specs.declared.End.{End}
+use Rattle.plan_rules.specs.Rules.{RuleInstance}
 use Rattle.proof_text.specs.declared.Claim.{Claim}
 use Rattle.proof_text.specs.declared.Claim.TheVariants.{WhiteWins, WhiteFails, BlackWins, BlackFails}
 use Rattle.proof_text.specs.declared.Verdict.{Verdict}
@@ -52,11 +53,12 @@ pub record Cite : Type 0 where
   pub column : ℕ
   pub lemma : ℕ
 
--- why a claim holds: the game has ended so, one move shows it, or all moves together do
+-- why a claim holds: the game has ended so, one move shows it, all moves together do, or a plan keeps White from a line
 pub data Reason : Type 0 where
   ByEnd : Reason
   ByOne : Cite → Reason
   ByAll : List Cite → Reason
+  ByPlan : List RuleInstance → Reason
 
 -- a lemma's number, its position as the moves from the root, what it claims there, and why that holds
 pub record Lemma : Type 0 where

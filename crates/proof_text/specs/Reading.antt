@@ -1,32 +1,21 @@
 -- How a line of a proof is read: as words, which a space parts, each of which has to be the spelling of its part. The
 -- letters are those of the board's columns.
-use Rattle.std.specs.Prelude.{ℕ, ◌+◌, ◌-◌, Bool, ◌&&◌, ◌==◌, nat_le, nat_lt, if◌then◌else◌, List, [], ◌∷◌, map, length, Option, Some, None, option_and_then, option_map, codes, bytes_eq}
-use Rattle.std.specs.List.{list_all, slice_split}
+use Rattle.std.specs.Prelude.{ℕ, ◌&&◌, ◌==◌, nat_le, if◌then◌else◌, List, [], ◌∷◌, map, length, Option, Some, None, option_map, codes, bytes_eq}
+use Rattle.std.specs.List.{list_all}
 use Rattle.game_rules.specs.Number.{number_between}
-use Rattle.proof_text.specs.Lemma.{Cite, Reason, ByEnd, ByOne, ByAll, Lemma, Line, ALemma, ARemark, AVerdict}
+use Rattle.game_rules.specs.Board.{Board}
+pub use Rattle.plan_text.specs.Words.{◌>>=◌, words_of, is_letter, column_of}
+use Rattle.plan_text.specs.PlanLine.{members_of}
+use Rattle.proof_text.specs.Lemma.{Cite, Reason, ByEnd, ByOne, ByAll, ByPlan, Lemma, Line, ALemma, ARemark, AVerdict}
 use Rattle.proof_text.specs.Spelling.{greatest_number, longest_path, most_cites, is_remark}
 use Rattle.proof_text.specs.declared.Claim.{Claim}
 use Rattle.proof_text.specs.declared.Claim.TheVariants.{WhiteWins, WhiteFails, BlackWins, BlackFails}
 use Rattle.proof_text.specs.declared.Verdict.{Verdict}
 use Rattle.proof_text.specs.declared.Verdict.TheVariants.{Win, Loss, Draw, Unknown}
 
-infixl 10 ◌>>=◌
-abbrev pub ◌>>=◌ : {A B : Type 0} → Option A → (A → Option B) → Option B
-found >>= next = option_and_then next found
-
--- the words of a line
-abbrev pub words_of : List ℕ → List (List ℕ)
-words_of bytes = slice_split (λ byte. byte == 32) bytes
-
 -- the number that a word spells
 abbrev pub number_of : List ℕ → Option ℕ
 number_of word = number_between 1 greatest_number word
-
-abbrev pub is_letter : ℕ → ℕ → Bool
-is_letter cols byte = nat_le 97 byte && nat_lt byte (97 + cols)
-
-abbrev pub column_of : ℕ → ℕ
-column_of byte = byte - 97
 
 -- letters one after the other, or `-` for none
 abbrev pub path_of : ℕ → List ℕ → Option (List ℕ)
@@ -67,18 +56,25 @@ abbrev pub only : {X : Type 0} → X → List (List ℕ) → Option X
 only x [] = Some x
 only x (word ∷ words) = None
 
-abbrev pub reason_of : ℕ → List (List ℕ) → Option Reason
-reason_of cols [] = None
-reason_of cols (word ∷ words) = if bytes_eq word (codes "end") then only ByEnd words else (if bytes_eq word (codes "one") then one_of cols words else (if bytes_eq word (codes "all") then all_of cols words else None))
+abbrev pub plan_of : Board → List (List ℕ) → Option Reason
+plan_of board words = option_map ByPlan (members_of board words)
 
-abbrev pub lemma_of : ℕ → List (List ℕ) → Option Lemma
-lemma_of cols (number ∷ path ∷ claim ∷ reason) = do
+abbrev pub reason_of : Board → List (List ℕ) → Option Reason
+reason_of board [] = None
+reason_of board (word ∷ words) =
+    if bytes_eq word (codes "end") then only ByEnd words
+    else (if bytes_eq word (codes "one") then one_of board.cols words
+    else (if bytes_eq word (codes "all") then all_of board.cols words
+    else (if bytes_eq word (codes "plan") then plan_of board words else None)))
+
+abbrev pub lemma_of : Board → List (List ℕ) → Option Lemma
+lemma_of board (number ∷ path ∷ claim ∷ reason) = do
   n ← number_of number
-  moves ← path_of cols path
+  moves ← path_of board.cols path
   said ← claim_of claim
-  why ← reason_of cols reason
+  why ← reason_of board reason
   Some (record { number = n; path = moves; claim = said; reason = why })
-lemma_of cols words = None
+lemma_of board words = None
 
 -- a verdict with one number, and with two
 abbrev pub with_one : (ℕ → Verdict) → List (List ℕ) → Option Verdict
@@ -97,10 +93,10 @@ abbrev pub verdict_of : List (List ℕ) → Option Verdict
 verdict_of [] = None
 verdict_of (word ∷ words) = if bytes_eq word (codes "win") then with_one Win words else (if bytes_eq word (codes "loss") then with_one Loss words else (if bytes_eq word (codes "draw") then with_two Draw words else (if bytes_eq word (codes "unknown") then only Unknown words else None)))
 
-abbrev pub line_of_words : ℕ → List (List ℕ) → Option Line
-line_of_words cols [] = None
-line_of_words cols (word ∷ words) = if bytes_eq word (codes "value") then option_map AVerdict (verdict_of words) else option_map ALemma (lemma_of cols (word ∷ words))
+abbrev pub line_of_words : Board → List (List ℕ) → Option Line
+line_of_words board [] = None
+line_of_words board (word ∷ words) = if bytes_eq word (codes "value") then option_map AVerdict (verdict_of words) else option_map ALemma (lemma_of board (word ∷ words))
 
--- what a line of a proof behind the game says, on a board with so many columns
-abbrev pub read_line : ℕ → List ℕ → Option Line
-read_line cols bytes = if is_remark bytes then Some ARemark else line_of_words cols (words_of bytes)
+-- what a line of a proof behind the game says on a board
+abbrev pub read_line : Board → List ℕ → Option Line
+read_line board bytes = if is_remark bytes then Some ARemark else line_of_words board (words_of bytes)

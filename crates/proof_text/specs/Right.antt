@@ -5,7 +5,9 @@ use Rattle.game_rules.specs.Position.{Position, other, same_side, side_to_move, 
 use Rattle.game_rules.specs.Value.{win_of, value}
 use Rattle.game_rules.specs.declared.End.{End}
 use Rattle.game_rules.specs.declared.End.TheVariants as ends
-use Rattle.proof_text.specs.Lemma.{claim_side, claims_win, claim_for, agrees, claim_of_end, claim_holds, Cite, Reason, ByEnd, ByOne, ByAll, Lemma}
+use Rattle.plan_rules.specs.Rules.{RuleInstance}
+use Rattle.plan_rules.specs.Plan.{is_plan}
+use Rattle.proof_text.specs.Lemma.{claim_side, claims_win, claim_for, agrees, claim_of_end, claim_holds, Cite, Reason, ByEnd, ByOne, ByAll, ByPlan, Lemma}
 use Rattle.proof_text.specs.declared.Claim.{Claim}
 use Rattle.proof_text.specs.declared.Claim.TheVariants.{WhiteFails, BlackFails}
 use Rattle.proof_text.specs.declared.Verdict.{Verdict}
@@ -52,11 +54,17 @@ pub record FollowsFromAll (known : List Shown) (p : Position) (claim : Claim) (c
   pub playable : map (λ cite. cite.column) cites ≡ open_columns p
   pub cited : AllByRecursion (IsCited known p claim) cites
 
+-- the instances are a plan of Black's at the position, so White doesn't win
+pub record FollowsFromPlan (p : Position) (claim : Claim) (ws : List RuleInstance) : Type 0 where
+  pub claimed : claim ≡ WhiteFails
+  pub plan : is_plan p ws ≡ true
+
 -- which reasons are right
 abbrev pub HasReason : List Shown → Position → Claim → Reason → Type 0
 HasReason known p claim ByEnd = HoldsAtEnd p claim
 HasReason known p claim (ByOne cite) = FollowsFromOne known p claim cite
 HasReason known p claim (ByAll cites) = FollowsFromAll known p claim cites
+HasReason known p claim (ByPlan ws) = FollowsFromPlan p claim ws
 
 -- The lemma has the next number, its path leads from the root to p, and its reason is right there.
 pub record IsRight (root : Position) (known : List Shown) (l : Lemma) (p : Position) : Type 0 where

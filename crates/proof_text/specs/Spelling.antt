@@ -1,16 +1,16 @@
 -- The one spelling of each lemma and verdict: words with a space between each two, and numbers in decimal.
 use Rattle.std.specs.Prelude.{◌≡◌, ◌≤◌, ◌<◌, ℕ, Bool, true, false, ◌==◌, List, [], ◌∷◌, ◌++◌, map, length, codes, decimal, flat_map, ⊤, ◌&&◌, nat_le}
-use Rattle.std.specs.List.{AllByRecursion, join_with_byte, list_all}
+use Rattle.std.specs.List.{AllByRecursion, list_all}
+use Rattle.game_rules.specs.Board.{Board}
 use Rattle.game_rules.specs.Grammar.{letter_of, move_list}
-use Rattle.proof_text.specs.Lemma.{Cite, Reason, ByEnd, ByOne, ByAll, Lemma, Line, ALemma, ARemark, AVerdict}
+use Rattle.plan_rules.specs.Rules.{RuleInstance}
+pub use Rattle.plan_text.specs.Words.{spaced}
+use Rattle.plan_text.specs.PlanLine.{most_members, plan_words, PlanFits}
+use Rattle.proof_text.specs.Lemma.{Cite, Reason, ByEnd, ByOne, ByAll, ByPlan, Lemma, Line, ALemma, ARemark, AVerdict}
 use Rattle.proof_text.specs.declared.Claim.{Claim}
 use Rattle.proof_text.specs.declared.Claim.TheVariants.{WhiteWins, WhiteFails, BlackWins, BlackFails}
 use Rattle.proof_text.specs.declared.Verdict.{Verdict}
 use Rattle.proof_text.specs.declared.Verdict.TheVariants.{Win, Loss, Draw, Unknown}
-
--- words in a row, with a space between each two
-abbrev pub spaced : List (List ℕ) → List ℕ
-spaced words = join_with_byte 32 words
 
 abbrev pub claim_word : Claim → List ℕ
 claim_word WhiteWins = codes "W+"
@@ -26,6 +26,7 @@ abbrev pub reason_words : Reason → List (List ℕ)
 reason_words ByEnd = codes "end" ∷ []
 reason_words (ByOne cite) = codes "one" ∷ (letter_of cite.column ∷ []) ∷ decimal cite.lemma ∷ []
 reason_words (ByAll cites) = codes "all" ∷ map cite_word cites
+reason_words (ByPlan ws) = plan_words ws
 
 abbrev pub lemma_words : Lemma → List (List ℕ)
 lemma_words l = decimal l.number ∷ move_list l.path ∷ claim_word l.claim ∷ reason_words l.reason
@@ -87,16 +88,26 @@ IsNumber n = (1 ≤ n) × (n ≤ greatest_number)
 abbrev pub CiteFits : ℕ → Cite → Type 0
 CiteFits cols cite = (cite.column < cols) × IsNumber cite.lemma
 
-abbrev pub ReasonFits : ℕ → Reason → Type 0
-ReasonFits cols ByEnd = ⊤
-ReasonFits cols (ByOne cite) = CiteFits cols cite
-ReasonFits cols (ByAll cites) = (1 ≤ length cites) × (length cites ≤ most_cites) × AllByRecursion (CiteFits cols) cites
+abbrev pub ReasonFits : Board → Reason → Type 0
+ReasonFits board ByEnd = ⊤
+ReasonFits board (ByOne cite) = CiteFits board.cols cite
+ReasonFits board (ByAll cites) = (1 ≤ length cites) × (length cites ≤ most_cites) × AllByRecursion (CiteFits board.cols) cites
+ReasonFits board (ByPlan ws) = PlanFits board ws
 
-pub record Fits (cols : ℕ) (l : Lemma) : Type 0 where
+pub record Fits (board : Board) (l : Lemma) : Type 0 where
   pub number : IsNumber l.number
   pub short : length l.path ≤ longest_path
-  pub columns : AllByRecursion (λ column. column < cols) l.path
-  pub reason : ReasonFits cols l.reason
+  pub columns : AllByRecursion (λ column. column < board.cols) l.path
+  pub reason : ReasonFits board l.reason
+
+-- the instances of the plan that a reason names
+abbrev pub members_in : Reason → List RuleInstance
+members_in (ByPlan ws) = ws
+members_in reason = []
+
+-- the lemma's plan has no more instances than a line can have
+abbrev pub IsShort : Lemma → Type 0
+IsShort l = length (members_in l.reason) ≤ most_members
 
 abbrev pub VerdictFits : Verdict → Type 0
 VerdictFits (Win n) = IsNumber n
@@ -104,9 +115,9 @@ VerdictFits (Loss n) = IsNumber n
 VerdictFits (Draw n m) = IsNumber n × IsNumber m
 VerdictFits Unknown = ⊤
 
--- The bytes are a line on a board with so many columns, and say this. That no line is longer than `longest_line` is said
--- of remarks; lemmas and verdicts are shorter by themselves.
-abbrev pub IsLine : ℕ → List ℕ → Line → Type 0
-IsLine cols bytes (ALemma l) = Fits cols l × (bytes ≡ lemma_text l)
-IsLine cols bytes ARemark = is_remark bytes ≡ true
-IsLine cols bytes (AVerdict v) = VerdictFits v × (bytes ≡ verdict_text v)
+-- The bytes are a line on a board, and say this. That no line is longer than `longest_line` is said of remarks; lemmas and
+-- verdicts are shorter by themselves.
+abbrev pub IsLine : Board → List ℕ → Line → Type 0
+IsLine board bytes (ALemma l) = Fits board l × (bytes ≡ lemma_text l)
+IsLine board bytes ARemark = is_remark bytes ≡ true
+IsLine board bytes (AVerdict v) = VerdictFits v × (bytes ≡ verdict_text v)

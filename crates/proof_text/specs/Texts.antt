@@ -2,18 +2,17 @@
 use Rattle.std.specs.Prelude.{◌≡◌, ◌≤◌, ℕ, ◌+◌, Bool, true, ◌==◌, nat_le, if◌then◌else◌, List, [], ◌∷◌, ◌++◌, length, take, filter_map, Option, Some, None, Result, Ok, Err, slice_index_or, codes, bytes_eq, flat_map}
 use Rattle.std.specs.List.{slice_split, AllByRecursion}
 use Rattle.game_rules.specs.Board.{Board, below}
-use Rattle.game_rules.specs.Position.{Position, empty_position, played}
+use Rattle.game_rules.specs.Position.{Position, board_of, empty_position, played}
 use Rattle.game_rules.specs.Text.{game_at}
 use Rattle.game_rules.specs.Grammar.{is_spelled, game_text, last_feed}
 use Rattle.game_rules.specs.declared.InputFault.{InputFault}
 use Rattle.proof_text.specs.Lemma.{Lemma, Line, ALemma, ARemark, AVerdict}
 use Rattle.proof_text.specs.Right.{Shown, AreRight, IsVerdict}
-use Rattle.proof_text.specs.Checked.{unless, or_then, CheckerState, line_refusal, shown_of, with_line, first_verdict}
+use Rattle.proof_text.specs.Checked.{Why, unless, or_then, CheckerState, line_refusal, shown_of, with_line, first_verdict}
 use Rattle.proof_text.specs.Spelling.{lemma_text, verdict_text, as_line, is_remark, Fits, VerdictFits}
 pub use Rattle.proof_text.specs.Spelling.{longest_line}
 use Rattle.proof_text.specs.Reading.{read_line}
 use Rattle.proof_text.specs.declared.Verdict.{Verdict}
-use Rattle.proof_text.specs.declared.Why.{Why}
 use Rattle.proof_text.specs.declared.Why.TheVariants.{BadLine, EndedEarly}
 
 -- ---- lines
@@ -80,7 +79,7 @@ shown_by root (AVerdict v ∷ lines) = shown_by root lines
 -- what stands after the lines, each of them given by its bytes
 abbrev pub state_after : Position → List (List ℕ) → CheckerState
 state_after root lines =
-    let said = filter_map (read_line (length root.columns)) lines in
+    let said = filter_map (read_line (board_of root)) lines in
     record { root = root; known = shown_by root said; verdict = first_verdict said }
 
 abbrev pub said_refusal : CheckerState → Option Line → Option Why
@@ -90,7 +89,7 @@ said_refusal s (Some line) = line_refusal s line
 -- the name of what is wrong with a line, which has this number and stands behind what stands
 abbrev pub bytes_refusal : CheckerState → ℕ → List ℕ → Option Why
 bytes_refusal s at bytes =
-    or_then (unless (nat_le at most_lines) BadLine) (said_refusal s (read_line (length s.root.columns) bytes))
+    or_then (unless (nat_le at most_lines) BadLine) (said_refusal s (read_line (board_of s.root) bytes))
 
 -- what is wrong with the line at a place, the lines before it accepted
 abbrev pub refusal_at : Position → List (List ℕ) → ℕ → Option Why
@@ -131,7 +130,7 @@ with_said s None = s
 with_said s (Some line) = with_line s line
 
 abbrev pub with_bytes : CheckerState → List ℕ → CheckerState
-with_bytes s bytes = with_said s (read_line (length s.root.columns) bytes)
+with_bytes s bytes = with_said s (read_line (board_of s.root) bytes)
 
 abbrev pub line_answer : Option Why → ℕ → CheckAnswer → CheckAnswer
 line_answer None at later = later
@@ -187,10 +186,10 @@ lemmas_among [] = []
 lemmas_among (LemmaEntry l ∷ entries) = l ∷ lemmas_among entries
 lemmas_among (RemarkEntry bytes ∷ entries) = lemmas_among entries
 
--- what may stand as a line on a board with so many columns
-abbrev pub EntryFits : ℕ → Entry → Type 0
-EntryFits cols (LemmaEntry l) = Fits cols l
-EntryFits cols (RemarkEntry bytes) = is_remark bytes ≡ true
+-- what may stand as a line on a board
+abbrev pub EntryFits : Board → Entry → Type 0
+EntryFits board (LemmaEntry l) = Fits board l
+EntryFits board (RemarkEntry bytes) = is_remark bytes ≡ true
 
 -- The head of a text: the line that names the format, and the two lines of the game.
 abbrev pub head_of : Board → List ℕ → List ℕ
@@ -207,7 +206,7 @@ pub record IsRightText (bytes : List ℕ) (v : Verdict) (count : ℕ) : Type 0 w
   pub ended : Bool
   pub has_board : is_spelled board ≡ true
   pub has_moves : played (empty_position board) columns ≡ Some root
-  pub fit : AllByRecursion (EntryFits board.cols) entries
+  pub fit : AllByRecursion (EntryFits board) entries
   pub right : AreRight root [] (lemmas_among entries) after
   pub verdict_fits : VerdictFits v
   pub verdict_right : IsVerdict root after v

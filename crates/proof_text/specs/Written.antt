@@ -7,7 +7,7 @@ use Rattle.game_rules.specs.declared.Side.{Side}
 use Rattle.game_rules.specs.declared.Side.TheVariants.{White, Black}
 use Rattle.proof_text.specs.Lemma.{claim_side, Lemma}
 use Rattle.proof_text.specs.Right.{Shown, Shows, AreRight, IsVerdict}
-use Rattle.proof_text.specs.Spelling.{as_line, lines_of, verdict_line, is_remark}
+use Rattle.proof_text.specs.Spelling.{as_line, lines_of, verdict_line, is_remark, IsShort}
 use Rattle.proof_text.specs.declared.Claim.TheVariants.{WhiteFails}
 use Rattle.proof_text.specs.declared.Verdict.{Verdict}
 
@@ -20,9 +20,9 @@ abbrev pub remark_line : Option (List ℕ) → List ℕ
 remark_line None = []
 remark_line (Some bytes) = as_line bytes
 
--- the lemmas claim something of this side
+-- the lemmas claim something of this side, and where one rests on a plan, a line has room for its instances
 abbrev pub AreSided : Side → List Lemma → Type 0
-AreSided side ls = AllByRecursion (λ l. claim_side l.claim ≡ side) ls
+AreSided side ls = AllByRecursion (λ l. (claim_side l.claim ≡ side) × IsShort l) ls
 
 -- There are lemmas of the question whether Black wins only where it is shown at the root that White doesn't.
 abbrev pub IsAskedInTurn : Position → List Shown → List Lemma → Type 0

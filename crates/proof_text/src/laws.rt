@@ -11,14 +11,13 @@ ghost use Rattle.game_rules.specs.declared.InputFault.{InputFault};
 ghost use Rattle.game_rules.specs.declared.End.TheVariants as ends;
 ghost use Rattle.proof_text.specs.Lemma.{claim_holds, Lemma, Line};
 ghost use Rattle.proof_text.specs.Right.{Shown, IsRight, AreRight, IsVerdict, AreTrue, IsTrueVerdict};
-ghost use Rattle.proof_text.specs.Checked.{CheckerState, lemma_refusal, verdict_stands, checked, IsStateAfter};
-ghost use Rattle.proof_text.specs.Spelling.{lemma_text, verdict_text, as_line, longest_line, greatest_number, Fits, VerdictFits, IsLine};
+ghost use Rattle.proof_text.specs.Checked.{CheckerState, Why, lemma_refusal, verdict_stands, checked, IsStateAfter};
+ghost use Rattle.proof_text.specs.Spelling.{lemma_text, verdict_text, as_line, longest_line, greatest_number, Fits, IsShort, VerdictFits, IsLine};
 ghost use Rattle.proof_text.specs.Reading.{read_line};
 ghost use Rattle.proof_text.specs.Texts.{is_feed, pieces, lines_in, first_number, game_of, whole_game_of, behind_game, state_after, refusal_at, CheckAnswer, NoGame, Refused, Accepted, verdict_answer, check_from, start, answer_of, first_line, check_of, head_of, IsRightText};
 ghost use Rattle.proof_text.specs.Written.{IsProof};
 ghost use Rattle.proof_text.specs.declared.Verdict.{Verdict};
 ghost use Rattle.proof_text.specs.declared.Claim.TheVariants as claims;
-ghost use Rattle.proof_text.specs.declared.Why.{Why};
 ghost use Rattle.proof_text.specs.declared.Why.TheVariants as whys;
 
 /// A claim is true where the value is the end that it speaks of, or isn't.
@@ -48,22 +47,22 @@ pub fn accepted_lines_are_stood_for()
 
 /// A line is read exactly where it is in the grammar, and as what the grammar says; bytes are a line in one way.
 pub fn a_line_that_is_read_is_in_the_grammar()
-    ensures reads { (cols : ℕ) (bytes : List ℕ) (line : Line) → (read_line cols bytes ≡ Some line) ↔ IsLine cols bytes line }
-    ensures once { (cols : ℕ) (bytes : List ℕ) (line other : Line) → IsLine cols bytes line → IsLine cols bytes other → line ≡ other }
+    ensures reads { (board : Board) (bytes : List ℕ) (line : Line) → (read_line board bytes ≡ Some line) ↔ IsLine board bytes line }
+    ensures once { (board : Board) (bytes : List ℕ) (line other : Line) → IsLine board bytes line → IsLine board bytes other → line ≡ other }
 {}
 
 /// No spelling is that of two lemmas, of two verdicts, or of a lemma and a verdict.
 pub fn no_spelling_is_that_of_two()
-    ensures lemmas { (cols : ℕ) (l m : Lemma) → Fits cols l → Fits cols m → lemma_text l ≡ lemma_text m → l ≡ m }
+    ensures lemmas { (board : Board) (l m : Lemma) → Fits board l → Fits board m → lemma_text l ≡ lemma_text m → l ≡ m }
     ensures verdicts { (v w : Verdict) → VerdictFits v → VerdictFits w → verdict_text v ≡ verdict_text w → v ≡ w }
-    ensures apart { (cols : ℕ) (l : Lemma) (v : Verdict) → Fits cols l → VerdictFits v → lemma_text l ≢ verdict_text v }
+    ensures apart { (board : Board) (l : Lemma) (v : Verdict) → Fits board l → VerdictFits v → lemma_text l ≢ verdict_text v }
 {}
 
 /// No line of the grammar has a line feed or more bytes than a line may have; lemmas and verdicts are much shorter.
 pub fn a_line_has_no_line_feed()
-    ensures feed { (cols : ℕ) (bytes : List ℕ) (line : Line) → IsLine cols bytes line → AllByRecursion (λ byte. is_feed byte ≡ false) bytes }
-    ensures short { (cols : ℕ) (bytes : List ℕ) (line : Line) → IsLine cols bytes line → length bytes ≤ longest_line }
-    ensures lemma { (cols : ℕ) (l : Lemma) → Fits cols l → length (lemma_text l) ≤ 226 }
+    ensures feed { (board : Board) (bytes : List ℕ) (line : Line) → IsLine board bytes line → AllByRecursion (λ byte. is_feed byte ≡ false) bytes }
+    ensures short { (board : Board) (bytes : List ℕ) (line : Line) → IsLine board bytes line → length bytes ≤ longest_line }
+    ensures lemma { (board : Board) (l : Lemma) → Fits board l → length (lemma_text l) ≤ 5217 }
     ensures verdict { (v : Verdict) → VerdictFits v → length (verdict_text v) ≤ 28 }
 {}
 
@@ -79,7 +78,7 @@ pub fn a_text_is_cut_into_the_lines_that_it_was_joined_from()
 /// a right verdict.
 pub fn what_is_right_has_a_spelling()
     ensures lemmas { (root : Position) (known : List Shown) (ls : List Lemma) (after : List Shown) → is_board (board_of root) ≡ true
-        → length known + length ls ≤ greatest_number → AreRight root known ls after → AllByRecursion (Fits (length root.columns)) ls }
+        → length known + length ls ≤ greatest_number → AllByRecursion IsShort ls → AreRight root known ls after → AllByRecursion (Fits (board_of root)) ls }
     ensures verdict { (root : Position) (known : List Shown) (v : Verdict) → length known ≤ greatest_number → IsVerdict root known v → VerdictFits v }
 {}
 

@@ -81,9 +81,9 @@ impl Verdict {
     }
 }
 
-/// Why a line of a proof is refused.
+/// Why a line of a proof is refused. `F` says why a list of instances is no plan.
 #[derive(Clone, Copy, Debug, PartialEq, Eq, Hash)]
-pub enum Why {
+pub enum Why<F> {
     /// The line is in no form of a proof's lines or longer than 8,192 bytes, stands behind the verdict or behind line
     /// 20,000,000, or is a lemma with another number than the next; or the first line doesn't name the format.
     BadLine,
@@ -97,16 +97,18 @@ pub enum Why {
     WrongClaim,
     /// The columns cited aren't those that the reason wants.
     MissingMove,
+    /// The list of instances is no plan at the position.
+    BadPlan(F),
     /// The lemmas that the verdict names don't show it.
     BadVerdict,
     /// The text ends before its verdict.
     EndedEarly,
 }
 
-impl Why {
-    /// The name by which a report calls it.
-    pub fn word(self) -> &'static [u8]
-        ensures word { result.now ≡ why_word self }
+impl<F> Why<F> {
+    /// The name by which a report calls it, without what is said of a plan.
+    pub fn word(&self) -> &'static [u8]
+        ensures word { result.now ≡ why_word self.now }
         ensures short { length result.now ≤ 13 }
     {
         match self {
@@ -116,6 +118,7 @@ impl Why {
             Why::WrongPosition => b"WrongPosition",
             Why::WrongClaim => b"WrongClaim",
             Why::MissingMove => b"MissingMove",
+            Why::BadPlan(_) => b"BadPlan",
             Why::BadVerdict => b"BadVerdict",
             Why::EndedEarly => b"EndedEarly",
         }

@@ -2,7 +2,7 @@
 use Rattle.std.proofs.Common.{◌≡◌, ℕ, List, [], take, Option, Some, None, sym, ◌∙◌, append-nil}
 use Rattle.victor_run.specs.Outcome.{Promise}
 use Rattle.victor_run.specs.declared.words.Form.{Form}
-use Rattle.victor_run.specs.declared.words.Form.TheVariants.{Prove, Check}
+use Rattle.victor_run.specs.declared.words.Form.TheVariants.{Prove, Check, Play}
 use Rattle.victor_run.specs.declared.ending.Ending.{Ending}
 use Rattle.victor_run.specs.declared.ending.Ending.TheVariants as endings
 use Rattle.run_callers.specs.Held.{StillHolds}
@@ -21,6 +21,8 @@ still_held (Some (Prove nodes)) input left old new taken endings.Read h = same o
 still_held (Some (Prove nodes)) input left old new taken endings.Usage h = absurd h
 still_held (Some (Prove nodes)) input left old new taken (endings.Refused refusal) h = absurd h
 still_held (Some (Prove nodes)) input left old new taken endings.Memory h = absurd h
+still_held (Some (Prove nodes)) input left old new taken (endings.NoMove fault) h = absurd h
+still_held (Some (Prove nodes)) input left old new taken (endings.NoPlan fault) h = absurd h
 still_held (Some Check) input left old new taken endings.Done h = (_, h.0.3)
 still_held (Some Check) input left old new taken endings.Write h = (_, h.0.3.1)
 still_held (Some Check) input left old new taken (endings.Input fault) h = same old new h.0.1
@@ -29,3 +31,15 @@ still_held (Some Check) input left old new taken endings.Read h = same old new h
 still_held (Some Check) input left old new taken endings.Memory h = same old new h.0
 still_held (Some Check) input left old new taken endings.Usage h = absurd h.0
 still_held (Some Check) input left old new taken endings.Unknown h = absurd h.0
+still_held (Some Check) input left old new taken (endings.NoMove fault) h = absurd h.0
+still_held (Some Check) input left old new taken (endings.NoPlan fault) h = absurd h.0
+still_held (Some Play) input left old new taken endings.Done h = (_, h.3)
+still_held (Some Play) input left old new taken (endings.NoMove fault) h = (_, h.3)
+still_held (Some Play) input left old new taken (endings.Input fault) h = same old new h.1
+still_held (Some Play) input left old new taken (endings.Refused refusal) h = same old new h.3
+still_held (Some Play) input left old new taken (endings.NoPlan fault) h = same old new h.1
+still_held (Some Play) input left old new taken endings.Read h = (_, h.2)
+still_held (Some Play) input left old new taken endings.Write h = (take h.2.0 _, h.2.1)
+still_held (Some Play) input left old new taken endings.Usage h = absurd h
+still_held (Some Play) input left old new taken endings.Unknown h = absurd h
+still_held (Some Play) input left old new taken endings.Memory h = absurd h

@@ -1,29 +1,26 @@
 -- All that was read of a proof: from the first step on, what was taken, and how `check` answers it.
-use Rattle.std.proofs.Common.{◌≡◌, ℕ, ◌+◌, ◌-◌, ◌≤◌, true, false, List, [], ◌++◌, length, Option, Some, None, Ok, Err, IfSome, refl, sym, ap, ◌∙◌, subst, arith}
-use Rattle.std.specs.Io.KnownBytes.{Consumes, IsAtEnd, Keeps, Appends}
-use Rattle.std.proofs.lemmas.List.{append-nil}
+use Rattle.std.proofs.Common.{◌≡◌, ℕ, ◌+◌, ◌-◌, ◌≤◌, true, false, List, length, Option, Some, Ok, Err, sym, ap, ◌∙◌, arith}
+use Rattle.std.specs.Io.KnownBytes.{Keeps, Appends}
 use Rattle.device_rules.specs.Devices.{AppendsPrefix}
-use Rattle.io_ports.specs.Lines.{behind_lines, most_held}
+use Rattle.io_ports.specs.Lines.{most_held}
 use Rattle.game_rules.specs.Position.{Position}
 use Rattle.proof_text.specs.Checked.{CheckerState}
 use Rattle.proof_text.specs.Texts as answers
 use Rattle.proof_text.specs.Texts.{first_number, start, check_of, CheckAnswer, verdict_answer}
 use Rattle.cert_checker.specs.declared.stops.Accepted.{Accepted}
+use Rattle.victor_run.specs.Check.{accepted_line, most_lines_read}
 use Rattle.victor_run.specs.Streams.{Streams}
-use Rattle.victor_run.specs.Check.{TakesLines, accepted_line, most_lines_read}
 use Rattle.victor_run.specs.Outcome.{Outcome}
 use Rattle.victor_run.specs.declared.words.Form.TheVariants.{Check}
 use Rattle.victor_run.specs.declared.ending.Ending.TheVariants as endings
-use Rattle.victor_run.specs.CheckSteps.{Pending, Reads, PassesLines, StopsBy, Judges, game_from, lines_from, lines_read_until, ending_of}
+use Rattle.victor_run.specs.CheckSteps.{StopsBy, Judges, game_from, lines_from, lines_read_until, ending_of}
+use Rattle.victor_run.specs.Reading.{Pending, Reads, PassesLines}
 use Rattle.victor_run.specs.declared.check.Stop.{Stop}
 use Rattle.victor_run.specs.declared.check.Stop.TheVariants as stops
 use Rattle.victor_run.proofs.CheckKnown.{right_input}
 use Rattle.victor_run.proofs.Passing.{takes_bytes}
 use Rattle.victor_run.proofs.Reading.{Reads_then, passes_then, passes_most}
-
--- nothing was read yet
-abbrev pub fresh : Option (List ℕ) → Pending
-fresh left = record { ended = false; ahead = []; left = left }
+use Rattle.victor_run.proofs.Taken.{fresh, of_taken, of_input, of_lines}
 
 -- a fault of a later step is one of all steps
 pub stops_earlier : (answer other : CheckAnswer) (a b c : ℕ) (stop : Stop) → other ≡ answer → a ≤ b → StopsBy answer b c stop → StopsBy other a c stop
@@ -31,26 +28,6 @@ stops_earlier answer other a b c (stops.Input fault) same later h = same ∙ h
 stops_earlier answer other a b c (stops.Refused r) same later h = same ∙ h
 stops_earlier answer other a b c stops.Read same later h = omega (arith, later, h)
 stops_earlier answer other a b c stops.Memory same later h = tt
-
-module _ (old : Option (List ℕ)) (last : Pending) (n most : ℕ) (Holds : List ℕ → Type 0)
-    (reads : Reads (fresh old) last (λ bytes rest. PassesLines n bytes rest × Holds bytes)) where
-  pub of_taken : Holds reads.taken
-  of_taken = subst Holds (append-nil reads.taken) (reads.fact [] (λ _. refl)).1
-
-  pub of_input : IfSome old Holds
-  of_input = by old last.left reads.gave (reads.last (λ never. absurd (cc never))) reads.fact
-    where
-      by : (old left : Option (List ℕ)) → Consumes old left reads.taken → (last.ended ≡ true → IsAtEnd left)
-          → ((later : List ℕ) → (last.ended ≡ true → later ≡ []) → PassesLines n (reads.taken ++ later) (last.ahead ++ later) × Holds (reads.taken ++ later)) → IfSome old Holds
-      by None left gave ended fact = tt
-      by (Some bytes) None gave ended fact = absurd gave
-      by (Some bytes) (Some rest) gave ended fact = subst Holds (sym gave) (fact rest ended).1
-
-  pub of_lines : length last.ahead ≤ most_held → n ≤ most → TakesLines most reads.taken
-  of_lines held few =
-      let passed = (reads.fact [] (λ _. refl)).0 in
-      let behind : behind_lines passed.0 reads.taken ≡ last.ahead = ap (behind_lines passed.0) (sym (append-nil reads.taken)) ∙ sym passed.2 ∙ append-nil last.ahead in
-      (passed.0, omega (arith, passed.1, few), omega (arith, ap length behind, held))
 
 -- the head and the game
 module _ (a b c : Pending) (head : Reads a b (λ bytes rest. PassesLines 1 bytes rest × (check_of bytes ≡ game_from rest))) where

@@ -3,8 +3,13 @@ pub mod Ends
 pub mod Proving
 pub mod Asking
 pub mod Writing
+pub mod Cuts
 pub mod CheckLines
+pub mod GameRead
+pub mod PlayRead
 pub mod CheckKnown
 pub mod Passing
 pub mod Reading
+pub mod Taken
 pub mod Judging
+pub mod PlayJudged

@@ -4,7 +4,7 @@ use Rattle.io_ports.specs.Lines.{next_line, behind_lines, feed, IsCut}
 use Rattle.io_ports.specs.declared.line_reader.LineGot.{LineGot}
 use Rattle.io_ports.specs.declared.line_reader.LineGot.TheVariants.{Line, Long, Done, Failed}
 use Rattle.io_ports.proofs.LineLemmas.{each_text_is_cut}
-use Rattle.victor_run.specs.Check.{TakesLines, most_ahead}
+use Rattle.victor_run.specs.Streams.{TakesLines, most_ahead}
 
 -- a line with its line feed has at most 8,193 bytes
 record HasPrefix (most : ℕ) (bytes rest : List ℕ) : Type 0 where

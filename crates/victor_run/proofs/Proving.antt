@@ -22,12 +22,14 @@ use Rattle.game_rules.specs.declared.Side.TheVariants.{White, Black}
 use Rattle.proof_text.specs.declared.Claim.{Claim}
 use Rattle.proof_text.specs.Lemma.{claim_side, claim_for, claim_of_end, agrees, Reason, ByEnd, ByOne, ByAll, Lemma}
 use Rattle.proof_text.specs.Right.{Shown, Shows, IsCited, goes_by_one, HasReason, AreRight}
-use Rattle.proof_text.specs.Spelling.{lemma_line, lines_of}
+use Rattle.proof_text.specs.Spelling.{lemma_line, lines_of, members_in, IsShort}
 use Rattle.proof_text.specs.Written.{AreSided}
-use Rattle.proof_text.proofs.Append.{all_append, Shows_more, Shows_last, AreRight_append, shown_more}
+use Rattle.plan_text.proofs.Spaced.{all_append}
+use Rattle.proof_text.proofs.Append.{Shows_more, Shows_last, AreRight_append, shown_more}
 use Rattle.victor_run.specs.Search.{is_whole, uncounted, cites_from, Solves}
 use Rattle.victor_run.specs.declared.search.Answer.{Answer}
 use Rattle.victor_run.specs.declared.search.SearchStop.{SearchStop}
+use Rattle.plan_text.specs.PlanLine.{most_members}
 
 pub lines_append : (ls more : List Lemma) → lines_of (ls ++ more) ≡ lines_of ls ++ lines_of more
 lines_append ls more = flat_map-append lemma_line ls more
@@ -50,17 +52,17 @@ IsDetermined won count result = IfOk result (λ answer. (answer.lemma ≡ count 
 
 -- a lemma that is right behind what is known
 pub told : (root p : Position) (side : Side) (won : Bool) (said : Claim) (known : List Shown) (path : List ℕ) (reason : Reason) (old new : Option (List ℕ)) (count counted : ℕ) (result : Result Answer SearchStop)
-    → said ≡ claim_for side won → played root path ≡ Some p → length known ≡ count → HasReason known p (claim_for side won) reason
+    → said ≡ claim_for side won → played root path ≡ Some p → length known ≡ count → HasReason known p (claim_for side won) reason → length (members_in reason) ≤ most_members
     → AppendsPrefix (is_whole result) old new (lemma_line (record { number = count + 1; path = path; claim = said; reason = reason })) → counted + uncounted result ≡ count + 1 → IsDetermined won count result
     → Solves root p side known old new counted result
-told root p side won said known path reason old new count counted result is_said along many right stands number answer = record {
+told root p side won said known path reason old new count counted result is_said along many right short stands number answer = record {
   more = lemma_next count path side won reason ∷ [];
   after = known ++ (p, claim_for side won) ∷ [];
   text = subst (AppendsPrefix (is_whole result) old new)
       (ap (λ claim. lemma_line (record { number = count + 1; path = path; claim = claim; reason = reason })) is_said ∙ sym (append-nil (lemma_line (lemma_next count path side won reason)))) stands;
   right = (p, record { next = ap (λ n. n + 1) (sym many); along = along; reason = right }, refl);
   counted = omega (arith, length-append known ((p, claim_for side won) ∷ []), number, many);
-  sided = (side_claimed side won, tt);
+  sided = ((side_claimed side won, short), tt);
   shown = named result answer;
 }
   where
@@ -78,7 +80,7 @@ module _ (root : Position) (side : Side) (known mid : List Shown) (old held new 
     text = subst (AppendsPrefix (is_whole result) old new) (sym (lines_append ls rest.more)) (AppendsPrefix_more (is_whole result) old held new (lines_of ls) (lines_of rest.more) text rest.text);
     right = AreRight_append root known mid rest.after ls rest.more right rest.right;
     counted = rest.counted;
-    sided = all_append (λ l. claim_side l.claim ≡ side) ls rest.more sided rest.sided;
+    sided = all_append (λ l. (claim_side l.claim ≡ side) × IsShort l) ls rest.more sided rest.sided;
     shown = rest.shown;
   }
 

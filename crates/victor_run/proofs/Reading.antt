@@ -6,8 +6,8 @@ use Rattle.std.proofs.lemmas.List.{append-nil}
 use Rattle.io_ports.specs.Lines.{next_line, behind_lines, Gives, Takes, is_end}
 use Rattle.io_ports.specs.declared.line_reader.LineGot.{LineGot}
 use Rattle.io_ports.specs.declared.line_reader.LineGot.TheVariants.{Line, Long, Done, Failed}
-use Rattle.victor_run.proofs.CheckLines.{line_is_cut, none_is_cut}
-use Rattle.victor_run.specs.CheckSteps.{Pending, Reads, PassesLines}
+use Rattle.victor_run.proofs.Cuts.{line_is_cut, none_is_cut}
+use Rattle.victor_run.specs.Reading.{Pending, Reads, PassesLines}
 
 pub Reads_more : (a b : Pending) (P Q : List ℕ → List ℕ → Type 0) → Reads a b P → ((bytes rest : List ℕ) → P bytes rest → Q bytes rest) → Reads a b Q
 Reads_more a b P Q reads more = record {

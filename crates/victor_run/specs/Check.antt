@@ -1,14 +1,14 @@
 -- What `check` writes, and what it promises of the bytes that it took and of its sink, by its end. What is said of what a
 -- sink holds is said of a sink that tells it.
-use Rattle.std.specs.Prelude.{◌≡◌, ◌+◌, ◌≤◌, ℕ, false, List, [], ◌∷◌, ◌++◌, Option, IfSome, codes, decimal, length}
+use Rattle.std.specs.Prelude.{◌≡◌, ◌+◌, ℕ, false, List, [], ◌∷◌, ◌++◌, Option, IfSome, codes, decimal}
 use Rattle.std.specs.Io.KnownBytes.{Keeps, Appends, IsAtEnd}
 use Rattle.device_rules.specs.Devices.{AppendsPrefix}
-use Rattle.io_ports.specs.Lines.{behind_lines}
 use Rattle.proof_text.specs.Right.{AreTrue, IsTrueVerdict}
 use Rattle.proof_text.specs.Texts.{most_lines, check_of, CheckAnswer, NoGame, Refused, Accepted, IsRightText}
 use Rattle.proof_text.specs.declared.Verdict.{Verdict}
 use Rattle.proof_text.specs.Words.{verdict_word}
-use Rattle.victor_run.specs.Streams.{Streams}
+use Rattle.cert_checker.specs.Checking.{why_of}
+use Rattle.victor_run.specs.Streams.{Streams, TakesLines}
 use Rattle.victor_run.specs.declared.ending.Ending.{Ending}
 use Rattle.victor_run.specs.declared.ending.Ending.TheVariants as endings
 
@@ -33,14 +33,6 @@ pub record IsRightInput (taken : List ℕ) (left : Option (List ℕ)) (v : Verdi
   pub says : SaysTruth taken v count
   pub whole : IsAtEnd left
 
--- how many bytes may be taken behind the last line that is read: a source gives what it has, and not a line
-abbrev pub most_ahead : ℕ
-most_ahead = 16384
-
--- behind at most so many lines of the bytes that were taken, there are no more than those
-abbrev pub TakesLines : ℕ → List ℕ → Type 0
-TakesLines most taken = (n : ℕ) × (n ≤ most) × (length (behind_lines n taken) ≤ most_ahead)
-
 -- the number of the first line that no proof may have; none behind it is read
 abbrev pub most_lines_read : ℕ
 most_lines_read = most_lines + 1
@@ -51,8 +43,10 @@ abbrev pub Checks : List ℕ → Streams → Ending → Type 0
 Checks taken s endings.Done = (v : Verdict) × (count : ℕ) × IsRightInput taken s.left v count × Appends s.old s.new (accepted_line v count)
 Checks taken s endings.Write = (v : Verdict) × (count : ℕ) × IsRightInput taken s.left v count × AppendsPrefix false s.old s.new (accepted_line v count)
 Checks taken s (endings.Input fault) = IsAnswer taken s.input (NoGame fault) × Keeps s.old s.new × TakesLines 3 taken
-Checks taken s (endings.Refused r) = IsAnswer taken s.input (Refused r.at r.why) × Keeps s.old s.new × TakesLines r.at taken
+Checks taken s (endings.Refused r) = IsAnswer taken s.input (Refused r.at (why_of r.why)) × Keeps s.old s.new × TakesLines r.at taken
 Checks taken s endings.Read = Keeps s.old s.new
 Checks taken s endings.Memory = Keeps s.old s.new
 Checks taken s endings.Usage = ⊥
+Checks taken s (endings.NoMove fault) = ⊥
+Checks taken s (endings.NoPlan fault) = ⊥
 Checks taken s endings.Unknown = ⊥

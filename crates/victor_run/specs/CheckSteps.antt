@@ -1,16 +1,15 @@
 -- How `check` goes through a text: at each step the answer to the bytes that were not given yet is that to those that
 -- are not given after it, or the step ends the reading with an answer.
-use Rattle.std.specs.Prelude.{◌≡◌, ◌≤◌, ℕ, ◌+◌, Bool, true, false, List, [], ◌++◌, length, take, Option, Some, ⊤, IfSome, Result, MatchResult}
-use Rattle.std.specs.Io.KnownBytes.{Consumes, IsAtEnd}
+use Rattle.std.specs.Prelude.{◌≡◌, ℕ, ◌+◌, Bool, true, false, List, length, Option, Some, ⊤, IfSome, Result, MatchResult}
+use Rattle.std.specs.Io.KnownBytes.{Consumes}
 use Rattle.device_rules.specs.Devices.{Rose}
-use Rattle.io_ports.specs.Lines.{Cut, next_line, feed, behind_lines}
 use Rattle.game_rules.specs.Text.{game_at}
-use Rattle.proof_text.specs.Checked.{CheckerState}
-use Rattle.proof_text.specs.Texts.{pieces, lines_in, game_prefix, game_of, behind_game, CheckAnswer, NoGame, Refused, game_answer, verdict_answer, check_from, check_of}
-use Rattle.proof_text.specs.declared.Why.{Why}
+use Rattle.proof_text.specs.Checked.{Why, CheckerState}
+use Rattle.proof_text.specs.Texts.{pieces, lines_in, game_of, behind_game, CheckAnswer, NoGame, Refused, game_answer, verdict_answer, check_from, check_of}
+use Rattle.cert_checker.specs.Checking.{why_of}
 use Rattle.cert_checker.specs.declared.stops.Accepted.{Accepted}
-use Rattle.victor_run.specs.Check.{IsRightInput, TakesLines, most_lines_read}
-use Rattle.victor_run.specs.InputState.{InputState}
+use Rattle.victor_run.specs.Check.{IsRightInput, most_lines_read}
+use Rattle.victor_run.specs.Streams.{TakesLines}
 use Rattle.victor_run.specs.declared.ending.Ending.{Ending}
 use Rattle.victor_run.specs.declared.ending.Ending.TheVariants as endings
 use Rattle.victor_run.specs.declared.check.Stop.{Stop}
@@ -24,37 +23,6 @@ game_from bytes = game_answer (game_at (game_of (pieces bytes))) (behind_game (p
 unfoldable pub lines_from : CheckerState → ℕ → List ℕ → CheckAnswer
 lines_from s at bytes = check_from s at (lines_in (pieces bytes))
 
--- what is kept of a line of the game: its prefix, and the line feed that ended it
-abbrev pub kept_of : Cut → List ℕ
-kept_of line = take game_prefix line.text ++ feed line.fed
-
--- What is left of an input: whether its end was reached, the bytes that a reader of its lines holds, and those that the
--- source has left.
-pub record Pending : Type 0 where
-  pub ended : Bool
-  pub ahead : List ℕ
-  pub left : Option (List ℕ)
-
-abbrev pub pending : InputState → Option (List ℕ) → Pending
-pending lines left = record { ended = lines.ended; ahead = lines.ahead; left = left }
-
--- What a step took from the source, and a fact of the bytes that were pending before it and of those that are after it,
--- whatever the source may give later. Behind the end of the input nothing is taken.
-pub record Reads (old new : Pending) (Fact : List ℕ → List ℕ → Type 0) : Type 0 where
-  pub taken : List ℕ
-  pub gave : Consumes old.left new.left taken
-  pub stays : old.ended ≡ true → (taken ≡ []) × (new.ended ≡ true)
-  pub last : (old.ended ≡ true → IsAtEnd old.left) → new.ended ≡ true → IsAtEnd new.left
-  pub fact : (later : List ℕ) → (new.ended ≡ true → later ≡ []) → Fact (old.ahead ++ (taken ++ later)) (new.ahead ++ later)
-
--- the second bytes stand behind at most so many lines of the first
-abbrev pub PassesLines : ℕ → List ℕ → List ℕ → Type 0
-PassesLines most bytes rest = (n : ℕ) × (n ≤ most) × (rest ≡ behind_lines n bytes)
-
--- The prefix of the next line, and the line feed that ended it, were put behind the text.
-abbrev pub KeepsLine : List ℕ → List ℕ → List ℕ → List ℕ → Type 0
-KeepsLine text longer bytes rest = (longer ≡ text ++ kept_of (next_line bytes)) × (rest ≡ (next_line bytes).rest)
-
 -- A line was added, or there was none, and the verdict decides.
 abbrev pub Adds : CheckerState → CheckerState → ℕ → Bool → List ℕ → List ℕ → Type 0
 Adds s t at true bytes rest = lines_from s at bytes ≡ lines_from t (at + 1) rest
@@ -63,13 +31,13 @@ Adds s t at false bytes rest = lines_from s at bytes ≡ verdict_answer at (leng
 -- the answer is that of what stopped the reading; a fault only where the source's count rose
 abbrev pub StopsBy : CheckAnswer → ℕ → ℕ → Stop → Type 0
 StopsBy answer before after (stops.Input fault) = answer ≡ NoGame fault
-StopsBy answer before after (stops.Refused r) = answer ≡ Refused r.at r.why
+StopsBy answer before after (stops.Refused r) = answer ≡ Refused r.at (why_of r.why)
 StopsBy answer before after stops.Read = Rose before after
 StopsBy answer before after stops.Memory = ⊤
 
 -- a line at a number is refused by this name, or memory runs out
 abbrev pub IsRefused : ℕ → Option Why → Stop → Type 0
-IsRefused at refusal (stops.Refused r) = (refusal ≡ Some r.why) × (r.at ≡ at)
+IsRefused at refusal (stops.Refused r) = (refusal ≡ Some (why_of r.why)) × (r.at ≡ at)
 IsRefused at refusal stops.Memory = ⊤
 IsRefused at refusal (stops.Input fault) = ⊥
 IsRefused at refusal stops.Read = ⊥

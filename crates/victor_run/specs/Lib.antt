@@ -6,4 +6,7 @@ pub mod Search
 pub mod Proof
 pub mod Check
 pub mod CheckSteps
+pub mod Reading
+pub mod PlayPromise
+pub mod PlaySteps
 pub mod InputState

@@ -10,20 +10,23 @@ use Rattle.proof_text.specs.declared.Verdict.{Verdict}
 use Rattle.proof_text.specs.declared.Verdict.TheVariants as verdicts
 use Rattle.proof_text.specs.Texts.{longest_line}
 use Rattle.io_ports.specs.declared.ports.Failed.{Failed}
-use Rattle.victor_run.specs.Check.{Checks, TakesLines, most_ahead, most_lines_read}
+use Rattle.victor_run.specs.Check.{Checks, most_lines_read}
+use Rattle.victor_run.specs.PlayPromise.{Plays, most_play_lines}
 use Rattle.victor_run.specs.Proof.{IsProofOf, MayStandFor}
-use Rattle.victor_run.specs.Streams.{Streams, Took}
+use Rattle.victor_run.specs.Streams.{Streams, Took, TakesLines, most_ahead}
 use Rattle.victor_run.specs.declared.words.Form.{Form}
-use Rattle.victor_run.specs.declared.words.Form.TheVariants.{Prove, Check}
+use Rattle.victor_run.specs.declared.words.Form.TheVariants.{Prove, Check, Play}
 use Rattle.victor_run.specs.declared.ending.Ending.{Ending}
-use Rattle.victor_run.specs.declared.ending.Ending.TheVariants.{Done, Unknown, Usage, Input, Refused, Read, Write, Memory}
+use Rattle.victor_run.specs.declared.ending.Ending.TheVariants.{Done, Unknown, Usage, Input, NoMove, Refused, NoPlan, Read, Write, Memory}
 
 -- the exit status of an ending
 abbrev pub status_of : Ending → ℕ
 status_of Done = 0
 status_of Usage = 2
 status_of (Input fault) = 3
+status_of (NoMove fault) = 3
 status_of (Refused refusal) = 4
+status_of (NoPlan fault) = 4
 status_of Unknown = 5
 status_of Read = 6
 status_of Write = 7
@@ -74,20 +77,24 @@ Proves nodes taken s (Input fault) = (game_at taken ≡ Err fault) × IfSome s.i
 Proves nodes taken s Read = Keeps s.old s.new
 Proves nodes taken s Usage = ⊥
 Proves nodes taken s (Refused refusal) = ⊥
+Proves nodes taken s (NoMove fault) = ⊥
+Proves nodes taken s (NoPlan fault) = ⊥
 Proves nodes taken s Memory = ⊥
 
--- How many bytes a run of the words that have this form takes at most: `check` takes lines with their line feeds, and
--- what comes with the last of them.
+-- How many bytes a run of the words that have this form takes at most: `check` and `play` take lines with their line feeds,
+-- and what comes with the last of them.
 abbrev pub most_taken : Option Form → ℕ
 most_taken None = 0
 most_taken (Some (Prove nodes)) = 256
 most_taken (Some Check) = most_lines_read * (longest_line + 1) + most_ahead
+most_taken (Some Play) = most_play_lines * (longest_line + 1) + most_ahead
 
 -- what a run of the words that have this form promises, from the bytes that it took
 abbrev pub Promise : Option Form → Streams → Ending → List ℕ → Type 0
 Promise None s ending taken = (ending ≡ Usage) × Keeps s.old s.new
 Promise (Some (Prove nodes)) s ending taken = Proves nodes taken s ending
 Promise (Some Check) s ending taken = Checks taken s ending × TakesLines most_lines_read taken
+Promise (Some Play) s ending taken = Plays taken s ending
 
 -- a run of the words that have this form: it took some bytes of its source, and keeps its promise of them
 abbrev pub Outcome : Option Form → Streams → Ending → Type 0

@@ -1,6 +1,7 @@
 -- What the source has left and what the sink held, before and after a run, and the bytes that a run took.
 use Rattle.std.specs.Prelude.{ℕ, ◌≤◌, List, Option, length}
 use Rattle.std.specs.Io.KnownBytes.{Consumes}
+use Rattle.io_ports.specs.Lines.{behind_lines}
 
 pub record Streams : Type 0 where
   pub input : Option (List ℕ)
@@ -15,3 +16,11 @@ pub record Took (s : Streams) (most : ℕ) (Holds : List ℕ → Type 0) : Type 
   pub gave : Consumes s.input s.left taken
   pub few : length taken ≤ most
   pub holds : Holds taken
+
+-- how many bytes may be taken behind the last line that is read: a source gives what it has, and not a line
+abbrev pub most_ahead : ℕ
+most_ahead = 16384
+
+-- behind at most so many lines of the bytes that were taken, there are no more than those
+abbrev pub TakesLines : ℕ → List ℕ → Type 0
+TakesLines most taken = (n : ℕ) × (n ≤ most) × (length (behind_lines n taken) ≤ most_ahead)

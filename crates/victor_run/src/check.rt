@@ -4,10 +4,12 @@
 ghost use Rattle.std.specs.Prelude.{◌≡◌, ◌+◌, ◌-◌, ◌≤◌, true, false, [], length, is_ok, Ok, Some, MatchResult, IfOk, IfErr, OnOk};
 ghost use Rattle.device_rules.specs.Devices.{Rose, HasCause, AppendsPrefix};
 ghost use Rattle.arrayvec.specs.ArrayVec.{array_vec_len};
+ghost use Rattle.game_rules.specs.Position.{board_of};
 ghost use Rattle.proof_text.specs.Texts.{first_number, bytes_refusal, with_bytes, start, verdict_answer, check_of};
 ghost use Rattle.io_ports.specs.Lines.{most_held};
 ghost use Rattle.victor_run.specs.Check.{accepted_line, most_lines_read};
-ghost use Rattle.victor_run.specs.CheckSteps.{game_from, lines_from, pending, Reads, PassesLines, KeepsLine, Adds, StopsBy, IsRefused, lines_read_until, ending_of, Judges};
+ghost use Rattle.victor_run.specs.CheckSteps.{game_from, lines_from, Adds, StopsBy, IsRefused, lines_read_until, ending_of, Judges};
+ghost use Rattle.victor_run.specs.Reading.{pending, Reads, PassesLines, KeepsLine};
 ghost use Rattle.victor_run.specs.Outcome.{Outcome};
 ghost use Rattle.victor_run.specs.declared.words.Form.TheVariants as forms;
 ghost use Rattle.victor_run.specs.declared.ending.Ending.TheVariants as endings;
@@ -15,21 +17,14 @@ ghost use Rattle.victor_run.specs.declared.check.Stop.TheVariants as stops;
 ghost use Rattle.proof_text.specs.declared.Why.TheVariants as whys;
 
 use crate::ending::Ending;
+use crate::game_lines::{GameStop, read_game_lines};
 use crate::input_lines::InputLines;
 use crate::output::put_line;
-use arrayvec::ArrayVec;
-use board_bits::{InputFault, Position, Size, read_game};
-use cert_checker::{Accepted, AddStop, Checker, Refusal};
+use board_bits::{InputFault, Position, Size};
+use cert_checker::{Accepted, AddStop, Checker, Refusal, Why};
 use cert_format::{FIRST_LINE, LineBuffer, LineText, push_number, push_text};
 use io_ports::{Failed, LineGot, Sink, Source};
-use proof_text::Why;
 use std::alloc::Global;
-
-/// How much of a line of the game is kept. The lines of a game are shorter.
-const GAME_PREFIX: usize = 256;
-
-/// The most that is kept of the two lines of the game, with their line feeds.
-const MOST_KEPT: usize = 2 * (GAME_PREFIX + 1);
 
 /// The number of the first line behind the game.
 const FIRST_NUMBER: u64 = 4;
@@ -121,38 +116,11 @@ fn read_root<S: Source>(lines: &mut InputLines, source: &mut S) -> Result<Positi
     ensures stops { IfErr result (λ stop. 3 ≤ lines_read_until stop) }
     ensures later { S.faults source.old ≤ S.faults source.new }
 {
-    let mut text = ArrayVec::new();
-    keep_line(&mut text, lines, source)?;
-    keep_line(&mut text, lines, source)?;
-    match read_game(text.as_slice()) {
+    match read_game_lines(lines, source) {
         Ok(root) => Ok(root),
-        Err(fault) => Err(Stop::Input(fault)),
+        Err(GameStop::Input(fault)) => Err(Stop::Input(fault)),
+        Err(GameStop::Read) => Err(Stop::Read),
     }
-}
-
-/// Puts the prefix of the next line behind the text, and the line feed that ended it.
-fn keep_line<S: Source>(
-    text: &mut ArrayVec<u8, MOST_KEPT>,
-    lines: &mut InputLines,
-    source: &mut S,
-) -> Result<(), Stop>
-    requires { array_vec_len text.old + GAME_PREFIX + 1 ≤ MOST_KEPT }
-    ensures kept { Reads (pending lines.old (S.left source.old)) (pending lines.new (S.left source.new))
-        (λ bytes rest. PassesLines 1 bytes rest × IfOk result (λ _. KeepsLine text.old.items text.new.items bytes rest)) }
-    ensures failed { IfErr result (λ stop. (stop ≡ stops.Read) × Rose (S.faults source.old) (S.faults source.new)) }
-    ensures bound { array_vec_len text.new ≤ array_vec_len text.old + GAME_PREFIX + 1 }
-    ensures held { length lines.new.ahead ≤ most_held }
-    ensures later { S.faults source.old ≤ S.faults source.new }
-{
-    if let LineGot::Failed = lines.next(source) {
-        return Err(Stop::Read);
-    }
-    let line = lines.text();
-    push_text(text, &line[..line.len().min(GAME_PREFIX)]);
-    if lines.fed() {
-        text.push(b'\n');
-    }
-    Ok(())
 }
 
 /// Adds the lines behind the game, and answers the number after that of the last.
@@ -162,7 +130,7 @@ fn add_lines<S: Source>(
     lines: &mut InputLines,
     source: &mut S,
 ) -> Result<u64, Stop>
-    requires { length checker.old.root.columns ≡ size.cols }
+    requires { board_of checker.old.root ≡ size }
     ensures answer { Reads (pending lines.old (S.left source.old)) (pending lines.new (S.left source.new))
         (λ bytes rest. MatchResult result
         (λ end. PassesLines (end - 3) bytes rest × (lines_from checker.old first_number bytes ≡ verdict_answer end (length checker.new.known) checker.new.verdict))
@@ -189,7 +157,7 @@ fn add_next<S: Source>(
     lines: &mut InputLines,
     source: &mut S,
 ) -> Result<bool, Stop>
-    requires { length checker.old.root.columns ≡ size.cols }
+    requires { board_of checker.old.root ≡ size }
     ensures answer { Reads (pending lines.old (S.left source.old)) (pending lines.new (S.left source.new))
         (λ bytes rest. PassesLines 1 bytes rest × MatchResult result (λ more. Adds checker.old checker.new at more bytes rest)
         (StopsBy (lines_from checker.old at bytes) (S.faults source.old) (S.faults source.new))) }
@@ -219,7 +187,7 @@ fn add_line(
     at: u64,
     bytes: &[u8],
 ) -> Result<(), Stop>
-    requires { length checker.old.root.columns ≡ size.cols }
+    requires { board_of checker.old.root ≡ size }
     ensures answer { MatchResult result
         (λ _. (bytes_refusal checker.old at bytes.now ≡ None) × (checker.new ≡ with_bytes checker.old bytes.now))
         (IsRefused at (bytes_refusal checker.old at bytes.now)) }
@@ -231,7 +199,7 @@ fn add_line(
     let Ok(line) = room.read(bytes, size) else {
         return Err(bad_line(at));
     };
-    match checker.add_view(at, line) {
+    match checker.add_view(at, &line) {
         Ok(()) => Ok(()),
         Err(AddStop::Refused(refusal)) => Err(Stop::Refused(refusal)),
         Err(AddStop::Memory(_)) => Err(Stop::Memory),

@@ -6,6 +6,7 @@ ghost use Rattle.game_rules.specs.Cost.{cost, none_closed};
 ghost use Rattle.game_rules.specs.Text.{game_at};
 ghost use Rattle.proof_text.specs.Texts.{check_of, Accepted};
 ghost use Rattle.proof_text.specs.declared.Verdict.{Verdict};
+ghost use Rattle.play_text.specs.Play.{AllPlayed, play_of};
 ghost use Rattle.victor_run.specs.Words.{form_of};
 ghost use Rattle.victor_run.specs.Output.{fault_text};
 ghost use Rattle.victor_run.specs.Outcome.{status_of, Outcome, Reports};
@@ -16,6 +17,7 @@ ghost use Rattle.victor_run.specs.declared.ending.Ending.TheVariants as endings;
 use crate::check::check;
 use crate::ending::Ending;
 use crate::output::report;
+use crate::play::play;
 use crate::prove::prove;
 use crate::words::{Form, read_words};
 use io_ports::{Sink, Source};
@@ -25,11 +27,14 @@ use std::alloc::Global;
 /// text of a fault goes to `err`, whole unless the count of faults of `err` rose.
 ///
 /// `prove` and `prove --nodes N` read a game and write a proof of its value under perfect play, for the side to move.
-/// `check` reads a proof and writes a line where it is right. Only `check` takes memory, and only for lemmas.
+/// `check` reads a proof and writes a line where it is right. `play` reads a game, a plan at its position and then White's
+/// moves, and answers each by the plan, in a line that is written before the next move is read. Only `check` takes memory,
+/// and only for lemmas.
 ///
-/// The status is 0 where that was done, 2 where the words are neither command, 3 where the game is none, 4 where the
-/// proof is refused, 5 where the budget of `prove` was below the cost (the proof then says so), 6 where reading failed,
-/// 7 where writing failed, and 8 where `check` found no memory for a lemma. What stops the run first decides it.
+/// The status is 0 where that was done, 2 where the words are no command, 3 where the game is none or a line of `play` no
+/// move, 4 where the proof is refused or the plan is none, 5 where the budget of `prove` was below the cost (the proof then
+/// says so), 6 where reading failed, 7 where writing failed, and 8 where `check` found no memory for a lemma. What stops the
+/// run first decides it.
 pub fn run<S: Source, O: Sink, E: Sink>(
     alloc: Global,
     words: &[String],
@@ -45,17 +50,20 @@ pub fn run<S: Source, O: Sink, E: Sink>(
     ensures read_fault { result ≡ 6 → Rose (S.faults source.old) (S.faults source.new) }
     ensures write_fault { result ≡ 7 → Rose (O.faults out.old) (O.faults out.new) }
 
-    // Where no stream failed and the budget suffices, the value is written with its proof; and a proof that is right is
-    // accepted, unless memory runs out.
+    // Where no stream failed and the budget suffices, the value is written with its proof; a proof that is right is
+    // accepted, unless memory runs out; and a game, a plan and moves of White's are played to their end.
     ensures complete { (nodes : ℕ) → form_of (map string_bytes words.now) ≡ Some (forms.Prove nodes)
         → (Rose (S.faults source.old) (S.faults source.new) → ⊥) → (Rose (O.faults out.old) (O.faults out.new) → ⊥)
         → IfSome (S.left source.old) (λ bytes. (p : Position) → game_at bytes ≡ Ok p → cost none_closed p ≤ nodes → result ≡ 0) }
     ensures check_complete { form_of (map string_bytes words.now) ≡ Some forms.Check
         → (Rose (S.faults source.old) (S.faults source.new) → ⊥) → (Rose (O.faults out.old) (O.faults out.new) → ⊥)
         → IfSome (S.left source.old) (λ bytes. (v : Verdict) (count : ℕ) → check_of bytes ≡ Accepted v count → (result ≡ 0) ⊎ (result ≡ 8)) }
+    ensures play_complete { form_of (map string_bytes words.now) ≡ Some forms.Play
+        → (Rose (S.faults source.old) (S.faults source.new) → ⊥) → (Rose (O.faults out.old) (O.faults out.new) → ⊥)
+        → IfSome (S.left source.old) (λ bytes. (play_of bytes).end ≡ AllPlayed → result ≡ 0) }
 {
     let ending = run_words(alloc, words, source, out);
-    report(err, ending);
+    report(err, &ending);
     ending.status()
 }
 
@@ -73,6 +81,7 @@ fn run_words<S: Source, O: Sink>(
     match read_words(words) {
         Some(Form::Prove(nodes)) => prove(nodes, source, out),
         Some(Form::Check) => check(alloc, source, out),
+        Some(Form::Play) => play(source, out),
         None => Ending::Usage,
     }
 }

@@ -3,7 +3,7 @@
 ghost use Rattle.std.specs.Prelude.{◌≡◌, ◌≤◌, [], true, false, length};
 ghost use Rattle.device_rules.specs.Devices.{Rose};
 ghost use Rattle.io_ports.specs.Lines.{Gives, is_end, longest_line, most_held};
-ghost use Rattle.victor_run.specs.CheckSteps.{Reads, pending};
+ghost use Rattle.victor_run.specs.Reading.{Reads, pending};
 
 use io_ports::{LineGot, Lines, Source};
 use std::marker::Model;

@@ -5,8 +5,10 @@
 mod check;
 mod command;
 mod ending;
+mod game_lines;
 mod input_lines;
 mod output;
+mod play;
 mod prove;
 mod search;
 mod words;

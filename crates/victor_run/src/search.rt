@@ -5,16 +5,17 @@ ghost use Rattle.device_rules.specs.Devices.{Rose};
 ghost use Rattle.game_rules.specs.Position.{Position as Men, played, empty_count, open_columns};
 ghost use Rattle.game_rules.specs.Value.{wins};
 ghost use Rattle.game_rules.specs.Cost.{centre_out, count, cost, none_closed};
+ghost use Rattle.plan_text.specs.PlanLine.{most_members};
 ghost use Rattle.proof_text.specs.Lemma.{claim_for};
-ghost use Rattle.proof_text.specs.Spelling.{greatest_number, longest_path};
+ghost use Rattle.proof_text.specs.Spelling.{greatest_number, longest_path, members_in};
 ghost use Rattle.proof_text.specs.Right.{Shown, HasReason};
-ghost use Rattle.cert_format.specs.Shape.{cite_of, reason_of};
+ghost use Rattle.cert_format.specs.Shape.{cite_of, reason_viewed};
 ghost use Rattle.victor_run.specs.Search.{uncounted, Solves, Asks, cites_from, won_by};
 ghost use Rattle.victor_run.specs.declared.search.SearchStop.TheVariants as stops;
 
 use arrayvec::ArrayVec;
 use board_bits::{Column, MOST_COLS, MOST_SQUARES, Position, Side, centre_out};
-use cert_format::{Cite, Claim, LemmaOut, Reason, Verdict};
+use cert_format::{Cite, Claim, LemmaOut, ReasonView, Verdict};
 use io_ports::{Failed, Sink};
 
 /// The answer to whether a side wins, and the number of the lemma that shows it.
@@ -64,7 +65,14 @@ pub(crate) fn solve<O: Sink>(
     };
     *budget = left;
     if let Some(end) = position.ended() {
-        return put_lemma(path, side, side.win() == end, Reason::Ended, lemmas, out);
+        return put_lemma(
+            path,
+            side,
+            side.win() == end,
+            &ReasonView::Ended,
+            lemmas,
+            out,
+        );
     }
     let own = side == position.to_move();
     let mut numbers = [0; MOST_COLS];
@@ -87,13 +95,14 @@ pub(crate) fn solve<O: Sink>(
                     column: *column,
                     lemma: found.lemma,
                 };
-                return put_lemma(path, side, own, Reason::One(cite), lemmas, out);
+                return put_lemma(path, side, own, &ReasonView::One(cite), lemmas, out);
             }
             numbers[column.index() as usize] = found.lemma;
         }
     }
-    let all = Reason::All(cites_from(position, &numbers));
-    put_lemma(path, side, !own, all, lemmas, out)
+    let cites = cites_from(position, &numbers);
+    let all = ReasonView::All(&cites);
+    put_lemma(path, side, !own, &all, lemmas, out)
 }
 
 /// Puts a lemma, and answers with its number.
@@ -102,22 +111,23 @@ fn put_lemma<O: Sink>(
     path: &[Column],
     side: Side,
     yes: bool,
-    reason: Reason,
+    reason: &ReasonView<'_>,
     lemmas: &mut LemmaOut,
     out: &mut O,
 ) -> Result<Answer, SearchStop>
     requires room { lemmas.old < greatest_number }
     requires deep { length path.now ≤ longest_path }
+    requires short { length (members_in (reason_viewed reason.now)) ≤ most_members }
     ensures answer { IfOk result (λ answer. answer.yes ≡ yes) }
     ensures spent { result ≡ Err stops.Spent → ⊥ }
     ensures few { lemmas.new + uncounted result ≤ lemmas.old + 1 }
     ensures later { O.faults out.old ≤ O.faults out.new }
     ensures fault { result ≡ Err stops.WriteFault → Rose (O.faults out.old) (O.faults out.new) }
     ensures wrote { (root p : Men) (known : List Shown) → played root path.now ≡ Some p → length known ≡ lemmas.old
-        → HasReason known p (claim_for side yes) (reason_of reason)
+        → HasReason known p (claim_for side yes) (reason_viewed reason.now)
         → Solves root p side known (O.written out.old) (O.written out.new) lemmas.new result }
 {
-    match lemmas.put(out, path, Claim::of(side, yes), reason) {
+    match lemmas.put_view(out, path, Claim::of(side, yes), &reason) {
         Ok(lemma) => Ok(Answer { yes, lemma }),
         Err(Failed) => Err(SearchStop::WriteFault),
     }

@@ -12,6 +12,8 @@ pub enum Form {
     Prove(u32),
     /// Check a proof.
     Check,
+    /// Play by a plan.
+    Play,
 }
 
 /// How many positions `prove` may enter, where the words don't say.
@@ -27,6 +29,7 @@ pub(crate) fn read_words(words: &[String]) -> Option<Form>
     match words {
         [command] if is_word(command, "prove") => Some(Form::Prove(DEFAULT_NODES)),
         [command] if is_word(command, "check") => Some(Form::Check),
+        [command] if is_word(command, "play") => Some(Form::Play),
         [command, name, nodes] if is_word(command, "prove") && is_word(name, "--nodes") => {
             Some(Form::Prove(number_between(1, MOST_NODES, nodes.as_bytes())?))
         }

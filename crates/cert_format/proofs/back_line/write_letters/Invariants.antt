@@ -1,4 +1,4 @@
-use Rattle.std.proofs.Common.{◌≡◌, length, take, map}
+use Rattle.std.proofs.Common.{◌≡◌, take, map}
 use Rattle.game_rules.specs.Grammar.{letter_of}
 use Rattle.cert_format.proofs.back_line.write_letters.Given as goal
 

@@ -1,6 +1,8 @@
 use Rattle.std.proofs.Common.{◌+◌, ◌-◌, Bool, Ok, refl, ap, ◌∙◌, subst, arith}
+use Rattle.game_rules.specs.Position.{board_of}
 use Rattle.std.proofs.lemmas.Result.{err_from_is_err_and}
-use Rattle.victor_run.specs.CheckSteps.{pending, Reads, PassesLines, Adds, lines_read_until}
+use Rattle.victor_run.specs.CheckSteps.{Adds, lines_read_until}
+use Rattle.victor_run.specs.Reading.{pending, Reads, PassesLines}
 use Rattle.victor_run.proofs.Judging.{stops_earlier}
 use Rattle.victor_run.proofs.Reading.{Reads_start, Reads_then, passes_none, passes_then, passes_most}
 use Rattle.victor_run.proofs.check.add_lines.Goals as goal
@@ -29,7 +31,7 @@ returns-clause-answer g c =
 pub loop-at-init : goal.loop-at-init
 loop-at-init g c = record {
   goes = Reads_start _ _ (λ bytes. (passes_none bytes, refl));
-  cols = c.requires;
+  board = c.requires;
   from = omega arith;
   later = omega arith;
   few = omega arith;
@@ -45,7 +47,7 @@ loop-at-preserved g c =
         passes_most (c.loop-at.at - 4 + 1) (c.loop-at.at + 1 - 4) bytes rest (omega (arith, before.from)) (passes_then (c.loop-at.at - 4) 1 bytes mid rest p.0 q.0),
         p.1 ∙ q.1,
       ));
-      cols = cc (c.in_ok-add_next.ensures.root, before.cols);
+      board = ap board_of c.in_ok-add_next.ensures.root ∙ before.board;
       from = omega (arith, before.from);
       later = omega (arith, before.later, c.add_next.ensures.later);
       few = omega (arith, c.in_ok-add_next.ensures.few (ap Ok c.if-branch.true));

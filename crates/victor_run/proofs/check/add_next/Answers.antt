@@ -2,7 +2,7 @@ use Rattle.std.proofs.Common.{List, ℕ, sym, ap, ◌∙◌, subst}
 use Rattle.std.proofs.lemmas.Result.{err_from_is_err_and}
 use Rattle.io_ports.specs.Lines.{Gives}
 use Rattle.io_ports.specs.declared.line_reader.LineGot.TheVariants.{Line}
-use Rattle.victor_run.specs.CheckSteps.{pending, Reads}
+use Rattle.victor_run.specs.Reading.{pending, Reads}
 use Rattle.victor_run.proofs.CheckKnown.{line_known, line_stops, long_stops, none_known, with_bytes_root}
 use Rattle.victor_run.proofs.check.add_next.Goals as goal
 

@@ -1,8 +1,10 @@
 use Rattle.std.proofs.Common.{◌≡◌, length, sym, ap, ◌∙◌, subst, arith}
 use Rattle.std.proofs.lemmas.Result.{err_from_is_err_and}
 use Rattle.proof_text.specs.Texts.{check_of, verdict_answer, Accepted, Refused}
+use Rattle.cert_checker.specs.Checking.{why_of}
 use Rattle.victor_run.specs.InputState.{InputState}
-use Rattle.victor_run.specs.CheckSteps.{pending, Reads, PassesLines, StopsBy, game_from, lines_read_until}
+use Rattle.victor_run.specs.CheckSteps.{StopsBy, game_from, lines_read_until}
+use Rattle.victor_run.specs.Reading.{pending, Reads, PassesLines}
 use Rattle.victor_run.specs.declared.check.Stop.TheVariants as stops
 use Rattle.victor_run.proofs.Judging.{game_known, game_stops, lines_stop, lines_known, judged_stop, judged_right}
 use Rattle.victor_run.proofs.check.judge.Goals as goal
@@ -72,7 +74,7 @@ returns g c =
     let t = c.add_lines.new.checker in
     let refusal = c.in-Err.refusal in
     let here : refusal.at ≡ end = ap (λ r. r.at) c.in-Err.ensures.1 in
-    let answer = ap (verdict_answer end (length t.known)) c.in-Err.ensures.0 ∙ ap (λ r. Refused r.at r.why) (sym c.in-Err.ensures.1) in
+    let answer = ap (verdict_answer end (length t.known)) c.in-Err.ensures.0 ∙ ap (λ r. Refused r.at (why_of r.why)) (sym c.in-Err.ensures.1) in
     judged_stop left last end _ _ (stops.Refused refusal)
-    (lines_known _ next last c.in_ok-root.root c.new-checker.result t c.new-checker.ensures game end (omega (arith, few.0)) c.in_ok-end.ensures.answer (Refused refusal.at refusal.why) answer)
+    (lines_known _ next last c.in_ok-root.root c.new-checker.result t c.new-checker.ensures game end (omega (arith, few.0)) c.in_ok-end.ensures.answer (Refused refusal.at (why_of refusal.why)) answer)
     c.in_ok-end.ensures.held (omega (arith, here)) few.1

@@ -1,46 +1,25 @@
-use Rattle.std.specs.Prelude.{⊤}
-use Rattle.std.proofs.Common.{List, ℕ, sym, ap, ◌∙◌, subst, arith}
-use Rattle.std.proofs.lemmas.Result.{err_from_is_err_and}
+use Rattle.std.proofs.Common.{subst}
 use Rattle.game_rules.specs.Text.{game_at}
-use Rattle.victor_run.specs.CheckSteps.{pending, game_from, Reads, PassesLines, KeepsLine}
-use Rattle.victor_run.proofs.CheckKnown.{root_known, root_stops, read_failed}
-use Rattle.victor_run.proofs.Reading.{Reads_then, passes_then}
+use Rattle.proof_text.specs.Texts.{pieces, game_of}
+use Rattle.victor_run.specs.Reading.{pending, Reads, PassesLines, StopsGame}
+use Rattle.victor_run.specs.declared.game_lines.GameStop.{GameStop}
+use Rattle.victor_run.proofs.CheckLines.{game_read, game_fault}
+use Rattle.victor_run.proofs.Reading.{Reads_more}
 use Rattle.victor_run.proofs.check.read_root.Goals as goal
 
-pub returns-in_err-keep_line-clause-answer : goal.returns-in_err-keep_line-clause-answer
-returns-in_err-keep_line-clause-answer g c =
-    let same = err_from_is_err_and c.from_residual.result c.from_residual.ensures.1 in
-    rw (same.1, same.2) (read_failed _ _ 1 2 _ game_from _ _ _ c.in_err-keep_line.field-0.0 (omega arith) (omega arith) c.in_err-keep_line.ensures.failed c.in_err-keep_line.ensures.kept)
-
-pub returns-in_err-keep_line-clause-stops : goal.returns-in_err-keep_line-clause-stops
-returns-in_err-keep_line-clause-stops g c =
-    let same = err_from_is_err_and c.from_residual.result c.from_residual.ensures.1 in
-    rw (same.1, same.2, c.in_err-keep_line.ensures.failed.0) (omega arith)
-
-pub returns-in_err-keep_line-2-clause-answer : goal.returns-in_err-keep_line-2-clause-answer
-returns-in_err-keep_line-2-clause-answer g c =
-    let same = err_from_is_err_and c.from_residual-in_err-keep_line-2.result c.from_residual-in_err-keep_line-2.ensures.1 in
-    let second = c.in_err-keep_line-2.ensures in
-    let both = Reads_then _ _ _ _ _ (λ bytes rest. PassesLines 2 bytes rest × ⊤) c.in_ok-keep_line.ensures.kept second.kept (λ bytes mid rest p q. (passes_then 1 1 bytes mid rest p.0 q.0, tt)) in
-    rw (same.1, same.2) (read_failed _ _ 2 2 _ game_from _ _ _ c.in_err-keep_line-2.field-0.0 (omega arith) c.in_ok-keep_line.ensures.later second.failed both)
-
-pub returns-in_err-keep_line-2-clause-stops : goal.returns-in_err-keep_line-2-clause-stops
-returns-in_err-keep_line-2-clause-stops g c =
-    let same = err_from_is_err_and c.from_residual-in_err-keep_line-2.result c.from_residual-in_err-keep_line-2.ensures.1 in
-    rw (same.1, same.2, c.in_err-keep_line-2.ensures.failed.0) (omega arith)
-
 pub returns-in-Ok-clause-answer : goal.returns-in-Ok-clause-answer
-returns-in-Ok-clause-answer g c =
-    let one = c.keep_line.new.text.items in
-    let a = pending c.args.lines.now (g.S.Source.left c.args.source.now) in
-    let b = pending c.keep_line.new.lines (g.S.Source.left c.keep_line.new.source) in
-    let P : List ℕ → Type 0 = λ text. Reads a b (λ bytes rest. PassesLines 1 bytes rest × KeepsLine text one bytes rest) in
-    root_known a b _ one c.keep_line-2.new.text.items (subst P c.new-text.ensures c.in_ok-keep_line.ensures.kept) c.in_ok-keep_line-2.ensures.kept c.in-Ok.root (ap game_at (sym c.as_slice.ensures.value) ∙ sym c.in-Ok.ensures)
+returns-in-Ok-clause-answer g c = Reads_more _ _ _ _ c.in-Ok.ensures.answer (λ bytes rest h. (h.0, game_read bytes rest c.in-Ok.root h.1.0 h.1.1))
 
-pub returns-in-Err-clause-answer : goal.returns-in-Err-clause-answer
-returns-in-Err-clause-answer g c =
-    let one = c.keep_line.new.text.items in
+pub returns-in-Err-Input-clause-answer : goal.returns-in-Err-Input-clause-answer
+returns-in-Err-Input-clause-answer g c =
     let a = pending c.args.lines.now (g.S.Source.left c.args.source.now) in
-    let b = pending c.keep_line.new.lines (g.S.Source.left c.keep_line.new.source) in
-    let P : List ℕ → Type 0 = λ text. Reads a b (λ bytes rest. PassesLines 1 bytes rest × KeepsLine text one bytes rest) in
-    root_stops a b _ one c.keep_line-2.new.text.items (subst P c.new-text.ensures c.in_ok-keep_line.ensures.kept) c.in_ok-keep_line-2.ensures.kept c.in-Err.fault (ap game_at (sym c.as_slice.ensures.value) ∙ sym c.in-Err.ensures)
+    let b = pending c.read_game_lines.new.lines (g.S.Source.left c.read_game_lines.new.source) in
+    let P : GameStop → Type 0 = λ stop. Reads a b (λ bytes rest. PassesLines 2 bytes rest × StopsGame (game_at (game_of (pieces bytes))) (g.S.Source.faults c.args.source.now) (g.S.Source.faults c.read_game_lines.new.source) stop) in
+    Reads_more a b _ _ (subst P c.in-Err-Input.field-0-is c.in-Err-Input.ensures.answer) (λ bytes rest h. (h.0, game_fault bytes c.in-Err-Input.fault h.1))
+
+pub returns-in-Err-Read-clause-answer : goal.returns-in-Err-Read-clause-answer
+returns-in-Err-Read-clause-answer g c =
+    let a = pending c.args.lines.now (g.S.Source.left c.args.source.now) in
+    let b = pending c.read_game_lines.new.lines (g.S.Source.left c.read_game_lines.new.source) in
+    let P : GameStop → Type 0 = λ stop. Reads a b (λ bytes rest. PassesLines 2 bytes rest × StopsGame (game_at (game_of (pieces bytes))) (g.S.Source.faults c.args.source.now) (g.S.Source.faults c.read_game_lines.new.source) stop) in
+    subst P c.in-Err-Read.field-0-is c.in-Err-Read.ensures.answer

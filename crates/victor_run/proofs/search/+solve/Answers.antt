@@ -152,7 +152,7 @@ returns-clause-wrote g t c root known along many =
     closed_by_all root p c.args.side c.eq-own.result known _ _ _ c.loop-column.lemmas c.put_lemma-2.new.lemmas c.loop-column.numbers c.args.order.now c.loop-column.column-index c.put_lemma-2.result
     so_far going is_own c.loop-column-test.false c.requires.order
     (λ also counted reason. c.put_lemma-2.ensures.wrote root p also (ap (played root) back ∙ along) counted
-    (subst (λ cites. HasReason also p (claim_for c.args.side (not c.eq-own.result)) (ByAll cites)) (sym c.cites_from.ensures) reason))
+    (subst (λ cites. HasReason also p (claim_for c.args.side (not c.eq-own.result)) (ByAll cites)) (sym c.cites_from-cites.ensures) reason))
 
 pub loop-column-preserved : goal.loop-column-preserved
 loop-column-preserved g t c =

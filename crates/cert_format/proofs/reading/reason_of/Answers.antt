@@ -1,6 +1,0 @@
-use Rattle.std.proofs.Common.{sym}
-use Rattle.cert_format.proofs.Words.{reason_none}
-use Rattle.cert_format.proofs.reading.reason_of.Goals as goal
-
-pub returns : goal.returns
-returns c = sym (reason_none c.args.size.cols c.args.bytes.now (sym c.if-is_word.ensures) c.in_default.ensures c.in_default-behind.ensures)

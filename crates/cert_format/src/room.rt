@@ -1,0 +1,146 @@
+//! Room into which lines are read, kept from line to line, so that no lemma is moved where it is read and looked at: a
+//! lemma's plan alone may have three hundred instances.
+ghost use Rattle.std.specs.Prelude.{◌≡◌};
+ghost use Rattle.proof_text.specs.Reading.{read_line};
+ghost use Rattle.cert_format.specs.Shape.{reason_of, reason_viewed, lemma_of, lemma_viewed};
+ghost use Rattle.cert_format.specs.Rooms.{reason_in, lemma_in, Views};
+
+use crate::lines::{
+    Cite, LONGEST_PATH, Lemma, LemmaView, LineFault, LineView, MOST_CITES, Reason, ReasonView,
+};
+use crate::plan_line::MOST_MEMBERS;
+use crate::reading::read_into;
+use arrayvec::ArrayVec;
+use board_bits::{Column, Size};
+use proof_text::{Claim, Verdict};
+use rule_compat::Instance;
+
+/// Room for one line.
+#[derive(Drop)]
+pub struct LineBuffer {
+    room: LemmaRoom,
+}
+
+impl LineBuffer {
+    /// Room in which no line was read yet.
+    pub fn new() -> LineBuffer {
+        LineBuffer {
+            room: LemmaRoom::new(),
+        }
+    }
+
+    /// What `read_line` answers of the bytes, read into this room.
+    pub fn read(&mut self, bytes: &[u8], size: Size) -> Result<LineView<'_>, LineFault>
+        ensures { Views result (read_line size bytes.now) }
+    {
+        match read_into(&mut self.room, bytes, size)? {
+            Kind::Lemma => Ok(LineView::Lemma(self.room.view())),
+            Kind::Remark => Ok(LineView::Remark),
+            Kind::Verdict(verdict) => Ok(LineView::Verdict(verdict)),
+        }
+    }
+}
+
+/// Which kind of line was read. A lemma is in the room that it was read into.
+#[derive(Clone, Copy)]
+pub(crate) enum Kind {
+    Lemma,
+    Remark,
+    Verdict(Verdict),
+}
+
+/// Which kind of reason was read. Its cites, or the members of its plan, are in the room.
+#[derive(Clone, Copy)]
+pub(crate) enum ReasonKind {
+    Ended,
+    One(Cite),
+    All,
+    Plan,
+}
+
+/// Room for a reason.
+#[derive(Drop)]
+pub(crate) struct ReasonRoom {
+    pub(crate) kind: ReasonKind,
+    pub(crate) cites: ArrayVec<Cite, MOST_CITES>,
+    pub(crate) members: ArrayVec<Instance, MOST_MEMBERS>,
+}
+
+impl ReasonRoom {
+    fn new() -> ReasonRoom {
+        ReasonRoom {
+            kind: ReasonKind::Ended,
+            cites: ArrayVec::new(),
+            members: ArrayVec::new(),
+        }
+    }
+
+    /// The reason that is in the room.
+    fn view(&self) -> ReasonView<'_>
+        ensures { reason_viewed result ≡ reason_in self.now }
+    {
+        match self.kind {
+            ReasonKind::Ended => ReasonView::Ended,
+            ReasonKind::One(cite) => ReasonView::One(cite),
+            ReasonKind::All => ReasonView::All(&self.cites),
+            ReasonKind::Plan => ReasonView::Plan(&self.members),
+        }
+    }
+
+    /// The reason that is in the room, taken out of it.
+    fn into_reason(self) -> Reason
+        ensures { reason_of result ≡ reason_in self }
+    {
+        match self.kind {
+            ReasonKind::Ended => Reason::Ended,
+            ReasonKind::One(cite) => Reason::One(cite),
+            ReasonKind::All => Reason::All(self.cites),
+            ReasonKind::Plan => Reason::Plan(self.members),
+        }
+    }
+}
+
+/// Room for a lemma.
+#[derive(Drop)]
+pub(crate) struct LemmaRoom {
+    pub(crate) number: u32,
+    pub(crate) path: ArrayVec<Column, LONGEST_PATH>,
+    pub(crate) claim: Claim,
+    pub(crate) reason: ReasonRoom,
+}
+
+impl LemmaRoom {
+    /// Room in which no lemma was read yet.
+    pub(crate) fn new() -> LemmaRoom {
+        LemmaRoom {
+            number: 0,
+            path: ArrayVec::new(),
+            claim: Claim::WhiteWins,
+            reason: ReasonRoom::new(),
+        }
+    }
+
+    /// The lemma that is in the room.
+    fn view(&self) -> LemmaView<'_>
+        ensures { lemma_viewed result ≡ lemma_in self.now }
+    {
+        LemmaView {
+            number: self.number,
+            path: &self.path,
+            claim: self.claim,
+            reason: self.reason.view(),
+        }
+    }
+
+    /// The lemma that is in the room, taken out of it.
+    pub(crate) fn into_lemma(self) -> Lemma
+        ensures { lemma_of result ≡ lemma_in self }
+    {
+        Lemma {
+            number: self.number,
+            path: self.path,
+            claim: self.claim,
+            reason: self.reason.into_reason(),
+        }
+    }
+}

@@ -1,0 +1,4 @@
+pub mod Words
+pub mod Items
+pub mod PlanLine
+pub mod Faults

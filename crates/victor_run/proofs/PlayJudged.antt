@@ -1,0 +1,291 @@
+-- Steps of play, one after another; and what `play` promises of all that was played.
+use Rattle.std.proofs.Common.{◌≡◌, ℕ, ◌+◌, ◌*◌, ◌≤◌, Bool, true, false, List, [], ◌∷◌, ◌++◌, length, Option, Some, None, Result, Ok, Err, IfSome, refl, sym, ap, ◌∙◌, subst, arith, append-nil, length-append}
+use Rattle.std.specs.Bool.{⊤}
+use Rattle.std.specs.Result.{OnOk}
+use Rattle.std.specs.Io.KnownBytes.{Keeps, Appends}
+use Rattle.std.proofs.KnownBytes.{Appends-nil}
+use Rattle.std.proofs.lemmas.Grind.{flat_map-append}
+use Rattle.device_rules.specs.Devices.{AppendsPrefix}
+use Rattle.device_rules.proofs.DeviceLaws.{AppendsPrefix_all, AppendsPrefix_more}
+use Rattle.io_ports.specs.Lines.{Gives, most_held}
+use Rattle.io_ports.specs.declared.line_reader.LineGot.TheVariants.{Line}
+use Rattle.game_rules.specs.Position.{Position}
+use Rattle.proof_text.specs.Texts.{pieces, lines_in}
+use Rattle.rule_compat.specs.Planned.{members}
+use Rattle.rule_compat.specs.Faults.{fault_of}
+use Rattle.reply_player.specs.Playing.{Playing}
+use Rattle.play_text.specs.Play as ends
+use Rattle.play_text.specs.Play.{PlayEnd, Played, behind, play_from, play_of, text_of, first_move}
+use Rattle.play_text.specs.Told.{IsTold}
+use Rattle.play_text.proofs.Steps.{behind_more, told}
+use Rattle.victor_run.specs.Streams.{Streams, TakesLines}
+use Rattle.victor_run.specs.Reading.{Pending, Reads, PassesLines}
+use Rattle.victor_run.specs.PlayPromise.{IsPlayed, BeginsPlay}
+use Rattle.victor_run.specs.PlaySteps.{played_at, played_from, end_by, EndsSo, StopsPlay, lines_until, IsNoMove, IsCaused, HasPlayCause, is_whole, PlayStep, PlaysNext, PlaysMoves, PlaysInput, play_ending}
+use Rattle.victor_run.specs.Outcome.{Outcome}
+use Rattle.victor_run.specs.declared.words.Form.TheVariants.{Play}
+use Rattle.victor_run.specs.declared.ending.Ending.TheVariants as endings
+use Rattle.victor_run.specs.declared.play.PlayStop.{PlayStop}
+use Rattle.victor_run.specs.declared.play.PlayStop.TheVariants as stops
+use Rattle.victor_run.proofs.Passing.{takes_bytes}
+use Rattle.victor_run.proofs.PlayRead.{moves_got}
+use Rattle.victor_run.proofs.Reading.{Reads_more, Reads_start, Reads_then, passes_none, passes_then, passes_most}
+use Rattle.victor_run.proofs.Taken.{fresh, of_taken, of_input, of_lines}
+
+-- ---- one line
+
+line_text : (line : List ℕ) → text_of (line ∷ []) ≡ line
+line_text line = append-nil line
+
+-- a line was written for two men
+pub step_line : (a b : Pending) (old new : Option (List ℕ)) (whole : Bool) (before after : ℕ) (Fact : List (List ℕ) → List ℕ → List ℕ → Type 0) (line : List ℕ)
+    → AppendsPrefix whole old new line → after + 2 ≡ before → Reads a b (Fact (line ∷ [])) → PlayStep a b old new whole before after Fact
+step_line a b old new whole before after Fact line put men reads = record {
+  lines = line ∷ [];
+  written = subst (AppendsPrefix whole old new) (sym (line_text line)) put;
+  few = omega arith;
+  reads = reads;
+}
+
+-- nothing was written
+pub step_none : (a b : Pending) (out : Option (List ℕ)) (whole : Bool) (before after : ℕ) (Fact : List (List ℕ) → List ℕ → List ℕ → Type 0)
+    → after ≤ before → Reads a b (Fact []) → PlayStep a b out out whole before after Fact
+step_none a b out whole before after Fact men reads = record {
+  lines = [];
+  written = AppendsPrefix_all whole out out [] (Appends-nil out);
+  few = omega arith;
+  reads = reads;
+}
+
+module _ (a b : Pending) (text : List ℕ) (fed : Bool) (s t : Playing) (at : ℕ) (gives : Reads a b (λ bytes rest. Gives bytes rest Line text fed)) where
+  pub next_played : (line : List ℕ) → ((more : List (List ℕ)) → play_from (members s.plan) s.stands at (text ∷ more) ≡ behind (line ∷ []) (play_from (members t.plan) t.stands (at + 1) more))
+      → Reads a b (PlaysNext s t at (Ok true) (line ∷ []))
+  unfolding played_from
+  next_played line answer = moves_got a b text fed s at (λ played rest. played ≡ behind (line ∷ []) (played_from t (at + 1) rest)) gives (λ rest. answer (lines_in (pieces rest)))
+
+  -- the line wasn't written whole
+  pub next_cut : (line : List ℕ) → ((more : List (List ℕ)) → play_from (members s.plan) s.stands at (text ∷ more) ≡ behind (line ∷ []) (play_from (members t.plan) t.stands (at + 1) more))
+      → Reads a b (PlaysNext s t at (Err stops.Write) (line ∷ []))
+  next_cut line answer = Reads_more a b _ _ (next_played line answer) (λ bytes rest h. (passes_most 1 2 bytes rest (omega arith) h.0, (played_from t (at + 1) rest, h.1), refl))
+
+  pub next_stopped : (stop : PlayStop) → ((more : List (List ℕ)) → StopsPlay (play_from (members s.plan) s.stands at (text ∷ more)) [] stop) → IsNoMove stop
+      → Reads a b (PlaysNext s t at (Err stop) [])
+  next_stopped stop answer line =
+      Reads_more a b _ _ (moves_got a b text fed s at (λ played rest. StopsPlay played [] stop) gives (λ rest. answer (lines_in (pieces rest)))) (λ bytes rest h. (h.0, h.1, of_stop stop line))
+    where
+      of_stop : (stop : PlayStop) → IsNoMove stop → lines_until stop 0 ≡ 4
+      of_stop (stops.NoMove fault) line = refl
+      of_stop (stops.Input fault) line = absurd line
+      of_stop stops.NoPlanLine line = absurd line
+      of_stop (stops.NoPlan fault) line = absurd line
+      of_stop stops.Read line = absurd line
+      of_stop stops.Write line = absurd line
+
+-- for what a line says no stream is at fault
+pub line_cause : {X : Type 0} (read_before read_after write : ℕ) (stop : PlayStop) → IsNoMove stop → read_before ≤ read_after → HasPlayCause {X = X} read_before read_after write write (Err stop)
+line_cause read_before read_after write stop line later = record { read_later = later; write_later = omega arith; caused = of_stop stop line }
+  where
+    of_stop : (stop : PlayStop) → IsNoMove stop → IsCaused read_before read_after write write stop
+    of_stop (stops.NoMove fault) line = tt
+    of_stop (stops.Input fault) line = absurd line
+    of_stop stops.NoPlanLine line = absurd line
+    of_stop (stops.NoPlan fault) line = absurd line
+    of_stop stops.Read line = absurd line
+    of_stop stops.Write line = absurd line
+
+-- ---- several
+
+-- what stops play behind some lines
+pub stops_behind : (played later : Played) (lines more : List (List ℕ)) (stop : PlayStop) → played ≡ behind lines later → StopsPlay later more stop → StopsPlay played (lines ++ more) stop
+stops_behind played later lines more stop goes stops = of_end (end_by stop) stops
+  where
+    of_end : (end : Option PlayEnd) → EndsSo later more end → EndsSo played (lines ++ more) end
+    of_end (Some end) is = goes ∙ ap (behind lines) is
+    of_end None (rest, is) = (rest, goes ∙ ap (behind lines) is ∙ behind_more lines more rest)
+
+until_more : (stop : PlayStop) (m n : ℕ) → lines_until stop m ≡ 4 + m → lines_until stop n ≡ 4 + n
+until_more (stops.Input fault) m n h = absurd (omega arith)
+until_more stops.NoPlanLine m n h = absurd (omega arith)
+until_more (stops.NoPlan fault) m n h = absurd (omega arith)
+until_more (stops.NoMove fault) m n h = refl
+until_more stops.Read m n h = refl
+until_more stops.Write m n h = refl
+
+pub step_then : (a b c : Pending) (o p q : Option (List ℕ)) (whole : Bool) (i j k : ℕ) (F G H : List (List ℕ) → List ℕ → List ℕ → Type 0)
+    → PlayStep a b o p true i j F → PlayStep b c p q whole j k G
+    → ((xs ys : List (List ℕ)) (bytes mid rest : List ℕ) → F xs bytes mid → G ys mid rest → H (xs ++ ys) bytes rest) → PlayStep a c o q whole i k H
+step_then a b c o p q whole i j k F G H first next more = record {
+  lines = first.lines ++ next.lines;
+  written = subst (AppendsPrefix whole o q) (sym (flat_map-append (λ line. line) first.lines next.lines)) (AppendsPrefix_more whole o p q (text_of first.lines) (text_of next.lines) first.written next.written);
+  few = omega (arith, length-append first.lines next.lines, first.few, next.few);
+  reads = Reads_then a b c _ _ _ first.reads next.reads (λ bytes mid rest. more first.lines next.lines bytes mid rest);
+}
+
+-- some of White's lines were played
+abbrev pub Goes : Playing → Playing → ℕ → List (List ℕ) → List ℕ → List ℕ → Type 0
+Goes s t at lines bytes rest = PassesLines (length lines) bytes rest × (played_from s first_move bytes ≡ behind lines (played_from t at rest))
+
+pub goes_none : (a : Pending) (out : Option (List ℕ)) (s : Playing) (men : ℕ) → PlayStep a a out out true men men (Goes s s first_move)
+goes_none a out s men = step_none a a out true men men (Goes s s first_move) (omega arith) (Reads_start a (Goes s s first_move []) (λ bytes. (passes_none bytes, refl)))
+
+passes_lines : (xs ys : List (List ℕ)) (n : ℕ) (bytes mid rest : List ℕ) → PassesLines (length xs) bytes mid → PassesLines (length ys + n) mid rest → PassesLines (length (xs ++ ys) + n) bytes rest
+passes_lines xs ys n bytes mid rest p q =
+    passes_most (length xs + (length ys + n)) (length (xs ++ ys) + n) bytes rest (omega (arith, length-append xs ys)) (passes_then (length xs) (length ys + n) bytes mid rest p q)
+
+pub goes_next : (s t u : Playing) (at : ℕ) (xs ys : List (List ℕ)) (bytes mid rest : List ℕ) → Goes s t at xs bytes mid → PlaysNext t u at (Ok true) ys mid rest → Goes s u (at + 1) (xs ++ ys) bytes rest
+goes_next s t u at xs ys bytes mid rest p q = (
+  passes_most (length xs + length ys) (length (xs ++ ys)) bytes rest (omega (arith, length-append xs ys)) (passes_then (length xs) (length ys) bytes mid rest p.0 q.0),
+  p.1 ∙ ap (behind xs) q.1 ∙ behind_more xs ys (played_from u (at + 1) rest),
+)
+
+pub goes_all : (s t u : Playing) (at : ℕ) (xs ys : List (List ℕ)) (bytes mid rest : List ℕ) → Goes s t at xs bytes mid → PlaysNext t u at (Ok false) ys mid rest
+    → PlaysMoves {X = ⊤} s first_move (Ok tt) (xs ++ ys) bytes rest
+goes_all s t u at xs ys bytes mid rest p q = (passes_lines xs ys 1 bytes mid rest p.0 q.0, p.1 ∙ ap (behind xs) q.1)
+
+pub goes_stop : (s t u : Playing) (at : ℕ) (stop : PlayStop) (xs ys : List (List ℕ)) (bytes mid rest : List ℕ) → Goes s t at xs bytes mid → PlaysNext t u at (Err stop) ys mid rest
+    → PlaysMoves {X = ⊤} s first_move (Err stop) (xs ++ ys) bytes rest
+goes_stop s t u at stop xs ys bytes mid rest p q =
+    (passes_lines xs ys 1 bytes mid rest p.0 q.0, stops_behind _ _ xs ys stop p.1 q.1, until_more stop (length ys) (length (xs ++ ys)) q.2)
+
+-- ---- the game, the plan, and then White's lines
+
+module _ (a b c : Pending) (root : Position) (game : Reads a b (λ bytes rest. PassesLines 2 bytes rest × (play_of bytes ≡ played_at root rest))) where
+  pub plan_stops : (stop : PlayStop) → Reads b c (λ bytes rest. PassesLines 1 bytes rest × StopsPlay (played_at root bytes) [] stop) → Reads a c (λ bytes rest. PassesLines 3 bytes rest × StopsPlay (play_of bytes) [] stop)
+  plan_stops stop plan =
+      Reads_then a b c _ _ _ game plan (λ bytes mid rest p q. (passes_then 2 1 bytes mid rest p.0 q.0, stops_behind (play_of bytes) (played_at root mid) [] [] stop p.1 q.1))
+
+  pub plan_goes : (s : Playing) → Reads b c (λ bytes rest. PassesLines 1 bytes rest × (played_at root bytes ≡ played_from s first_move rest))
+      → Reads a c (λ bytes rest. PassesLines 3 bytes rest × (play_of bytes ≡ played_from s first_move rest))
+  plan_goes s plan = Reads_then a b c _ _ _ game plan (λ bytes mid rest p q. (passes_then 2 1 bytes mid rest p.0 q.0, p.1 ∙ q.1))
+
+module _ (a b c : Pending) (s : Playing) (lines : List (List ℕ)) (start : Reads a b (λ bytes rest. PassesLines 3 bytes rest × (play_of bytes ≡ played_from s first_move rest))) where
+  passes_all : (bytes mid rest : List ℕ) → PassesLines 3 bytes mid → PassesLines (length lines + 1) mid rest → PassesLines (4 + length lines) bytes rest
+  passes_all bytes mid rest p q = passes_most (3 + (length lines + 1)) (4 + length lines) bytes rest (omega arith) (passes_then 3 (length lines + 1) bytes mid rest p q)
+
+  pub moves_stop : (stop : PlayStop) → Reads b c (PlaysMoves {X = ⊤} s first_move (Err stop) lines) → Reads a c (λ bytes rest. PassesLines (4 + length lines) bytes rest × StopsPlay (play_of bytes) lines stop)
+  moves_stop stop moves =
+      Reads_then a b c _ _ _ start moves (λ bytes mid rest p q. (passes_all bytes mid rest p.0 q.0, stops_behind (play_of bytes) (played_from s first_move mid) [] lines stop p.1 q.1))
+
+  pub moves_played : Reads b c (PlaysMoves {X = ⊤} s first_move (Ok tt) lines) → Reads a c (λ bytes rest. PassesLines (4 + length lines) bytes rest × (play_of bytes ≡ record { lines = lines; end = ends.AllPlayed }))
+  moves_played moves = Reads_then a b c _ _ _ start moves (λ bytes mid rest p q. (passes_all bytes mid rest p.0 q.0, p.1 ∙ q.1))
+
+-- when White's lines stop play, so many lines were read
+pub until_moves : (a b : Pending) (s : Playing) (lines : List (List ℕ)) (stop : PlayStop) → Reads a b (PlaysMoves {X = ⊤} s first_move (Err stop) lines) → lines_until stop (length lines) ≡ 4 + length lines
+until_moves a b s lines stop moves = (moves.fact [] (λ _. refl)).2
+
+-- ---- all of an input
+
+module _ {X : Type 0} (old : Option (List ℕ)) (last : Pending) (o n : Option (List ℕ)) (lines : List (List ℕ)) (few : length lines ≤ 50) (held : length last.ahead ≤ most_held) where
+  pub input_stops : (stop : PlayStop) (m : ℕ) → m ≤ lines_until stop (length lines) → AppendsPrefix (is_whole {X = X} (Err stop)) o n (text_of lines)
+      → Reads (fresh old) last (λ bytes rest. PassesLines m bytes rest × StopsPlay (play_of bytes) lines stop) → PlaysInput {X = X} old last.left o n (Err stop)
+  input_stops stop m until put reads =
+      let Stopped : List ℕ → Type 0 = λ bytes. StopsPlay (play_of bytes) lines stop in
+      record {
+        taken = reads.taken;
+        gave = reads.gave;
+        lines = lines;
+        few = few;
+        written = put;
+        played = (of_taken old last m (lines_until stop (length lines)) Stopped reads, of_input old last m (lines_until stop (length lines)) Stopped reads);
+        passed = of_lines old last m (lines_until stop (length lines)) Stopped reads held until;
+      }
+
+  pub input_played : (x : X) → Appends o n (text_of lines) → last.ended ≡ true
+      → Reads (fresh old) last (λ bytes rest. PassesLines (4 + length lines) bytes rest × (play_of bytes ≡ record { lines = lines; end = ends.AllPlayed })) → PlaysInput {X = X} old last.left o n (Ok x)
+  input_played x put end reads =
+      let All : List ℕ → Type 0 = λ bytes. play_of bytes ≡ record { lines = lines; end = ends.AllPlayed } in
+      record {
+        taken = reads.taken;
+        gave = reads.gave;
+        lines = lines;
+        few = few;
+        written = put;
+        played = (of_taken old last (4 + length lines) (4 + length lines) All reads, of_input old last (4 + length lines) (4 + length lines) All reads, reads.last (λ never. absurd (cc never)) end);
+        passed = of_lines old last (4 + length lines) (4 + length lines) All reads held (omega arith);
+      }
+
+-- what was played of all lines behind the plan
+pub input_moves : {X : Type 0} (old : Option (List ℕ)) (mid last : Pending) (o n : Option (List ℕ)) (s : Playing) (before after : ℕ) (result : Result X PlayStop)
+    → Reads (fresh old) mid (λ bytes rest. PassesLines 3 bytes rest × (play_of bytes ≡ played_from s first_move rest))
+    → PlayStep mid last o n (is_whole result) before after (PlaysMoves s first_move result) → before ≤ 100 → (OnOk result (last.ended ≡ true)) → length last.ahead ≤ most_held
+    → PlaysInput old last.left o n result
+input_moves old mid last o n s before after (Ok x) start step men end held =
+    input_played old last o n step.lines (omega (arith, step.few)) held x step.written end (moves_played (fresh old) mid last s step.lines start step.reads)
+input_moves {X} old mid last o n s before after (Err stop) start step men end held =
+    input_stops old last o n step.lines (omega (arith, step.few)) held stop (4 + length step.lines) (omega (arith, until_moves mid last s step.lines stop step.reads)) step.written
+    (moves_stop (fresh old) mid last s step.lines start stop step.reads)
+
+-- ---- what `play` promises then
+
+kept_from : (old new : Option (List ℕ)) (lines : List (List ℕ)) → lines ≡ [] → Appends old new (text_of lines) → Keeps old new
+kept_from None new lines none put = tt
+kept_from (Some xs) None lines none put = absurd put
+kept_from (Some xs) (Some ys) lines none put = put ∙ ap (λ lines. xs ++ text_of lines) none ∙ append-nil xs
+
+-- what is told by an end
+told_by : (bytes : List ℕ) (lines : List (List ℕ)) (end : PlayEnd) → play_of bytes ≡ record { lines = lines; end = end } → IsTold bytes lines end
+told_by bytes lines end is = let P : Played → Type 0 = λ played. IsTold bytes played.lines played.end in subst P is (told bytes)
+
+-- what would have gone on
+begun : (bytes : List ℕ) (lines : List (List ℕ)) → (later : Played) × (play_of bytes ≡ behind lines later) → BeginsPlay lines bytes
+begun bytes lines (later, is) = (later.lines, ap (λ played. played.lines) is)
+
+IfSome_each : (input : Option (List ℕ)) (P Q : List ℕ → Type 0) → ((bytes : List ℕ) → P bytes → Q bytes) → IfSome input P → IfSome input Q
+IfSome_each None P Q more h = tt
+IfSome_each (Some bytes) P Q more h = more bytes h
+
+takes_few : (lines : List (List ℕ)) (taken : List ℕ) → length lines ≤ 50 → TakesLines (4 + length lines) taken → length taken ≤ 54 * 8193 + 16384
+takes_few lines taken few takes = takes_bytes 54 taken (takes.0, omega (arith, takes.1), takes.2)
+
+module _ {X : Type 0} (s : Streams) where
+  pub plays_all : (x : X) → PlaysInput s.input s.left s.old s.new (Ok x) → Outcome (Some Play) s endings.Done
+  plays_all x input = record {
+    taken = input.taken;
+    gave = input.gave;
+    few = takes_few input.lines input.taken input.few input.passed;
+    holds = (input.lines, (input.played.0, input.played.1), told_by input.taken input.lines ends.AllPlayed input.played.0, input.written, input.played.2, input.passed);
+  }
+
+  pub plays_stop : (stop : PlayStop) → PlaysInput {X = X} s.input s.left s.old s.new (Err stop) → Outcome (Some Play) s (play_ending stop)
+  plays_stop (stops.Input fault) input =
+      let none = told_by input.taken input.lines (ends.NoGame fault) input.played.0 in
+      record {
+        taken = input.taken;
+        gave = input.gave;
+        few = takes_bytes 54 input.taken (input.passed.0, omega (arith, input.passed.1), input.passed.2);
+        holds = (subst (λ lines. IsPlayed input.taken s.input lines (ends.NoGame fault)) none (input.played.0, input.played.1), kept_from s.old s.new input.lines none input.written, input.passed);
+      }
+  plays_stop stops.NoPlanLine input =
+      let none = told_by input.taken input.lines ends.NoPlanLine input.played.0 in
+      record {
+        taken = input.taken;
+        gave = input.gave;
+        few = takes_bytes 54 input.taken (input.passed.0, omega (arith, input.passed.1), input.passed.2);
+        holds = (refl, refl, subst (λ lines. IsPlayed input.taken s.input lines ends.NoPlanLine) none (input.played.0, input.played.1), kept_from s.old s.new input.lines none input.written, input.passed);
+      }
+  plays_stop (stops.NoPlan fault) input =
+      let none = told_by input.taken input.lines (ends.NoPlan (fault_of fault)) input.played.0 in
+      record {
+        taken = input.taken;
+        gave = input.gave;
+        few = takes_bytes 54 input.taken (input.passed.0, omega (arith, input.passed.1), input.passed.2);
+        holds = (subst (λ lines. IsPlayed input.taken s.input lines (ends.NoPlan (fault_of fault))) none (input.played.0, input.played.1), kept_from s.old s.new input.lines none input.written, input.passed);
+      }
+  plays_stop (stops.NoMove fault) input = record {
+    taken = input.taken;
+    gave = input.gave;
+    few = takes_few input.lines input.taken input.few input.passed;
+    holds = (input.lines, (input.played.0, input.played.1), told_by input.taken input.lines (ends.NoMove fault) input.played.0, input.written, input.passed);
+  }
+  plays_stop stops.Read input = record {
+    taken = input.taken;
+    gave = input.gave;
+    few = takes_few input.lines input.taken input.few input.passed;
+    holds = (input.lines, (begun input.taken input.lines input.played.0, IfSome_each s.input _ (BeginsPlay input.lines) (λ bytes. begun bytes input.lines) input.played.1), input.written, input.passed);
+  }
+  plays_stop stops.Write input = record {
+    taken = input.taken;
+    gave = input.gave;
+    few = takes_few input.lines input.taken input.few input.passed;
+    holds = (input.lines, (begun input.taken input.lines input.played.0, IfSome_each s.input _ (BeginsPlay input.lines) (λ bytes. begun bytes input.lines) input.played.1), input.written, input.passed);
+  }

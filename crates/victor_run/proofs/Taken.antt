@@ -1,0 +1,31 @@
+-- What holds of the bytes that were pending holds of those that were taken from the first step on, and of all of the input.
+use Rattle.std.proofs.Common.{◌≡◌, ℕ, ◌≤◌, true, false, List, [], ◌++◌, length, Option, Some, None, IfSome, refl, sym, ap, ◌∙◌, subst, arith}
+use Rattle.std.specs.Io.KnownBytes.{Consumes, IsAtEnd}
+use Rattle.std.proofs.lemmas.List.{append-nil}
+use Rattle.io_ports.specs.Lines.{behind_lines, most_held}
+use Rattle.victor_run.specs.Streams.{TakesLines}
+use Rattle.victor_run.specs.Reading.{Pending, Reads, PassesLines}
+
+-- nothing was read yet
+abbrev pub fresh : Option (List ℕ) → Pending
+fresh left = record { ended = false; ahead = []; left = left }
+
+module _ (old : Option (List ℕ)) (last : Pending) (n most : ℕ) (Holds : List ℕ → Type 0)
+    (reads : Reads (fresh old) last (λ bytes rest. PassesLines n bytes rest × Holds bytes)) where
+  pub of_taken : Holds reads.taken
+  of_taken = subst Holds (append-nil reads.taken) (reads.fact [] (λ _. refl)).1
+
+  pub of_input : IfSome old Holds
+  of_input = by old last.left reads.gave (reads.last (λ never. absurd (cc never))) reads.fact
+    where
+      by : (old left : Option (List ℕ)) → Consumes old left reads.taken → (last.ended ≡ true → IsAtEnd left)
+          → ((later : List ℕ) → (last.ended ≡ true → later ≡ []) → PassesLines n (reads.taken ++ later) (last.ahead ++ later) × Holds (reads.taken ++ later)) → IfSome old Holds
+      by None left gave ended fact = tt
+      by (Some bytes) None gave ended fact = absurd gave
+      by (Some bytes) (Some rest) gave ended fact = subst Holds (sym gave) (fact rest ended).1
+
+  pub of_lines : length last.ahead ≤ most_held → n ≤ most → TakesLines most reads.taken
+  of_lines held few =
+      let passed = (reads.fact [] (λ _. refl)).0 in
+      let behind : behind_lines passed.0 reads.taken ≡ last.ahead = ap (behind_lines passed.0) (sym (append-nil reads.taken)) ∙ sym passed.2 ∙ append-nil last.ahead in
+      (passed.0, omega (arith, passed.1, few), omega (arith, ap length behind, held))

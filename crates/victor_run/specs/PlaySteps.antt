@@ -1,0 +1,160 @@
+-- How `play` goes through an input: at each step what is played by the bytes that were not given yet is what the step wrote
+-- and then what is played by those that are not given after it, or the step ends play.
+use Rattle.std.specs.Prelude.{◌≡◌, ◌≤◌, ℕ, ◌+◌, ◌*◌, Bool, true, false, List, [], ◌∷◌, ◌++◌, length, Option, Some, None, IfSome, IfErr, MatchResult, ⊤, codes, Result, Ok, Err}
+use Rattle.std.specs.Io.KnownBytes.{Consumes, IsAtEnd}
+use Rattle.device_rules.specs.Devices.{Rose, AppendsPrefix}
+use Rattle.game_rules.specs.Position.{Position, height}
+use Rattle.plan_text.specs.Items.{square_text}
+use Rattle.proof_text.specs.Spelling.{as_line}
+use Rattle.proof_text.specs.Texts.{pieces, lines_in}
+use Rattle.proof_text.specs.declared.Why.TheVariants.{BadLine}
+use Rattle.rule_compat.specs.Planned.{members}
+use Rattle.rule_compat.specs.Faults.{fault_of}
+use Rattle.reply_player.specs.Playing.{Playing}
+use Rattle.reply_player.specs.declared.session.Reply.{Reply}
+use Rattle.reply_player.specs.declared.session.Reply.TheVariants.{BlackWon, Filled, Move}
+use Rattle.play_text.specs.Play as ends
+use Rattle.play_text.specs.Play.{PlayEnd, Played, behind, play_from, play_lines, play_of, text_of}
+use Rattle.victor_run.specs.Reading.{Pending, Reads, PassesLines}
+use Rattle.victor_run.specs.Streams.{TakesLines}
+use Rattle.victor_run.specs.declared.ending.Ending.{Ending}
+use Rattle.victor_run.specs.declared.ending.Ending.TheVariants as endings
+use Rattle.victor_run.specs.declared.play.PlayStop.{PlayStop}
+use Rattle.victor_run.specs.declared.play.PlayStop.TheVariants.{Input, NoPlanLine, NoPlan, NoMove, Read, Write}
+
+-- ---- the line of a turn
+
+abbrev pub reply_column : Reply → ℕ
+reply_column (BlackWon column) = column
+reply_column (Filled column) = column
+reply_column (Move column) = column
+
+abbrev pub reply_end : Reply → List ℕ
+reply_end (BlackWon column) = codes " won"
+reply_end (Filled column) = codes " full"
+reply_end (Move column) = []
+
+-- White's man stood above the men of its column, and Black's is the top one of its own
+abbrev pub answered_line : Position → ℕ → Position → Reply → List ℕ
+answered_line before column now reply =
+    as_line (square_text (column, height before column + 1) ++ (32 ∷ (square_text (reply_column reply, height now (reply_column reply)) ++ reply_end reply)))
+
+-- ---- what is played
+
+-- what is played by the bytes behind the game
+unfoldable pub played_at : Position → List ℕ → Played
+played_at root bytes = play_lines root (lines_in (pieces bytes))
+
+-- what is played by the bytes behind the plan, or behind some of White's lines, the next of which has this number
+unfoldable pub played_from : Playing → ℕ → List ℕ → Played
+played_from s at bytes = play_from (members s.plan) s.stands at (lines_in (pieces bytes))
+
+-- how play ends by what stops it; where a stream failed, it would have gone on
+abbrev pub end_by : PlayStop → Option PlayEnd
+end_by (Input fault) = Some (ends.NoGame fault)
+end_by NoPlanLine = Some ends.NoPlanLine
+end_by (NoPlan fault) = Some (ends.NoPlan (fault_of fault))
+end_by (NoMove fault) = Some (ends.NoMove fault)
+end_by Read = None
+end_by Write = None
+
+abbrev pub EndsSo : Played → List (List ℕ) → Option PlayEnd → Type 0
+EndsSo played lines (Some end) = played ≡ record { lines = lines; end = end }
+EndsSo played lines None = (later : Played) × (played ≡ behind lines later)
+
+abbrev pub StopsPlay : Played → List (List ℕ) → PlayStop → Type 0
+StopsPlay played lines stop = EndsSo played lines (end_by stop)
+
+-- how many lines were read at most, by what stops play, and how many lines were begun
+abbrev pub lines_until : PlayStop → ℕ → ℕ
+lines_until (Input fault) written = 2
+lines_until NoPlanLine written = 3
+lines_until (NoPlan fault) written = 3
+lines_until (NoMove fault) written = 4 + written
+lines_until Read written = 4 + written
+lines_until Write written = 4 + written
+
+-- ---- steps
+
+-- whether the last line that was begun stands whole
+abbrev pub is_whole : {X : Type 0} → Result X PlayStop → Bool
+is_whole (Ok x) = true
+is_whole (Err (Input fault)) = true
+is_whole (Err NoPlanLine) = true
+is_whole (Err (NoPlan fault)) = true
+is_whole (Err (NoMove fault)) = true
+is_whole (Err Read) = true
+is_whole (Err Write) = false
+
+-- Lines were written, of which the last may be cut after a write that failed; and a fact of the bytes that were not given
+-- before and of those that are not given after, whatever the source may give later. A line is written for two men.
+pub record PlayStep (a b : Pending) (old new : Option (List ℕ)) (whole : Bool) (before after : ℕ) (Fact : List (List ℕ) → List ℕ → List ℕ → Type 0) : Type 0 where
+  pub lines : List (List ℕ)
+  pub written : AppendsPrefix whole old new (text_of lines)
+  pub few : 2 * length lines + after ≤ before
+  pub reads : Reads a b (Fact lines)
+
+-- A line was played, or there was none, or play stopped.
+abbrev pub PlaysNext : Playing → Playing → ℕ → Result Bool PlayStop → List (List ℕ) → List ℕ → List ℕ → Type 0
+PlaysNext s t at (Ok true) lines bytes rest = PassesLines (length lines) bytes rest × (played_from s at bytes ≡ behind lines (played_from t (at + 1) rest))
+PlaysNext s t at (Ok false) lines bytes rest = PassesLines (length lines + 1) bytes rest × (played_from s at bytes ≡ record { lines = lines; end = ends.AllPlayed })
+PlaysNext s t at (Err stop) lines bytes rest = PassesLines (length lines + 1) bytes rest × StopsPlay (played_from s at bytes) lines stop × (lines_until stop (length lines) ≡ 4 + length lines)
+
+-- All lines were played, or play stopped.
+abbrev pub PlaysMoves : {X : Type 0} → Playing → ℕ → Result X PlayStop → List (List ℕ) → List ℕ → List ℕ → Type 0
+PlaysMoves s at (Ok x) lines bytes rest = PassesLines (length lines + 1) bytes rest × (played_from s at bytes ≡ record { lines = lines; end = ends.AllPlayed })
+PlaysMoves s at (Err stop) lines bytes rest = PassesLines (length lines + 1) bytes rest × StopsPlay (played_from s at bytes) lines stop × (lines_until stop (length lines) ≡ 4 + length lines)
+
+-- a stream is said to have failed only where its count rose
+abbrev pub IsCaused : ℕ → ℕ → ℕ → ℕ → PlayStop → Type 0
+IsCaused read_before read_after write_before write_after Read = Rose read_before read_after
+IsCaused read_before read_after write_before write_after Write = Rose write_before write_after
+IsCaused read_before read_after write_before write_after (Input fault) = ⊤
+IsCaused read_before read_after write_before write_after NoPlanLine = ⊤
+IsCaused read_before read_after write_before write_after (NoPlan fault) = ⊤
+IsCaused read_before read_after write_before write_after (NoMove fault) = ⊤
+
+pub record HasPlayCause {X : Type 0} (read_before read_after write_before write_after : ℕ) (result : Result X PlayStop) : Type 0 where
+  pub read_later : read_before ≤ read_after
+  pub write_later : write_before ≤ write_after
+  pub caused : IfErr result (IsCaused read_before read_after write_before write_after)
+
+-- a line is no move
+abbrev pub IsNoMove : PlayStop → Type 0
+IsNoMove (NoMove fault) = ⊤
+IsNoMove (Input fault) = ⊥
+IsNoMove NoPlanLine = ⊥
+IsNoMove (NoPlan fault) = ⊥
+IsNoMove Read = ⊥
+IsNoMove Write = ⊥
+
+-- what stops play while nothing is written yet
+abbrev pub StopsReading : ℕ → ℕ → PlayStop → Type 0
+StopsReading before after Read = Rose before after
+StopsReading before after Write = ⊥
+StopsReading before after (Input fault) = ⊤
+StopsReading before after NoPlanLine = ⊤
+StopsReading before after (NoPlan fault) = ⊤
+StopsReading before after (NoMove fault) = ⊤
+
+-- ---- the whole
+
+-- how the run ends by what stops play
+abbrev pub play_ending : PlayStop → Ending
+play_ending (Input fault) = endings.Input fault
+play_ending NoPlanLine = endings.Refused (record { at = 3; why = BadLine })
+play_ending (NoPlan fault) = endings.NoPlan fault
+play_ending (NoMove fault) = endings.NoMove fault
+play_ending Read = endings.Read
+play_ending Write = endings.Write
+
+-- What was played by the bytes that were taken, and by all of the input, where the source tells it.
+pub record PlaysInput {X : Type 0} (input left old new : Option (List ℕ)) (result : Result X PlayStop) : Type 0 where
+  pub taken : List ℕ
+  pub gave : Consumes input left taken
+  pub lines : List (List ℕ)
+  pub few : length lines ≤ 50
+  pub written : AppendsPrefix (is_whole result) old new (text_of lines)
+  pub played : MatchResult result (λ x. (play_of taken ≡ record { lines = lines; end = ends.AllPlayed }) × IfSome input (λ bytes. play_of bytes ≡ record { lines = lines; end = ends.AllPlayed }) × IsAtEnd left)
+      (λ stop. StopsPlay (play_of taken) lines stop × IfSome input (λ bytes. StopsPlay (play_of bytes) lines stop))
+  pub passed : MatchResult result (λ x. TakesLines (4 + length lines) taken) (λ stop. TakesLines (lines_until stop (length lines)) taken)
