@@ -36,11 +36,11 @@ all_filter p q (x ∷ xs) = elim (cases_Bool (q x)) [
 ]
 
 -- the tests of each square and of each line, over their lists in order
-squares_all : (b : Board) (test : Square → Bool) → list_all test (squares_of_board b) ≡ every_square b test
+pub squares_all : (b : Board) (test : Square → Bool) → list_all test (squares_of_board b) ≡ every_square b test
 unfolding squares_of_board
 squares_all b test = all_flat_map test (squares_in_column b.rows) (below b.cols) ∙ all_same _ _ (below b.cols) (λ c. list_all-map test (λ i. (c, i + 1)) (below b.rows))
 
-lines_all : (b : Board) (test : Group → Bool) → list_all test (groups_of b) ≡ every_line b test
+pub lines_all : (b : Board) (test : Group → Bool) → list_all test (groups_of b) ≡ every_line b test
 unfolding groups_of
 lines_all b test = all_flat_map test (groups_along b) ways ∙ all_same _ _ ways along
   where

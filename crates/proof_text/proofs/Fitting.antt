@@ -103,7 +103,7 @@ room_playable p column room =
     and_from _ _ (and_from _ _ (lt-ltb column (length p.columns) wide) (and_from _ _ (le-leb 1 (height p column + 1) (omega arith)) (le-leb (height p column + 1) p.rows (omega arith)))) (eq-eqb (height p column + 1) (height p column + 1) refl)
 
 -- the members of a plan have texts, and there is one at least, since some square is empty
-plan_fits : (p : Position) (ws : List RuleInstance) → is_board (board_of p) ≡ true → length ws ≤ most_members → is_plan p ws ≡ true → PlanFits (board_of p) ws
+pub plan_fits : (p : Position) (ws : List RuleInstance) → is_board (board_of p) ≡ true → length ws ≤ most_members → is_plan p ws ≡ true → PlanFits (board_of p) ws
 plan_fits p ws board short h =
     let plan = plan_gives p ws h in
     let found = any_gives (has_room p) (below (length p.columns)) (goes_on_room p plan.going) in
