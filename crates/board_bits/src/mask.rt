@@ -1,7 +1,7 @@
 //! Sets of squares, each kept as one word: eleven bits for each column, of which the highest stands above every board and
 //! is never set. A contract sees the list of the squares in square order, and says of each square whether the set has it.
 //! Each answer is found in the word as a whole; only `of` and `squares` go from square to square.
-ghost use Rattle.std.specs.Prelude.{◌≡◌, ◌⊎◌, ◌+◌, ◌-◌, ◌*◌, ◌%◌, ◌^◌, ◌<◌, ◌&&◌, ◌||◌, ◌==◌, true, false, not, nat_le, length, sum_by};
+ghost use Rattle.std.specs.Prelude.{◌≡◌, ◌⊎◌, ◌+◌, ◌-◌, ◌*◌, ◌%◌, ◌^◌, ◌<◌, ◌&&◌, ◌||◌, ◌==◌, true, false, not, nat_le, length, slice_get, sum_by};
 ghost use Rattle.std.specs.List.{list_any, list_all};
 ghost use Rattle.game_rules.specs.Board.{on_board, line_at};
 ghost use Rattle.game_rules.specs.Squares.{same_square, has_square, widest, IsSetOf};
@@ -156,6 +156,16 @@ impl Mask {
         ensures { result ≡ (length self.now == 0) }
     {
         self.word == 0
+    }
+
+    /// The first of the set's squares in square order; None exactly where it has none.
+    pub fn first(&self) -> Option<Square>
+        ensures { result ≡ slice_get self.now 0 }
+    {
+        if self.word == 0 {
+            return None;
+        }
+        Some(Square::at_place(self.word.trailing_zeros()))
     }
 
     /// The set's squares in square order: by column, then by row. The cost is that of its squares alone.

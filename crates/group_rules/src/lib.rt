@@ -10,6 +10,7 @@ mod specialbefore;
 
 pub use crate::aftereven::{Aftereven, list_aftereven, push_afterevens};
 pub use crate::before::{Before, list_before, push_befores};
+pub use crate::line::squares_below;
 pub use crate::specialbefore::{Specialbefore, list_specialbefore, push_specialbefores};
 
 #[cfg(test)]

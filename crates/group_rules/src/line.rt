@@ -89,7 +89,7 @@ pub(crate) fn has_some_above_each(g: GroupId, chosen: Mask, set: Mask) -> bool
 }
 
 /// The squares above which, in their column, some square of the set lies.
-pub(crate) fn squares_below(set: Mask) -> Mask
+pub fn squares_below(set: Mask) -> Mask
     ensures { IsSetOf (λ u. nat_le 1 u.1 && some_above (has_square set) u) result }
 {
     let mut lowered = set;

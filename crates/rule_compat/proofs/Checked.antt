@@ -63,7 +63,7 @@ pub is_first : {X : Type 0} (xs : List X) (x : X) → 1 ≤ length xs → x ≡ 
 is_first xs x some at = slice_get_read xs (length xs) 0 x refl (omega (arith, some)) at
 
 -- the first element that passes is the first of those that do
-find_filtered : {X : Type 0} (test : X → Bool) (xs : List X) → slice_get (filter test xs) 0 ≡ find test xs
+pub find_filtered : {X : Type 0} (test : X → Bool) (xs : List X) → slice_get (filter test xs) 0 ≡ find test xs
 find_filtered test [] = refl
 find_filtered test (x ∷ xs) = elim (cases_Bool (test x)) [
   | inl passes ↦ rw passes refl

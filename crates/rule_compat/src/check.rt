@@ -11,7 +11,7 @@ ghost use Rattle.rule_law.specs.KeptFacts.{facts_in};
 ghost use Rattle.rule_compat.specs.Written.{written, written_list};
 ghost use Rattle.rule_compat.specs.Faults.{position_refusal, refusal_of};
 
-use crate::facts::facts;
+use crate::facts::facts_kept;
 use crate::lines::first_unanswered;
 use crate::members::{MOST_ZONES, first_misfit, gather};
 use crate::zone::Zone;
@@ -86,7 +86,7 @@ fn cover_accepted(p: &Position, list: &[Instance], zones: &[Zone]) -> Result<Kep
     if let Some(square) = first_uncovered(p, zones) {
         return Err(PlanFault::Uncovered(square));
     }
-    let kept = facts(p, list);
+    let kept = facts_kept(p, list);
     if let Some(member) = first_unsupported(list, &kept) {
         return Err(PlanFault::Unsupported(member));
     }

@@ -17,7 +17,7 @@ pub(crate) fn from_up(x: Square) -> Mask
 }
 
 /// All squares of the columns in which the set has some.
-pub(crate) fn columns_of(set: &Mask) -> Mask
+pub fn columns_of(set: &Mask) -> Mask
     ensures { IsSetOf (in_columns_of set.now) result }
 {
     let mut columns = Mask::empty();

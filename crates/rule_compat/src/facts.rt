@@ -17,7 +17,7 @@ const MOST_TWINS: usize = 5;
 
 /// What the members of a list promise at the position, where each fits and each two may stand together: so no more than
 /// five of them name twins.
-pub(crate) fn facts(p: &Position, list: &[Instance]) -> Kept
+pub fn facts_kept(p: &Position, list: &[Instance]) -> Kept
     requires { StandTogether p.now (written_list list.now) }
     ensures { facts_in result ≡ facts_of p.now (written_list list.now) }
 {

@@ -23,7 +23,7 @@ pub fn may_stand(a: &Instance, b: &Instance) -> bool
 }
 
 /// The same, of instances with the sets of squares that they own, and the whole columns of the first one.
-pub(crate) fn zones_may_stand(
+pub fn zones_may_stand(
     a: &Instance,
     a_zone: &Mask,
     a_columns: &Mask,

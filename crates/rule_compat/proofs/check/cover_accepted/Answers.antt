@@ -16,14 +16,14 @@ pub returns-in-Some-first_unsupported-clause-fault : goal.returns-in-Some-first_
 returns-in-Some-first_unsupported-clause-fault c =
     let ws = written_list c.args.list.now in
     let square = bare_from c.args.p.now c.args.list.now c.args.zones.now c.first_uncovered.result c.requires.zones c.first_uncovered.ensures in
-    let member = ap (λ facts. position_from (λ w. not (is_supported w facts)) 1 ws) (sym c.facts-kept.ensures) ∙ sym c.first_unsupported.ensures in
+    let member = ap (λ facts. position_from (λ w. not (is_supported w facts)) 1 ws) (sym c.facts_kept-kept.ensures) ∙ sym c.first_unsupported.ensures in
     unsupported_refused c.args.p.now ws c.in-Some-first_unsupported.member (square ∙ c.in_default.is) (member ∙ c.in-Some-first_unsupported.is)
 
 pub returns-in-Some-first_unanswered-clause-fault : goal.returns-in-Some-first_unanswered-clause-fault
 returns-in-Some-first_unanswered-clause-fault c =
     let ws = written_list c.args.list.now in
     let square = bare_from c.args.p.now c.args.list.now c.args.zones.now c.first_uncovered.result c.requires.zones c.first_uncovered.ensures in
-    let member = ap (λ facts. position_from (λ w. not (is_supported w facts)) 1 ws) (sym c.facts-kept.ensures) ∙ sym c.first_unsupported.ensures in
+    let member = ap (λ facts. position_from (λ w. not (is_supported w facts)) 1 ws) (sym c.facts_kept-kept.ensures) ∙ sym c.first_unsupported.ensures in
     ap (option_map unanswered) (sym c.in-Some-first_unanswered.is ∙ c.first_unanswered.ensures)
     ∙ lines_decide c.args.p.now ws (square ∙ c.in_default.is) (member ∙ c.in_default-first_unsupported.is)
 
@@ -31,6 +31,6 @@ pub returns-clause-fault : goal.returns-clause-fault
 returns-clause-fault c =
     let ws = written_list c.args.list.now in
     let square = bare_from c.args.p.now c.args.list.now c.args.zones.now c.first_uncovered.result c.requires.zones c.first_uncovered.ensures in
-    let member = ap (λ facts. position_from (λ w. not (is_supported w facts)) 1 ws) (sym c.facts-kept.ensures) ∙ sym c.first_unsupported.ensures in
+    let member = ap (λ facts. position_from (λ w. not (is_supported w facts)) 1 ws) (sym c.facts_kept-kept.ensures) ∙ sym c.first_unsupported.ensures in
     ap (option_map unanswered) (sym c.in_default-first_unanswered.is ∙ c.first_unanswered.ensures)
     ∙ lines_decide c.args.p.now ws (square ∙ c.in_default.is) (member ∙ c.in_default-first_unsupported.is)

@@ -3,7 +3,7 @@ use Rattle.std.proofs.Math.Path.{fun_ext}
 use Rattle.game_rules.specs.Squares.{has_square}
 use Rattle.plan_rules.specs.Rules.{facts_of}
 use Rattle.rule_compat.specs.Written.{written_list}
-use Rattle.rule_compat.proofs.facts.facts.Goals as goal
+use Rattle.rule_compat.proofs.facts.facts_kept.Goals as goal
 
 pub returns : goal.returns
 returns c =

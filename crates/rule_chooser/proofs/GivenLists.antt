@@ -1,0 +1,90 @@
+-- The list that a set gives, one of White's lines after another.
+use Rattle.std.proofs.Common.{◌≡◌, ℕ, ◌+◌, ◌<◌, ◌≤◌, Bool, true, false, not, ◌||◌, if◌then◌else◌, List, [], ◌∷◌, ◌++◌, length, map, filter, take, drop, get_or, Some, refl, sym, ap, ◌∙◌, subst, inl, inr, arith}
+use Rattle.std.specs.List.{list_any, slice_get}
+use Rattle.std.specs.Option.{option_map}
+use Rattle.std.proofs.lemmas.Bool.{cases_Bool}
+use Rattle.std.proofs.lemmas.List.{get_or_default, drop_more, drop_all, map-append, take-append-drop, length-map}
+use Rattle.std.proofs.lemmas.Option.{slice_get-map, slice_get_read}
+use Rattle.game_rules.specs.Board.{is_board}
+use Rattle.game_rules.specs.Position.{Position, board_of, has_man}
+use Rattle.game_rules.specs.Squares.{has_square, squares_where}
+use Rattle.game_rules.specs.Groups.{Group, squares_of, groups_of, is_free_for}
+use Rattle.game_rules.specs.declared.Side.TheVariants.{White, Black}
+use Rattle.game_rules.proofs.Lists.{Among, Among-append_right, Among-filter_gives}
+use Rattle.plan_rules.specs.Rules.{RuleInstance, Facts, facts_of}
+use Rattle.plan_rules.specs.Plan.{empty_part, is_barred}
+use Rattle.rule_compat.specs.declared.instance.Instance.{Instance}
+use Rattle.rule_compat.specs.Written.{written, written_list}
+use Rattle.walk_rules.specs.Walk.{is_left, answer_to, with_one, answers, given}
+use Rattle.rule_chooser.specs.declared.lines.Line.{Line}
+use Rattle.rule_chooser.specs.Lines.{line_at, lines_for}
+use Rattle.rule_chooser.specs.Standing.{first_standing, some_bars}
+use Rattle.rule_chooser.proofs.LineAnswers.{bars_is, answer_is}
+
+-- a line with its own squares, at its place in the list of the groups
+pub group_at : (p : Position) (gs : List Group) (lines : List Line) (i : ℕ) (line : Line) → lines ≡ map (line_at p) gs → i < length lines → line ≡ get_or lines i line
+    → drop i gs ≡ line.group ∷ drop (i + 1) gs
+group_at p gs lines i line same within at =
+    drop_more gs i line.group (omega (arith, within, ap length same, length-map gs (line_at p)))
+    ∙ ap (λ g. g ∷ drop (i + 1) gs) (is_group (get_or gs i line.group) (at_place gs i within_gs))
+  where
+    within_gs : i < length gs
+    within_gs = omega (arith, within, ap length same, length-map gs (line_at p))
+
+    at_place : (gs : List Group) (i : ℕ) → i < length gs → slice_get gs i ≡ Some (get_or gs i line.group)
+    at_place gs i h = slice_get_read gs (length gs) i (get_or gs i line.group) refl h (default gs i h)
+      where
+        default : (gs : List Group) (i : ℕ) → i < length gs → get_or gs i line.group ≡ get_or gs i (get_or gs i line.group)
+        default gs i h = get_or_default gs i line.group (get_or gs i line.group) h
+
+    found : option_map (line_at p) (slice_get gs i) ≡ Some line
+    found = sym (slice_get-map (line_at p) gs i) ∙ ap (λ ls. slice_get ls i) (sym same) ∙ slice_get_read lines (length lines) i line refl within at
+
+    is_group : (g : Group) → slice_get gs i ≡ Some g → g ≡ line.group
+    is_group g is = let both : Some (line_at p g) ≡ Some line = ap (option_map (line_at p)) (sym is) ∙ found in let same : line_at p g ≡ line = cc both in ap (λ (l : Line). l.group) same
+
+module _ (p : Position) (set : List RuleInstance) where
+  -- lines with a man of Black's need no answer
+  pub answers_free : (gs : List Group) (ws : List RuleInstance) → answers p set (filter (is_free_for White p) gs) ws ≡ answers p set gs ws
+  answers_free [] ws = refl
+  answers_free (g ∷ gs) ws = elim (cases_Bool (is_free_for White p g)) [
+    | inl free ↦ rw free (answers_free gs (if is_left p set g then with_one ws (answer_to p set g) else ws))
+    | inr other ↦ rw other (answers_free gs ws ∙ ap (answers p set gs) (sym (ap (λ b. if b then with_one ws (answer_to p set g) else ws) (none_left (list_any (has_man p Black) (squares_of g)) (is_barred p set g) other))))
+  ]
+    where
+      none_left : (b d : Bool) → not b ≡ false → not (b || d) ≡ false
+      none_left true d h = refl
+      none_left false d h = absurd (cc h)
+
+  -- one line more
+  pub answers_one : (board : is_board (board_of p) ≡ true) (facts : Facts) (g : Group) (gs : List Group) (ws : List RuleInstance) → facts ≡ facts_of p set → is_free_for White p g ≡ true
+      → answers p set (g ∷ gs) ws ≡ answers p set gs (
+      if some_bars facts (has_square (squares_where (empty_part p g))) set then ws
+      else with_one ws (first_standing p facts (has_square (squares_where (empty_part p g))))
+      )
+  answers_one board facts g gs ws same free = ap (answers p set gs) (
+      turned (list_any (has_man p Black) (squares_of g)) (is_barred p set g) (with_one ws (answer_to p set g)) ws free
+      ∙ ap (λ b. if b then ws else with_one ws (answer_to p set g)) (sym (bars_is p set board facts g same))
+      ∙ ap (λ o. if some_bars facts (has_square (squares_where (empty_part p g))) set then ws else with_one ws o) (sym (answer_is p set board facts g same))
+      )
+    where
+      turned : (b d : Bool) (xs ys : List RuleInstance) → not b ≡ true → (if not (b || d) then xs else ys) ≡ (if d then ys else xs)
+      turned true d xs ys h = absurd (cc h)
+      turned false true xs ys h = refl
+      turned false false xs ys h = refl
+
+  -- the list with the answers to all lines
+  pub given_all : (zones : ℕ) (items old : List Instance) (i : ℕ) → set ≡ written_list old → take zones items ≡ old → length (lines_for White p) ≤ i
+      → answers p set (drop i (lines_for White p)) (written_list (drop zones items)) ≡ answers p set (lines_for White p) [] → written_list items ≡ given p set
+  given_all zones items old i is first past answered =
+      ap written_list (sym (take-append-drop zones items))
+      ∙ map-append written (take zones items) (drop zones items)
+      ∙ ap (λ ws. ws ++ written_list (drop zones items)) (ap written_list first ∙ sym is)
+      ∙ ap (λ ws. set ++ ws) (ap (λ gs. answers p set gs (written_list (drop zones items))) (sym (drop_all i (lines_for White p) past)) ∙ answered ∙ answers_free (groups_of (board_of p)) [])
+
+-- a line of the list is free for White
+pub line_free : (p : Position) (lines : List Line) (i : ℕ) (line : Line) → drop i (lines_for White p) ≡ line.group ∷ drop (i + 1) (lines_for White p) → is_free_for White p line.group ≡ true
+line_free p lines i line is = (Among-filter_gives (is_free_for White p) (groups_of (board_of p)) line.group (dropped (lines_for White p) i (subst (λ gs. Among line.group gs) (sym is) (inl refl)))).1
+  where
+    dropped : (gs : List Group) (i : ℕ) → Among line.group (drop i gs) → Among line.group gs
+    dropped gs i among = subst (λ hs. Among line.group hs) (take-append-drop i gs) (Among-append_right line.group (take i gs) (drop i gs) among)

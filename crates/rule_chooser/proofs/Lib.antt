@@ -1,0 +1,12 @@
+mod FreeLines
+mod Twins
+mod SameInstance
+mod Specials
+mod OpenLines
+mod SpecialLines
+mod LineAnswers
+mod GivenLists
+mod Visits
+mod ChosenPlans
+mod Linked
+mod StandingFirst

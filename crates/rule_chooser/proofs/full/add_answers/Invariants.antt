@@ -1,0 +1,14 @@
+use Rattle.std.proofs.Common.{◌≡◌, ◌+◌, ◌≤◌, [], length, take, drop}
+use Rattle.game_rules.specs.declared.Side.TheVariants.{White}
+use Rattle.rule_compat.specs.Written.{written_list}
+use Rattle.walk_rules.specs.Walk.{answers}
+use Rattle.rule_chooser.specs.Lines.{lines_for}
+use Rattle.rule_chooser.proofs.full.add_answers.Given as goal
+
+abbrev pub invariant-loop-line : goal.invariant-loop-line
+invariant-loop-line l = record {
+  zones : take l.zones l.list.items ≡ l.fn.list.items;
+  answers : answers l.p (written_list l.fn.list.items) (drop l.line-index (lines_for White l.p)) (written_list (drop l.zones l.list.items)) ≡ answers l.p (written_list l.fn.list.items) (lines_for White l.p) [];
+  least : l.zones ≤ length l.list.items;
+  most : length l.list.items ≤ l.zones + l.line-index;
+}

@@ -1,0 +1,7 @@
+pub mod Shown
+pub mod ZoneFields
+pub mod Lines
+pub mod Ground
+pub mod Standing
+pub mod Walked
+pub mod Links

@@ -1,0 +1,25 @@
+-- What a walk has found among the sets of a part of it, for whatever sets come after that part.
+use Rattle.std.specs.Prelude.{ℕ, List}
+use Rattle.game_rules.specs.Position.{Position}
+use Rattle.plan_rules.specs.Rules.{RuleInstance}
+use Rattle.walk_rules.specs.Walk.{Chosen, gave, no_plan, spent, given, choice_among}
+use Rattle.rule_chooser.specs.declared.visit.Found.{Found}
+use Rattle.rule_chooser.specs.declared.visit.Found.TheVariants as founds
+
+-- the list of a set that gives a plan is chosen; where no set does, what is left decides among the sets that come after
+abbrev pub goes_on : Position → ℕ → List (List RuleInstance) → List RuleInstance → Found → Chosen
+goes_on p left rest set founds.Plan = gave (given p set)
+goes_on p left rest set founds.NoPlan = choice_among p left rest
+goes_on p left rest set founds.Spent = spent
+
+-- what is chosen among all sets
+abbrev pub chosen_by : Position → List RuleInstance → Found → Chosen
+chosen_by p set founds.Plan = gave (given p set)
+chosen_by p set founds.NoPlan = no_plan
+chosen_by p set founds.Spent = spent
+
+-- and where the list is the one that is given
+abbrev pub choice_shown : List RuleInstance → Found → Chosen
+choice_shown list founds.Plan = gave list
+choice_shown list founds.NoPlan = no_plan
+choice_shown list founds.Spent = spent

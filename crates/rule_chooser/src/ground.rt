@@ -1,0 +1,38 @@
+//! What the position alone decides for a search: listed once a call, and lent to each step.
+ghost use Rattle.rule_chooser.specs.Ground.{IsGround};
+
+use crate::lines::{Line, MOST_LINES, list_lines};
+use crate::zones::Zones;
+use arrayvec::ArrayVec;
+use board_bits::{Mask, Position, Side};
+
+/// The zones that fit, the lines that each side can still fill, and the playable squares.
+#[derive(Debug, Drop)]
+pub(crate) struct Ground {
+    pub(crate) zones: Zones,
+    pub(crate) white: ArrayVec<Line, MOST_LINES>,
+    pub(crate) black: ArrayVec<Line, MOST_LINES>,
+    pub(crate) playable: Mask,
+}
+
+impl Ground {
+    /// That of no position yet.
+    pub(crate) fn new() -> Ground {
+        Ground {
+            zones: Zones::new(),
+            white: ArrayVec::new(),
+            black: ArrayVec::new(),
+            playable: Mask::empty(),
+        }
+    }
+
+    /// Lists all anew for the position.
+    pub(crate) fn list(&mut self, p: &Position)
+        ensures { IsGround p.now self.new }
+    {
+        self.zones.list(p);
+        list_lines(p, Side::White, &mut self.white);
+        list_lines(p, Side::Black, &mut self.black);
+        self.playable = Mask::of(p.playables().as_slice());
+    }
+}

@@ -1,0 +1,22 @@
+//! The choice of a plan at a position: the first of the sets of zones, in the order of the walk, that gives a plan, where
+//! one of the first so many does.
+//!
+//! The walk goes through the sets depth first, one recursion for each zone of a set; its definitions and laws stand in
+//! `walk_rules`. What a position alone decides is listed once a call: the fitting zones, and the lines of either side.
+//! Only a set that leaves no square open is tested, line by line, up to the first line without an answer. The one search
+//! of a standing answer serves that test and the list that is given. All lists stand in the chooser, which is made once
+//! and lent, so no call takes memory.
+#![tactic(auto)]
+
+mod chooser;
+mod full;
+mod ground;
+mod lines;
+mod special;
+mod standing;
+#[cfg(test)]
+mod tests;
+mod visit;
+mod zones;
+
+pub use crate::chooser::{Choice, Chooser, choose};

@@ -1,0 +1,76 @@
+//! The first standing instance that answers a line which a full set of zones leaves, kind by kind.
+ghost use Rattle.std.specs.Prelude.{◌≡◌, true};
+ghost use Rattle.std.specs.List.{find};
+ghost use Rattle.std.specs.Option.{option_map};
+ghost use Rattle.game_rules.specs.Board.{Square as Place};
+ghost use Rattle.game_rules.specs.Squares.{has_square, is_empty, IsSetOf};
+ghost use Rattle.plan_rules.specs.Rules.{vertical};
+ghost use Rattle.plan_rules.specs.Listing.{squares_at};
+ghost use Rattle.rule_law.specs.KeptFacts.{facts_in};
+ghost use Rattle.rule_compat.specs.Written.{written};
+ghost use Rattle.rule_chooser.specs.Ground.{IsGround};
+ghost use Rattle.rule_chooser.specs.Standing.{does_answer, first_standing, is_open_within};
+
+use crate::ground::Ground;
+use crate::lines::Line;
+use crate::special::first_specialbefore;
+use board_bits::{Mask, Position};
+use group_rules::{Aftereven, Before, squares_below};
+use inverse_rules::Vertical;
+use open_groups::GroupId;
+use rule_compat::Instance;
+use rule_law::Kept;
+
+/// The first standing instance that fits at the position, is supported by what a set of zones keeps, and bars the empty
+/// squares of a line.
+pub(crate) fn first_answer(
+    p: &Position,
+    ground: &Ground,
+    kept: &Kept,
+    empty: Mask,
+) -> Option<Instance>
+    requires ground { IsGround p.now ground.now }
+    requires kept { (u : Place) → has_square kept.now.empty u ≡ is_empty p.now u }
+    requires part { (u : Place) → has_square empty u ≡ true → is_empty p.now u ≡ true }
+    ensures { option_map written result ≡ first_standing p.now (facts_in kept.now) (has_square empty) }
+{
+    // its contract says that the board is one with a size
+    let _board = p.size();
+    if let Some(rule) = first_vertical(p, kept, empty) {
+        return Some(Instance::Vertical(rule));
+    }
+    let after = kept.upper.intersection(squares_below(empty));
+    if let Some(group) = first_within(ground.black.as_slice(), after) {
+        return Some(Instance::Aftereven(Aftereven::new(group)));
+    }
+    let before = kept.upper.union(kept.pair).intersection(empty.lowered());
+    if let Some(group) = first_within(ground.black.as_slice(), before) {
+        return Some(Instance::Before(Before::new(group)));
+    }
+    let rule = first_specialbefore(p, ground, kept, empty)?;
+    Some(Instance::Specialbefore(rule))
+}
+
+/// The first Vertical, in square order, that answers the line: with both its squares in the line's empty part.
+fn first_vertical(p: &Position, kept: &Kept, empty: Mask) -> Option<Vertical>
+    requires { (u : Place) → has_square empty u ≡ true → is_empty p.now u ≡ true }
+    ensures { result ≡ find (λ e. does_answer p.now (facts_in kept.now) (has_square empty) (vertical e)) (squares_at p.now) }
+{
+    // its contract says that the board is one with a size
+    let size = p.size();
+    let both = empty.intersection(empty.lowered());
+    let squares = both.intersection(kept.pair).without(Mask::odd_rows());
+    Vertical::new(size, squares.first()?)
+}
+
+/// The first of Black's lines that has an empty square, and of which the set has all empty squares.
+fn first_within(lines: &[Line], set: Mask) -> Option<GroupId>
+    ensures { result ≡ option_map (λ line. line.group) (find (is_open_within set) lines.now) }
+{
+    for line in lines {
+        if !line.empty.is_empty() && line.empty.within(set) {
+            return Some(line.group);
+        }
+    }
+    None
+}

@@ -1,0 +1,282 @@
+//! The zones that fit at a position, each with the set of its squares and that of its columns, so that a search compares
+//! two zones without computing them again.
+ghost use Rattle.std.specs.Prelude.{◌≡◌, ◌+◌, ◌<◌, ◌≤◌, ℕ, true, length, drop, Some, slice_get, slice_index_or, slice_set};
+ghost use Rattle.std.specs.List.{list_all};
+ghost use Rattle.game_rules.specs.Squares.{has_square, IsSetOf};
+ghost use Rattle.plan_rules.specs.Rules.{zone_of, together};
+ghost use Rattle.board_bits.specs.Words.{place_of};
+ghost use Rattle.rule_compat.specs.declared.instance.Instance.{Instance as Listed};
+ghost use Rattle.rule_compat.specs.Written.{written, written_list};
+ghost use Rattle.walk_rules.specs.Walk.{fitting_zones};
+ghost use Rattle.rule_chooser.specs.Links.{least_place, next_at, IsLinked};
+
+use arrayvec::ArrayVec;
+use base_rules::{Baseclaim, Baseinverse, push_baseclaims, push_baseinverses};
+use board_bits::{Mask, Position, Square};
+use claimeven::{Claimeven, push_claimevens};
+use inverse_rules::{Highinverse, Lowinverse, push_highinverses, push_lowinverses};
+use rule_compat::{Instance, columns_of, zones_may_stand};
+use rule_law::{Rule, Taker};
+use std::marker::Model;
+
+/// No board has more zones that fit at one position: those of five kinds, each at its most.
+const MOST_FITTING: usize = 1580;
+
+/// The widest board has ten columns of eleven places each, of which the last is a gap.
+const PLACES: usize = 110;
+
+/// An instance of a zone rule.
+#[derive(Clone, Copy, Debug)]
+pub(crate) struct Zone {
+    instance: Instance,
+    mask: Mask,
+    columns: Mask,
+}
+
+impl Model for Zone {
+    ghost use Rattle.rule_compat.specs.declared.instance.Instance.{Instance};
+    ghost use Rattle.rule_chooser.specs.ZoneFields.{IsSound, fields_of, fields_told};
+
+    ghost Value = { Instance };
+
+    ghost view = { λ zone. zone.instance };
+
+    ghost invariant = { IsSound };
+
+    ghost inverse = { fields_of };
+
+    ghost inverse_ok = { fields_told };
+}
+
+impl Default for Zone {
+    ghost use Rattle.rule_compat.specs.declared.instance.Instance.TheVariants as instances;
+
+    ghost is_default = { λ zone. zone ≡ instances.Claimeven (0, 1) };
+
+    /// The Claimeven of the two lowest squares of the first column, which every board has.
+    fn default() -> Self {
+        Zone::of(Instance::default())
+    }
+}
+
+impl Zone {
+    /// The zone that an instance owns.
+    pub(crate) fn of(instance: Instance) -> Zone
+        ensures { result ≡ instance }
+    {
+        let mask = instance.zone();
+        Zone {
+            instance,
+            mask,
+            columns: columns_of(&mask),
+        }
+    }
+
+    /// The instance.
+    pub(crate) fn instance(&self) -> Instance
+        ensures { result ≡ self.now }
+    {
+        self.instance
+    }
+
+    /// Its squares.
+    pub(crate) fn squares(&self) -> Mask
+        ensures { IsSetOf (has_square (zone_of (written self.now))) result }
+    {
+        self.mask
+    }
+
+    /// The place of its first square, in square order.
+    fn least_place(&self) -> usize
+        ensures value { result ≡ least_place self.now }
+        ensures within { result < 110 }
+    {
+        match self.mask.first() {
+            Some(square) => place_of(square),
+            None => 0,
+        }
+    }
+
+    /// Whether it may stand together with each of a set of zones.
+    pub(crate) fn may_join(&self, set: &[Zone]) -> bool
+        ensures { result ≡ list_all (λ v. together v (written self.now)) (written_list set.now) }
+    {
+        for member in set {
+            if !member.may_stand(self) {
+                return false;
+            }
+        }
+        true
+    }
+
+    /// Whether it may stand together with another one.
+    fn may_stand(&self, other: &Zone) -> bool
+        ensures { result ≡ together (written self.now) (written other.now) }
+    {
+        zones_may_stand(
+            &self.instance,
+            &self.mask,
+            &self.columns,
+            &other.instance,
+            &other.mask,
+        )
+    }
+}
+
+/// Where a square stands among the squares of the widest board, with a gap above each column.
+pub(crate) fn place_of(s: Square) -> usize
+    ensures value { result ≡ place_of s }
+    ensures within { result < 110 }
+{
+    11 * usize::from(s.column().index()) + usize::from(s.row()) - 1
+}
+
+/// A list of zones, which takes them from the lists of the rules. Those with the same first square are linked, so that a
+/// search goes through them alone.
+#[derive(Debug, Drop)]
+pub(crate) struct Zones {
+    pub(crate) list: ArrayVec<Zone, MOST_FITTING>,
+    /// Which is the first with its first square at each place; where there is none, the length of the list.
+    pub(crate) heads: [u16; PLACES],
+    /// Which is the next with the same first square, for each of the list.
+    pub(crate) links: [u16; MOST_FITTING],
+}
+
+impl Zones {
+    /// The list without zones.
+    pub(crate) fn new() -> Zones {
+        Zones {
+            list: ArrayVec::new(),
+            heads: [0; PLACES],
+            links: [0; MOST_FITTING],
+        }
+    }
+
+    /// Lists and links all zones that fit at the position, kind by kind, in place of what was listed.
+    pub(crate) fn list(&mut self, p: &Position)
+        ensures list { written_list self.new.list.items ≡ fitting_zones p.now }
+        ensures links { IsLinked self.new.list.items self.new.heads self.new.links }
+    {
+        self.list_fitting(p);
+        self.heads = no_heads(self.list.len());
+        link(self.list.as_slice(), &mut self.heads, &mut self.links);
+    }
+
+    /// Lists them.
+    fn list_fitting(&mut self, p: &Position)
+        ensures { written_list self.new.list.items ≡ fitting_zones p.now }
+    {
+        // its contract says that the board is one with a size
+        let _board = p.size();
+        self.list.clear();
+        push_claimevens(p, self);
+        push_baseinverses(p, self);
+        push_lowinverses(p, self);
+        push_highinverses(p, self);
+        push_baseclaims(p, self);
+    }
+
+    /// The number of the first zone with its first square here; the length of the list where there is none.
+    pub(crate) fn first_with(&self, square: Square) -> usize
+        requires { IsLinked self.now.list.items self.now.heads self.now.links }
+        ensures { result ≡ next_at (place_of square) 0 self.now.list.items }
+    {
+        usize::from(self.heads[place_of(square)])
+    }
+
+    /// The number of the next zone with the same first square as this one.
+    pub(crate) fn next(&self, index: usize) -> usize
+        requires links { IsLinked self.now.list.items self.now.heads self.now.links }
+        requires within { index < length self.now.list.items }
+        ensures { (zone : Listed) → slice_get self.now.list.items index ≡ Some zone → result ≡ next_at (least_place zone) (index + 1) (drop (index + 1) self.now.list.items) }
+    {
+        // its contract says that no list has more
+        let _most = self.list.len();
+        usize::from(self.links[index])
+    }
+}
+
+/// The heads of a list of so many zones before one is linked.
+fn no_heads(zones: usize) -> [u16; PLACES]
+    requires { zones ≤ 1580 }
+    ensures { (place : ℕ) → place < 110 → slice_index_or result place 0 ≡ zones }
+{
+    [zones as u16; PLACES]
+}
+
+/// Links the zones of a list, from the last to the first.
+fn link(list: &[Zone], heads: &mut [u16; PLACES], links: &mut [u16; MOST_FITTING])
+    requires few { length list.now ≤ 1580 }
+    requires none { (place : ℕ) → place < 110 → slice_index_or heads.old place 0 ≡ length list.now }
+    ensures { IsLinked list.now heads.new links.new }
+{
+    let mut index = list.len();
+    'zones: while index > 0 {
+        index -= 1;
+        link_one(&list[index], index, heads, links);
+    }
+}
+
+/// Links a zone with this number in front of those that are linked already.
+fn link_one(zone: &Zone, index: usize, heads: &mut [u16; PLACES], links: &mut [u16; MOST_FITTING])
+    requires { index < 1580 }
+    ensures heads { heads.new ≡ slice_set heads.old (least_place zone.now) index }
+    ensures links { links.new ≡ slice_set links.old index (slice_index_or heads.old (least_place zone.now) 0) }
+    ensures place { least_place zone.now < 110 }
+    ensures places { length heads.old ≡ 110 }
+    ensures all { length links.old ≡ 1580 }
+{
+    let place = zone.least_place();
+    links[index] = heads[place];
+    heads[place] = index as u16;
+}
+
+impl Taker<Claimeven> for Zones {
+    ghost taken = { λ zones. written_list zones.list.items };
+
+    ghost room = { λ zones. 1580 };
+
+    fn take(&mut self, rule: Claimeven) {
+        self.list.push(Zone::of(Instance::Claimeven(rule)));
+    }
+}
+
+impl Taker<Baseinverse> for Zones {
+    ghost taken = { λ zones. written_list zones.list.items };
+
+    ghost room = { λ zones. 1580 };
+
+    fn take(&mut self, rule: Baseinverse) {
+        self.list.push(Zone::of(Instance::Baseinverse(rule)));
+    }
+}
+
+impl Taker<Lowinverse> for Zones {
+    ghost taken = { λ zones. written_list zones.list.items };
+
+    ghost room = { λ zones. 1580 };
+
+    fn take(&mut self, rule: Lowinverse) {
+        self.list.push(Zone::of(Instance::Lowinverse(rule)));
+    }
+}
+
+impl Taker<Highinverse> for Zones {
+    ghost taken = { λ zones. written_list zones.list.items };
+
+    ghost room = { λ zones. 1580 };
+
+    fn take(&mut self, rule: Highinverse) {
+        self.list.push(Zone::of(Instance::Highinverse(rule)));
+    }
+}
+
+impl Taker<Baseclaim> for Zones {
+    ghost taken = { λ zones. written_list zones.list.items };
+
+    ghost room = { λ zones. 1580 };
+
+    fn take(&mut self, rule: Baseclaim) {
+        self.list.push(Zone::of(Instance::Baseclaim(rule)));
+    }
+}
