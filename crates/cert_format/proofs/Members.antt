@@ -4,10 +4,11 @@ use Rattle.std.specs.List.{list_all}
 use Rattle.std.specs.Bool.{if◌then◌else◌}
 use Rattle.std.specs.Option.{option_map, option_map_or, option_and_then}
 use Rattle.std.proofs.lemmas.Bool.{and_parts, and_from, le-leb, lt-leb}
-use Rattle.std.proofs.lemmas.List.{take-append-drop, take_more, map-append}
+use Rattle.std.proofs.lemmas.List.{take-append-drop, take_more}
 use Rattle.std.proofs.lemmas.Grind.{flat_map-append}
 use Rattle.std.proofs.Math.Bool.{and-false}
 use Rattle.std.specs.Io.KnownBytes.{Appends}
+use Rattle.std.proofs.KnownBytes.{Appends-trans}
 use Rattle.device_rules.specs.Devices.{AppendsPrefix}
 use Rattle.device_rules.proofs.DeviceLaws.{AppendsPrefix_take, AppendsPrefix_more}
 use Rattle.game_rules.specs.Board.{Board, Square, is_board, on_board}
@@ -23,8 +24,6 @@ use Rattle.plan_text.proofs.Items.{group_read}
 use Rattle.plan_text.specs.PlanLine.{most_members, plan_text, instances_of, members_of}
 use Rattle.plan_text.proofs.Spaced.{spaced_behind}
 use Rattle.proof_text.specs.Spelling.{as_line}
-use Rattle.rule_compat.specs.Written.{written, written_list}
-use Rattle.rule_compat.specs.declared.instance.Instance.{Instance}
 use Rattle.cert_format.specs.Items.{members_text}
 use Rattle.cert_format.proofs.Words.{words_some}
 
@@ -98,22 +97,27 @@ pub members_are : (board : Board) (bytes : List ℕ) (ws : List RuleInstance) �
 members_are board bytes ws few h =
     ap (λ b. cond b (instances_of board (words_of bytes)) None) (and_from _ _ (le-leb 1 _ (words_some bytes)) (le-leb _ most_members few)) ∙ h
 
-members_split : (xs ys : List Instance) → members_text (written_list (xs ++ ys)) ≡ members_text (written_list xs) ++ members_text (written_list ys)
-members_split xs ys = ap members_text (map-append written xs ys) ∙ flat_map-append (λ w. 32 ∷ instance_text w) (written_list xs) (written_list ys)
+-- Pieces that are put one after another, each the text of an element: where one isn't put whole, a prefix of them all
+-- stands; and where it is, one more stands.
+module _ {X : Type 0} (text : X → List ℕ) (old mid new : Option (List ℕ)) (xs : List X) (i : ℕ) (x : X) (within : i < length xs) (at : x ≡ get_or xs i x)
+    (before : Appends old mid (flat_map text (take i xs))) where
+  one_more : flat_map text (take (i + 1) xs) ≡ flat_map text (take i xs) ++ text x
+  one_more = ap (flat_map text) (take_more xs i x within) ∙ flat_map-append text (take i xs) (get_or xs i x ∷ [])
+      ∙ ap (λ piece. flat_map text (take i xs) ++ piece) (append-nil (text (get_or xs i x)) ∙ ap text (sym at))
 
--- where a member isn't put whole, a prefix of them all stands
-pub members_cut : (old mid new : Option (List ℕ)) (list : List Instance) (i : ℕ) (x : Instance) → i < length list → x ≡ get_or list i x
-    → Appends old mid (members_text (written_list (take i list))) → AppendsPrefix false mid new (32 ∷ instance_text (written x)) → AppendsPrefix false old new (members_text (written_list list))
-members_cut old mid new list i x within at before rest =
-    let member = 32 ∷ instance_text (written x) in
-    let start = members_text (written_list (take i list)) in
-    let end = members_text (written_list (drop (i + 1) list)) in
-    let one : members_text (written_list (get_or list i x ∷ [])) ≡ member = append-nil (32 ∷ instance_text (written (get_or list i x))) ∙ ap (λ x. 32 ∷ instance_text (written x)) (sym at) in
-    let more : members_text (written_list (take (i + 1) list)) ≡ start ++ member =
-    ap (λ list. members_text (written_list list)) (take_more list i x within) ∙ members_split (take i list) (get_or list i x ∷ []) ∙ ap (λ text. start ++ text) one in
-    let whole : members_text (written_list list) ≡ (start ++ member) ++ end =
-    ap (λ list. members_text (written_list list)) (sym (take-append-drop (i + 1) list)) ∙ members_split (take (i + 1) list) (drop (i + 1) list) ∙ ap (λ text. text ++ end) more in
-    subst (AppendsPrefix false old new) (sym whole) (AppendsPrefix_take old new (start ++ member) end (AppendsPrefix_more false old mid new start member before rest))
+  pub pieces_cut : AppendsPrefix false mid new (text x) → AppendsPrefix false old new (flat_map text xs)
+  pieces_cut rest =
+      let whole : flat_map text xs ≡ (flat_map text (take i xs) ++ text x) ++ flat_map text (drop (i + 1) xs) =
+      ap (flat_map text) (sym (take-append-drop (i + 1) xs)) ∙ flat_map-append text (take (i + 1) xs) (drop (i + 1) xs) ∙ ap (λ start. start ++ flat_map text (drop (i + 1) xs)) one_more in
+      subst (AppendsPrefix false old new) (sym whole) (AppendsPrefix_take old new _ (flat_map text (drop (i + 1) xs)) (AppendsPrefix_more false old mid new (flat_map text (take i xs)) (text x) before rest))
+
+  pub pieces_more : Appends mid new (text x) → Appends old new (flat_map text (take (i + 1) xs))
+  pieces_more rest = subst (Appends old new) (sym one_more) (Appends-trans old mid new (flat_map text (take i xs)) (text x) before rest)
+
+-- texts of what is made of each element
+pub flat_map_made : {X Y Z : Type 0} (text : Y → List Z) (make : X → Y) (xs : List X) → flat_map text (map make xs) ≡ flat_map (λ x. text (make x)) xs
+flat_map_made text make [] = refl
+flat_map_made text make (x ∷ xs) = ap (λ rest. text (make x) ++ rest) (flat_map_made text make xs)
 
 members_behind : (ws : List RuleInstance) → flat_map (λ word. 32 ∷ word) (map instance_text ws) ≡ members_text ws
 members_behind [] = refl

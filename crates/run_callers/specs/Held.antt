@@ -10,11 +10,11 @@ abbrev pub StillHolds : List ℕ → List ℕ → Type 0
 StillHolds old new = (more : List ℕ) × (new ≡ old ++ more)
 
 -- Behind what was there stands a proof of some game's position, right and accepted by `check`.
-pub record HoldsProof (nodes : ℕ) (old new : List ℕ) : Type 0 where
+pub record HoldsProof (nodes reach : ℕ) (old new : List ℕ) : Type 0 where
   pub game : List ℕ
   pub position : Position
   pub is_game : game_at game ≡ Ok position
   pub verdict : Verdict
   pub text : List ℕ
-  pub proof : IsProofOf nodes game position text verdict
+  pub proof : IsProofOf nodes reach game position text verdict
   pub behind : new ≡ old ++ text

@@ -6,8 +6,9 @@
 ghost use Rattle.std.specs.Prelude.{◌≡◌, ◌⊎◌, ℕ, ◌≤◌, List, Ok, Some, map, string_bytes};
 ghost use Rattle.device_rules.specs.Devices.{Rose};
 ghost use Rattle.game_rules.specs.Position.{Position};
-ghost use Rattle.game_rules.specs.Cost.{cost, none_closed};
+ghost use Rattle.game_rules.specs.Cost.{cost};
 ghost use Rattle.game_rules.specs.Text.{game_at};
+ghost use Rattle.deep_search.specs.Planned.{solved_within};
 ghost use Rattle.victor_run.specs.Words.{form_of};
 ghost use Rattle.victor_run.specs.Outcome.{status_of};
 ghost use Rattle.victor_run.specs.declared.words.Form.TheVariants as forms;
@@ -28,8 +29,8 @@ pub fn run_into_memory<S: Source>(
     out: &mut MemSink,
 ) -> u8
     ensures kept { StillHolds out.old.written out.new.written }
-    ensures proved { (nodes : ℕ) → form_of (map string_bytes words.now) ≡ Some (forms.Prove nodes) → (result ≡ 0) ⊎ (result ≡ 5)
-        → HoldsProof nodes out.old.written out.new.written }
+    ensures proved { (nodes reach : ℕ) → form_of (map string_bytes words.now) ≡ Some (forms.Prove nodes reach) → (result ≡ 0) ⊎ (result ≡ 5)
+        → HoldsProof nodes reach out.old.written out.new.written }
 {
     run(alloc, words, source, out, &mut NullSink::new())
 }
@@ -42,8 +43,8 @@ pub fn prove_within_budget<S: Source, O: Sink>(
     source: &mut S,
     out: &mut O,
 ) -> u8
-    ensures { (nodes : ℕ) (bytes : List ℕ) (p : Position) → form_of (map string_bytes words.now) ≡ Some (forms.Prove nodes)
-        → S.left source.old ≡ Some bytes → game_at bytes ≡ Ok p → cost none_closed p ≤ nodes
+    ensures { (nodes reach : ℕ) (bytes : List ℕ) (p : Position) → form_of (map string_bytes words.now) ≡ Some (forms.Prove nodes reach)
+        → S.left source.old ≡ Some bytes → game_at bytes ≡ Ok p → cost (solved_within reach) p ≤ nodes
         → (Rose (S.faults source.old) (S.faults source.new) → ⊥) → (Rose (O.faults out.old) (O.faults out.new) → ⊥)
         → (ending : Ending) × (result ≡ status_of ending) × (ending ≡ endings.Done) }
 {

@@ -11,13 +11,14 @@ use Rattle.game_rules.specs.declared.Side.TheVariants.{White, Black}
 use Rattle.proof_text.specs.Lemma.{claim_for}
 use Rattle.proof_text.specs.Right.{Shown, Shows, IsVerdict}
 use Rattle.proof_text.specs.Spelling.{lines_of}
-use Rattle.proof_text.proofs.Append.{Shows_more, shown_more}
+use Rattle.proof_text.proofs.Append.{Shows_more}
 use Rattle.proof_text.specs.declared.Verdict.{Verdict}
 use Rattle.proof_text.specs.declared.Verdict.TheVariants.{Draw, Unknown}
-use Rattle.victor_run.specs.Search.{is_whole, is_whole_verdict, uncounted, won_by, Solves, Asks}
-use Rattle.victor_run.specs.declared.search.Answer.{Answer}
-use Rattle.victor_run.specs.declared.search.SearchStop.{SearchStop}
-use Rattle.victor_run.specs.declared.search.SearchStop.TheVariants.{Spent, WriteFault}
+use Rattle.deep_search.specs.Search.{is_whole, uncounted, Solves}
+use Rattle.victor_run.specs.Questions.{is_whole_verdict, won_by, Asks}
+use Rattle.deep_search.specs.declared.solving.Answer.{Answer}
+use Rattle.deep_search.specs.declared.solving.SearchStop.{SearchStop}
+use Rattle.deep_search.specs.declared.solving.SearchStop.TheVariants.{Spent, WriteFault}
 
 -- a side's lemma gives the verdict for the side to move
 pub won_verdict : (root : Position) (after : List Shown) (winner to_move : Side) (n : ℕ) → to_move ≡ side_to_move root → Shows after n root (claim_for winner true) → IsVerdict root after (won_by winner to_move n)
@@ -40,99 +41,106 @@ stopped_text : (stop : SearchStop) (old new : Option (List ℕ)) (text : List �
 stopped_text Spent old new text h = h
 stopped_text WriteFault old new text h = h
 
-module _ (root : Position) (nodes : ℕ) (old new : Option (List ℕ)) (count : ℕ) where
+module _ (root : Position) (nodes reach : ℕ) (old new : Option (List ℕ)) (count : ℕ) where
   -- the first question stopped
-  pub asks_none : (stop : SearchStop) → Solves root root White [] old new count (Err stop) → count + uncounted (Err stop) ≤ nodes → Asks root nodes old new (Err stop)
+  pub asks_none : (stop : SearchStop) → Solves root root White reach [] old new count (Err stop) → count + uncounted (Err stop) ≤ nodes → Asks root nodes reach old new (Err stop)
   asks_none stop white few = record {
-    white = white.more;
-    mid = white.after;
+    white = white.wrote.more;
+    mid = white.wrote.shown;
     black = [];
-    after = white.after;
-    text = stopped_text stop old new (lines_of white.more ++ []) (subst (AppendsPrefix (is_whole (Err stop)) old new) (sym (append-nil (lines_of white.more))) white.text);
-    white_right = white.right;
+    after = white.wrote.shown;
+    text = stopped_text stop old new (lines_of white.wrote.more ++ []) (subst (AppendsPrefix (is_whole (Err stop)) old new) (sym (append-nil (lines_of white.wrote.more))) white.wrote.text);
+    white_right = white.wrote.right;
     black_right = refl;
-    white_sided = white.sided;
+    white_sided = white.wrote.sided;
     black_sided = tt;
+    white_planned = white.wrote.planned;
+    black_planned = tt;
     asked = λ some. absurd (some refl);
     verdict = tt;
-    few = omega (arith, white.counted, few);
+    few = omega (arith, white.wrote.counted, few);
   }
 
   -- White wins
-  pub asks_white : (answer : Answer) (to_move : Side) (v : Verdict) → Solves root root White [] old new count (Ok answer) → answer.yes ≡ true → to_move ≡ side_to_move root
-      → v ≡ won_by White to_move answer.lemma → count ≤ nodes → Asks root nodes old new (Ok v)
+  pub asks_white : (answer : Answer) (to_move : Side) (v : Verdict) → Solves root root White reach [] old new count (Ok answer) → answer.yes ≡ true → to_move ≡ side_to_move root
+      → v ≡ won_by White to_move answer.lemma → count ≤ nodes → Asks root nodes reach old new (Ok v)
   asks_white answer to_move v white won turn told few = record {
-    white = white.more;
-    mid = white.after;
+    white = white.wrote.more;
+    mid = white.wrote.shown;
     black = [];
-    after = white.after;
-    text = subst (Appends old new) (sym (append-nil (lines_of white.more))) white.text;
-    white_right = white.right;
+    after = white.wrote.shown;
+    text = subst (Appends old new) (sym (append-nil (lines_of white.wrote.more))) white.wrote.text;
+    white_right = white.wrote.right;
     black_right = refl;
-    white_sided = white.sided;
+    white_sided = white.wrote.sided;
     black_sided = tt;
+    white_planned = white.wrote.planned;
+    black_planned = tt;
     asked = λ some. absurd (some refl);
     verdict = (
-      rw told (won_verdict root white.after White to_move answer.lemma turn (subst (λ b. Shows white.after answer.lemma root (claim_for White b)) won white.shown)),
+      rw told (won_verdict root white.wrote.shown White to_move answer.lemma turn (subst (λ b. Shows white.wrote.shown answer.lemma root (claim_for White b)) won white.named)),
       (λ h. won_known White to_move answer.lemma (sym told ∙ h)),
     );
-    few = omega (arith, white.counted, few);
+    few = omega (arith, white.wrote.counted, few);
   }
 
-module _ (root : Position) (nodes : ℕ) (old held new : Option (List ℕ)) (count : ℕ) (first : Answer) (white : Solves root root White [] old held count (Ok first)) (none : first.yes ≡ false) (counted : ℕ) where
-  white_fails : Shows white.after first.lemma root (claim_for White false)
-  white_fails = subst (λ b. Shows white.after first.lemma root (claim_for White b)) none white.shown
+module _ (root : Position) (nodes reach : ℕ) (old held new : Option (List ℕ)) (count : ℕ) (first : Answer) (white : Solves root root White reach [] old held count (Ok first)) (none : first.yes ≡ false) (counted : ℕ) where
+  white_fails : Shows white.wrote.shown first.lemma root (claim_for White false)
+  white_fails = subst (λ b. Shows white.wrote.shown first.lemma root (claim_for White b)) none white.named
 
   -- the second question stopped
-  pub asks_one : (stop : SearchStop) → Solves root root Black white.after held new counted (Err stop) → counted + uncounted (Err stop) ≤ nodes → Asks root nodes old new (Err stop)
+  pub asks_one : (stop : SearchStop) → Solves root root Black reach white.wrote.shown held new counted (Err stop) → counted + uncounted (Err stop) ≤ nodes → Asks root nodes reach old new (Err stop)
   asks_one stop black few = record {
-    white = white.more;
-    mid = white.after;
-    black = black.more;
-    after = black.after;
-    text = stopped_text stop old new (lines_of white.more ++ lines_of black.more) (AppendsPrefix_more (is_whole (Err stop)) old held new (lines_of white.more) (lines_of black.more) white.text black.text);
-    white_right = white.right;
-    black_right = black.right;
-    white_sided = white.sided;
-    black_sided = black.sided;
+    white = white.wrote.more;
+    mid = white.wrote.shown;
+    black = black.wrote.more;
+    after = (white.wrote.shown ++ black.wrote.shown);
+    text = stopped_text stop old new (lines_of white.wrote.more ++ lines_of black.wrote.more) (AppendsPrefix_more (is_whole (Err stop)) old held new (lines_of white.wrote.more) (lines_of black.wrote.more) white.wrote.text black.wrote.text);
+    white_right = white.wrote.right;
+    black_right = black.wrote.right;
+    white_sided = white.wrote.sided;
+    black_sided = black.wrote.sided;
+    white_planned = white.wrote.planned;
+    black_planned = black.wrote.planned;
     asked = λ _. (first.lemma, white_fails);
     verdict = tt;
-    few = omega (arith, black.counted, few);
+    few = omega (arith, black.wrote.counted, few);
   }
 
-  module _ (second : Answer) (black : Solves root root Black white.after held new counted (Ok second)) (few : counted ≤ nodes) where
+  module _ (second : Answer) (black : Solves root root Black reach white.wrote.shown held new counted (Ok second)) (few : counted ≤ nodes) where
     -- a verdict behind the lemmas of both questions
-    both_asked : (v : Verdict) → IsVerdict root black.after v × (v ≢ Unknown) → Asks root nodes old new (Ok v)
+    both_asked : (v : Verdict) → IsVerdict root (white.wrote.shown ++ black.wrote.shown) v × (v ≢ Unknown) → Asks root nodes reach old new (Ok v)
     both_asked v verdict = record {
-      white = white.more;
-      mid = white.after;
-      black = black.more;
-      after = black.after;
-      text = AppendsPrefix_more true old held new (lines_of white.more) (lines_of black.more) white.text black.text;
-      white_right = white.right;
-      black_right = black.right;
-      white_sided = white.sided;
-      black_sided = black.sided;
+      white = white.wrote.more;
+      mid = white.wrote.shown;
+      black = black.wrote.more;
+      after = (white.wrote.shown ++ black.wrote.shown);
+      text = AppendsPrefix_more true old held new (lines_of white.wrote.more) (lines_of black.wrote.more) white.wrote.text black.wrote.text;
+      white_right = white.wrote.right;
+      black_right = black.wrote.right;
+      white_sided = white.wrote.sided;
+      black_sided = black.wrote.sided;
+      white_planned = white.wrote.planned;
+      black_planned = black.wrote.planned;
       asked = λ _. (first.lemma, white_fails);
       verdict = verdict;
-      few = omega (arith, black.counted, few);
+      few = omega (arith, black.wrote.counted, few);
     }
 
     -- Black wins
-    pub asks_black : (to_move : Side) (v : Verdict) → second.yes ≡ true → to_move ≡ side_to_move root → v ≡ won_by Black to_move second.lemma → Asks root nodes old new (Ok v)
+    pub asks_black : (to_move : Side) (v : Verdict) → second.yes ≡ true → to_move ≡ side_to_move root → v ≡ won_by Black to_move second.lemma → Asks root nodes reach old new (Ok v)
     asks_black to_move v won turn told = both_asked v (
-      rw told (won_verdict root black.after Black to_move second.lemma turn (subst (λ b. Shows black.after second.lemma root (claim_for Black b)) won black.shown)),
+      rw told (won_verdict root (white.wrote.shown ++ black.wrote.shown) Black to_move second.lemma turn (subst (λ b. Shows (white.wrote.shown ++ black.wrote.shown) second.lemma root (claim_for Black b)) won black.named)),
       (λ h. won_known Black to_move second.lemma (sym told ∙ h)),
     )
 
     -- neither wins
-    pub asks_draw : second.yes ≡ false → Asks root nodes old new (Ok (Draw first.lemma second.lemma))
+    pub asks_draw : second.yes ≡ false → Asks root nodes reach old new (Ok (Draw first.lemma second.lemma))
     asks_draw never =
-        let fresh = shown_more root white.after black.more black.after black.right in
         both_asked (Draw first.lemma second.lemma) (
           (
-            subst (λ after. Shows after first.lemma root (claim_for White false)) (sym fresh.1) (Shows_more white.after fresh.0 first.lemma root (claim_for White false) white_fails),
-            subst (λ b. Shows black.after second.lemma root (claim_for Black b)) never black.shown,
+            Shows_more white.wrote.shown black.wrote.shown first.lemma root (claim_for White false) white_fails,
+            subst (λ b. Shows (white.wrote.shown ++ black.wrote.shown) second.lemma root (claim_for Black b)) never black.named,
           ),
           (λ h. cc),
         )

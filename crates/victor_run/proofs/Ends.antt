@@ -1,17 +1,24 @@
 -- What an input that was read to its end, or to 256 bytes, says of the whole, and how `prove` ends on it.
 use Rattle.std.proofs.Common.{◌≡◌, ℕ, ◌<◌, ◌≤◌, List, Option, Some, None, Result, Ok, Err, IfSome, length, refl, ap, ◌∙◌, inl, inr, arith}
-use Rattle.std.specs.Io.KnownBytes.{Consumes, IsAtEnd}
-use Rattle.std.proofs.KnownBytes.{Consumes-whole}
+use Rattle.std.specs.Io.KnownBytes.{Consumes, Keeps, IsAtEnd}
+use Rattle.std.proofs.KnownBytes.{Consumes-whole, Keeps-refl}
 use Rattle.std.proofs.lemmas.Bool.{cases_lt}
 use Rattle.game_rules.specs.Position.{Position}
-use Rattle.game_rules.specs.Cost.{cost, none_closed}
+use Rattle.game_rules.specs.Cost.{cost}
 use Rattle.game_rules.specs.Text.{game_at}
 use Rattle.game_rules.proofs.Prefix.{same_prefix, game_short}
 use Rattle.proof_text.specs.declared.Verdict.{Verdict}
 use Rattle.proof_text.specs.declared.Verdict.TheVariants as verdicts
+use Rattle.deep_search.specs.Planned.{solved_within}
 use Rattle.io_ports.specs.declared.ports.Failed.{Failed}
 use Rattle.victor_run.specs.Proof.{Writes}
-use Rattle.victor_run.specs.Streams.{Streams}
+use Rattle.game_rules.specs.declared.InputFault.{InputFault}
+use Rattle.victor_run.specs.declared.ending.Ending.{Ending}
+use Rattle.victor_run.specs.declared.ending.Ending.TheVariants as endings
+use Rattle.victor_run.specs.declared.game_input.InputStop.{InputStop}
+use Rattle.victor_run.specs.declared.game_input.InputStop.TheVariants.{NoGame, Read}
+use Rattle.victor_run.specs.GameInput.{TakesGame, input_ending}
+use Rattle.victor_run.specs.Streams.{Streams, Took}
 use Rattle.victor_run.specs.Outcome.{Proves, ending_of}
 
 -- the bytes that were read determine the game of the whole input
@@ -36,10 +43,19 @@ IfSome_more None P Q h more = tt
 IfSome_more (Some bytes) P Q h more = more bytes h
 
 -- what was written for the game is what `prove` promises
-pub proves_game : (nodes : ℕ) (s : Streams) (p : Position) (heard : List ℕ) → IsAtEnd s.left → game_at heard ≡ Ok p → (r : Result Verdict Failed) → Writes nodes heard p s.old s.new r
-    → (r ≡ Ok verdicts.Unknown → nodes < cost none_closed p) → Proves nodes heard s (ending_of r)
-proves_game nodes s p heard ended game (Ok (verdicts.Win lemma)) h short = (record { position = p; game = game; verdict = verdicts.Win lemma; known = λ e. cc; text = h.0; proof = h.1; written = h.2 }, ended)
-proves_game nodes s p heard ended game (Ok (verdicts.Loss lemma)) h short = (record { position = p; game = game; verdict = verdicts.Loss lemma; known = λ e. cc; text = h.0; proof = h.1; written = h.2 }, ended)
-proves_game nodes s p heard ended game (Ok (verdicts.Draw white black)) h short = (record { position = p; game = game; verdict = verdicts.Draw white black; known = λ e. cc; text = h.0; proof = h.1; written = h.2 }, ended)
-proves_game nodes s p heard ended game (Ok verdicts.Unknown) h short = (record { position = p; game = game; short = short refl; text = h.0; proof = h.1; written = h.2 }, ended)
-proves_game nodes s p heard ended game (Err failed) h short = (record { position = p; game = game; text = h.0; stands = h.1; written = h.2 }, ended)
+pub proves_game : (nodes reach : ℕ) (s : Streams) (p : Position) (heard : List ℕ) → IsAtEnd s.left → game_at heard ≡ Ok p → (r : Result Verdict Failed) → Writes nodes reach heard p s.old s.new r
+    → (r ≡ Ok verdicts.Unknown → nodes < cost (solved_within reach) p) → Proves nodes reach heard s (ending_of r)
+proves_game nodes reach s p heard ended game (Ok (verdicts.Win lemma)) h short = (record { position = p; game = game; verdict = verdicts.Win lemma; known = λ e. cc; text = h.0; proof = h.1; written = h.2 }, ended)
+proves_game nodes reach s p heard ended game (Ok (verdicts.Loss lemma)) h short = (record { position = p; game = game; verdict = verdicts.Loss lemma; known = λ e. cc; text = h.0; proof = h.1; written = h.2 }, ended)
+proves_game nodes reach s p heard ended game (Ok (verdicts.Draw white black)) h short = (record { position = p; game = game; verdict = verdicts.Draw white black; known = λ e. cc; text = h.0; proof = h.1; written = h.2 }, ended)
+proves_game nodes reach s p heard ended game (Ok verdicts.Unknown) h short = (record { position = p; game = game; short = short refl; text = h.0; proof = h.1; written = h.2 }, ended)
+proves_game nodes reach s p heard ended game (Err failed) h short = (record { position = p; game = game; text = h.0; stands = h.1; written = h.2 }, ended)
+
+-- where no game was read, a run keeps what it promises of a fault and of a source that failed
+pub no_game : (input left out : Option (List ℕ)) (buffer : List ℕ) (Holds : List ℕ → Ending → Type 0)
+    → ((taken : List ℕ) (fault : InputFault) → game_at taken ≡ Err fault → IfSome input (λ bytes. game_at bytes ≡ Err fault) → Keeps out out → Holds taken (endings.Input fault))
+    → ((taken : List ℕ) → Keeps out out → Holds taken endings.Read)
+    → (stop : InputStop) → TakesGame input left buffer (Err stop) → Took (record { input = input; left = left; old = out; new = out }) 256 (λ taken. Holds taken (input_ending stop))
+no_game input left out buffer Holds faulty failed (NoGame fault) takes =
+    record { taken = takes.0; gave = takes.1.gave; few = takes.1.few; holds = faulty takes.0 fault takes.2 takes.3 (Keeps-refl out) }
+no_game input left out buffer Holds faulty failed Read takes = record { taken = takes.0; gave = takes.1.gave; few = takes.1.few; holds = failed takes.0 (Keeps-refl out) }

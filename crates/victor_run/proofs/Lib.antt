@@ -1,6 +1,4 @@
-pub mod Moves
 pub mod Ends
-pub mod Proving
 pub mod Asking
 pub mod Writing
 pub mod Cuts
@@ -13,3 +11,4 @@ pub mod Reading
 pub mod Taken
 pub mod Judging
 pub mod PlayJudged
+pub mod Explaining

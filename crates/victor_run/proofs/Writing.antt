@@ -16,9 +16,9 @@ use Rattle.proof_text.proofs.Sound.{AreTrue_none, true_lemmas, true_verdict}
 use Rattle.proof_text.proofs.Written.{both_written, lemmas_stand, head_stands, proof_stands, proof_accepted, head_of_fed, head_of_bare}
 use Rattle.proof_text.specs.declared.Verdict.{Verdict}
 use Rattle.victor_run.specs.Proof.{head_for, IsProofOf, Writes}
-use Rattle.victor_run.specs.Search.{Asks}
-use Rattle.victor_run.specs.declared.search.SearchStop.{SearchStop}
-use Rattle.victor_run.specs.declared.search.SearchStop.TheVariants.{WriteFault}
+use Rattle.victor_run.specs.Questions.{Asks}
+use Rattle.deep_search.specs.declared.solving.SearchStop.{SearchStop}
+use Rattle.deep_search.specs.declared.solving.SearchStop.TheVariants.{WriteFault}
 use Rattle.io_ports.specs.declared.ports.Failed.{Failed}
 
 -- ---- the head
@@ -73,12 +73,12 @@ stands_all b old mid held new head white black last first both rest =
     AppendsPrefix_more b old mid new head (white ++ (black ++ last)) first
     (subst (AppendsPrefix b mid new) (append_assoc white black last) (AppendsPrefix_more b mid held new (white ++ black) last both rest))
 
-module _ (nodes : ℕ) (bytes : List ℕ) (p : Position) (game : IsGameText bytes p) (small : nodes ≤ 10000000) where
+module _ (nodes reach : ℕ) (bytes : List ℕ) (p : Position) (game : IsGameText bytes p) (small : nodes ≤ 10000000) where
   abbrev the_head : List ℕ
   the_head = head_of game.board game.columns
 
   -- a proof, with the verdict behind the lemmas
-  module _ (mid held : Option (List ℕ)) (r : Result Verdict SearchStop) (asks : Asks p nodes mid held r) (v : Verdict) (right : IsVerdict p asks.after v) where
+  module _ (mid held : Option (List ℕ)) (r : Result Verdict SearchStop) (asks : Asks p nodes reach mid held r) (v : Verdict) (right : IsVerdict p asks.after v) where
     abbrev proof_text : List ℕ
     proof_text = the_head ++ (lines_of asks.white ++ (lines_of asks.black ++ verdict_line v))
 
@@ -89,37 +89,38 @@ module _ (nodes : ℕ) (bytes : List ℕ) (p : Position) (game : IsGameText byte
       verdict = right;
     }
 
-    pub proof_of : IsProofOf nodes bytes p proof_text v
+    pub proof_of : IsProofOf nodes reach bytes p proof_text v
     proof_of = record {
       game = game;
       proof = is_proof;
       plain = (refl, refl);
+      planned = (asks.white_planned, asks.black_planned);
       few = asks.few;
       accepted = proof_accepted game.board game.columns p proof_text v is_proof game.has_board game.has_moves (let few : length asks.after ≤ nodes = asks.few in omega arith);
       says = true_verdict p asks.after v (true_lemmas p [] (asks.white ++ asks.black) asks.after (AreRight_append p [] asks.mid asks.after asks.white asks.black asks.white_right asks.black_right) AreTrue_none) right;
     }
 
     pub writes_verdict : (old new : Option (List ℕ)) (result : Result Verdict Failed) → Appends old mid (head_for bytes) → Appends mid held (lines_of asks.white ++ lines_of asks.black)
-        → IfOk result (λ told. told ≡ v) → AppendsPrefix (is_ok result) held new (verdict_line v) → Writes nodes bytes p old new result
+        → IfOk result (λ told. told ≡ v) → AppendsPrefix (is_ok result) held new (verdict_line v) → Writes nodes reach bytes p old new result
     writes_verdict old new (Ok told) head lemmas same stands = (
       proof_text,
-      subst (IsProofOf nodes bytes p proof_text) (sym same) proof_of,
+      subst (IsProofOf nodes reach bytes p proof_text) (sym same) proof_of,
       stands_all true old mid held new the_head (lines_of asks.white) (lines_of asks.black) (verdict_line v) (subst (Appends old mid) (head_is bytes p game) head) lemmas stands,
     )
     writes_verdict old new (Err failed) head lemmas same stands = (
       proof_text,
-      record { game = game; stands = proof_stands p the_head proof_text v is_proof; plain = (refl, refl); few = asks.few },
+      record { game = game; stands = proof_stands p the_head proof_text v is_proof; plain = (refl, refl); planned = (asks.white_planned, asks.black_planned); few = asks.few },
       stands_all false old mid held new the_head (lines_of asks.white) (lines_of asks.black) (verdict_line v) (subst (Appends old mid) (head_is bytes p game) head) lemmas stands,
     )
 
   -- the head was cut
-  pub writes_head : (old new : Option (List ℕ)) (failed : Failed) → AppendsPrefix false old new (head_for bytes) → Writes nodes bytes p old new (Err failed)
-  writes_head old new failed stands = (the_head, record { game = game; stands = head_stands p the_head; plain = (refl, refl); few = omega arith }, subst (AppendsPrefix false old new) (head_is bytes p game) stands)
+  pub writes_head : (old new : Option (List ℕ)) (failed : Failed) → AppendsPrefix false old new (head_for bytes) → Writes nodes reach bytes p old new (Err failed)
+  writes_head old new failed stands = (the_head, record { game = game; stands = head_stands p the_head; plain = (refl, refl); planned = (tt, tt); few = omega arith }, subst (AppendsPrefix false old new) (head_is bytes p game) stands)
 
   -- a lemma was cut
-  pub writes_lemmas : (old mid new : Option (List ℕ)) (failed : Failed) (asks : Asks p nodes mid new (Err WriteFault)) → Appends old mid (head_for bytes) → Writes nodes bytes p old new (Err failed)
+  pub writes_lemmas : (old mid new : Option (List ℕ)) (failed : Failed) (asks : Asks p nodes reach mid new (Err WriteFault)) → Appends old mid (head_for bytes) → Writes nodes reach bytes p old new (Err failed)
   writes_lemmas old mid new failed asks head = (
     the_head ++ (lines_of asks.white ++ lines_of asks.black),
-    record { game = game; stands = lemmas_stand p the_head (the_head ++ (lines_of asks.white ++ lines_of asks.black)) None asks.white asks.mid None asks.black asks.after asks.white_right asks.black_right asks.white_sided asks.black_sided asks.asked tt tt refl; plain = (refl, refl); few = asks.few },
+    record { game = game; stands = lemmas_stand p the_head (the_head ++ (lines_of asks.white ++ lines_of asks.black)) None asks.white asks.mid None asks.black asks.after asks.white_right asks.black_right asks.white_sided asks.black_sided asks.asked tt tt refl; plain = (refl, refl); planned = (asks.white_planned, asks.black_planned); few = asks.few },
     AppendsPrefix_more false old mid new the_head (lines_of asks.white ++ lines_of asks.black) (subst (Appends old mid) (head_is bytes p game) head) asks.text,
   )

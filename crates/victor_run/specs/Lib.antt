@@ -2,11 +2,13 @@ pub mod Words
 pub mod Output
 pub mod Outcome
 pub mod Streams
-pub mod Search
+pub mod Questions
 pub mod Proof
 pub mod Check
 pub mod CheckSteps
 pub mod Reading
 pub mod PlayPromise
 pub mod PlaySteps
+pub mod ExplainPromise
+pub mod GameInput
 pub mod InputState

@@ -4,18 +4,20 @@ use Rattle.std.specs.Prelude.{◌≡◌, ◌≢◌, ℕ, ◌+◌, ◌*◌, ◌<�
 use Rattle.std.specs.Io.KnownBytes.{Keeps, Appends, IsAtEnd}
 use Rattle.device_rules.specs.Devices.{Rose, AppendsPrefix}
 use Rattle.game_rules.specs.Position.{Position}
-use Rattle.game_rules.specs.Cost.{cost, none_closed}
+use Rattle.game_rules.specs.Cost.{cost}
 use Rattle.game_rules.specs.Text.{game_at}
 use Rattle.proof_text.specs.declared.Verdict.{Verdict}
 use Rattle.proof_text.specs.declared.Verdict.TheVariants as verdicts
 use Rattle.proof_text.specs.Texts.{longest_line}
+use Rattle.deep_search.specs.Planned.{solved_within}
 use Rattle.io_ports.specs.declared.ports.Failed.{Failed}
 use Rattle.victor_run.specs.Check.{Checks, most_lines_read}
 use Rattle.victor_run.specs.PlayPromise.{Plays, most_play_lines}
+use Rattle.victor_run.specs.ExplainPromise.{Explains}
 use Rattle.victor_run.specs.Proof.{IsProofOf, MayStandFor}
 use Rattle.victor_run.specs.Streams.{Streams, Took, TakesLines, most_ahead}
 use Rattle.victor_run.specs.declared.words.Form.{Form}
-use Rattle.victor_run.specs.declared.words.Form.TheVariants.{Prove, Check, Play}
+use Rattle.victor_run.specs.declared.words.Form.TheVariants.{Prove, Check, Play, Explain}
 use Rattle.victor_run.specs.declared.ending.Ending.{Ending}
 use Rattle.victor_run.specs.declared.ending.Ending.TheVariants.{Done, Unknown, Usage, Input, NoMove, Refused, NoPlan, Read, Write, Memory}
 
@@ -41,60 +43,62 @@ ending_of (Ok verdicts.Unknown) = Unknown
 ending_of (Err failed) = Write
 
 -- The bytes are a game, and a proof of its position was written whose verdict is a win, a loss or a draw.
-pub record HasProved (nodes : ℕ) (bytes : List ℕ) (old new : Option (List ℕ)) : Type 0 where
+pub record HasProved (nodes reach : ℕ) (bytes : List ℕ) (old new : Option (List ℕ)) : Type 0 where
   pub position : Position
   pub game : game_at bytes ≡ Ok position
   pub verdict : Verdict
   pub known : verdict ≢ verdicts.Unknown
   pub text : List ℕ
-  pub proof : IsProofOf nodes bytes position text verdict
+  pub proof : IsProofOf nodes reach bytes position text verdict
   pub written : Appends old new text
 
 -- The same with the verdict unknown, which comes only where the number of nodes is below the position's cost.
-pub record LeavesUnknown (nodes : ℕ) (bytes : List ℕ) (old new : Option (List ℕ)) : Type 0 where
+pub record LeavesUnknown (nodes reach : ℕ) (bytes : List ℕ) (old new : Option (List ℕ)) : Type 0 where
   pub position : Position
   pub game : game_at bytes ≡ Ok position
-  pub short : nodes < cost none_closed position
+  pub short : nodes < cost (solved_within reach) position
   pub text : List ℕ
-  pub proof : IsProofOf nodes bytes position text verdicts.Unknown
+  pub proof : IsProofOf nodes reach bytes position text verdicts.Unknown
   pub written : Appends old new text
 
 -- The bytes are a game, and of a text that may stand while a proof is written a prefix was.
-pub record WasCut (nodes : ℕ) (bytes : List ℕ) (old new : Option (List ℕ)) : Type 0 where
+pub record WasCut (nodes reach : ℕ) (bytes : List ℕ) (old new : Option (List ℕ)) : Type 0 where
   pub position : Position
   pub game : game_at bytes ≡ Ok position
   pub text : List ℕ
-  pub stands : MayStandFor nodes bytes position text
+  pub stands : MayStandFor nodes reach bytes position text
   pub written : AppendsPrefix false old new text
 
--- `prove` with so many nodes, from the bytes that it took, by its ending. A proof is of the game that they are, and all of the
+-- `prove` with so many nodes and this reach, from the bytes that it took, by its ending. A proof is of the game that they are, and all of the
 -- input was read then; a fault is theirs, and that of all of the input, where the source tells it.
-abbrev pub Proves : ℕ → List ℕ → Streams → Ending → Type 0
-Proves nodes taken s Done = HasProved nodes taken s.old s.new × IsAtEnd s.left
-Proves nodes taken s Unknown = LeavesUnknown nodes taken s.old s.new × IsAtEnd s.left
-Proves nodes taken s Write = WasCut nodes taken s.old s.new × IsAtEnd s.left
-Proves nodes taken s (Input fault) = (game_at taken ≡ Err fault) × IfSome s.input (λ bytes. game_at bytes ≡ Err fault) × Keeps s.old s.new
-Proves nodes taken s Read = Keeps s.old s.new
-Proves nodes taken s Usage = ⊥
-Proves nodes taken s (Refused refusal) = ⊥
-Proves nodes taken s (NoMove fault) = ⊥
-Proves nodes taken s (NoPlan fault) = ⊥
-Proves nodes taken s Memory = ⊥
+abbrev pub Proves : ℕ → ℕ → List ℕ → Streams → Ending → Type 0
+Proves nodes reach taken s Done = HasProved nodes reach taken s.old s.new × IsAtEnd s.left
+Proves nodes reach taken s Unknown = LeavesUnknown nodes reach taken s.old s.new × IsAtEnd s.left
+Proves nodes reach taken s Write = WasCut nodes reach taken s.old s.new × IsAtEnd s.left
+Proves nodes reach taken s (Input fault) = (game_at taken ≡ Err fault) × IfSome s.input (λ bytes. game_at bytes ≡ Err fault) × Keeps s.old s.new
+Proves nodes reach taken s Read = Keeps s.old s.new
+Proves nodes reach taken s Usage = ⊥
+Proves nodes reach taken s (Refused refusal) = ⊥
+Proves nodes reach taken s (NoMove fault) = ⊥
+Proves nodes reach taken s (NoPlan fault) = ⊥
+Proves nodes reach taken s Memory = ⊥
 
 -- How many bytes a run of the words that have this form takes at most: `check` and `play` take lines with their line feeds,
 -- and what comes with the last of them.
 abbrev pub most_taken : Option Form → ℕ
 most_taken None = 0
-most_taken (Some (Prove nodes)) = 256
+most_taken (Some (Prove nodes reach)) = 256
 most_taken (Some Check) = most_lines_read * (longest_line + 1) + most_ahead
 most_taken (Some Play) = most_play_lines * (longest_line + 1) + most_ahead
+most_taken (Some (Explain reach)) = 256
 
 -- what a run of the words that have this form promises, from the bytes that it took
 abbrev pub Promise : Option Form → Streams → Ending → List ℕ → Type 0
 Promise None s ending taken = (ending ≡ Usage) × Keeps s.old s.new
-Promise (Some (Prove nodes)) s ending taken = Proves nodes taken s ending
+Promise (Some (Prove nodes reach)) s ending taken = Proves nodes reach taken s ending
 Promise (Some Check) s ending taken = Checks taken s ending × TakesLines most_lines_read taken
 Promise (Some Play) s ending taken = Plays taken s ending
+Promise (Some (Explain reach)) s ending taken = Explains reach taken s ending
 
 -- a run of the words that have this form: it took some bytes of its source, and keeps its promise of them
 abbrev pub Outcome : Option Form → Streams → Ending → Type 0

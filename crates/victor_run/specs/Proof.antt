@@ -9,6 +9,7 @@ use Rattle.proof_text.specs.Texts.{first_line, head_of, check_of, Accepted}
 use Rattle.proof_text.specs.Spelling.{as_line}
 use Rattle.proof_text.specs.Written.{HasWritten, MayStand, IsProof}
 use Rattle.proof_text.specs.declared.Verdict.{Verdict}
+use Rattle.deep_search.specs.Planned.{ArePlanned}
 use Rattle.io_ports.specs.declared.ports.Failed.{Failed}
 
 -- the text with a line feed at its end
@@ -23,24 +24,31 @@ head_for bytes = as_line first_line ++ with_feed bytes
 abbrev pub IsPlain : {root : Position} {head text last : List ℕ} {after : List Shown} → HasWritten root head text after last → Type 0
 IsPlain written = (written.white_remark ≡ None) × (written.black_remark ≡ None)
 
+-- each lemma rests on the plan that is chosen within the reach at its position, and on none where none is
+abbrev pub IsPlannedText : ℕ → (root : Position) → {head text last : List ℕ} {after : List Shown} → HasWritten root head text after last → Type 0
+IsPlannedText reach root written = ArePlanned reach root written.white × ArePlanned reach root written.black
+
 -- A proof of a game's position with this verdict: right lemmas, at most as many as the budget has nodes, those of the
--- question for White first. `check` accepts it, and a win, a loss or a draw is the value of the position.
-pub record IsProofOf (nodes : ℕ) (bytes : List ℕ) (p : Position) (text : List ℕ) (v : Verdict) : Type 0 where
+-- question for White first, and on plans exactly where they are chosen. `check` accepts it, and a win, a loss or a draw is
+-- the value of the position.
+pub record IsProofOf (nodes reach : ℕ) (bytes : List ℕ) (p : Position) (text : List ℕ) (v : Verdict) : Type 0 where
   pub game : IsGameText bytes p
   pub proof : IsProof p (head_of game.board game.columns) text v
   pub plain : IsPlain proof.written
+  pub planned : IsPlannedText reach p proof.written
   pub few : length proof.after ≤ nodes
   pub accepted : check_of text ≡ Accepted v (length proof.after)
   pub says : IsTrueVerdict p v
 
 -- a text that may stand while such a proof is written
-pub record MayStandFor (nodes : ℕ) (bytes : List ℕ) (p : Position) (text : List ℕ) : Type 0 where
+pub record MayStandFor (nodes reach : ℕ) (bytes : List ℕ) (p : Position) (text : List ℕ) : Type 0 where
   pub game : IsGameText bytes p
   pub stands : MayStand p (head_of game.board game.columns) text
   pub plain : IsPlain stands.written
+  pub planned : IsPlannedText reach p stands.written
   pub few : length stands.after ≤ nodes
 
 -- Behind the bytes that were there stands a proof with the verdict; after a failure, a prefix of what may stand.
-abbrev pub Writes : ℕ → List ℕ → Position → Option (List ℕ) → Option (List ℕ) → Result Verdict Failed → Type 0
-Writes nodes bytes p old new (Ok v) = (text : List ℕ) × IsProofOf nodes bytes p text v × Appends old new text
-Writes nodes bytes p old new (Err failed) = (text : List ℕ) × MayStandFor nodes bytes p text × AppendsPrefix false old new text
+abbrev pub Writes : ℕ → ℕ → List ℕ → Position → Option (List ℕ) → Option (List ℕ) → Result Verdict Failed → Type 0
+Writes nodes reach bytes p old new (Ok v) = (text : List ℕ) × IsProofOf nodes reach bytes p text v × Appends old new text
+Writes nodes reach bytes p old new (Err failed) = (text : List ℕ) × MayStandFor nodes reach bytes p text × AppendsPrefix false old new text

@@ -1,12 +1,14 @@
 //! The commands, over any source and any sinks.
-ghost use Rattle.std.specs.Prelude.{◌≡◌, ◌⊎◌, ℕ, ◌≤◌, Ok, Some, IfSome, map, string_bytes};
+ghost use Rattle.std.specs.Prelude.{◌≡◌, ◌⊎◌, ℕ, ◌≤◌, Ok, Some, IfSome, map, string_bytes, true, false};
 ghost use Rattle.device_rules.specs.Devices.{Rose};
 ghost use Rattle.game_rules.specs.Position.{Position};
-ghost use Rattle.game_rules.specs.Cost.{cost, none_closed};
+ghost use Rattle.game_rules.specs.Cost.{cost};
 ghost use Rattle.game_rules.specs.Text.{game_at};
 ghost use Rattle.proof_text.specs.Texts.{check_of, Accepted};
 ghost use Rattle.proof_text.specs.declared.Verdict.{Verdict};
 ghost use Rattle.play_text.specs.Play.{AllPlayed, play_of};
+ghost use Rattle.walk_rules.specs.Walk.{solved};
+ghost use Rattle.deep_search.specs.Planned.{solved_within};
 ghost use Rattle.victor_run.specs.Words.{form_of};
 ghost use Rattle.victor_run.specs.Output.{fault_text};
 ghost use Rattle.victor_run.specs.Outcome.{status_of, Outcome, Reports};
@@ -16,6 +18,7 @@ ghost use Rattle.victor_run.specs.declared.ending.Ending.TheVariants as endings;
 
 use crate::check::check;
 use crate::ending::Ending;
+use crate::explain::explain;
 use crate::output::report;
 use crate::play::play;
 use crate::prove::prove;
@@ -26,14 +29,16 @@ use std::alloc::Global;
 /// Runs the command that the arguments ask for, reads from `source`, writes to `out`, and answers the exit status; the
 /// text of a fault goes to `err`, whole unless the count of faults of `err` rose.
 ///
-/// `prove` and `prove --nodes N` read a game and write a proof of its value under perfect play, for the side to move.
+/// `prove` reads a game and writes a proof of its value under perfect play, for the side to move; with `--nodes` and `--reach`
+/// the arguments say how many positions its search may enter, and how far it looks for a plan of Black's at each.
 /// `check` reads a proof and writes a line where it is right. `play` reads a game, a plan at its position and then White's
-/// moves, and answers each by the plan, in a line that is written before the next move is read. Only `check` takes memory,
-/// and only for lemmas.
+/// moves, and answers each by the plan, in a line that is written before the next move is read. `explain` reads a game and
+/// writes the plan of Black's that is chosen at its position, with what each instance owns and answers. Only `check` takes
+/// memory, and only for lemmas.
 ///
 /// The status is 0 where that was done, 2 where the words are no command, 3 where the game is none or a line of `play` no
 /// move, 4 where the proof is refused or the plan is none, 5 where the budget of `prove` was below the cost (the proof then
-/// says so), 6 where reading failed, 7 where writing failed, and 8 where `check` found no memory for a lemma. What stops the
+/// says so) or `explain` found no plan within the reach (which it says), 6 where reading failed, 7 where writing failed, and 8 where `check` found no memory for a lemma. What stops the
 /// run first decides it.
 pub fn run<S: Source, O: Sink, E: Sink>(
     alloc: Global,
@@ -51,16 +56,23 @@ pub fn run<S: Source, O: Sink, E: Sink>(
     ensures write_fault { result ≡ 7 → Rose (O.faults out.old) (O.faults out.new) }
 
     // Where no stream failed and the budget suffices, the value is written with its proof; a proof that is right is
-    // accepted, unless memory runs out; and a game, a plan and moves of White's are played to their end.
-    ensures complete { (nodes : ℕ) → form_of (map string_bytes words.now) ≡ Some (forms.Prove nodes)
+    // accepted, unless memory runs out; a game, a plan and moves of White's are played to their end; and a plan is explained
+    // where the position is solved within the reach, and is said to be none where it isn't.
+    ensures complete { (nodes reach : ℕ) → form_of (map string_bytes words.now) ≡ Some (forms.Prove nodes reach)
         → (Rose (S.faults source.old) (S.faults source.new) → ⊥) → (Rose (O.faults out.old) (O.faults out.new) → ⊥)
-        → IfSome (S.left source.old) (λ bytes. (p : Position) → game_at bytes ≡ Ok p → cost none_closed p ≤ nodes → result ≡ 0) }
+        → IfSome (S.left source.old) (λ bytes. (p : Position) → game_at bytes ≡ Ok p → cost (solved_within reach) p ≤ nodes → result ≡ 0) }
     ensures check_complete { form_of (map string_bytes words.now) ≡ Some forms.Check
         → (Rose (S.faults source.old) (S.faults source.new) → ⊥) → (Rose (O.faults out.old) (O.faults out.new) → ⊥)
         → IfSome (S.left source.old) (λ bytes. (v : Verdict) (count : ℕ) → check_of bytes ≡ Accepted v count → (result ≡ 0) ⊎ (result ≡ 8)) }
     ensures play_complete { form_of (map string_bytes words.now) ≡ Some forms.Play
         → (Rose (S.faults source.old) (S.faults source.new) → ⊥) → (Rose (O.faults out.old) (O.faults out.new) → ⊥)
         → IfSome (S.left source.old) (λ bytes. (play_of bytes).end ≡ AllPlayed → result ≡ 0) }
+    ensures explain_complete { (reach : ℕ) → form_of (map string_bytes words.now) ≡ Some (forms.Explain reach)
+        → (Rose (S.faults source.old) (S.faults source.new) → ⊥) → (Rose (O.faults out.old) (O.faults out.new) → ⊥)
+        → IfSome (S.left source.old) (λ bytes. (p : Position) → game_at bytes ≡ Ok p → solved p reach ≡ true → result ≡ 0) }
+    ensures explain_none { (reach : ℕ) → form_of (map string_bytes words.now) ≡ Some (forms.Explain reach)
+        → (Rose (S.faults source.old) (S.faults source.new) → ⊥) → (Rose (O.faults out.old) (O.faults out.new) → ⊥)
+        → IfSome (S.left source.old) (λ bytes. (p : Position) → game_at bytes ≡ Ok p → solved p reach ≡ false → result ≡ 5) }
 {
     let ending = run_words(alloc, words, source, out);
     report(err, &ending);
@@ -79,9 +91,10 @@ fn run_words<S: Source, O: Sink>(
     ensures write_fault { result ≡ endings.Write → Rose (O.faults out.old) (O.faults out.new) }
 {
     match read_words(words) {
-        Some(Form::Prove(nodes)) => prove(nodes, source, out),
+        Some(Form::Prove { nodes, reach }) => prove(nodes, reach, source, out),
         Some(Form::Check) => check(alloc, source, out),
         Some(Form::Play) => play(source, out),
+        Some(Form::Explain(reach)) => explain(reach, source, out),
         None => Ending::Usage,
     }
 }

@@ -12,7 +12,8 @@ use play_text::PlayFault;
 pub enum Ending {
     /// All was done: status 0.
     Done,
-    /// The budget is below the cost of the position, and the proof that was written says so: status 5.
+    /// The budget is below the cost of the position, and the proof that was written says so; or there is no plan within the
+    /// reach, and what was written says so: status 5.
     Unknown,
     /// The arguments are no written form: status 2.
     Usage,

@@ -5,12 +5,16 @@
 mod check;
 mod command;
 mod ending;
+mod explain;
+mod game_input;
 mod game_lines;
 mod input_lines;
 mod output;
+#[cfg(test)]
+mod plan_tests;
 mod play;
 mod prove;
-mod search;
+mod questions;
 mod words;
 
 pub use command::run;

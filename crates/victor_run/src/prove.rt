@@ -1,40 +1,45 @@
 //! `prove`: a game is read, and a proof of its value is written, each line as soon as it is known. It takes no memory.
 ghost use Rattle.std.specs.Prelude.{◌≡◌, ◌≤◌, ◌<◌, Ok, Some, length, is_ok, IfOk};
 ghost use Rattle.device_rules.specs.Devices.{HasCause, Rose, AppendsPrefix};
-ghost use Rattle.game_rules.specs.Cost.{cost, none_closed};
+ghost use Rattle.game_rules.specs.Cost.{cost};
 ghost use Rattle.game_rules.specs.Text.{game_at};
 ghost use Rattle.proof_text.specs.Spelling.{verdict_line};
 ghost use Rattle.proof_text.specs.declared.Verdict.TheVariants as verdicts;
+ghost use Rattle.deep_search.specs.Planned.{solved_within};
 ghost use Rattle.victor_run.specs.Outcome.{Outcome, ending_of};
 ghost use Rattle.victor_run.specs.Proof.{head_for, Writes};
 ghost use Rattle.victor_run.specs.declared.words.Form.TheVariants as forms;
 ghost use Rattle.victor_run.specs.declared.ending.Ending.TheVariants as endings;
 
 use crate::ending::Ending;
-use crate::search::{SearchStop, ask};
-use board_bits::{Position, read_game};
+use crate::game_input::{MOST_INPUT, read_game_input};
+use crate::questions::ask;
+use board_bits::Position;
 use cert_format::{FIRST_LINE, Line, LineText, Verdict, print_line, push_text};
-use io_ports::{Failed, Sink, Source, put_all, read_all};
+use deep_search::SearchStop;
+use io_ports::{Failed, Sink, Source, put_all};
 
-/// No more bytes of the input are read. The text of a game is shorter.
-const MOST_INPUT: usize = 256;
-
-/// Reads a game and writes a proof of its position's value, from a search that may enter `nodes` positions.
-pub(crate) fn prove<S: Source, O: Sink>(nodes: u32, source: &mut S, out: &mut O) -> Ending
+/// Reads a game and writes a proof of its position's value, from a search that may enter `nodes` positions, with plans from
+/// the first `reach` sets of zones.
+pub(crate) fn prove<S: Source, O: Sink>(
+    nodes: u32,
+    reach: u32,
+    source: &mut S,
+    out: &mut O,
+) -> Ending
     requires nodes { nodes ≤ 10000000 }
-    ensures outcome { Outcome (Some (forms.Prove nodes))
+    ensures outcome { Outcome (Some (forms.Prove nodes reach))
         (record { input = S.left source.old; left = S.left source.new; old = O.written out.old; new = O.written out.new }) result }
     ensures read_fault { result ≡ endings.Read → Rose (S.faults source.old) (S.faults source.new) }
     ensures write_fault { result ≡ endings.Write → Rose (O.faults out.old) (O.faults out.new) }
 {
     let mut buffer = [0; MOST_INPUT];
-    let Ok(length) = read_all(source, &mut buffer) else {
-        return Ending::Read;
-    };
-    let text = &buffer[..length];
-    match read_game(text) {
-        Ok(position) => ending_of(write_proof(&position, text, nodes, out)),
-        Err(fault) => Ending::Input(fault),
+    match read_game_input(source, &mut buffer) {
+        Ok(game) => {
+            let text = &buffer[..game.length];
+            ending_of(write_proof(&game.position, text, nodes, reach, out))
+        }
+        Err(stop) => stop.ending(),
     }
 }
 
@@ -55,16 +60,17 @@ fn write_proof<O: Sink>(
     position: &Position,
     text: &[u8],
     nodes: u32,
+    reach: u32,
     out: &mut O,
 ) -> Result<Verdict, Failed>
     requires game { game_at text.now ≡ Ok position.now }
     requires nodes { nodes ≤ 10000000 }
-    ensures written { Writes nodes text.now position.now (O.written out.old) (O.written out.new) result }
-    ensures unknown { result ≡ Ok verdicts.Unknown → nodes < cost none_closed position.now }
+    ensures written { Writes nodes reach text.now position.now (O.written out.old) (O.written out.new) result }
+    ensures unknown { result ≡ Ok verdicts.Unknown → nodes < cost (solved_within reach) position.now }
     ensures cause { HasCause (O.faults out.old) (O.faults out.new) result }
 {
     put_all(out, head_for(text).as_slice())?;
-    match ask(position, nodes, out) {
+    match ask(position, nodes, reach, out) {
         Ok(verdict) => write_verdict(verdict, out),
         Err(SearchStop::Spent) => write_verdict(Verdict::Unknown, out),
         Err(SearchStop::WriteFault) => Err(Failed),

@@ -5,27 +5,27 @@ use std::alloc::{AllocError, Global};
 use std::test::Fail;
 
 /// Room for all that a run of a test writes.
-const ROOM: usize = 1 << 10;
+const ROOM: usize = 1 << 12;
 
 /// What a run wrote, and its status.
 #[derive(Debug, PartialEq, Eq, Drop)]
-struct Ran {
-    status: u8,
-    out: Vec<u8>,
-    err: Vec<u8>,
+pub(crate) struct Ran {
+    pub(crate) status: u8,
+    pub(crate) out: Vec<u8>,
+    pub(crate) err: Vec<u8>,
 }
 
 /// The devices of a run: the size of the source's pieces, the calls that fail, and the sink's room.
 #[derive(Clone, Copy)]
-struct Devices<'a> {
-    piece: usize,
-    source_fails: &'a [u32],
-    room: usize,
-    out_fails: &'a [u32],
-    err_fails: &'a [u32],
+pub(crate) struct Devices<'a> {
+    pub(crate) piece: usize,
+    pub(crate) source_fails: &'a [u32],
+    pub(crate) room: usize,
+    pub(crate) out_fails: &'a [u32],
+    pub(crate) err_fails: &'a [u32],
 }
 
-const SOUND: Devices<'static> = Devices {
+pub(crate) const SOUND: Devices<'static> = Devices {
     piece: 256,
     source_fails: &[],
     room: ROOM,
@@ -33,14 +33,14 @@ const SOUND: Devices<'static> = Devices {
     err_fails: &[],
 };
 
-fn words_of(alloc: Global, words: &[&str]) -> Result<Vec<String>, AllocError> {
+pub(crate) fn words_of(alloc: Global, words: &[&str]) -> Result<Vec<String>, AllocError> {
     words
         .iter()
         .map(|word| String::from_str(alloc, word))
         .try_collect(alloc)
 }
 
-fn run_over(
+pub(crate) fn run_over(
     alloc: Global,
     words: &[&str],
     input: &[u8],
@@ -120,14 +120,27 @@ const FORCED_WIN_PROOF: &str = "victor 1\n\
     4 - W+ one a 3\n\
     value win 4\n";
 
+/// The same position, where White's question is answered by a plan.
+const TWO_SQUARES_PLANNED: &str = "victor 1\n\
+    board 4 4\n\
+    moves cdccddcdaaaabb\n\
+    1 - W- plan CE:b3\n\
+    2 bb B- end\n\
+    3 b B- all b:2\n\
+    4 - B- one b 3\n\
+    value draw 1 4\n";
+
 const PROVE: &[&str] = &["prove"];
+
+/// With no plan looked for.
+const PROVE_BY_SEARCH: &[&str] = &["prove", "--reach", "0"];
 
 const CHECK: &[&str] = &["check"];
 
 /// The words of a run, its input, its status and its output.
 type Written = (&'static [&'static str], &'static str, u8, &'static str);
 
-const PROOFS: [Written; 9] = [
+const PROOFS: [Written; 13] = [
     (
         PROVE,
         FULL_BOARD,
@@ -140,18 +153,38 @@ const PROOFS: [Written; 9] = [
         0,
         "victor 1\nboard 4 4\nmoves abababa\n1 - W+ end\nvalue loss 1\n",
     ),
-    (PROVE, TWO_SQUARES_LEFT, 0, TWO_SQUARES_PROOF),
+    (PROVE_BY_SEARCH, TWO_SQUARES_LEFT, 0, TWO_SQUARES_PROOF),
     (
-        &["prove", "--nodes", "6"],
+        &["prove", "--reach", "0", "--nodes", "6"],
         TWO_SQUARES_LEFT,
         0,
         TWO_SQUARES_PROOF,
     ),
     (
-        &["prove", "--nodes", "5"],
+        &["prove", "--nodes", "5", "--reach", "0"],
         TWO_SQUARES_LEFT,
         5,
         TWO_SQUARES_UNKNOWN,
+    ),
+    (PROVE, TWO_SQUARES_LEFT, 0, TWO_SQUARES_PLANNED),
+    (
+        &["prove", "--nodes", "4", "--reach", "2"],
+        TWO_SQUARES_LEFT,
+        0,
+        TWO_SQUARES_PLANNED,
+    ),
+    (
+        &["prove", "--nodes", "3"],
+        TWO_SQUARES_LEFT,
+        5,
+        "victor 1\nboard 4 4\nmoves cdccddcdaaaabb\n1 - W- plan CE:b3\nvalue unknown\n",
+    ),
+    // the only zone is owned by the second set, behind the empty one
+    (
+        &["prove", "--reach", "1"],
+        TWO_SQUARES_LEFT,
+        0,
+        TWO_SQUARES_PROOF,
     ),
     (PROVE, FORCED_WIN, 0, FORCED_WIN_PROOF),
     (
@@ -161,13 +194,13 @@ const PROOFS: [Written; 9] = [
         "victor 1\nboard 7 6\nmoves dcdcdc\n1 d W+ end\n2 - W+ one d 1\nvalue win 2\n",
     ),
     (
-        &["prove", "--nodes", "1"],
+        &["prove", "--nodes", "1", "--reach", "0"],
         "board 4 4\nmoves -",
         5,
         "victor 1\nboard 4 4\nmoves -\nvalue unknown\n",
     ),
     (
-        &["prove", "--nodes", "1"],
+        &["prove", "--nodes", "1", "--reach", "0"],
         "board 4 4\nmoves -\n",
         5,
         "victor 1\nboard 4 4\nmoves -\nvalue unknown\n",
@@ -441,7 +474,7 @@ fn a_line_that_is_too_long_is_refused(rt: HostRuntime) -> Result<(), Fail> {
 
 #[test]
 fn other_words_are_no_command(rt: HostRuntime) -> Result<(), Fail> {
-    let rows: [&[&str]; 14] = [
+    let rows: [&[&str]; 21] = [
         &[],
         &["--help"],
         &["value"],
@@ -456,6 +489,13 @@ fn other_words_are_no_command(rt: HostRuntime) -> Result<(), Fail> {
         &["prove", "--nodes=6"],
         &["--nodes", "5", "prove"],
         &["prove", "--nodes", "5", "--nodes", "5"],
+        &["prove", "--reach"],
+        &["prove", "--reach", "1000001"],
+        &["prove", "--reach", "00"],
+        &["prove", "--reach", "5", "--reach", "5"],
+        &["prove", "--nodes", "5", "--reach"],
+        &["prove", "--nodes", "5", "--reach", "5", "x"],
+        &["explain", "--nodes", "5"],
     ];
     for words in rows {
         let got = run_over(rt.alloc(), words, USUAL_BOARD.as_bytes(), SOUND)?;
@@ -529,7 +569,12 @@ const STREAMS: [Streamed; 7] = [
 #[test]
 fn a_failing_stream_has_its_status_and_leaves_a_prefix(rt: HostRuntime) -> Result<(), Fail> {
     for (devices, status, length, reported) in STREAMS {
-        let got = run_over(rt.alloc(), PROVE, TWO_SQUARES_LEFT.as_bytes(), devices)?;
+        let got = run_over(
+            rt.alloc(),
+            PROVE_BY_SEARCH,
+            TWO_SQUARES_LEFT.as_bytes(),
+            devices,
+        )?;
         let prefix = TWO_SQUARES_PROOF.as_bytes().get(..length);
         assert_eq!(rt; got.status, status);
         assert_eq!(rt; Some(got.out.as_slice()), prefix);
@@ -600,7 +645,7 @@ fn a_long_input_is_refused_by_its_first_bytes(rt: HostRuntime) -> Result<(), Fai
 
 #[test]
 fn readers_and_writers_of_std_carry_a_run(rt: HostRuntime) -> Result<(), Fail> {
-    let words = words_of(rt.alloc(), PROVE)?;
+    let words = words_of(rt.alloc(), PROVE_BY_SEARCH)?;
     let mut source = StdSource::new(TWO_SQUARES_LEFT.as_bytes());
     let mut written = Vec::new(rt.alloc());
     let mut reported = Vec::new(rt.alloc());
@@ -610,149 +655,5 @@ fn readers_and_writers_of_std_carry_a_run(rt: HostRuntime) -> Result<(), Fail> {
     assert_eq!(rt; status, 0);
     assert_eq!(rt; written.as_slice(), TWO_SQUARES_PROOF.as_bytes());
     assert_eq!(rt; reported.len(), 0);
-    Ok(())
-}
-
-const PLAY: &[&str] = &["play"];
-
-/// An input of `play`, the status, what is written and what is reported.
-type PlayRow = (&'static str, u8, &'static str, &'static str);
-
-const PLAYED: [PlayRow; 15] = [
-    (
-        "board 4 4\nmoves -\nplan CE:a1 CE:a3 CE:b1 CE:b3 BI:c1,d1 LI:c2-c4,d2-d4\nc\nc\nd\nc\na\na\nb\nb\n",
-        0,
-        "c1 d1\nc2 c3\nd2 d3\nc4 d4\na1 a2\na3 a4\nb1 b2\nb3 b4 full\n",
-        "",
-    ),
-    (
-        "board 4 4\nmoves -\nplan CE:a1 CE:a3 CE:b1 CE:b3 BI:c1,d1 LI:c2-c4,d2-d4\nc\nc\nc\nd\nc",
-        3,
-        "c1 d1\nc2 c3\nc4 d2\nd3 d4\n",
-        "input fault: ColumnFull at line 8\n",
-    ),
-    (
-        "board 4 4\nmoves -\nplan CE:a1 CE:a3 CE:b1 CE:b3 BI:c1,d1 HI:c2,d2\nc\nc\nd\nd\n",
-        0,
-        "c1 d1\nc2 c3\nd2 c4\nd3 d4\n",
-        "",
-    ),
-    (
-        "board 4 4\nmoves cccdcd\nplan CE:a1 CE:a3 CE:b1 CE:b3 CE:d3 AE:a2h\na\nb",
-        0,
-        "a1 a2\nb1 b2 won\n",
-        "",
-    ),
-    (
-        "board 4 4\nmoves cccdcd\nplan CE:a1 CE:a3 CE:b1 CE:b3 CE:d3 AE:a2h\na\nb\na\n",
-        3,
-        "a1 a2\nb1 b2 won\n",
-        "input fault: GameOver at line 6\n",
-    ),
-    (
-        "board 4 4\nmoves cccdcd\nplan CE:a1 CE:a3 CE:b1 CE:b3 CE:d3 AE:a2h\na\nb\ne\n",
-        3,
-        "a1 a2\nb1 b2 won\n",
-        "input fault: BadMove at line 6\n",
-    ),
-    (
-        "board 4 4\nmoves cccdcd\nplan CE:a1 CE:a3 CE:b1 CE:b3 CE:d3\na\n",
-        4,
-        "",
-        "refused line 3: Unanswered a3h\n",
-    ),
-    (
-        "board 4 4\nmoves daddcd\nplan BC:a2,b1,c2 CE:a3 CE:b3 CE:c3\nc\nb\n",
-        0,
-        "c2 b1\nb2 a2\n",
-        "",
-    ),
-    (
-        "board 5 4\nmoves abbaabbaddceedee\nplan BI:c2,d4 CE:c3 SB:b1u,d4,c2\nd\n",
-        0,
-        "d4 c2 won\n",
-        "",
-    ),
-    (
-        "board 5 4\nmoves abbaabbaddceedee\nplan BI:c2,d4 CE:c3\nd\n",
-        4,
-        "",
-        "refused line 3: Unanswered a1u\n",
-    ),
-    (
-        "board 4 4\nmoves -\nplan BI:a1,c1 BI:b1,d1 LI:a2-a4,b2-b4 LI:c2-c4,d2-d4",
-        4,
-        "",
-        "refused line 3: Clash 1 3\n",
-    ),
-    (
-        "board 4 4\nmoves a\nplan CE:a3",
-        4,
-        "",
-        "refused line 3: NotWhiteToMove\n",
-    ),
-    (
-        "board 4 4\nmoves -\nplan\na\n",
-        4,
-        "",
-        "refused line 3: BadLine\n",
-    ),
-    ("board 4 4\nmoves -", 4, "", "refused line 3: BadLine\n"),
-    ("board 4 4", 3, "", "input fault: BadHeader at 9\n"),
-];
-
-#[test]
-fn white_is_answered_by_the_plan_line_by_line(rt: HostRuntime) -> Result<(), Fail> {
-    for (input, status, out, reported) in PLAYED {
-        for piece in [1, 4, 256] {
-            let devices = Devices { piece, ..SOUND };
-            let got = run_over(rt.alloc(), PLAY, input.as_bytes(), devices)?;
-            assert_eq!(rt; got.status, status, "{input}");
-            assert_eq!(rt; got.out.as_slice(), out.as_bytes(), "{input}");
-            assert_eq!(rt; got.err.as_slice(), reported.as_bytes(), "{input}");
-        }
-    }
-    Ok(())
-}
-
-/// Devices of a play, the status, what is written and what is reported.
-const PLAY_STREAMS: [(Devices<'static>, u8, &str, &str); 3] = [
-    (
-        Devices {
-            piece: 70,
-            source_fails: &[2],
-            ..SOUND
-        },
-        6,
-        "",
-        "read fault\n",
-    ),
-    (
-        Devices {
-            piece: 75,
-            source_fails: &[2],
-            ..SOUND
-        },
-        6,
-        "c1 d1\nc2 c3\n",
-        "read fault\n",
-    ),
-    (
-        Devices { room: 9, ..SOUND },
-        7,
-        "c1 d1\nc2 ",
-        "write fault\n",
-    ),
-];
-
-#[test]
-fn a_failing_stream_ends_play(rt: HostRuntime) -> Result<(), Fail> {
-    let (input, ..) = PLAYED[0];
-    for (devices, status, out, reported) in PLAY_STREAMS {
-        let got = run_over(rt.alloc(), PLAY, input.as_bytes(), devices)?;
-        assert_eq!(rt; got.status, status, "{reported}");
-        assert_eq!(rt; got.out.as_slice(), out.as_bytes(), "{reported}");
-        assert_eq!(rt; got.err.as_slice(), reported.as_bytes(), "{reported}");
-    }
     Ok(())
 }

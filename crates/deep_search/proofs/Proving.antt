@@ -1,0 +1,292 @@
+-- The lemmas of a search at one position: what they are after some of its moves, and how its own lemma closes them.
+use Rattle.std.proofs.Common.{◌≡◌, ◌≢◌, ℕ, suc, ◌+◌, ◌<◌, ◌≤◌, Bool, true, false, not, List, [], ◌∷◌, ◌++◌, map, filter, cond, Option, Some, None, Result, Ok, Err, IfOk, OnOk, IfSome, length, take, ◌-◌, get_or, set, refl, sym, ap, ◌∙◌, subst, inl, inr, arith, append-nil, append_assoc, length-append}
+use Rattle.std.specs.List.{AllByRecursion}
+use Rattle.std.proofs.KnownBytes.{Appends-nil}
+use Rattle.std.proofs.lemmas.Bool.{cases_eq, both_ways}
+use Rattle.std.proofs.lemmas.List.{get_or-set_same, get_or-set_other, map-id, map-append, length_push, take_at}
+use Rattle.std.proofs.lemmas.List.Elements.{filter-append}
+use Rattle.std.proofs.lemmas.List.FromFn.{map-range_with_len_more}
+use Rattle.std.proofs.lemmas.List.Concat.{flat_map-append}
+use Rattle.device_rules.specs.Devices.{AppendsPrefix}
+use Rattle.device_rules.proofs.DeviceLaws.{AppendsPrefix_more}
+use Rattle.game_rules.specs.Board.{below}
+use Rattle.game_rules.specs.Position.{Position, has_room, after_move, played, is_legal, end_of, same_side, side_to_move, open_columns}
+use Rattle.game_rules.specs.Value.{same_end, win_of}
+use Rattle.game_rules.specs.Cost.{centre_out}
+use Rattle.game_rules.specs.declared.End.{End}
+use Rattle.game_rules.proofs.Lists.{chosen, Among, Among-filter_gives, Among-below_gives}
+use Rattle.game_rules.proofs.Costs.{Among-centre_out}
+use Rattle.game_rules.specs.declared.Side.{Side}
+use Rattle.game_rules.specs.declared.Side.TheVariants.{White, Black}
+use Rattle.proof_text.specs.declared.Claim.{Claim}
+use Rattle.proof_text.specs.Lemma.{claim_side, claim_for, claim_of_end, agrees, Reason, ByEnd, ByOne, ByAll, Lemma}
+use Rattle.proof_text.specs.Right.{Shown, Shows, IsCited, goes_by_one, HasReason, AreRight}
+use Rattle.proof_text.specs.Spelling.{lemma_line, lines_of, members_in, IsShort}
+use Rattle.plan_text.proofs.Spaced.{all_append}
+use Rattle.proof_text.proofs.Append.{Shows_more, Shows_last, AreRight_append}
+use Rattle.deep_search.specs.Planned.{plan_in, plan_for, IsPlanned}
+use Rattle.deep_search.specs.Search.{is_whole, uncounted, cites_from, Wrote, Solves}
+use Rattle.deep_search.specs.declared.solving.Answer.{Answer}
+use Rattle.deep_search.specs.declared.solving.SearchStop.{SearchStop}
+use Rattle.plan_text.specs.PlanLine.{most_members}
+
+pub lines_append : (ls more : List Lemma) → lines_of (ls ++ more) ≡ lines_of ls ++ lines_of more
+lines_append ls more = flat_map-append lemma_line ls more
+
+-- ---- the lemma of a position, and what stands before it
+
+pub side_claimed : (side : Side) (won : Bool) → claim_side (claim_for side won) ≡ side
+side_claimed White true = refl
+side_claimed White false = refl
+side_claimed Black true = refl
+side_claimed Black false = refl
+
+-- the next lemma of a position
+abbrev pub lemma_next : ℕ → List ℕ → Side → Bool → Reason → Lemma
+lemma_next count path side won reason = record { number = count + 1; path = path; claim = claim_for side won; reason = reason }
+
+-- the answer names the next lemma
+abbrev pub IsDetermined : Bool → ℕ → Result Answer SearchStop → Type 0
+IsDetermined won count result = IfOk result (λ answer. (answer.lemma ≡ count + 1) × (answer.yes ≡ won))
+
+-- a lemma that is right behind what is known
+pub told : (root p : Position) (side : Side) (reach : ℕ) (won : Bool) (said : Claim) (known : List Shown) (path : List ℕ) (reason : Reason) (old new : Option (List ℕ)) (count counted : ℕ) (result : Result Answer SearchStop)
+    → said ≡ claim_for side won → played root path ≡ Some p → length known ≡ count → HasReason known p (claim_for side won) reason → plan_in reason ≡ plan_for reach side p → length (members_in reason) ≤ most_members
+    → AppendsPrefix (is_whole result) old new (lemma_line (record { number = count + 1; path = path; claim = said; reason = reason })) → counted + uncounted result ≡ count + 1 → IsDetermined won count result
+    → Solves root p side reach known old new counted result
+told root p side reach won said known path reason old new count counted result is_said along many right planned short stands number answer = record {
+  wrote = record {
+    more = lemma_next count path side won reason ∷ [];
+    shown = (p, claim_for side won) ∷ [];
+    text = subst (AppendsPrefix (is_whole result) old new)
+        (ap (λ claim. lemma_line (record { number = count + 1; path = path; claim = claim; reason = reason })) is_said ∙ sym (append-nil (lemma_line (lemma_next count path side won reason)))) stands;
+    right = (p, record { next = ap (λ n. n + 1) (sym many); along = along; reason = right }, refl);
+    counted = omega (arith, length-append known ((p, claim_for side won) ∷ []), number, many);
+    sided = ((side_claimed side won, short), tt);
+    planned = (subst (λ at. IfSome at (λ q. plan_in reason ≡ plan_for reach (claim_side (claim_for side won)) q)) (sym along) (planned ∙ ap (λ side. plan_for reach side p) (sym (side_claimed side won))), tt);
+  };
+  named = by result answer;
+}
+  where
+    by : (result : Result Answer SearchStop) → IsDetermined won count result → IfOk result (λ answer. Shows (known ++ (p, claim_for side won) ∷ []) answer.lemma p (claim_for side answer.yes))
+    by (Err stop) answer = tt
+    by (Ok answer) (number, yes') = rw (number, yes', ← many) (Shows_last known p (claim_for side won))
+
+-- nothing was written
+pub wrote_nothing : (root : Position) (side : Side) (reach : ℕ) (known : List Shown) (old : Option (List ℕ)) (total : ℕ) → length known ≡ total → Wrote true root side reach known old old total
+wrote_nothing root side reach known old total many = record {
+  more = [];
+  shown = [];
+  text = Appends-nil old;
+  right = append-nil known;
+  counted = ap length (append-nil known) ∙ many;
+  sided = tt;
+  planned = tt;
+}
+
+-- what stands after some lemmas, and more behind them
+module _ (root : Position) (side : Side) (reach : ℕ) (known : List Shown) (old held new : Option (List ℕ)) (middle : ℕ) (first : Wrote true root side reach known old held middle) where
+  abbrev pub then_wrote : (whole : Bool) (count total : ℕ) → count ≡ total → Wrote whole root side reach (known ++ first.shown) held new count → Wrote whole root side reach known old new total
+  then_wrote whole count total same rest = record {
+    more = first.more ++ rest.more;
+    shown = first.shown ++ rest.shown;
+    text = subst (AppendsPrefix whole old new) (sym (lines_append first.more rest.more)) (AppendsPrefix_more whole old held new (lines_of first.more) (lines_of rest.more) first.text rest.text);
+    right = subst (AreRight root known (first.more ++ rest.more)) (append_assoc known first.shown rest.shown) (AreRight_append root known (known ++ first.shown) ((known ++ first.shown) ++ rest.shown) first.more rest.more first.right rest.right);
+    counted = ap length (sym (append_assoc known first.shown rest.shown)) ∙ rest.counted ∙ same;
+    sided = all_append (λ l. (claim_side l.claim ≡ side) × IsShort l) first.more rest.more first.sided rest.sided;
+    planned = all_append (IsPlanned reach root) first.more rest.more first.planned rest.planned;
+  }
+
+  pub then_solves : (p : Position) (count : ℕ) (result : Result Answer SearchStop) → Solves root p side reach (known ++ first.shown) held new count result → Solves root p side reach known old new count result
+  then_solves p count result rest = record {
+    wrote = then_wrote (is_whole result) (count + uncounted result) (count + uncounted result) refl rest.wrote;
+    named = subst (λ all. IfOk result (λ answer. Shows all answer.lemma p (claim_for side answer.yes))) (append_assoc known first.shown rest.wrote.shown) rest.named;
+  }
+
+  -- a search that stopped tells nothing of its position
+  pub then_stopped : (p q : Position) (count : ℕ) (stop : SearchStop) → Solves root q side reach (known ++ first.shown) held new count (Err stop) → Solves root p side reach known old new count (Err stop)
+  then_stopped p q count stop rest = record { wrote = (then_solves q count (Err stop) rest).wrote; named = tt }
+
+-- ---- after some of the moves
+
+-- The moves before place i were searched, and none decided: each has a lemma, whose number stands at its column.
+pub record SoFar (root p : Position) (side : Side) (reach : ℕ) (own : Bool) (known : List Shown) (old new : Option (List ℕ)) (count : ℕ) (numbers order : List ℕ) (i : ℕ) : Type 0 where
+  pub wrote : Wrote true root side reach known old new count
+  pub moves : (k c : ℕ) → k < i → get_or order k 0 ≡ c → has_room p c ≡ true → Shows (known ++ wrote.shown) (get_or numbers c 0) (after_move p c) (claim_for side (not own))
+
+module _ (root p : Position) (side : Side) (reach : ℕ) (own : Bool) (known : List Shown) where
+  pub so_far_start : (old : Option (List ℕ)) (count : ℕ) (numbers order : List ℕ) → length known ≡ count → SoFar root p side reach own known old old count numbers order 0
+  so_far_start old count numbers order many = record {
+    wrote = wrote_nothing root side reach known old count many;
+    moves = λ k c low _ _. absurd (omega arith);
+  }
+
+  module _ (old held : Option (List ℕ)) (count : ℕ) (numbers order : List ℕ) (i c : ℕ) (so_far : SoFar root p side reach own known old held count numbers order i) (at : get_or order i 0 ≡ c) where
+    -- a full column has no move
+    pub so_far_full : has_room p c ≡ false → SoFar root p side reach own known old held count numbers order (i + 1)
+    so_far_full full = record {
+      wrote = so_far.wrote;
+      moves = λ k d low place room. elim (cases_eq k i) [
+        | inl here ↦ absurd (both_ways (has_room p c) full (ap (has_room p) (sym at ∙ ap (λ k. get_or order k 0) (sym here) ∙ place) ∙ room))
+        | inr before ↦ so_far.moves k d (omega arith) place room
+      ];
+    }
+
+    -- a move that doesn't decide
+    pub so_far_more : (new : Option (List ℕ)) (counted : ℕ) (answer : Answer) → c < length numbers → answer.yes ≡ not own
+        → Solves root (after_move p c) side reach (known ++ so_far.wrote.shown) held new counted (Ok answer) → SoFar root p side reach own known old new counted (set numbers c answer.lemma) order (i + 1)
+    so_far_more new counted answer within other rest = record {
+      wrote = then_wrote root side reach known old held new count so_far.wrote true (counted + 0) counted (omega arith) rest.wrote;
+      moves = λ k d low place room. subst (λ all. Shows all (get_or (set numbers c answer.lemma) d 0) (after_move p d) (claim_for side (not own))) (append_assoc known so_far.wrote.shown rest.wrote.shown) (elim (cases_eq d c) [
+        | inl same ↦ rw (same, get_or-set_same numbers c answer.lemma 0 within, ← other) rest.named
+        | inr apart ↦ rw (get_or-set_other numbers c d answer.lemma 0 apart) (kept k d low place room apart)
+      ]);
+    }
+      where
+        kept : (k d : ℕ) → k < i + 1 → get_or order k 0 ≡ d → has_room p d ≡ true → d ≢ c → Shows ((known ++ so_far.wrote.shown) ++ rest.wrote.shown) (get_or numbers d 0) (after_move p d) (claim_for side (not own))
+        kept k d low place room apart =
+            let before : k < i = elim (cases_eq k i) [ inl here ↦ absurd (apart (sym place ∙ ap (λ k. get_or order k 0) here ∙ at)) | inr other ↦ omega arith ] in
+            Shows_more (known ++ so_far.wrote.shown) rest.wrote.shown (get_or numbers d 0) (after_move p d) (claim_for side (not own)) (so_far.moves k d before place room)
+
+-- ---- why a position's claim holds
+
+agrees_itself : (b : Bool) → agrees b b ≡ true
+agrees_itself true = refl
+agrees_itself false = refl
+
+agrees_not : (b : Bool) → agrees (not b) b ≡ false
+agrees_not true = refl
+agrees_not false = refl
+
+goes : (side : Side) (won : Bool) (p : Position) → goes_by_one (claim_for side won) p ≡ agrees won (same_side side (side_to_move p))
+goes White true p = refl
+goes White false p = refl
+goes Black true p = refl
+goes Black false p = refl
+
+said_of_end : (side : Side) (won : Bool) (end : End) → claim_of_end (claim_for side won) end ≡ agrees won (same_end (win_of side) end)
+said_of_end White true end = refl
+said_of_end White false end = refl
+said_of_end Black true end = refl
+said_of_end Black false end = refl
+
+pub end_reason : (known : List Shown) (p : Position) (side : Side) (won : Bool) (end : End) → end_of p ≡ Some end → won ≡ same_end (win_of side) end
+    → HasReason known p (claim_for side won) ByEnd
+end_reason known p side won end ended told = record {
+  end = end;
+  ended = ended;
+  holds = said_of_end side won end ∙ ap (agrees won) (sym told) ∙ agrees_itself won;
+}
+
+module _ (p : Position) (side : Side) (own : Bool) (going : end_of p ≡ None) (is_own : own ≡ same_side side (side_to_move p)) where
+  pub one_reason : (known : List Shown) (c n : ℕ) → has_room p c ≡ true → Shows known n (after_move p c) (claim_for side own)
+      → HasReason known p (claim_for side own) (ByOne (record { column = c; lemma = n }))
+  one_reason known c n room shown = record {
+    goes_on = going;
+    serves = goes side own p ∙ ap (agrees own) (sym is_own) ∙ agrees_itself own;
+    playable = room;
+    cited = shown;
+  }
+
+  pub all_reason : (known : List Shown) (numbers : List ℕ) → ((c : ℕ) → Among c (open_columns p) → Shows known (get_or numbers c 0) (after_move p c) (claim_for side (not own)))
+      → HasReason known p (claim_for side (not own)) (ByAll (cites_from numbers (open_columns p)))
+  all_reason known numbers each = record {
+    goes_on = going;
+    serves = goes side (not own) p ∙ ap (agrees (not own)) (sym is_own) ∙ agrees_not own;
+    playable = columns_cited (open_columns p);
+    cited = all_cited (open_columns p) each;
+  }
+    where
+      columns_cited : (columns : List ℕ) → map (λ cite. cite.column) (cites_from numbers columns) ≡ columns
+      columns_cited [] = refl
+      columns_cited (c ∷ columns) = ap (λ cs. c ∷ cs) (columns_cited columns)
+
+      all_cited : (columns : List ℕ) → ((c : ℕ) → Among c columns → Shows known (get_or numbers c 0) (after_move p c) (claim_for side (not own)))
+          → AllByRecursion (IsCited known p (claim_for side (not own))) (cites_from numbers columns)
+      all_cited [] each = tt
+      all_cited (c ∷ columns) each = (each c (inl refl), all_cited columns (λ d among. each d (inr among)))
+
+pub place_of : (x : ℕ) (xs : List ℕ) → Among x xs → (k : ℕ) × (k < length xs) × (get_or xs k 0 ≡ x)
+place_of x [] among = absurd among
+place_of x (y ∷ ys) (inl same) = (0, omega arith, same)
+place_of x (y ∷ ys) (inr later) = let rest = place_of x ys later in (suc rest.0, omega arith, rest.2)
+
+-- after all moves, each playable column has its lemma
+pub all_moves : (root p : Position) (side : Side) (reach : ℕ) (own : Bool) (known : List Shown) (old held : Option (List ℕ)) (count : ℕ) (numbers order : List ℕ) (i : ℕ)
+    (so_far : SoFar root p side reach own known old held count numbers order i) → length order ≤ i → order ≡ centre_out (length p.columns)
+    → (c : ℕ) → Among c (open_columns p) → Shows (known ++ so_far.wrote.shown) (get_or numbers c 0) (after_move p c) (claim_for side (not own))
+all_moves root p side reach own known old held count numbers order i so_far all is_order c among =
+    let open' = Among-filter_gives (has_room p) (below (length p.columns)) c among in
+    let place = place_of c order (subst (Among c) (sym is_order) (Among-centre_out (length p.columns) c (Among-below_gives (length p.columns) c open'.0))) in
+    let low : place.0 < length order = place.1 in
+    so_far.moves place.0 c (omega arith) place.2 open'.1
+
+-- ---- the columns that are cited
+
+below_more : (n : ℕ) → below (n + 1) ≡ below n ++ n ∷ []
+below_more n = sym (map-id (below (n + 1))) ∙ map-range_with_len_more (λ k. k) 0 n n (omega arith) ∙ ap (λ ks. ks ++ n ∷ []) (map-id (below n))
+
+pub cites_room : (p : Position) (numbers : List ℕ) (i : ℕ) → has_room p i ≡ true
+    → cites_from numbers (filter (has_room p) (below (i + 1))) ≡ cites_from numbers (filter (has_room p) (below i)) ++ record { column = i; lemma = get_or numbers i 0 } ∷ []
+cites_room p numbers i room =
+    ap (λ cs. cites_from numbers (filter (has_room p) cs)) (below_more i)
+    ∙ ap (cites_from numbers) (filter-append (has_room p) (below i) (i ∷ []) ∙ ap (λ b. filter (has_room p) (below i) ++ cond b (i ∷ []) []) room)
+    ∙ map-append (λ c. record { column = c; lemma = get_or numbers c 0 }) (filter (has_room p) (below i)) (i ∷ [])
+
+pub cites_full : (p : Position) (numbers : List ℕ) (i : ℕ) → has_room p i ≡ false → cites_from numbers (filter (has_room p) (below (i + 1))) ≡ cites_from numbers (filter (has_room p) (below i))
+cites_full p numbers i full =
+    ap (λ cs. cites_from numbers (filter (has_room p) cs)) (below_more i)
+    ∙ ap (cites_from numbers) (filter-append (has_room p) (below i) (i ∷ []) ∙ ap (λ b. filter (has_room p) (below i) ++ cond b (i ∷ []) []) full ∙ append-nil (filter (has_room p) (below i)))
+
+-- ---- what is said of an answer alone
+
+pub ok_more : {A E : Type 0} (r : Result A E) (P Q : A → Type 0) → IfOk r P → ((x : A) → P x → Q x) → IfOk r Q
+ok_more (Ok x) P Q h more = more x h
+ok_more (Err e) P Q h more = tt
+
+pub on_ok : {A E : Type 0} (r : Result A E) (P : Type 0) → P → OnOk r P
+on_ok (Ok x) P h = h
+on_ok (Err e) P h = tt
+
+-- ---- one move further along a path
+
+pub played_more : (root : Position) (path : List ℕ) (p : Position) (c : ℕ) → played root path ≡ Some p → end_of p ≡ None → has_room p c ≡ true → played root (path ++ c ∷ []) ≡ Some (after_move p c)
+played_more root [] p c along going room =
+    let same : root ≡ p = some_same along in
+    ap (λ q. played q (c ∷ [])) same ∙ rw (going, room) refl
+  where
+    some_same : Some root ≡ Some p → root ≡ p
+    some_same e = cc
+played_more root (d ∷ path) p c along going room = elim (chosen (is_legal root d) (played (after_move root d) path) None (Some p) along) [
+  | inl legal ↦ rw legal.0 (played_more (after_move root d) path p c legal.1 going room)
+  | inr not_legal ↦ absurd (cc not_legal.1)
+]
+
+-- ---- the position's own lemma, behind those of its moves
+
+module _ (root p : Position) (side : Side) (reach : ℕ) (own : Bool) (known : List Shown) (old held : Option (List ℕ)) (count : ℕ) (numbers order : List ℕ) (i : ℕ)
+    (so_far : SoFar root p side reach own known old held count numbers order i) (going : end_of p ≡ None) (is_own : own ≡ same_side side (side_to_move p)) where
+  pub closed_by_one : (mid new : Option (List ℕ)) (counted last c : ℕ) (found : Answer) (result : Result Answer SearchStop) → has_room p c ≡ true → found.yes ≡ own
+      → Solves root (after_move p c) side reach (known ++ so_far.wrote.shown) held mid counted (Ok found)
+      → ((also : List Shown) → length also ≡ counted → HasReason also p (claim_for side own) (ByOne (record { column = c; lemma = found.lemma })) → Solves root p side reach also mid new last result)
+      → Solves root p side reach known old new last result
+  closed_by_one mid new counted last c found result room same child tell =
+      let all = then_solves root side reach known old held mid count so_far.wrote (after_move p c) counted (Ok found) child in
+      let also = known ++ all.wrote.shown in
+      let shown : Shows also found.lemma (after_move p c) (claim_for side own) = subst (λ won. Shows also found.lemma (after_move p c) (claim_for side won)) same all.named in
+      let many : length also ≡ counted = omega (arith, all.wrote.counted) in
+      then_solves root side reach known old mid new (counted + 0) all.wrote p last result (tell also many (one_reason p side own going is_own also c found.lemma room shown))
+
+  pub closed_by_all : (new : Option (List ℕ)) (last : ℕ) (result : Result Answer SearchStop) → length order ≤ i → order ≡ centre_out (length p.columns)
+      → ((also : List Shown) → length also ≡ count → HasReason also p (claim_for side (not own)) (ByAll (cites_from numbers (open_columns p))) → Solves root p side reach also held new last result)
+      → Solves root p side reach known old new last result
+  closed_by_all new last result all is_order tell =
+      let also = known ++ so_far.wrote.shown in
+      then_solves root side reach known old held new count so_far.wrote p last result
+      (tell also so_far.wrote.counted (all_reason p side own going is_own also numbers (all_moves root p side reach own known old held count numbers order i so_far all is_order)))
+
+-- a column that was taken from the end of a path
+pub path_back : (path longer shorter : List ℕ) (c : ℕ) → longer ≡ path ++ c ∷ [] → shorter ≡ take (length longer - 1) longer → shorter ≡ path
+path_back path longer shorter c h taken =
+    let long : length longer - 1 ≡ length path = omega (arith, ap length h, length_push path c) in
+    taken ∙ ap (λ n. take n longer) long ∙ ap (take (length path)) h ∙ take_at path (c ∷ []) (length path) refl

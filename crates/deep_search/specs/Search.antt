@@ -1,0 +1,45 @@
+-- What a search with lemmas does, at any moment at which it may end.
+use Rattle.std.specs.Prelude.{◌≡◌, ℕ, ◌+◌, map, slice_index, Bool, true, false, List, ◌++◌, Option, Result, Ok, Err, IfOk, length}
+use Rattle.device_rules.specs.Devices.{AppendsPrefix}
+use Rattle.game_rules.specs.Position.{Position}
+use Rattle.game_rules.specs.declared.Side.{Side}
+use Rattle.proof_text.specs.Lemma.{claim_for, Cite, Lemma}
+use Rattle.proof_text.specs.Right.{Shown, Shows, AreRight}
+use Rattle.proof_text.specs.Spelling.{lines_of}
+use Rattle.proof_text.specs.Written.{AreSided}
+use Rattle.deep_search.specs.Planned.{ArePlanned}
+use Rattle.deep_search.specs.declared.solving.Answer.{Answer}
+use Rattle.deep_search.specs.declared.solving.SearchStop.{SearchStop}
+use Rattle.deep_search.specs.declared.solving.SearchStop.TheVariants.{Spent, WriteFault}
+
+-- whether all that the search began to write stands whole
+abbrev pub is_whole : Result Answer SearchStop → Bool
+is_whole (Ok answer) = true
+is_whole (Err Spent) = true
+is_whole (Err WriteFault) = false
+
+-- how many lemmas were begun and not counted
+abbrev pub uncounted : Result Answer SearchStop → ℕ
+uncounted (Ok answer) = 0
+uncounted (Err Spent) = 0
+uncounted (Err WriteFault) = 1
+
+-- the columns, each with the lemma whose number stands at its place
+abbrev pub cites_from : List ℕ → List ℕ → List Cite
+cites_from numbers columns = map (λ c. record { column = c; lemma = slice_index numbers c }) columns
+
+-- Behind what is known, right lemmas of the side were written, of which the last may be cut where they don't stand whole:
+-- what they show, and how many lemmas there are with them.
+pub record Wrote (whole : Bool) (root : Position) (side : Side) (reach : ℕ) (known : List Shown) (old new : Option (List ℕ)) (total : ℕ) : Type 0 where
+  pub more : List Lemma
+  pub shown : List Shown
+  pub text : AppendsPrefix whole old new (lines_of more)
+  pub right : AreRight root known more (known ++ shown)
+  pub counted : length (known ++ shown) ≡ total
+  pub sided : AreSided side more
+  pub planned : ArePlanned reach root more
+
+-- The lemmas that a search wrote; and its answer names one that shows at p whether the side wins.
+pub record Solves (root p : Position) (side : Side) (reach : ℕ) (known : List Shown) (old new : Option (List ℕ)) (count : ℕ) (result : Result Answer SearchStop) : Type 0 where
+  pub wrote : Wrote (is_whole result) root side reach known old new (count + uncounted result)
+  pub named : IfOk result (λ answer. Shows (known ++ wrote.shown) answer.lemma p (claim_for side answer.yes))

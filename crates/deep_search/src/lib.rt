@@ -1,0 +1,10 @@
+//! The search with lemmas: whether a side wins at a position, and a lemma for each position that it enters, each written
+//! after those that it cites. It goes through the moves from the middle outwards, up to the first that decides, and where
+//! White is asked about it answers without a move where Black has a plan. It takes no memory.
+#![tactic(auto)]
+
+mod laws;
+mod solving;
+
+pub use laws::a_lemma_rests_on_a_plan_where_one_is_chosen;
+pub use solving::{Answer, SearchStop, search};

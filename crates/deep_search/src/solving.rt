@@ -1,0 +1,206 @@
+//! The search as a plain recursion. What stays the same in it is made once and lent, and the lists of its positions hold
+//! no more than the columns: neither a position's plan nor the text of a lemma stands in a frame.
+ghost use Rattle.std.specs.Prelude.{◌≡◌, ◌+◌, ◌<◌, ◌≤◌, true, List, Ok, Err, Some, length, map, IfOk, OnOk};
+ghost use Rattle.device_rules.specs.Devices.{Rose};
+ghost use Rattle.game_rules.specs.Position.{Position as Men, played, empty_count, open_columns, same_side, side_to_move};
+ghost use Rattle.game_rules.specs.Value.{wins};
+ghost use Rattle.game_rules.specs.Cost.{centre_out, count};
+ghost use Rattle.plan_text.specs.PlanLine.{most_members};
+ghost use Rattle.proof_text.specs.Lemma.{claim_for};
+ghost use Rattle.proof_text.specs.Spelling.{greatest_number, longest_path, members_in};
+ghost use Rattle.proof_text.specs.Right.{Shown, HasReason};
+ghost use Rattle.cert_format.specs.Shape.{cite_of, reason_viewed};
+ghost use Rattle.rule_compat.specs.Written.{written_list};
+ghost use Rattle.deep_search.specs.Planned.{solved_within, plan_for, plan_in};
+ghost use Rattle.deep_search.specs.Search.{uncounted, Solves, cites_from};
+ghost use Rattle.deep_search.specs.declared.solving.SearchStop.TheVariants as stops;
+
+use arrayvec::ArrayVec;
+use board_bits::{Column, MOST_COLS, MOST_SQUARES, Position, Side, centre_out};
+use cert_format::{Cite, Claim, LemmaOut, ReasonView};
+use io_ports::{Failed, Sink};
+use rule_chooser::Chooser;
+
+/// The answer to whether a side wins, and the number of the lemma that shows it.
+#[derive(Clone, Copy, Debug, PartialEq, Eq)]
+pub struct Answer {
+    pub yes: bool,
+    pub lemma: u32,
+}
+
+/// Why a search stopped without an answer.
+#[derive(Clone, Copy, Debug, PartialEq, Eq)]
+pub enum SearchStop {
+    /// The budget ran out.
+    Spent,
+    /// The sink failed.
+    WriteFault,
+}
+
+/// What is asked at each position of a search: whether the side wins. A plan is looked for among the first `reach` sets of
+/// zones, and the columns are visited in the order that is kept here.
+#[derive(Drop)]
+struct Question {
+    side: Side,
+    reach: u32,
+    order: ArrayVec<Column, MOST_COLS>,
+}
+
+/// Asks whether the side wins at a position, with lemmas that begin there. Each position entered takes 1 from the budget,
+/// and has its lemma put behind those that it cites. At a position with White to move, White is found not to win where
+/// one of the first `reach` sets of zones gives a plan of Black's, which the lemma then rests on; `reach` is from 0, which
+/// looks for no plan, and the chooser is lent for that alone.
+///
+/// `Spent` comes only where the budget is below the count of the search, and `WriteFault` only where the sink's count of
+/// faults rose.
+pub fn search<O: Sink>(
+    position: &Position,
+    side: Side,
+    reach: u32,
+    budget: &mut u32,
+    chooser: &mut Chooser,
+    lemmas: &mut LemmaOut,
+    out: &mut O,
+) -> Result<Answer, SearchStop>
+    requires room { lemmas.old + budget.old ≤ greatest_number }
+    ensures answer { IfOk result (λ answer. answer.yes ≡ wins side position.now) }
+    ensures left { OnOk result (budget.old ≤ budget.new + count (solved_within reach) side position.now) }
+    ensures spent { result ≡ Err stops.Spent → budget.old < count (solved_within reach) side position.now }
+    ensures few { lemmas.new + uncounted result + budget.new ≤ lemmas.old + budget.old }
+    ensures later { O.faults out.old ≤ O.faults out.new }
+    ensures fault { result ≡ Err stops.WriteFault → Rose (O.faults out.old) (O.faults out.new) }
+    ensures wrote { (known : List Shown) → length known ≡ lemmas.old
+        → Solves position.now position.now side reach known (O.written out.old) (O.written out.new) lemmas.new result }
+{
+    let question = Question {
+        side,
+        reach,
+        order: centre_out(position.size()),
+    };
+    let mut path = ArrayVec::new();
+    solve(position, &question, &mut path, budget, chooser, lemmas, out)
+}
+
+/// Asks the question at a position, to which `path` leads from the root.
+fn solve<O: Sink>(
+    position: &Position,
+    question: &Question,
+    path: &mut ArrayVec<Column, MOST_SQUARES>,
+    budget: &mut u32,
+    chooser: &mut Chooser,
+    lemmas: &mut LemmaOut,
+    out: &mut O,
+) -> Result<Answer, SearchStop>
+    requires order { question.now.order.items ≡ centre_out (length position.now.columns) }
+    requires deep { length path.old.items + empty_count position.now ≤ longest_path }
+    requires room { lemmas.old + budget.old ≤ greatest_number }
+    ensures answer { IfOk result (λ answer. answer.yes ≡ wins question.now.side position.now) }
+    ensures left { OnOk result (budget.old ≤ budget.new + count (solved_within question.now.reach) question.now.side position.now) }
+    ensures spent { result ≡ Err stops.Spent → budget.old < count (solved_within question.now.reach) question.now.side position.now }
+    ensures path { path.new.items ≡ path.old.items }
+    ensures few { lemmas.new + uncounted result + budget.new ≤ lemmas.old + budget.old }
+    ensures later { O.faults out.old ≤ O.faults out.new }
+    ensures fault { result ≡ Err stops.WriteFault → Rose (O.faults out.old) (O.faults out.new) }
+    ensures wrote { (root : Men) (known : List Shown) → played root path.old.items ≡ Some position.now → length known ≡ lemmas.old
+        → Solves root position.now question.now.side question.now.reach known (O.written out.old) (O.written out.new) lemmas.new result }
+{
+    let Some(left) = budget.checked_sub(1) else {
+        return Err(SearchStop::Spent);
+    };
+    *budget = left;
+    let side = question.side;
+    if let Some(end) = position.ended() {
+        let yes = side.win() == end;
+        let ended = ReasonView::Ended;
+        return put_lemma(position, path, question, yes, &ended, lemmas, out);
+    }
+    let own = side == position.to_move();
+    if is_planned(position, question, own, chooser) {
+        let plan = ReasonView::Plan(chooser.plan());
+        return put_lemma(position, path, question, false, &plan, lemmas, out);
+    }
+    let order = question.order.as_slice();
+    let mut numbers = [0; MOST_COLS];
+    for column in order {
+        if position.has_room(*column) {
+            let next = position.after(*column);
+            path.push(*column);
+            let found = solve(&next, question, path, budget, chooser, lemmas, out);
+            path.pop();
+            let found = found?;
+            if found.yes == own {
+                let cite = Cite {
+                    column: *column,
+                    lemma: found.lemma,
+                };
+                let one = ReasonView::One(cite);
+                return put_lemma(position, path, question, own, &one, lemmas, out);
+            }
+            numbers[column.index() as usize] = found.lemma;
+        }
+    }
+    let cites = cites_from(position, &numbers);
+    let all = ReasonView::All(&cites);
+    put_lemma(position, path, question, !own, &all, lemmas, out)
+}
+
+/// Whether a plan answers the question at a position, where the side is `own` to move: the chooser then has it.
+#[inline(always)]
+fn is_planned(position: &Position, question: &Question, own: bool, chooser: &mut Chooser) -> bool
+    requires own { own ≡ same_side question.now.side (side_to_move position.now) }
+    ensures solved { result ≡ solved_within question.now.reach question.now.side position.now }
+    ensures plan { result ≡ true → plan_for question.now.reach question.now.side position.now ≡ Some (written_list chooser.new) }
+{
+    if !own || question.side == Side::Black || question.reach == 0 {
+        return false;
+    }
+    chooser.give(position, question.reach)
+}
+
+/// Puts the lemma of a position, and answers with its number.
+#[inline(always)]
+fn put_lemma<O: Sink>(
+    position: &Position,
+    path: &[Column],
+    question: &Question,
+    yes: bool,
+    reason: &ReasonView<'_>,
+    lemmas: &mut LemmaOut,
+    out: &mut O,
+) -> Result<Answer, SearchStop>
+    requires true_now { yes ≡ wins question.now.side position.now }
+    requires planned { plan_in (reason_viewed reason.now) ≡ plan_for question.now.reach question.now.side position.now }
+    requires room { lemmas.old < greatest_number }
+    requires deep { length path.now ≤ longest_path }
+    requires short { length (members_in (reason_viewed reason.now)) ≤ most_members }
+    ensures answer { IfOk result (λ answer. answer.yes ≡ wins question.now.side position.now) }
+    ensures spent { result ≡ Err stops.Spent → ⊥ }
+    ensures few { lemmas.new + uncounted result ≤ lemmas.old + 1 }
+    ensures later { O.faults out.old ≤ O.faults out.new }
+    ensures fault { result ≡ Err stops.WriteFault → Rose (O.faults out.old) (O.faults out.new) }
+    ensures wrote { (root : Men) (known : List Shown) → played root path.now ≡ Some position.now → length known ≡ lemmas.old
+        → HasReason known position.now (claim_for question.now.side yes) (reason_viewed reason.now)
+        → Solves root position.now question.now.side question.now.reach known (O.written out.old) (O.written out.new) lemmas.new result }
+{
+    match lemmas.put_view(out, path, Claim::of(question.side, yes), reason) {
+        Ok(lemma) => Ok(Answer { yes, lemma }),
+        Err(Failed) => Err(SearchStop::WriteFault),
+    }
+}
+
+/// The playable columns, each with the lemma whose number stands at its place.
+fn cites_from(position: &Position, numbers: &[u32; MOST_COLS]) -> ArrayVec<Cite, MOST_COLS>
+    ensures { map cite_of result.items ≡ cites_from numbers.now (open_columns position.now) }
+{
+    let mut cites = ArrayVec::new();
+    for index in 0..position.size().cols() {
+        let column = position.size().nth_column(index);
+        if position.has_room(column) {
+            cites.push(Cite {
+                column,
+                lemma: numbers[index as usize],
+            });
+        }
+    }
+    cites
+}

@@ -1,0 +1,3 @@
+mod Vectors
+pub mod Answers
+pub mod Fitting
