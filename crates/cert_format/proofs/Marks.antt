@@ -17,7 +17,7 @@ free_before mark bytes zero never = tt
 free_before mark [] (suc end) never = tt
 free_before mark (byte ∷ bytes) (suc end) never = (never 0 (omega arith), free_before mark bytes end (λ k below. never (suc k) (omega arith)))
 
-uncut : (mark : ℕ) (bytes : List ℕ) → IsFreeOf mark bytes → split_once mark bytes ≡ None
+pub uncut : (mark : ℕ) (bytes : List ℕ) → IsFreeOf mark bytes → split_once mark bytes ≡ None
 uncut mark [] free = refl
 uncut mark (byte ∷ bytes) free = rw free.0 (ap (option_map (λ parts. (byte ∷ parts.0, parts.1))) (uncut mark bytes free.1))
 

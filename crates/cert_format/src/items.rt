@@ -159,7 +159,7 @@ fn way_of(letter: u8) -> Option<Way>
 }
 
 /// What stands before the first such mark, and what behind it.
-pub(crate) fn split_once(bytes: &[u8], mark: u8) -> Option<(&[u8], &[u8])>
+pub fn split_once(bytes: &[u8], mark: u8) -> Option<(&[u8], &[u8])>
     ensures { option_map (λ parts. (parts.0.now, parts.1.now)) result ≡ split_once mark bytes.now }
 {
     let end = bytes.find_byte(mark)?;

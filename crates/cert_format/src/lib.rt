@@ -19,7 +19,7 @@ mod room;
 #[cfg(test)]
 mod tests;
 
-pub use items::{Item, print_item, push_group, push_plan_fault, push_square};
+pub use items::{Item, print_item, push_group, push_plan_fault, push_square, split_once};
 pub use line_text::{LineText, push_number, push_text};
 pub use lines::{
     Cite, FIRST_LINE, Lemma, LemmaView, Line, LineFault, LineView, Reason, ReasonView,

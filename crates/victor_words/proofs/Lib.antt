@@ -1,0 +1,4 @@
+pub mod Pieces
+pub mod Steps
+pub mod Forms
+pub mod Written

@@ -1,0 +1,137 @@
+-- Which lists of words are a written form of the command line, and of which one: what a form's words may be, not how
+-- they are read. The commands, the options and their ranges are this project's own.
+use Rattle.std.specs.Prelude.{◌≡◌, ℕ, Bool, true, false, if◌then◌else◌, ◌⊎◌, List, [], ◌∷◌, ◌++◌, Option, Some, None, codes}
+use Rattle.std.specs.List.{flat_map}
+use Rattle.std.specs.Int.{IsInRange}
+use Rattle.std.specs.Fmt.{decimal}
+use Rattle.game_rules.specs.Board.{Board}
+use Rattle.game_rules.specs.Grammar.{is_spelled}
+use Rattle.victor_words.specs.declared.form.Command.{Command}
+use Rattle.victor_words.specs.declared.form.Command.TheVariants as commands
+use Rattle.victor_words.specs.declared.form.Form.{Form}
+use Rattle.victor_words.specs.declared.form.Form.TheVariants.{Prove, Check, Play, Explain, Drill}
+use Rattle.victor_words.specs.declared.piece.Name.{Name}
+use Rattle.victor_words.specs.declared.piece.Name.TheVariants.{Nodes, Reach}
+use Rattle.victor_words.specs.declared.piece.Piece.{Piece}
+use Rattle.victor_words.specs.declared.piece.Piece.TheVariants.{Apart, Joined, Own}
+
+-- ---- words
+
+abbrev pub command_word : Command → List ℕ
+command_word commands.Prove = codes "prove"
+command_word commands.Check = codes "check"
+command_word commands.Play = codes "play"
+command_word commands.Explain = codes "explain"
+command_word commands.Drill = codes "drill"
+
+abbrev pub name_word : Name → List ℕ
+name_word Nodes = codes "--nodes"
+name_word Reach = codes "--reach"
+
+-- Behind the command the words are pieces: an option and its number, in two words or in one with `=` between them, or a
+-- number alone.
+abbrev pub words_of : Piece → List (List ℕ)
+words_of (Apart name n) = name_word name ∷ decimal n ∷ []
+words_of (Joined name n) = (name_word name ++ 61 ∷ decimal n) ∷ []
+words_of (Own n) = decimal n ∷ []
+
+-- ---- what pieces give
+
+abbrev pub same_name : Name → Name → Bool
+same_name Nodes Nodes = true
+same_name Nodes Reach = false
+same_name Reach Nodes = false
+same_name Reach Reach = true
+
+abbrev pub given_by : Name → Piece → List ℕ
+given_by name (Apart other n) = if same_name name other then n ∷ [] else []
+given_by name (Joined other n) = if same_name name other then n ∷ [] else []
+given_by name (Own n) = []
+
+abbrev pub own_by : Piece → List ℕ
+own_by (Apart name n) = []
+own_by (Joined name n) = []
+own_by (Own n) = n ∷ []
+
+-- the numbers given to an option, and those that stand alone, from the left
+abbrev pub given : Name → List Piece → List ℕ
+given name pieces = flat_map (given_by name) pieces
+
+abbrev pub own : List Piece → List ℕ
+own pieces = flat_map own_by pieces
+
+-- ---- what a form says
+
+abbrev pub command_of : Form → Command
+command_of (Prove nodes reach) = commands.Prove
+command_of Check = commands.Check
+command_of Play = commands.Play
+command_of (Explain reach) = commands.Explain
+command_of (Drill size moves seed games nodes reach) = commands.Drill
+
+-- its numbers that stand alone, in their order
+abbrev pub numbers_of : Form → List ℕ
+numbers_of (Prove nodes reach) = []
+numbers_of Check = []
+numbers_of Play = []
+numbers_of (Explain reach) = []
+numbers_of (Drill size moves seed games nodes reach) = size.cols ∷ size.rows ∷ moves ∷ seed ∷ games ∷ []
+
+-- the number of an option, if the command has that option
+abbrev pub number_in : Form → Name → Option ℕ
+number_in (Prove nodes reach) Nodes = Some nodes
+number_in (Prove nodes reach) Reach = Some reach
+number_in Check name = None
+number_in Play name = None
+number_in (Explain reach) Nodes = None
+number_in (Explain reach) Reach = Some reach
+number_in (Drill size moves seed games nodes reach) Nodes = Some nodes
+number_in (Drill size moves seed games nodes reach) Reach = Some reach
+
+-- the number of an option that isn't given
+abbrev pub usual : Name → ℕ
+usual Nodes = 1000000
+usual Reach = 1000
+
+-- how many positions a search may enter, and at how many sets of zones a walk may look
+abbrev pub AreNodes : ℕ → Type 0
+AreNodes n = IsInRange 1 10000000 n
+
+abbrev pub IsReach : ℕ → Type 0
+IsReach n = IsInRange 0 1000000 n
+
+-- games on a board with lines of four, with their most moves, the number that they are made from, and how many they are
+pub record AreGames (board : Board) (most from count : ℕ) : Type 0 where
+  pub size : is_spelled board ≡ true
+  pub moves : IsInRange 0 100 most
+  pub seed : IsInRange 1 2147483646 from
+  pub games : IsInRange 1 1000 count
+
+-- the numbers of a form are in their ranges
+abbrev pub HasRanges : Form → Type 0
+HasRanges (Prove nodes reach) = AreNodes nodes × IsReach reach
+HasRanges Check = Unit {0}
+HasRanges Play = Unit {0}
+HasRanges (Explain reach) = IsReach reach
+HasRanges (Drill size moves seed games nodes reach) = AreGames size moves seed games × AreNodes nodes × IsReach reach
+
+-- An option that the command has is given once with the form's number, or isn't given and the form has the usual one. Any
+-- other option isn't given.
+abbrev pub IsGiven : ℕ → Option ℕ → List ℕ → Type 0
+IsGiven usually None numbers = numbers ≡ []
+IsGiven usually (Some n) numbers = (numbers ≡ n ∷ []) ⊎ ((numbers ≡ []) × (n ≡ usually))
+
+-- ---- words and forms
+
+-- The words are the command and then, in any order, the form's numbers in their own order and its options.
+pub record IsWritten (words : List (List ℕ)) (form : Form) : Type 0 where
+  pub pieces : List Piece
+  pub spelled : words ≡ command_word (command_of form) ∷ flat_map words_of pieces
+  pub numbers : own pieces ≡ numbers_of form
+  pub options : (name : Name) → IsGiven (usual name) (number_in form name) (given name pieces)
+  pub ranges : HasRanges form
+
+-- the words are the form, and where they are read as none they are no form
+abbrev pub IsReadAs : List (List ℕ) → Option Form → Type 0
+IsReadAs words None = (form : Form) → IsWritten words form → ⊥
+IsReadAs words (Some form) = IsWritten words form

@@ -1,0 +1,79 @@
+//! What the words of a command line ask for.
+ghost use Rattle.std.specs.Prelude.{◌≡◌, string_bytes};
+ghost use Rattle.std.specs.Str.{bytes_eq};
+ghost use Rattle.victor_words.specs.Reading.{command_named};
+
+use board_bits::Size;
+
+/// A command with its options and numbers.
+#[derive(Clone, Copy, Debug, PartialEq, Eq)]
+pub enum Form {
+    /// Read a game and write a proof of its position's value.
+    Prove {
+        /// How many positions a search may enter, from 1 to 10,000,000; 1,000,000 where the words don't say.
+        nodes: u32,
+        /// How many sets of zones a walk looks at, from 0 to 1,000,000; 1,000 where the words don't say.
+        reach: u32,
+    },
+    /// Read a proof and say whether it is right.
+    Check,
+    /// Read a game, a plan and White's moves, and play Black's.
+    Play,
+    /// Read a game and explain its plan.
+    Explain {
+        /// How many sets of zones a walk looks at, as for `Prove`.
+        reach: u32,
+    },
+    /// Make games from a number, prove each, and count what was found.
+    Drill {
+        /// The games' board, with lines of four squares.
+        size: Size,
+        /// The most moves of a game, from 0 to 100.
+        moves: u32,
+        /// The number that the games are made from, from 1 to 2,147,483,646.
+        seed: u32,
+        /// How many games are made, from 1 to 1,000.
+        games: u32,
+        /// How many positions the search of each game may enter, as for `Prove`.
+        nodes: u32,
+        /// How many sets of zones a walk looks at, as for `Prove`.
+        reach: u32,
+    },
+}
+
+/// The first word of a form.
+#[derive(Clone, Copy, Debug, PartialEq, Eq)]
+pub(crate) enum Command {
+    Prove,
+    Check,
+    Play,
+    Explain,
+    Drill,
+}
+
+impl Command {
+    /// The command that the word is, and None exactly where it is none.
+    pub(crate) fn named(word: &str) -> Option<Command>
+        ensures { result ≡ command_named word.now }
+    {
+        if is_word(word, "prove") {
+            Some(Command::Prove)
+        } else if is_word(word, "check") {
+            Some(Command::Check)
+        } else if is_word(word, "play") {
+            Some(Command::Play)
+        } else if is_word(word, "explain") {
+            Some(Command::Explain)
+        } else if is_word(word, "drill") {
+            Some(Command::Drill)
+        } else {
+            None
+        }
+    }
+}
+
+fn is_word(word: &str, text: &str) -> bool
+    ensures { result ≡ bytes_eq word.now text.now }
+{
+    word == text
+}
