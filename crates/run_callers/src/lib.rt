@@ -3,15 +3,15 @@
 //! memory; the second names how a run ends, where it can't be for want of a budget.
 #![tactic(auto)]
 
-ghost use Rattle.std.specs.Prelude.{◌≡◌, ◌⊎◌, ℕ, ◌≤◌, List, Ok, Some, map, string_bytes};
+ghost use Rattle.std.specs.Prelude.{◌≡◌, ◌⊎◌, ℕ, Option, ◌≤◌, List, Ok, Some, map, string_bytes};
 ghost use Rattle.device_rules.specs.Devices.{Rose};
 ghost use Rattle.game_rules.specs.Position.{Position};
 ghost use Rattle.game_rules.specs.Cost.{cost};
 ghost use Rattle.game_rules.specs.Text.{game_at};
 ghost use Rattle.deep_search.specs.Planned.{solved_within};
-ghost use Rattle.victor_run.specs.Words.{form_of};
+ghost use Rattle.victor_words.specs.Words.{IsWritten};
 ghost use Rattle.victor_run.specs.Outcome.{status_of};
-ghost use Rattle.victor_run.specs.declared.words.Form.TheVariants as forms;
+ghost use Rattle.victor_words.specs.declared.form.Form.TheVariants as forms;
 ghost use Rattle.victor_run.specs.declared.ending.Ending.{Ending};
 ghost use Rattle.victor_run.specs.declared.ending.Ending.TheVariants as endings;
 ghost use Rattle.run_callers.specs.Held.{StillHolds, HoldsProof};
@@ -29,7 +29,7 @@ pub fn run_into_memory<S: Source>(
     out: &mut MemSink,
 ) -> u8
     ensures kept { StillHolds out.old.written out.new.written }
-    ensures proved { (nodes reach : ℕ) → form_of (map string_bytes words.now) ≡ Some (forms.Prove nodes reach) → (result ≡ 0) ⊎ (result ≡ 5)
+    ensures proved { (nodes reach table : ℕ) (front : Option ℕ) → IsWritten (map string_bytes words.now) (forms.Prove nodes reach front table) → (result ≡ 0) ⊎ (result ≡ 5)
         → HoldsProof nodes reach out.old.written out.new.written }
 {
     run(alloc, words, source, out, &mut NullSink::new())
@@ -43,7 +43,7 @@ pub fn prove_within_budget<S: Source, O: Sink>(
     source: &mut S,
     out: &mut O,
 ) -> u8
-    ensures { (nodes reach : ℕ) (bytes : List ℕ) (p : Position) → form_of (map string_bytes words.now) ≡ Some (forms.Prove nodes reach)
+    ensures { (nodes reach table : ℕ) (front : Option ℕ) (bytes : List ℕ) (p : Position) → IsWritten (map string_bytes words.now) (forms.Prove nodes reach front table)
         → S.left source.old ≡ Some bytes → game_at bytes ≡ Ok p → cost (solved_within reach) p ≤ nodes
         → (Rose (S.faults source.old) (S.faults source.new) → ⊥) → (Rose (O.faults out.old) (O.faults out.new) → ⊥)
         → (ending : Ending) × (result ≡ status_of ending) × (ending ≡ endings.Done) }

@@ -9,9 +9,10 @@ use Rattle.game_rules.proofs.Moves.{same_side_is, other_side, other_other}
 use Rattle.game_rules.specs.declared.Side.{Side}
 use Rattle.game_rules.specs.declared.Side.TheVariants.{White, Black}
 use Rattle.proof_text.specs.Lemma.{claim_for}
-use Rattle.proof_text.specs.Right.{Shown, Shows, IsVerdict}
+use Rattle.proof_text.specs.Right.{Shown, Shows, IsVerdict, IsTrueVerdict}
 use Rattle.proof_text.specs.Spelling.{lines_of}
-use Rattle.proof_text.proofs.Append.{Shows_more}
+use Rattle.proof_text.proofs.Append.{Shows_more, AreRight_append}
+use Rattle.proof_text.proofs.Sound.{AreTrue_none, true_lemmas, true_verdict}
 use Rattle.proof_text.specs.declared.Verdict.{Verdict}
 use Rattle.proof_text.specs.declared.Verdict.TheVariants.{Draw, Unknown}
 use Rattle.deep_search.specs.Search.{is_whole, uncounted, Solves}
@@ -144,6 +145,12 @@ module _ (root : Position) (nodes reach : ℕ) (old held new : Option (List ℕ)
           ),
           (λ h. cc),
         )
+
+-- a verdict that the lemmas of both questions show is true
+pub asked_truth : (root : Position) (nodes reach : ℕ) (old new : Option (List ℕ)) (r : Result Verdict SearchStop) (asks : Asks root nodes reach old new r) (v : Verdict)
+    → IsVerdict root asks.after v → IsTrueVerdict root v
+asked_truth root nodes reach old new r asks v right =
+    true_verdict root asks.after v (true_lemmas root [] (asks.white ++ asks.black) asks.after (AreRight_append root [] asks.mid asks.after asks.white asks.black asks.white_right asks.black_right) AreTrue_none) right
 
 pub same_stop : {A : Type 0} (r : Result A SearchStop) (stop other : SearchStop) → r ≡ Err stop → r ≡ Err other → stop ≡ other
 same_stop r stop other h k = cc

@@ -11,7 +11,7 @@ use Rattle.cert_checker.specs.declared.stops.Accepted.{Accepted}
 use Rattle.victor_run.specs.Check.{accepted_line, most_lines_read}
 use Rattle.victor_run.specs.Streams.{Streams}
 use Rattle.victor_run.specs.Outcome.{Outcome}
-use Rattle.victor_run.specs.declared.words.Form.TheVariants.{Check}
+use Rattle.victor_words.specs.declared.form.Form.TheVariants.{Check}
 use Rattle.victor_run.specs.declared.ending.Ending.TheVariants as endings
 use Rattle.victor_run.specs.CheckSteps.{StopsBy, Judges, game_from, lines_from, lines_read_until, ending_of}
 use Rattle.victor_run.specs.Reading.{Pending, Reads, PassesLines}

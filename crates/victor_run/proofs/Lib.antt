@@ -1,6 +1,8 @@
 pub mod Ends
 pub mod Asking
 pub mod Writing
+pub mod Drilling
+pub mod Completed
 pub mod Cuts
 pub mod CheckLines
 pub mod GameRead

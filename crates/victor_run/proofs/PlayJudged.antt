@@ -23,7 +23,7 @@ use Rattle.victor_run.specs.Reading.{Pending, Reads, PassesLines}
 use Rattle.victor_run.specs.PlayPromise.{IsPlayed, BeginsPlay}
 use Rattle.victor_run.specs.PlaySteps.{played_at, played_from, end_by, EndsSo, StopsPlay, lines_until, IsNoMove, IsCaused, HasPlayCause, is_whole, PlayStep, PlaysNext, PlaysMoves, PlaysInput, play_ending}
 use Rattle.victor_run.specs.Outcome.{Outcome}
-use Rattle.victor_run.specs.declared.words.Form.TheVariants.{Play}
+use Rattle.victor_words.specs.declared.form.Form.TheVariants.{Play}
 use Rattle.victor_run.specs.declared.ending.Ending.TheVariants as endings
 use Rattle.victor_run.specs.declared.play.PlayStop.{PlayStop}
 use Rattle.victor_run.specs.declared.play.PlayStop.TheVariants as stops

@@ -11,12 +11,11 @@ use Rattle.proof_text.specs.Right.{IsVerdict}
 use Rattle.proof_text.specs.Spelling.{as_line, lines_of, verdict_line}
 use Rattle.proof_text.specs.Texts.{first_line, head_of}
 use Rattle.proof_text.specs.Written.{IsProof}
-use Rattle.proof_text.proofs.Append.{AreRight_append}
-use Rattle.proof_text.proofs.Sound.{AreTrue_none, true_lemmas, true_verdict}
 use Rattle.proof_text.proofs.Written.{both_written, lemmas_stand, head_stands, proof_stands, proof_accepted, head_of_fed, head_of_bare}
 use Rattle.proof_text.specs.declared.Verdict.{Verdict}
 use Rattle.victor_run.specs.Proof.{head_for, IsProofOf, Writes}
 use Rattle.victor_run.specs.Questions.{Asks}
+use Rattle.victor_run.proofs.Asking.{asked_truth}
 use Rattle.deep_search.specs.declared.solving.SearchStop.{SearchStop}
 use Rattle.deep_search.specs.declared.solving.SearchStop.TheVariants.{WriteFault}
 use Rattle.io_ports.specs.declared.ports.Failed.{Failed}
@@ -97,7 +96,7 @@ module _ (nodes reach : ℕ) (bytes : List ℕ) (p : Position) (game : IsGameTex
       planned = (asks.white_planned, asks.black_planned);
       few = asks.few;
       accepted = proof_accepted game.board game.columns p proof_text v is_proof game.has_board game.has_moves (let few : length asks.after ≤ nodes = asks.few in omega arith);
-      says = true_verdict p asks.after v (true_lemmas p [] (asks.white ++ asks.black) asks.after (AreRight_append p [] asks.mid asks.after asks.white asks.black asks.white_right asks.black_right) AreTrue_none) right;
+      says = asked_truth p nodes reach mid held r asks v right;
     }
 
     pub writes_verdict : (old new : Option (List ℕ)) (result : Result Verdict Failed) → Appends old mid (head_for bytes) → Appends mid held (lines_of asks.white ++ lines_of asks.black)

@@ -1,4 +1,3 @@
-pub mod Words
 pub mod Output
 pub mod Outcome
 pub mod Streams
@@ -10,5 +9,6 @@ pub mod Reading
 pub mod PlayPromise
 pub mod PlaySteps
 pub mod ExplainPromise
+pub mod DrillPromise
 pub mod GameInput
 pub mod InputState

@@ -9,15 +9,17 @@ use Rattle.game_rules.specs.Text.{game_at}
 use Rattle.proof_text.specs.declared.Verdict.{Verdict}
 use Rattle.proof_text.specs.declared.Verdict.TheVariants as verdicts
 use Rattle.proof_text.specs.Texts.{longest_line}
+use Rattle.drill_games.specs.Games.{games_from}
 use Rattle.deep_search.specs.Planned.{solved_within}
 use Rattle.io_ports.specs.declared.ports.Failed.{Failed}
 use Rattle.victor_run.specs.Check.{Checks, most_lines_read}
 use Rattle.victor_run.specs.PlayPromise.{Plays, most_play_lines}
 use Rattle.victor_run.specs.ExplainPromise.{Explains}
+use Rattle.victor_run.specs.DrillPromise.{Drills}
 use Rattle.victor_run.specs.Proof.{IsProofOf, MayStandFor}
 use Rattle.victor_run.specs.Streams.{Streams, Took, TakesLines, most_ahead}
-use Rattle.victor_run.specs.declared.words.Form.{Form}
-use Rattle.victor_run.specs.declared.words.Form.TheVariants.{Prove, Check, Play, Explain}
+use Rattle.victor_words.specs.declared.form.Form.{Form}
+use Rattle.victor_words.specs.declared.form.Form.TheVariants.{Prove, Check, Play, Explain, Drill}
 use Rattle.victor_run.specs.declared.ending.Ending.{Ending}
 use Rattle.victor_run.specs.declared.ending.Ending.TheVariants.{Done, Unknown, Usage, Input, NoMove, Refused, NoPlan, Read, Write, Memory}
 
@@ -87,18 +89,20 @@ Proves nodes reach taken s Memory = ⊥
 -- and what comes with the last of them.
 abbrev pub most_taken : Option Form → ℕ
 most_taken None = 0
-most_taken (Some (Prove nodes reach)) = 256
+most_taken (Some (Prove nodes reach front table)) = 256
 most_taken (Some Check) = most_lines_read * (longest_line + 1) + most_ahead
 most_taken (Some Play) = most_play_lines * (longest_line + 1) + most_ahead
 most_taken (Some (Explain reach)) = 256
+most_taken (Some (Drill size moves seed games nodes reach)) = 0
 
 -- what a run of the words that have this form promises, from the bytes that it took
 abbrev pub Promise : Option Form → Streams → Ending → List ℕ → Type 0
 Promise None s ending taken = (ending ≡ Usage) × Keeps s.old s.new
-Promise (Some (Prove nodes reach)) s ending taken = Proves nodes reach taken s ending
+Promise (Some (Prove nodes reach front table)) s ending taken = Proves nodes reach taken s ending
 Promise (Some Check) s ending taken = Checks taken s ending × TakesLines most_lines_read taken
 Promise (Some Play) s ending taken = Plays taken s ending
 Promise (Some (Explain reach)) s ending taken = Explains reach taken s ending
+Promise (Some (Drill size moves seed games nodes reach)) s ending taken = Drills (games_from games size moves seed) nodes reach s ending
 
 -- a run of the words that have this form: it took some bytes of its source, and keeps its promise of them
 abbrev pub Outcome : Option Form → Streams → Ending → Type 0

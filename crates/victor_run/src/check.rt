@@ -11,7 +11,7 @@ ghost use Rattle.victor_run.specs.Check.{accepted_line, most_lines_read};
 ghost use Rattle.victor_run.specs.CheckSteps.{game_from, lines_from, Adds, StopsBy, IsRefused, lines_read_until, ending_of, Judges};
 ghost use Rattle.victor_run.specs.Reading.{pending, Reads, PassesLines, KeepsLine};
 ghost use Rattle.victor_run.specs.Outcome.{Outcome};
-ghost use Rattle.victor_run.specs.declared.words.Form.TheVariants as forms;
+ghost use Rattle.victor_words.specs.declared.form.Form.TheVariants as forms;
 ghost use Rattle.victor_run.specs.declared.ending.Ending.TheVariants as endings;
 ghost use Rattle.victor_run.specs.declared.check.Stop.TheVariants as stops;
 ghost use Rattle.proof_text.specs.declared.Why.TheVariants as whys;

@@ -13,7 +13,7 @@ ghost use Rattle.rule_chooser.specs.Shown.{shown, IsOf};
 ghost use Rattle.explain_text.specs.Explanation.{squares_text, owns_line, owns_lines, answer_lines, plan_explained, chosen_text, explanation};
 ghost use Rattle.victor_run.specs.Outcome.{Outcome};
 ghost use Rattle.victor_run.specs.ExplainPromise.{explained_ending};
-ghost use Rattle.victor_run.specs.declared.words.Form.TheVariants as forms;
+ghost use Rattle.victor_words.specs.declared.form.Form.TheVariants as forms;
 ghost use Rattle.victor_run.specs.declared.ending.Ending.TheVariants as endings;
 
 use crate::ending::Ending;

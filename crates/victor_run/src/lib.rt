@@ -4,6 +4,7 @@
 
 mod check;
 mod command;
+mod drill;
 mod ending;
 mod explain;
 mod game_input;
@@ -15,11 +16,9 @@ mod plan_tests;
 mod play;
 mod prove;
 mod questions;
-mod words;
 
 pub use command::run;
 pub use ending::Ending;
-pub use words::Form;
 
 #[cfg(test)]
 mod tests;

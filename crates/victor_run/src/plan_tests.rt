@@ -213,3 +213,13 @@ fn the_plan_within_a_reach_is_explained(rt: HostRuntime) -> Result<(), Fail> {
     }
     Ok(())
 }
+
+// White has two men of the line c2 to c5.
+#[test]
+fn an_upright_line_is_answered_by_a_vertical(rt: HostRuntime) -> Result<(), Fail> {
+    let words = ["explain", "--reach", "11"];
+    let got = run_over(rt.alloc(), &words, b"board 4 6\nmoves dccdcd", SOUND)?;
+    let line = b"\nc2v by VE:c4\n".as_slice();
+    assert!(rt; got.out.windows(line.len()).any(|piece| piece == line));
+    Ok(())
+}

@@ -14,7 +14,7 @@ ghost use Rattle.play_text.specs.Play.{behind, column_in, play_from, play_lines,
 ghost use Rattle.victor_run.specs.Reading.{pending, Reads, PassesLines};
 ghost use Rattle.victor_run.specs.PlaySteps.{reply_column, reply_end, answered_line, played_at, played_from, StopsPlay, lines_until, IsNoMove, is_whole, PlayStep, PlaysNext, PlaysMoves, PlaysInput, StopsReading, HasPlayCause, play_ending};
 ghost use Rattle.victor_run.specs.Outcome.{Outcome};
-ghost use Rattle.victor_run.specs.declared.words.Form.TheVariants as forms;
+ghost use Rattle.victor_words.specs.declared.form.Form.TheVariants as forms;
 ghost use Rattle.victor_run.specs.declared.ending.Ending.TheVariants as endings;
 ghost use Rattle.victor_run.specs.declared.play.PlayStop.TheVariants as stops;
 

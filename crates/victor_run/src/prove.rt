@@ -1,5 +1,5 @@
 //! `prove`: a game is read, and a proof of its value is written, each line as soon as it is known. It takes no memory.
-ghost use Rattle.std.specs.Prelude.{◌≡◌, ◌≤◌, ◌<◌, Ok, Some, length, is_ok, IfOk};
+ghost use Rattle.std.specs.Prelude.{◌≡◌, ℕ, Option, ◌≤◌, ◌<◌, Ok, Some, length, is_ok, IfOk};
 ghost use Rattle.device_rules.specs.Devices.{HasCause, Rose, AppendsPrefix};
 ghost use Rattle.game_rules.specs.Cost.{cost};
 ghost use Rattle.game_rules.specs.Text.{game_at};
@@ -8,7 +8,7 @@ ghost use Rattle.proof_text.specs.declared.Verdict.TheVariants as verdicts;
 ghost use Rattle.deep_search.specs.Planned.{solved_within};
 ghost use Rattle.victor_run.specs.Outcome.{Outcome, ending_of};
 ghost use Rattle.victor_run.specs.Proof.{head_for, Writes};
-ghost use Rattle.victor_run.specs.declared.words.Form.TheVariants as forms;
+ghost use Rattle.victor_words.specs.declared.form.Form.TheVariants as forms;
 ghost use Rattle.victor_run.specs.declared.ending.Ending.TheVariants as endings;
 
 use crate::ending::Ending;
@@ -18,6 +18,7 @@ use board_bits::Position;
 use cert_format::{FIRST_LINE, Line, LineText, Verdict, print_line, push_text};
 use deep_search::SearchStop;
 use io_ports::{Failed, Sink, Source, put_all};
+use rule_chooser::Chooser;
 
 /// Reads a game and writes a proof of its position's value, from a search that may enter `nodes` positions, with plans from
 /// the first `reach` sets of zones.
@@ -28,7 +29,7 @@ pub(crate) fn prove<S: Source, O: Sink>(
     out: &mut O,
 ) -> Ending
     requires nodes { nodes ≤ 10000000 }
-    ensures outcome { Outcome (Some (forms.Prove nodes reach))
+    ensures outcome { (front : Option ℕ) (table : ℕ) → Outcome (Some (forms.Prove nodes reach front table))
         (record { input = S.left source.old; left = S.left source.new; old = O.written out.old; new = O.written out.new }) result }
     ensures read_fault { result ≡ endings.Read → Rose (S.faults source.old) (S.faults source.new) }
     ensures write_fault { result ≡ endings.Write → Rose (O.faults out.old) (O.faults out.new) }
@@ -70,7 +71,7 @@ fn write_proof<O: Sink>(
     ensures cause { HasCause (O.faults out.old) (O.faults out.new) result }
 {
     put_all(out, head_for(text).as_slice())?;
-    match ask(position, nodes, reach, out) {
+    match ask(position, nodes, reach, &mut Chooser::new(), out) {
         Ok(verdict) => write_verdict(verdict, out),
         Err(SearchStop::Spent) => write_verdict(Verdict::Unknown, out),
         Err(SearchStop::WriteFault) => Err(Failed),

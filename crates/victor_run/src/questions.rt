@@ -14,11 +14,12 @@ use io_ports::Sink;
 use rule_chooser::Chooser;
 
 /// Asks whether White wins and, where it doesn't, whether Black does, within one budget of `nodes` positions and with plans
-/// from the first `reach` sets of zones. `Spent` comes only where the budget is below the position's cost.
+/// from the first `reach` sets of zones, for which the chooser is lent. `Spent` comes only where the budget is below the position's cost.
 pub(crate) fn ask<O: Sink>(
     position: &Position,
     nodes: u32,
     reach: u32,
+    chooser: &mut Chooser,
     out: &mut O,
 ) -> Result<Verdict, SearchStop>
     requires nodes { nodes ≤ greatest_number }
@@ -28,14 +29,13 @@ pub(crate) fn ask<O: Sink>(
     ensures fault { result ≡ Err stops.WriteFault → Rose (O.faults out.old) (O.faults out.new) }
 {
     let mut budget = nodes;
-    let mut chooser = Chooser::new();
     let mut lemmas = LemmaOut::new();
     let white = search(
         position,
         Side::White,
         reach,
         &mut budget,
-        &mut chooser,
+        chooser,
         &mut lemmas,
         out,
     )?;
@@ -47,7 +47,7 @@ pub(crate) fn ask<O: Sink>(
         Side::Black,
         reach,
         &mut budget,
-        &mut chooser,
+        chooser,
         &mut lemmas,
         out,
     )?;

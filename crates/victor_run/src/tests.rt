@@ -155,7 +155,7 @@ const PROOFS: [Written; 13] = [
     ),
     (PROVE_BY_SEARCH, TWO_SQUARES_LEFT, 0, TWO_SQUARES_PROOF),
     (
-        &["prove", "--reach", "0", "--nodes", "6"],
+        &["prove", "--nodes=6", "--reach=0"],
         TWO_SQUARES_LEFT,
         0,
         TWO_SQUARES_PROOF,
@@ -474,28 +474,21 @@ fn a_line_that_is_too_long_is_refused(rt: HostRuntime) -> Result<(), Fail> {
 
 #[test]
 fn other_words_are_no_command(rt: HostRuntime) -> Result<(), Fail> {
-    let rows: [&[&str]; 21] = [
+    let rows: [&[&str]; 14] = [
         &[],
         &["--help"],
         &["value"],
+        &["--nodes", "5", "prove"],
         &["prove", "x"],
-        &["check", "--reach", "3"],
-        &["prove", "--nodes"],
         &["prove", "--nodes", "0"],
         &["prove", "--nodes", "10000001"],
-        &["prove", "--nodes", "05"],
-        &["prove", "--nodes", "+5"],
-        &["prove", "--nodes", "5 "],
-        &["prove", "--nodes=6"],
-        &["--nodes", "5", "prove"],
         &["prove", "--nodes", "5", "--nodes", "5"],
-        &["prove", "--reach"],
-        &["prove", "--reach", "1000001"],
-        &["prove", "--reach", "00"],
-        &["prove", "--reach", "5", "--reach", "5"],
-        &["prove", "--nodes", "5", "--reach"],
-        &["prove", "--nodes", "5", "--reach", "5", "x"],
+        &["prove", "--nodes=5", "--nodes", "5"],
+        &["prove", "--front", "5"],
+        &["prove", "--table", "5"],
+        &["check", "--reach", "3"],
         &["explain", "--nodes", "5"],
+        &["drill", "5", "5", "3", "1", "1"],
     ];
     for words in rows {
         let got = run_over(rt.alloc(), words, USUAL_BOARD.as_bytes(), SOUND)?;
@@ -507,6 +500,72 @@ fn other_words_are_no_command(rt: HostRuntime) -> Result<(), Fail> {
                 .starts_with(b"usage: victor prove [--nodes N] "),
             "{words:?}"
         );
+    }
+    Ok(())
+}
+
+/// The words of a drill, the room of its sink, its status, what it writes and what it reports.
+type Drilled = (
+    &'static [&'static str],
+    usize,
+    u8,
+    &'static str,
+    &'static str,
+);
+
+const DRILLS: [Drilled; 4] = [
+    (
+        &["drill", "4", "4", "12", "1", "1"],
+        ROOM,
+        0,
+        "drill win 1 draw 0 loss 0 unknown 0\n",
+        "",
+    ),
+    (
+        &["drill", "--nodes=1000000", "4", "4", "16", "1", "1"],
+        ROOM,
+        0,
+        "drill win 0 draw 0 loss 1 unknown 0\n",
+        "",
+    ),
+    (
+        &[
+            "drill",
+            "4",
+            "4",
+            "12",
+            "--nodes",
+            "1",
+            "1",
+            "1",
+            "--reach=0",
+        ],
+        ROOM,
+        0,
+        "drill win 0 draw 0 loss 0 unknown 1\n",
+        "",
+    ),
+    (
+        &["drill", "4", "4", "12", "1", "1"],
+        11,
+        7,
+        "drill win 1",
+        "write fault\n",
+    ),
+];
+
+#[test]
+fn games_from_a_number_are_counted(rt: HostRuntime) -> Result<(), Fail> {
+    for (words, room, status, out, err) in DRILLS {
+        let devices = Devices {
+            source_fails: &[1],
+            room,
+            ..SOUND
+        };
+        let got = run_over(rt.alloc(), words, b"", devices)?;
+        assert_eq!(rt; got.status, status, "{words:?}");
+        assert_eq!(rt; got.out.as_slice(), out.as_bytes(), "{words:?}");
+        assert_eq!(rt; got.err.as_slice(), err.as_bytes(), "{words:?}");
     }
     Ok(())
 }

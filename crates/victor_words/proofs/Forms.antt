@@ -8,7 +8,7 @@ use Rattle.game_rules.specs.declared.Length.{Length}
 use Rattle.game_rules.specs.declared.Length.TheVariants.{Four, Five}
 use Rattle.plan_text.proofs.Spaced.{bind_some, map_some, chosen_some}
 use Rattle.plan_text.specs.Words.{◌>>=◌}
-use Rattle.victor_words.specs.Words.{command_of, numbers_of, number_in, usual, HasRanges, IsGiven}
+use Rattle.victor_words.specs.Words.{command_of, numbers_of, number_in, usual, usual_table, HasRanges, IsGiven}
 use Rattle.victor_words.specs.Reading.{within, nodes_from, reach_from, board_with, size_from, prove_from, without_options, explain_from, drill_from, form_with}
 use Rattle.victor_words.specs.declared.form.Command.{Command}
 use Rattle.victor_words.specs.declared.form.Command.TheVariants as commands
@@ -83,10 +83,10 @@ prove_gives : (nodes reach : Option ℕ) (form : Form) → prove_from nodes reac
 prove_gives nodes reach form h =
     let n = bind_some (nodes_from nodes) _ form h in
     let k = bind_some (reach_from reach) _ form n.2 in
-    let same : Prove n.0 k.0 ≡ form = cc (k.2) in
+    let same : Prove n.0 k.0 None usual_table ≡ form = cc (k.2) in
     let of_nodes = option_gives 1 10000000 (usual Nodes) n.0 nodes n.1 in
     let of_reach = option_gives 0 1000000 (usual Reach) k.0 reach k.1 in
-    subst (IsFormOf commands.Prove [] nodes reach) same (record { command = refl; numbers = refl; for_nodes = of_nodes.1; for_reach = of_reach.1; ranges = (of_nodes.0, of_reach.0) })
+    subst (IsFormOf commands.Prove [] nodes reach) same (record { command = refl; numbers = refl; for_nodes = of_nodes.1; for_reach = of_reach.1; ranges = (of_nodes.0, of_reach.0, refl, refl) })
 
 check_gives : (nodes reach : Option ℕ) (form : Form) → without_options Check nodes reach ≡ Some form → IsFormOf commands.Check [] nodes reach form
 check_gives None None form h = let same : Check ≡ form = cc in subst (IsFormOf commands.Check [] None None) same (record { command = refl; numbers = refl; for_nodes = refl; for_reach = refl; ranges = tt })
@@ -155,9 +155,10 @@ form_gives commands.Drill alone nodes reach form h = drill_gives alone nodes rea
 form_found : (form : Form) (nodes reach : Option ℕ)
     → IsGiven (usual Nodes) (number_in form Nodes) (option_to_list nodes) → IsGiven (usual Reach) (number_in form Reach) (option_to_list reach) → HasRanges form
     → form_with (command_of form) (numbers_of form) nodes reach ≡ Some form
-form_found (Prove n k) nodes reach for_nodes for_reach ranges =
-    ap (λ found. found >>= λ n. reach_from reach >>= λ k. Some (Prove n k)) (option_spelled 1 10000000 (usual Nodes) n nodes ranges.0 for_nodes)
-    ∙ ap (λ found. found >>= λ k. Some (Prove n k)) (option_spelled 0 1000000 (usual Reach) k reach ranges.1 for_reach)
+form_found (Prove n k front table) nodes reach for_nodes for_reach ranges =
+    ap (λ found. found >>= λ n. reach_from reach >>= λ k. Some (Prove n k None usual_table)) (option_spelled 1 10000000 (usual Nodes) n nodes ranges.0 for_nodes)
+    ∙ ap (λ found. found >>= λ k. Some (Prove n k None usual_table)) (option_spelled 0 1000000 (usual Reach) k reach ranges.1 for_reach)
+    ∙ rw (ranges.2, ranges.3) refl
 form_found Check nodes reach for_nodes for_reach ranges = rw (not_given (usual Nodes) nodes for_nodes, not_given (usual Reach) reach for_reach) refl
 form_found Play nodes reach for_nodes for_reach ranges = rw (not_given (usual Nodes) nodes for_nodes, not_given (usual Reach) reach for_reach) refl
 form_found (Explain k) nodes reach for_nodes for_reach ranges =

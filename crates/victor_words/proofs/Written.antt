@@ -27,7 +27,7 @@ given_few usually (Some n) numbers (inl alone) = omega (arith, ap length alone)
 given_few usually (Some n) numbers (inr none) = omega (arith, ap length none.0)
 
 five_at_most : (form : Form) → length (numbers_of form) ≤ 5
-five_at_most (Prove nodes reach) = omega arith
+five_at_most (Prove nodes reach front table) = omega arith
 five_at_most Check = omega arith
 five_at_most Play = omega arith
 five_at_most (Explain reach) = omega arith
@@ -44,8 +44,8 @@ abbrev Fits : ℕ → Type 0
 Fits n = n ≤ 4294967295
 
 option_fits : (form : Form) (name : Name) (n : ℕ) → HasRanges form → number_in form name ≡ Some n → Fits n
-option_fits (Prove nodes reach) Nodes n ranges h = let same : nodes ≡ n = cc in omega (arith, ranges.0.1)
-option_fits (Prove nodes reach) Reach n ranges h = let same : reach ≡ n = cc in omega (arith, ranges.1.1)
+option_fits (Prove nodes reach front table) Nodes n ranges h = let same : nodes ≡ n = cc in omega (arith, ranges.0.1)
+option_fits (Prove nodes reach front table) Reach n ranges h = let same : reach ≡ n = cc in omega (arith, ranges.1.1)
 option_fits Check name n ranges h = cc
 option_fits Play name n ranges h = cc
 option_fits (Explain reach) Nodes n ranges h = cc
@@ -54,7 +54,7 @@ option_fits (Drill size moves seed games nodes reach) Nodes n ranges h = let sam
 option_fits (Drill size moves seed games nodes reach) Reach n ranges h = let same : reach ≡ n = cc in omega (arith, ranges.2.1)
 
 numbers_fit : (form : Form) → HasRanges form → AllByRecursion Fits (numbers_of form)
-numbers_fit (Prove nodes reach) ranges = tt
+numbers_fit (Prove nodes reach front table) ranges = tt
 numbers_fit Check ranges = tt
 numbers_fit Play ranges = tt
 numbers_fit (Explain reach) ranges = tt

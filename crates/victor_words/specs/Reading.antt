@@ -7,7 +7,7 @@ use Rattle.game_rules.specs.Board.{Board, is_board}
 use Rattle.game_rules.specs.Number.{number_between}
 use Rattle.game_rules.specs.declared.Length.TheVariants.{Four}
 use Rattle.plan_text.specs.Words.{◌>>=◌, split_once}
-use Rattle.victor_words.specs.Words.{words_of, given_by, own_by, given, own, usual}
+use Rattle.victor_words.specs.Words.{words_of, given_by, own_by, given, own, usual, usual_table}
 use Rattle.victor_words.specs.declared.form.Command.{Command}
 use Rattle.victor_words.specs.declared.form.Command.TheVariants as commands
 use Rattle.victor_words.specs.declared.form.Form.{Form}
@@ -104,7 +104,7 @@ abbrev pub size_from : ℕ → ℕ → Option Board
 size_from cols rows = if is_board (board_with cols rows) then Some (board_with cols rows) else None
 
 abbrev pub prove_from : Option ℕ → Option ℕ → Option Form
-prove_from nodes reach = nodes_from nodes >>= λ n. reach_from reach >>= λ k. Some (Prove n k)
+prove_from nodes reach = nodes_from nodes >>= λ n. reach_from reach >>= λ k. Some (Prove n k None usual_table)
 
 abbrev pub without_options : Form → Option ℕ → Option ℕ → Option Form
 without_options form None None = Some form

@@ -63,7 +63,7 @@ own pieces = flat_map own_by pieces
 -- ---- what a form says
 
 abbrev pub command_of : Form → Command
-command_of (Prove nodes reach) = commands.Prove
+command_of (Prove nodes reach front table) = commands.Prove
 command_of Check = commands.Check
 command_of Play = commands.Play
 command_of (Explain reach) = commands.Explain
@@ -71,7 +71,7 @@ command_of (Drill size moves seed games nodes reach) = commands.Drill
 
 -- its numbers that stand alone, in their order
 abbrev pub numbers_of : Form → List ℕ
-numbers_of (Prove nodes reach) = []
+numbers_of (Prove nodes reach front table) = []
 numbers_of Check = []
 numbers_of Play = []
 numbers_of (Explain reach) = []
@@ -79,8 +79,8 @@ numbers_of (Drill size moves seed games nodes reach) = size.cols ∷ size.rows �
 
 -- the number of an option, if the command has that option
 abbrev pub number_in : Form → Name → Option ℕ
-number_in (Prove nodes reach) Nodes = Some nodes
-number_in (Prove nodes reach) Reach = Some reach
+number_in (Prove nodes reach front table) Nodes = Some nodes
+number_in (Prove nodes reach front table) Reach = Some reach
 number_in Check name = None
 number_in Play name = None
 number_in (Explain reach) Nodes = None
@@ -92,6 +92,10 @@ number_in (Drill size moves seed games nodes reach) Reach = Some reach
 abbrev pub usual : Name → ℕ
 usual Nodes = 1000000
 usual Reach = 1000
+
+-- how many settled positions are kept in a table; no option says so yet
+abbrev pub usual_table : ℕ
+usual_table = 100000
 
 -- how many positions a search may enter, and at how many sets of zones a walk may look
 abbrev pub AreNodes : ℕ → Type 0
@@ -109,7 +113,7 @@ pub record AreGames (board : Board) (most from count : ℕ) : Type 0 where
 
 -- the numbers of a form are in their ranges
 abbrev pub HasRanges : Form → Type 0
-HasRanges (Prove nodes reach) = AreNodes nodes × IsReach reach
+HasRanges (Prove nodes reach front table) = AreNodes nodes × IsReach reach × (front ≡ None) × (table ≡ usual_table)
 HasRanges Check = Unit {0}
 HasRanges Play = Unit {0}
 HasRanges (Explain reach) = IsReach reach

@@ -14,6 +14,10 @@ pub enum Form {
         nodes: u32,
         /// How many sets of zones a walk looks at, from 0 to 1,000,000; 1,000 where the words don't say.
         reach: u32,
+        /// How often a front is grown before the search. No words ask for a front yet: None.
+        front: Option<u32>,
+        /// How many settled positions are kept in a table. No words say so yet: 100,000.
+        table: u32,
     },
     /// Read a proof and say whether it is right.
     Check,

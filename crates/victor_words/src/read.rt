@@ -20,6 +20,9 @@ const MOST_REACH: u32 = 1_000_000;
 /// How many sets of zones a walk looks at, where the words don't say.
 const USUAL_REACH: u32 = 1_000;
 
+/// How many settled positions are kept in a table, where the words don't say.
+const USUAL_TABLE: u32 = 100_000;
+
 /// The most moves that a game made from a number may be given.
 const MOST_MOVES: u32 = 100;
 
@@ -62,6 +65,8 @@ fn form_with(command: Command, found: &Found) -> Option<Form>
         Command::Prove => Some(Form::Prove {
             nodes: found.nodes()?,
             reach: found.reach()?,
+            front: None,
+            table: USUAL_TABLE,
         }),
         Command::Explain if found.nodes.is_none() => Some(Form::Explain {
             reach: found.reach()?,

@@ -25,7 +25,16 @@ const PROVE: [(&[&str], u32, u32); 6] = [
 fn prove_has_its_options_in_any_order_and_spelling(rt: HostRuntime) -> Result<(), Fail> {
     for (words, nodes, reach) in PROVE {
         let got = read_words(&words_of(rt.alloc(), words)?);
-        assert_eq!(rt; got, Some(Form::Prove { nodes, reach }), "{words:?}");
+        assert_eq!(rt;
+            got,
+            Some(Form::Prove {
+                nodes,
+                reach,
+                front: None,
+                table: 100_000
+            }),
+            "{words:?}"
+        );
     }
     Ok(())
 }

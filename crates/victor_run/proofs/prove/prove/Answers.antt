@@ -4,7 +4,7 @@ use Rattle.victor_run.proofs.Ends.{no_game, proves_game}
 use Rattle.victor_run.proofs.prove.prove.Goals as goal
 
 pub returns-in-Ok-clause-outcome : goal.returns-in-Ok-clause-outcome
-returns-in-Ok-clause-outcome g c =
+returns-in-Ok-clause-outcome g c = λ front table.
     let takes = c.in-Ok.ensures.takes in
     record {
       taken = take c.in-Ok.game.length c.read_game_input.new.buffer;
@@ -14,7 +14,7 @@ returns-in-Ok-clause-outcome g c =
     }
 
 pub returns-in-Err-clause-outcome : goal.returns-in-Err-clause-outcome
-returns-in-Err-clause-outcome g c =
+returns-in-Err-clause-outcome g c = λ front table.
     rw c.ending.ensures (no_game (g.S.Source.left c.args.source.now) (g.S.Source.left c.read_game_input.new.source) (g.O.Sink.written c.args.out.now) c.read_game_input.new.buffer
     (λ taken ending. Proves c.args.nodes c.args.reach taken (record { input = g.S.Source.left c.args.source.now; left = g.S.Source.left c.read_game_input.new.source; old = g.O.Sink.written c.args.out.now; new = g.O.Sink.written c.args.out.now }) ending)
     (λ taken fault at whole keeps. (at, whole, keeps)) (λ taken keeps. keeps) c.in-Err.stop c.in-Err.ensures.takes)
