@@ -1,28 +1,54 @@
 -- The lines that a side can still fill, one after another.
-use Rattle.std.proofs.Common.{◌≡◌, ℕ, ◌+◌, ◌<◌, ◌&&◌, List, [], ◌∷◌, ◌++◌, length, map, take, get_or, sym, ap, ◌∙◌}
+use Rattle.std.proofs.Common.{◌≡◌, ℕ, ◌+◌, ◌<◌, ◌≤◌, true, false, not, ◌&&◌, if◌then◌else◌, List, [], ◌∷◌, ◌++◌, length, map, filter, take, get_or, refl, sym, ap, ◌∙◌, inl, inr, arith, append-nil}
+use Rattle.std.specs.List.{list_any}
 use Rattle.std.proofs.Math.Path.{fun_ext}
-use Rattle.std.proofs.lemmas.List.{take_more, map-append}
+use Rattle.std.proofs.lemmas.Bool.{cases_Bool}
+use Rattle.std.proofs.lemmas.List.{length-map, length-take}
+use Rattle.std.proofs.lemmas.List.Filters.{length-filter_both}
 use Rattle.game_rules.specs.Board.{Square}
-use Rattle.game_rules.specs.Position.{Position, board_of}
+use Rattle.game_rules.specs.Position.{Position, has_man, other}
 use Rattle.game_rules.specs.Squares.{has_square, squares_where, is_empty, IsSetOf}
-use Rattle.game_rules.specs.Groups.{Group, squares_of, lies_on, groups_of, groups_where, is_free_for}
+use Rattle.game_rules.specs.Groups.{Group, squares_of, is_free_for}
 use Rattle.game_rules.specs.declared.Side.{Side}
-use Rattle.game_rules.proofs.Squares.{filter_same}
-use Rattle.game_rules.proofs.Groups.{Among-groups_gives}
-use Rattle.plan_rules.specs.Plan.{empty_part}
-use Rattle.rule_chooser.specs.Lines.{lines_for}
+use Rattle.game_rules.proofs.Filtered.{filtered_more, filtered_none}
+use Rattle.game_rules.proofs.Squares.{any_in_same}
+use Rattle.rule_chooser.specs.declared.lines.Line.{Line}
+use Rattle.rule_chooser.specs.Lines.{line_at, open_part}
 
--- one element more, at the end
-pub map_more : {X Y : Type 0} (f : X → Y) (xs : List X) (i : ℕ) (x : X) (y : Y) → i < length xs → x ≡ get_or xs i x → y ≡ f x → map f (take i xs) ++ y ∷ [] ≡ map f (take (i + 1) xs)
-map_more f xs i x y within at is =
-    ap (λ z. map f (take i xs) ++ z ∷ []) (is ∙ ap f at)
-    ∙ sym (ap (map f) (take_more xs i x within) ∙ map-append f (take i xs) (get_or xs i x ∷ []))
+-- a line that is put behind others, and one that isn't
+pub open_added : (men empties squares both : List Square) (g : Group) → IsSetOf (has_square (squares_of g)) squares → IsSetOf (λ u. has_square empties u && has_square squares u) both
+    → list_any (has_square men) squares ≡ false → (lines : List Line) → lines ++ record { group = g; empty = both } ∷ [] ≡ lines ++ open_part men empties g
+open_added men empties squares both g own is clear lines = rw (none, same) refl
+  where
+    none : list_any (has_square men) (squares_of g) ≡ false
+    none = any_in_same (has_square men) (squares_of g) squares (λ u. sym (own.has u)) ∙ clear
 
-pub empty_squares : (p : Position) (g : Group) (empties line both : List Square) → IsSetOf (is_empty p) empties → IsSetOf (has_square (squares_of g)) line
-    → IsSetOf (λ u. has_square empties u && has_square line u) both → both ≡ squares_where (empty_part p g)
-empty_squares p g empties line both empty on is =
-    is.in_order ∙ ap squares_where (fun_ext (λ u. ap (λ b. b && has_square line u) (empty.has u) ∙ ap (λ b. is_empty p u && b) (on.has u)))
+    same : both ≡ squares_where (λ u. has_square empties u && has_square (squares_of g) u)
+    same = is.in_order ∙ ap squares_where (fun_ext (λ u. ap (λ b. has_square empties u && b) (own.has u)))
 
-pub free_lines : (p : Position) (side : Side) → groups_where (board_of p) (λ g. lies_on (board_of p) g && is_free_for side p g) ≡ lines_for side p
-unfolding groups_where
-free_lines p side = filter_same _ _ (groups_of (board_of p)) (λ g among. ap (λ b. b && is_free_for side p g) (Among-groups_gives (board_of p) g among))
+pub open_left : (men empties squares : List Square) (g : Group) → IsSetOf (has_square (squares_of g)) squares → list_any (has_square men) squares ≡ true → (lines : List Line) → lines ≡ lines ++ open_part men empties g
+open_left men empties squares g own met lines = rw some (sym (append-nil lines))
+  where
+    some : list_any (has_square men) (squares_of g) ≡ true
+    some = any_in_same (has_square men) (squares_of g) squares (λ u. sym (own.has u)) ∙ met
+
+-- one line of the board more
+pub open_more : (p : Position) (side : Side) (men empties : List Square) (gs : List Group) (i : ℕ) (g : Group) → i < length gs → g ≡ get_or gs i g → IsSetOf (has_man p (other side)) men → IsSetOf (is_empty p) empties
+    → map (line_at p) (filter (is_free_for side p) (take i gs)) ++ open_part men empties g ≡ map (line_at p) (filter (is_free_for side p) (take (i + 1) gs))
+open_more p side men empties gs i g within at held bare =
+    ap (λ test. map (line_at p) (filter (is_free_for side p) (take i gs)) ++ (if list_any test (squares_of g) then [] else record { group = g; empty = squares_where (λ u. has_square empties u && has_square (squares_of g) u) } ∷ [])) (fun_ext held.has)
+    ∙ ap (λ test. map (line_at p) (filter (is_free_for side p) (take i gs)) ++ (if list_any (has_man p (other side)) (squares_of g) then [] else record { group = g; empty = squares_where (λ u. test u && has_square (squares_of g) u) } ∷ [])) (fun_ext bare.has)
+    ∙ elim (cases_Bool (list_any (has_man p (other side)) (squares_of g))) [
+      | inl some ↦ rw some (append-nil (map (line_at p) (filter (is_free_for side p) (take i gs))) ∙ sym (filtered_none (is_free_for side p) (line_at p) gs i g within at (rw some refl)))
+      | inr none ↦ rw none (sym (filtered_more (is_free_for side p) (line_at p) gs i g within at (line_at p g) (rw none refl)))
+    ]
+
+-- no more lines than were gone through
+pub open_few : (p : Position) (side : Side) (gs : List Group) (i : ℕ) → length (map (line_at p) (filter (is_free_for side p) (take i gs))) ≤ i
+open_few p side gs i =
+    omega (
+      arith,
+      length-map {B = Line} (filter (is_free_for side p) (take i gs)) (line_at p),
+      length-filter_both (is_free_for side p) (λ g. not (is_free_for side p g)) (λ g. refl) (take i gs),
+      length-take i gs,
+    )

@@ -1,4 +1,6 @@
 mod FreeLines
+mod FirstColumns
+mod ZoneBars
 mod Twins
 mod SameInstance
 mod Specials

@@ -5,7 +5,7 @@ use Rattle.std.specs.List.{list_all, list_any, find}
 use Rattle.std.specs.Option.{option_map}
 use Rattle.std.proofs.Math.Path.{fun_ext}
 use Rattle.std.proofs.Math.Bool.{and_comm}
-use Rattle.std.proofs.lemmas.Bool.{cases_Bool, and_parts, and_from, le-leb, lt-ltb, ne_eqb}
+use Rattle.std.proofs.lemmas.Bool.{cases_Bool, and_parts, and_from, le-leb, lt-ltb, eqb-true, ne_eqb}
 use Rattle.game_rules.specs.Board.{Square, on_board, is_board}
 use Rattle.game_rules.specs.Position.{Position, board_of}
 use Rattle.game_rules.specs.Squares.{has_square, squares_where, is_empty, IsSetOf}
@@ -55,6 +55,23 @@ each_both chosen f g (u ∷ us) =
     four true true true d e = refl
     four true true false false e = refl
     four true true false true e = refl
+
+-- no line with an empty square is within no squares
+pub none_within : (set : List Square) (lines : List Line) → (length set == 0) ≡ true → find (is_open_within set) lines ≡ None
+none_within [] lines none = nothing lines
+  where
+    open_nowhere : (us : List Square) → (not (length us == 0) && list_all (has_square []) us) ≡ false
+    open_nowhere [] = refl
+    open_nowhere (u ∷ us) = out (not (length (u ∷ us) == 0))
+      where
+        out : (b : Bool) → (b && false) ≡ false
+        out true = refl
+        out false = refl
+
+    nothing : (ls : List Line) → find (is_open_within []) ls ≡ None
+    nothing [] = refl
+    nothing (l ∷ ls) = rw (open_nowhere l.empty) (nothing ls)
+none_within (u ∷ us) lines none = absurd (omega (arith, eqb-true (length (u ∷ us)) 0 none))
 
 -- ---- a line's empty squares
 

@@ -2,7 +2,7 @@
 ghost use Rattle.std.specs.Prelude.{◌≡◌, ◌↔◌, IsTrue, ◌+◌, ◌<◌, ◌≤◌, true, not, ◌||◌, if◌then◌else◌, length, take, drop, is_some};
 ghost use Rattle.std.specs.List.{list_all};
 ghost use Rattle.game_rules.specs.Board.{Square as Place};
-ghost use Rattle.game_rules.specs.Position.{board_of};
+ghost use Rattle.game_rules.specs.Position.{Position as Men, board_of};
 ghost use Rattle.game_rules.specs.Squares.{has_square, is_empty, IsSetOf};
 ghost use Rattle.game_rules.specs.Groups.{groups_of};
 ghost use Rattle.plan_rules.specs.Listing.{has_instance};
@@ -42,7 +42,7 @@ pub(crate) fn is_answered(
     list_instances(set, list);
     let kept = facts_kept(p, list.as_slice());
     for line in ground.white.as_slice() {
-        if !has_answer(p, ground, list.as_slice(), &kept, line.empty) {
+        if !has_answer(p, ground, set, &kept, line.empty) {
             return false;
         }
     }
@@ -60,21 +60,23 @@ fn list_instances(set: &[Zone], list: &mut ArrayVec<Instance, MOST_MEMBERS>)
     }
 }
 
-/// Whether a zone or a standing instance answers a line.
-fn has_answer(p: &Position, ground: &Ground, zones: &[Instance], kept: &Kept, empty: Mask) -> bool
+/// Whether a zone of a set or a standing instance answers a line.
+fn has_answer(p: &Position, ground: &Ground, set: &[Zone], kept: &Kept, empty: Mask) -> bool
     requires ground { IsGround p.now ground.now }
+    requires set { is_zone_set p.now (written_list set.now) ≡ true }
     requires kept { (u : Place) → has_square kept.now.empty u ≡ is_empty p.now u }
     requires part { (u : Place) → has_square empty u ≡ true → is_empty p.now u ≡ true }
-    ensures { result ≡ is_answered_by p.now (facts_in kept.now) (written_list zones.now) empty }
+    ensures { result ≡ is_answered_by p.now (facts_in kept.now) (written_list set.now) empty }
 {
-    is_barred(zones, kept, empty) || first_answer(p, ground, kept, empty).is_some()
+    is_barred(set, kept, empty) || first_answer(p, ground, kept, empty).is_some()
 }
 
-/// Whether one of the zones bars the squares.
-fn is_barred(zones: &[Instance], kept: &Kept, empty: Mask) -> bool
-    ensures { result ≡ some_bars (facts_in kept.now) (has_square empty) (written_list zones.now) }
+/// Whether one of the zones of a set bars the squares.
+fn is_barred(set: &[Zone], kept: &Kept, empty: Mask) -> bool
+    requires { (p : Men) × (is_zone_set p (written_list set.now) ≡ true) }
+    ensures { result ≡ some_bars (facts_in kept.now) (has_square empty) (written_list set.now) }
 {
-    for zone in zones {
+    for zone in set {
         if zone.bars(kept, empty) {
             return true;
         }
@@ -126,7 +128,7 @@ fn add_answer(
     ensures least { length list.old.items ≤ length list.new.items }
     ensures most { length list.new.items ≤ length list.old.items + 1 }
 {
-    if is_barred(&list.as_slice()[..zones], kept, empty) {
+    if has_bar(&list.as_slice()[..zones], kept, empty) {
         return;
     }
     if let Some(answer) = first_answer(p, ground, kept, empty) {
@@ -134,6 +136,18 @@ fn add_answer(
             list.push(answer);
         }
     }
+}
+
+/// Whether one of the instances bars the squares.
+fn has_bar(list: &[Instance], kept: &Kept, empty: Mask) -> bool
+    ensures { result ≡ some_bars (facts_in kept.now) (has_square empty) (written_list list.now) }
+{
+    for instance in list {
+        if instance.bars(kept, empty) {
+            return true;
+        }
+    }
+    false
 }
 
 /// Whether the list has the instance.

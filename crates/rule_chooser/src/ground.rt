@@ -1,14 +1,16 @@
 //! What the position alone decides for a search: listed once a call, and lent to each step.
 ghost use Rattle.rule_chooser.specs.Ground.{IsGround};
 
-use crate::lines::{Line, MOST_LINES, list_lines};
+use crate::lines::{Line, list_lines};
+use crate::table::{LineTable, MOST_LINES};
 use crate::zones::Zones;
 use arrayvec::ArrayVec;
-use board_bits::{Mask, Position, Side};
+use board_bits::{Mask, Position, Size};
 
 /// The zones that fit, the lines that each side can still fill, and the playable squares.
 #[derive(Debug, Drop)]
 pub(crate) struct Ground {
+    table: LineTable,
     pub(crate) zones: Zones,
     pub(crate) white: ArrayVec<Line, MOST_LINES>,
     pub(crate) black: ArrayVec<Line, MOST_LINES>,
@@ -19,6 +21,7 @@ impl Ground {
     /// That of no position yet.
     pub(crate) fn new() -> Ground {
         Ground {
+            table: LineTable::of(smallest()),
             zones: Zones::new(),
             white: ArrayVec::new(),
             black: ArrayVec::new(),
@@ -31,8 +34,16 @@ impl Ground {
         ensures { IsGround p.now self.new }
     {
         self.zones.list(p);
-        list_lines(p, Side::White, &mut self.white);
-        list_lines(p, Side::Black, &mut self.black);
+        self.table.turn_to(p.size());
+        list_lines(p, &self.table, &mut self.white, &mut self.black);
         self.playable = Mask::of(p.playables().as_slice());
     }
+}
+
+/// The size of the smallest board.
+fn smallest() -> Size {
+    let Ok(size) = Size::new(4, 4) else {
+        unreachable!()
+    };
+    size
 }

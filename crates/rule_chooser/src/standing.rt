@@ -67,6 +67,9 @@ fn first_vertical(p: &Position, kept: &Kept, empty: Mask) -> Option<Vertical>
 fn first_within(lines: &[Line], set: Mask) -> Option<GroupId>
     ensures { result ≡ option_map (λ line. line.group) (find (is_open_within set) lines.now) }
 {
+    if set.is_empty() {
+        return None;
+    }
     for line in lines {
         if !line.empty.is_empty() && line.empty.within(set) {
             return Some(line.group);

@@ -17,7 +17,8 @@ const LARGE: &[u8] = b"board 6 6\nmoves -\n";
 /// Black can fill three of four of its standing rules here: a Vertical and two Befores.
 const WITH_BEFORES: &[u8] = b"board 5 6\nmoves accccccbabbbbbedaedade\n";
 
-/// One Aftereven answers two lines here.
+/// One Aftereven answers two lines here. What is chosen was computed from the definitions alone, as `listed_once` among
+/// the proofs of `walk_rules`, and by a program that was written apart.
 const WITH_ONE_FOR_TWO: &[u8] = b"board 5 6\nmoves acccccacaaaaeebebebbedbdeb\n";
 
 const WITH_SPECIALBEFORE: &[u8] = b"board 5 4\nmoves abbaabbaddceedee\n";

@@ -117,7 +117,7 @@ pub(crate) fn visit(
         }
         index = ground.zones.next(index);
     }
-    Found::NoPlan
+    Found::NoPlan // each was tried
 }
 
 /// Whether a zone has the first square that a set leaves open, and may stand with each of the set.

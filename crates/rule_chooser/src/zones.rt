@@ -1,26 +1,34 @@
 //! The zones that fit at a position, each with the set of its squares and that of its columns, so that a search compares
 //! two zones without computing them again.
-ghost use Rattle.std.specs.Prelude.{◌≡◌, ◌+◌, ◌<◌, ◌≤◌, ℕ, true, length, drop, Some, slice_get, slice_index_or, slice_set};
+ghost use Rattle.std.specs.Prelude.{◌≡◌, ◌+◌, ◌<◌, ◌≤◌, ◌==◌, ◌&&◌, ℕ, true, length, drop, Some, slice_get, slice_index_or, slice_set};
 ghost use Rattle.std.specs.List.{list_all};
-ghost use Rattle.game_rules.specs.Squares.{has_square, IsSetOf};
-ghost use Rattle.plan_rules.specs.Rules.{zone_of, together};
+ghost use Rattle.game_rules.specs.Board.{on_board};
+ghost use Rattle.game_rules.specs.Position.{Position as Men};
+ghost use Rattle.game_rules.specs.Squares.{has_square, widest, IsSetOf};
+ghost use Rattle.plan_rules.specs.Rules.{zone_of, fits, barred, together};
+ghost use Rattle.plan_rules.specs.Zones.{owns_zone};
+ghost use Rattle.rule_law.specs.KeptFacts.{facts_in};
 ghost use Rattle.board_bits.specs.Words.{place_of};
 ghost use Rattle.rule_compat.specs.declared.instance.Instance.{Instance as Listed};
 ghost use Rattle.rule_compat.specs.Written.{written, written_list};
+ghost use Rattle.rule_compat.specs.WholeColumns.{in_columns_of};
 ghost use Rattle.walk_rules.specs.Walk.{fitting_zones};
 ghost use Rattle.rule_chooser.specs.Links.{least_place, next_at, IsLinked};
 
 use arrayvec::ArrayVec;
 use base_rules::{Baseclaim, Baseinverse, push_baseclaims, push_baseinverses};
-use board_bits::{Mask, Position, Square};
+use board_bits::{Column, Mask, Position, Size, Square};
 use claimeven::{Claimeven, push_claimevens};
-use inverse_rules::{Highinverse, Lowinverse, push_highinverses, push_lowinverses};
-use rule_compat::{Instance, columns_of, zones_may_stand};
-use rule_law::{Rule, Taker};
+use inverse_rules::{Highinverse, Lowinverse, Vertical, push_highinverses, push_lowinverses};
+use rule_compat::{Instance, zones_may_stand};
+use rule_law::{Kept, Rule, Taker};
 use std::marker::Model;
 
 /// No board has more zones that fit at one position: those of five kinds, each at its most.
 const MOST_FITTING: usize = 1580;
+
+/// No board has more columns or rows.
+const MOST: u8 = 10;
 
 /// The widest board has ten columns of eleven places each, of which the last is a gap.
 const PLACES: usize = 110;
@@ -49,26 +57,32 @@ impl Model for Zone {
 }
 
 impl Default for Zone {
+    ghost use Rattle.std.specs.Prelude.{◌≡◌};
     ghost use Rattle.rule_compat.specs.declared.instance.Instance.TheVariants as instances;
 
-    ghost is_default = { λ zone. zone ≡ instances.Claimeven (0, 1) };
+    ghost is_default = { λ zone. zone ≡ instances.Vertical (0, 2) };
 
-    /// The Claimeven of the two lowest squares of the first column, which every board has.
+    /// One without squares. A list has it where nothing stands, so it costs next to nothing.
     fn default() -> Self {
-        Zone::of(Instance::default())
+        let none = Mask::empty();
+        Zone {
+            instance: Instance::Vertical(Vertical::default()),
+            mask: none,
+            columns: none,
+        }
     }
 }
 
 impl Zone {
-    /// The zone that an instance owns.
-    pub(crate) fn of(instance: Instance) -> Zone
+    /// The zone of an instance that owns these squares.
+    fn of(instance: Instance, mask: Mask) -> Zone
+        requires { IsSetOf (has_square (zone_of (written instance))) mask }
         ensures { result ≡ instance }
     {
-        let mask = instance.zone();
         Zone {
             instance,
             mask,
-            columns: columns_of(&mask),
+            columns: columns_of(mask),
         }
     }
 
@@ -84,6 +98,18 @@ impl Zone {
         ensures { IsSetOf (has_square (zone_of (written self.now))) result }
     {
         self.mask
+    }
+
+    /// Whether it promises that White never owns the whole set. Where the set has none of its squares nothing more is
+    /// asked.
+    pub(crate) fn bars(&self, kept: &Kept, set: Mask) -> bool
+        requires { (p : Men) × ((owns_zone (written self.now) && fits (written self.now) p) ≡ true) }
+        ensures { result ≡ barred (written self.now) (facts_in kept.now) (has_square set) }
+    {
+        if !self.mask.meets(set) {
+            return false;
+        }
+        self.instance.bars(kept, set)
     }
 
     /// The place of its first square, in square order.
@@ -121,6 +147,45 @@ impl Zone {
             &other.mask,
         )
     }
+}
+
+/// All squares of the columns in which the set has some. A zone has few columns, so each is found by its first square.
+fn columns_of(set: Mask) -> Mask
+    requires { IsSetOf (has_square set) set }
+    ensures { IsSetOf (in_columns_of set) result }
+{
+    let mut columns = Mask::empty();
+    let mut rest = set;
+    while let Some(square) = rest.first() {
+        let column = whole(square.column());
+        columns = columns.union(column);
+        rest = rest.without(column);
+    }
+    columns
+}
+
+/// All squares of a column of the widest board.
+fn whole(column: Column) -> Mask
+    ensures { IsSetOf (λ u. on_board widest u && (column == u.0)) result }
+{
+    Mask::column_part(in_row(column, 1), in_row(column, MOST))
+}
+
+/// The square of a column in a row.
+fn in_row(column: Column, row: u8) -> Square
+    requires least { 1 ≤ row }
+    requires most { row ≤ 10 }
+    ensures { result ≡ (column, row) }
+{
+    // its contract says that no column has a greater number
+    let _number = column.index();
+    let Ok(widest) = Size::new(MOST, MOST) else {
+        unreachable!()
+    };
+    let Some(square) = widest.square(column, row) else {
+        unreachable!()
+    };
+    square
 }
 
 /// Where a square stands among the squares of the widest board, with a gap above each column.
@@ -237,7 +302,8 @@ impl Taker<Claimeven> for Zones {
     ghost room = { λ zones. 1580 };
 
     fn take(&mut self, rule: Claimeven) {
-        self.list.push(Zone::of(Instance::Claimeven(rule)));
+        let squares = rule.zone();
+        self.list.push(Zone::of(Instance::Claimeven(rule), squares));
     }
 }
 
@@ -247,7 +313,9 @@ impl Taker<Baseinverse> for Zones {
     ghost room = { λ zones. 1580 };
 
     fn take(&mut self, rule: Baseinverse) {
-        self.list.push(Zone::of(Instance::Baseinverse(rule)));
+        let squares = rule.zone();
+        self.list
+            .push(Zone::of(Instance::Baseinverse(rule), squares));
     }
 }
 
@@ -257,7 +325,9 @@ impl Taker<Lowinverse> for Zones {
     ghost room = { λ zones. 1580 };
 
     fn take(&mut self, rule: Lowinverse) {
-        self.list.push(Zone::of(Instance::Lowinverse(rule)));
+        let squares = rule.zone();
+        self.list
+            .push(Zone::of(Instance::Lowinverse(rule), squares));
     }
 }
 
@@ -267,7 +337,9 @@ impl Taker<Highinverse> for Zones {
     ghost room = { λ zones. 1580 };
 
     fn take(&mut self, rule: Highinverse) {
-        self.list.push(Zone::of(Instance::Highinverse(rule)));
+        let squares = rule.zone();
+        self.list
+            .push(Zone::of(Instance::Highinverse(rule), squares));
     }
 }
 
@@ -277,6 +349,7 @@ impl Taker<Baseclaim> for Zones {
     ghost room = { λ zones. 1580 };
 
     fn take(&mut self, rule: Baseclaim) {
-        self.list.push(Zone::of(Instance::Baseclaim(rule)));
+        let squares = rule.zone();
+        self.list.push(Zone::of(Instance::Baseclaim(rule), squares));
     }
 }

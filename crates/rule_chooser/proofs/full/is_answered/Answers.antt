@@ -30,7 +30,7 @@ returns-then-not-has_answer-clause-answered c =
     let p = c.args.p.now in let facts = facts_in c.facts_kept-kept.result in let list = c.list_instances.new.list.items in let lines = c.as_slice-line-items.result.now in let i = c.loop-line.line-index in
     let same = c.as_slice.ensures.value ∙ c.list_instances.ensures in
     let none : false ≡ is_answered_by p facts (written_list list) c.line-item.result.empty =
-    sym c.if-not-has_answer.true ∙ c.has_answer.ensures ∙ ap (λ zs. is_answered_by p facts (written_list zs) c.line-item.result.empty) c.as_slice-in-loop-line.ensures.value in
+    sym c.if-not-has_answer.true ∙ c.has_answer.ensures ∙ ap (λ zs. is_answered_by p facts (written_list zs) c.line-item.result.empty) (sym c.list_instances.ensures) in
     ap (λ b. b && list_all (λ (line : Line). is_answered_by p facts (written_list list) line.empty) (drop (i + 1) lines)) (none ∙ ap (λ (line : Line). is_answered_by p facts (written_list list) line.empty) c.line-item.is)
     ∙ sym (at_drop_more (list_all (λ (line : Line). is_answered_by p facts (written_list list) line.empty)) lines i c.line-item.result c.loop-line-test.true)
     ∙ c.loop-line.invariant
