@@ -1,0 +1,3 @@
+mod Vectors
+pub mod Numbers
+pub mod Updated

@@ -1,0 +1,113 @@
+//! The pool. The numbers of the slots that aren't live stand in front of a list as long as the pool, which is filled when
+//! the pool is made; placing takes the last of them and giving back adds one behind. So each call is a few reads and
+//! writes, no chain of slots has to be followed, and no list ever grows.
+ghost use Rattle.std.specs.Prelude.{◌≡◌, ◌+◌, ◌-◌, ◌<◌, ◌≤◌, ◌↔◌, Some, None, length, replicate, slice_set, IfSome, IfNone, IfOk};
+ghost use Rattle.node_pool.specs.Slots.{held, IsLive, live_slots, free_slots};
+
+use crate::slot::Slot;
+use std::alloc::{AllocError, Global};
+use std::marker::Model;
+
+/// A map from slots to values, with room for so many. A slot is live from the call of `place` that gave it to the call of
+/// `give_back` that takes it.
+#[derive(Drop)]
+pub struct Pool<T: Copy> {
+    slots: Vec<Option<T>>,
+    free: Vec<u32>,
+    room: usize,
+}
+
+impl<T: Copy> Model for Pool<T> {
+    ghost use Rattle.std.specs.Prelude.{List, Option};
+    ghost use Rattle.node_pool.specs.Free.{KeepsFree};
+
+    ghost Value = { List (Option T) };
+
+    ghost view = { λ pool. pool.slots.items };
+
+    ghost invariant = { λ pool. KeepsFree pool.slots.items pool.free.items pool.room };
+}
+
+impl<T: Copy> Pool<T> {
+    /// A pool with this many slots, from 1 to 1,000,000, none of them live. All the memory that the pool ever has is
+    /// taken here; `AllocError` comes where there isn't so much.
+    pub fn new(alloc: Global, capacity: u32) -> Result<Pool<T>, AllocError>
+        requires some { 1 ≤ capacity }
+        requires few { capacity ≤ 1000000 }
+        ensures empty { IfOk result (λ pool. pool ≡ replicate capacity None) }
+        ensures none { IfOk result (λ pool. live_slots pool ≡ 0) }
+    {
+        let room = capacity as usize;
+        let slots = vec![in alloc; None; room]?;
+        let mut free = vec![in alloc; 0; room]?;
+        for number in 0..capacity {
+            free[number as usize] = number;
+        }
+        Ok(Pool { slots, free, room })
+    }
+
+    /// Puts the value into a slot that isn't live, which is live from then on, and leaves every other slot as it was.
+    /// None exactly where all slots are live; the pool is then as before.
+    pub fn place(&mut self, value: T) -> Option<Slot>
+        ensures full { result ≡ None ↔ (live_slots self.old ≡ length self.old) }
+        ensures same { IfNone result (self.new ≡ self.old) }
+        ensures within { IfSome result (λ at. at < length self.old) }
+        ensures free { IfSome result (λ at. held self.old at ≡ None) }
+        ensures placed { IfSome result (λ at. self.new ≡ slice_set self.old at (Some value)) }
+        ensures count { IfSome result (λ at. live_slots self.new ≡ live_slots self.old + 1) }
+    {
+        if self.room == 0 {
+            return None;
+        }
+        self.room -= 1;
+        let number = self.free[self.room];
+        self.slots[number as usize] = Some(value);
+        Some(Slot::new(number))
+    }
+
+    /// The value in a live slot.
+    pub fn get(&self, at: Slot) -> &T
+        requires { IsLive self.now at }
+        ensures { held self.now at ≡ Some result.now }
+    {
+        self.slots[at.index()].as_ref().unwrap()
+    }
+
+    /// Puts the value into a live slot, in place of the one that was there.
+    pub fn set(&mut self, at: Slot, value: T)
+        requires { IsLive self.old at }
+        ensures set { self.new ≡ slice_set self.old at (Some value) }
+        ensures count { live_slots self.new ≡ live_slots self.old }
+    {
+        self.slots[at.index()] = Some(value);
+    }
+
+    /// Takes the value out of a live slot, which can then be had again by `place`. Every other slot is as it was.
+    pub fn give_back(&mut self, at: Slot)
+        requires { IsLive self.old at }
+        ensures taken { self.new ≡ slice_set self.old at None }
+        ensures count { live_slots self.new + 1 ≡ live_slots self.old }
+    {
+        self.slots[at.index()] = None;
+        self.free[self.room] = at.number();
+        self.room += 1;
+    }
+
+    /// How many slots are live.
+    pub fn live(&self) -> u32
+        ensures value { result ≡ live_slots self.now }
+        ensures within { result ≤ length self.now }
+        ensures most { length self.now ≤ 1000000 }
+    {
+        (self.slots.len() - self.room) as u32
+    }
+
+    /// How many slots aren't live: the capacity less the number of live slots.
+    pub fn room(&self) -> u32
+        ensures value { result ≡ free_slots self.now }
+        ensures both { result + live_slots self.now ≡ length self.now }
+        ensures most { length self.now ≤ 1000000 }
+    {
+        self.room as u32
+    }
+}
