@@ -9,11 +9,12 @@ all:
 	./victor check <examples/usual-board.proof >/dev/null
 
 install: all
-	install -d "$(to)/bin" "$(to)/share/man/man1" "$(to)/$(docs)/docs" "$(to)/$(docs)/examples/refused"
+	install -d "$(to)/bin" "$(to)/share/man/man1" "$(to)/$(docs)/docs/img" "$(to)/$(docs)/examples/refused"
 	install -m 755 crates/victor/out/victor "$(to)/bin/victor"
 	install -m 644 victor.1 "$(to)/share/man/man1/victor.1"
 	install -m 644 README.md CHANGELOG.md "$(to)/$(docs)"
 	install -m 644 docs/*.md "$(to)/$(docs)/docs"
+	install -m 644 docs/img/*.png "$(to)/$(docs)/docs/img"
 	install -m 644 examples/*.* "$(to)/$(docs)/examples"
 	install -m 644 examples/refused/* "$(to)/$(docs)/examples/refused"
 

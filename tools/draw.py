@@ -1,0 +1,488 @@
+#!/usr/bin/env python3
+"""Pictures of positions, plans, duels and proofs, from the texts that `victor` reads and writes. Nothing is checked."""
+
+import argparse
+import html
+import json
+import os
+import re
+import sys
+
+import boards
+from boards import RULES, Fault, group_of, name_of, square_of, zone_of
+
+CELL = 44
+EDGE = 26
+MOST_SHOWN = 20_000
+COLOURS = {
+    "CE": "#b5dcc0", "BI": "#f8cf9c", "LI": "#a9d0ee", "HI": "#d3c1ea", "BC": "#f5b3b3",
+    "VE": "#9a6b00", "AE": "#00662b", "BE": "#1f4e9c", "SB": "#8b108b",
+}
+STYLE = (
+    "text{font-family:DejaVu Sans,Verdana,sans-serif;fill:#222}.small{font-size:11px}.note{font-size:12px}"
+    ".head{font-size:14px;font-weight:bold}"
+)
+
+
+# ---------------------------------------------------------------------------------------------------------------------
+# One board as SVG. `men` has W, B or, where only that a man stands there is known, `?`.
+
+
+class Picture:
+    """Pieces of an SVG, and how large it is."""
+
+    def __init__(self):
+        self.pieces = []
+        self.width = self.height = 0
+
+    def add(self, piece, right=0, low=0):
+        self.pieces.append(piece)
+        self.width, self.height = max(self.width, right), max(self.height, low)
+
+    def write(self, x, y, text, kind="note", anchor="start", colour=None):
+        fill = ' style="fill:%s"' % colour if colour else ""
+        self.add(
+            '<text x="%d" y="%d" class="%s" text-anchor="%s"%s>%s</text>'
+            % (x, y, kind, anchor, fill, html.escape(text)),
+            x + (7 * len(text) if anchor == "start" else 0), y + 4,
+        )
+
+    def text(self, title):
+        return (
+            '<svg xmlns="http://www.w3.org/2000/svg" width="%d" height="%d" viewBox="0 0 %d %d" role="img">\n'
+            "<title>%s</title>\n<style>%s</style>\n"
+            '<rect width="100%%" height="100%%" fill="#ffffff"/>\n%s\n</svg>\n'
+        ) % (self.width + 8, self.height + 8, self.width + 8, self.height + 8, html.escape(title), STYLE,
+             "\n".join(self.pieces))
+
+
+class Grid:
+    """Where the squares of a board stand in a picture."""
+
+    def __init__(self, cols, rows, x, y, cell=CELL):
+        self.cols, self.rows, self.cell = cols, rows, cell
+        self.x, self.y = x + EDGE, y
+
+    def middle(self, square):
+        i, r = square
+        return self.x + (i + 0.5) * self.cell, self.y + (self.rows - r + 0.5) * self.cell
+
+    def draw(self, picture, men, fills, marks=(), line=()):
+        """The board: men, squares with a fill, marked men, and the men of a line."""
+        cell = self.cell
+        squares = [(i, r) for i in range(self.cols) for r in range(1, self.rows + 1)]
+        for square in squares:
+            x, y = self.middle(square)
+            picture.add(
+                '<rect x="%g" y="%g" width="%d" height="%d" fill="%s" stroke="#8a8a80"/>'
+                % (x - cell / 2, y - cell / 2, cell, cell, fills.get(square, "#f7f5ec")), x + cell / 2, y + cell / 2,
+            )
+            man = men.get(square)
+            if man:
+                fill = {"W": "#ffffff", "B": "#2b2b2b", "?": "#bdbdb5"}[man]
+                stroke = "#d01c1c" if square in line else "#2b2b2b"
+                picture.add(
+                    '<circle cx="%g" cy="%g" r="%g" fill="%s" stroke="%s" stroke-width="%g"/>'
+                    % (x, y, cell * 0.38, fill, stroke, 3.5 if square in line else 1.5)
+                )
+            if square in marks:
+                picture.add('<circle cx="%g" cy="%g" r="%g" fill="#d01c1c"/>' % (x, y, cell * 0.09))
+        kind = "note" if cell > 30 else "small"
+        for i in range(self.cols):
+            picture.write(self.middle((i, 1))[0], self.y + self.rows * cell + 16, boards.LETTERS[i], kind, "middle")
+        for r in range(1, self.rows + 1):
+            picture.write(self.x - 6, self.middle((0, r))[1] + 4, str(r), kind, "end")
+
+
+def grid_text(cols, rows, entry, width=1):
+    """A board in characters; `entry` gives what stands on a square."""
+    lines = []
+    for r in range(rows, 0, -1):
+        lines.append("%2d " % r + " ".join(entry((i, r)).rjust(width) for i in range(cols)))
+    lines.append("   " + " ".join(boards.LETTERS[i].rjust(width) for i in range(cols)))
+    return lines
+
+
+def sentence_of(game):
+    """Who is to move, or how the game has ended."""
+    if game.line:
+        return "%s has four in a line" % ("Black" if game.side == "W" else "White")
+    if game.is_over:
+        return "the board is full"
+    return "%s is to move" % ("White" if game.side == "W" else "Black")
+
+
+# ---------------------------------------------------------------------------------------------------------------------
+# A position.
+
+
+def draw_position(game, is_text):
+    said = "%d by %d after %s: %s" % (game.cols, game.rows, game.letters(), sentence_of(game))
+    if is_text:
+        return "\n".join(grid_text(game.cols, game.rows, lambda s: game.men.get(s, ".")) + [said]) + "\n"
+    picture = Picture()
+    grid = Grid(game.cols, game.rows, 4, 6)
+    last = [(game.moves[-1], game.heights[game.moves[-1]])] if game.moves else []
+    grid.draw(picture, game.men, {}, last, game.line)
+    picture.write(8, picture.height + 22, said)
+    return picture.text(said)
+
+
+# ---------------------------------------------------------------------------------------------------------------------
+# A plan, from the text of `explain` alone.
+
+
+class Explained:
+    """What `explain` wrote: the instances, their squares, and what answers each line. A board is made of these."""
+
+    def __init__(self, text, game):
+        lines = text.replace("\r", "").split("\n")
+        while lines and not lines[-1]:
+            lines.pop()
+        if not lines or not lines[0].startswith("plan "):
+            raise Fault("there is no plan to draw: the text begins with %r" % (lines[0] if lines else ""))
+        self.members = lines[0].split(" ")[1:]
+        self.zones, self.answers = [], []
+        for n, line in enumerate(lines[1:], 2):
+            words = line.split(" ")
+            if len(self.zones) < len(self.members):
+                squares = [square_of(word) for word in words[2:]] if words[2:] != ["-"] else []
+                is_right = words[0] == self.members[len(self.zones)] and words[1:2] == ["owns"] and len(words) > 2
+                if not is_right or None in squares or words[0][:2] not in RULES:
+                    raise Fault("line %d isn't what `explain` writes of an instance: %r" % (n, line))
+                self.zones.append(squares)
+            else:
+                squares = group_of(words[0]) if len(words[0]) > 2 else None
+                if len(words) != 3 or words[1] != "by" or squares is None or words[2] not in self.members:
+                    raise Fault("line %d isn't what `explain` writes of a line: %r" % (n, line))
+                self.answers.append((words[0], squares, words[2]))
+        if len(self.zones) < len(self.members):
+            raise Fault("the text ends before each instance has its squares")
+        self.owner = {square: n for n, zone in enumerate(self.zones, 1) for square in zone}
+        self.build(game)
+
+    def build(self, game):
+        """Each empty square has a zone, so the highest is in the top row. A line without a Black man tells White's."""
+        if game is not None:
+            self.cols, self.rows, self.men = game.cols, game.rows, game.men
+            outside = [square for square in self.owner if square[0] >= game.cols or square[1] > game.rows]
+            if outside or set(self.owner) & set(game.men) or len(self.owner) + len(game.men) != game.cols * game.rows:
+                raise Fault("the plan isn't one of this game's position")
+            return
+        named = list(self.owner) + [square for _, squares, _ in self.answers for square in squares]
+        if not self.owner:
+            raise Fault("no instance owns a square")
+        self.rows = max(row for _, row in self.owner)
+        self.cols = max(4, max(i for i, _ in named) + 1)
+        if self.rows not in boards.ROWS or self.cols > 10:
+            raise Fault("the squares are those of no board: the highest owned one is in row %d" % self.rows)
+        self.men = {
+            (i, r): "?" for i in range(self.cols) for r in range(1, self.rows + 1) if (i, r) not in self.owner
+        }
+        for _, squares, _ in self.answers:
+            for square in squares:
+                if square in self.men:
+                    self.men[square] = "W"
+
+    def note(self):
+        if "?" in self.men.values():
+            return "grey: a man, White's or Black's, which this text doesn't tell (--game names the game)"
+        return ""
+
+
+def draw_plan(plan, is_text):
+    title = "a plan of %d instances, %d lines of White's answered" % (len(plan.members), len(plan.answers))
+    if is_text:
+        return plan_text(plan, title)
+    picture = Picture()
+    grid = Grid(plan.cols, plan.rows, 4, 30)
+    picture.write(8, 18, title, "head")
+    fills = {square: COLOURS[plan.members[n - 1][:2]] for square, n in plan.owner.items()}
+    grid.draw(picture, plan.men, fills)
+    for square, n in plan.owner.items():
+        x, y = grid.middle(square)
+        picture.write(x, y - 2, plan.members[n - 1][:2], "small", "middle")
+        picture.write(x, y + 12, str(n), "small", "middle")
+    for n, member in enumerate(plan.members, 1):
+        draw_standing(picture, grid, member, n)
+    low = picture.height
+    x = grid.x + grid.cols * CELL + 18
+    y = draw_legend(picture, plan, x)
+    draw_answers(picture, plan, picture.width + 16, max(y, low))
+    if plan.note():
+        picture.write(8, picture.height + 18, plan.note(), "small")
+    return picture.text(title)
+
+
+def draw_standing(picture, grid, member, n):
+    """The line of a standing rule, with its number at the first square."""
+    rule, parts = member[:2], member[3:].split(",")
+    if rule == "VE":
+        square = square_of(parts[0])
+        squares = [square, (square[0], square[1] + 1)]
+    elif rule in ("AE", "BE", "SB"):
+        squares = group_of(parts[0])
+    else:
+        return
+    # Lines of several instances lie beside one another.
+    off = (n % 5 - 2) * 3.5
+    (x, y), (x2, y2) = grid.middle(squares[0]), grid.middle(squares[-1])
+    colour = COLOURS[rule]
+    dash = {"VE": "", "AE": "", "BE": "7 4", "SB": "2 3"}[rule]
+    picture.add(
+        '<line x1="%g" y1="%g" x2="%g" y2="%g" stroke="%s" stroke-width="3" stroke-dasharray="%s" '
+        'stroke-linecap="round" opacity="0.8"/>' % (x + off, y + off, x2 + off, y2 + off, colour, dash)
+    )
+    for part in parts[1:]:
+        x, y = grid.middle(square_of(part))
+        picture.add('<circle cx="%g" cy="%g" r="17" fill="none" stroke="%s" stroke-width="2.5" stroke-dasharray="2 3"/>'
+                    % (x, y, colour))
+    x, y = grid.middle(squares[0])
+    picture.write(x - 18, y - 12 + 2 * off, str(n), "small", "start", colour)
+
+
+def draw_legend(picture, plan, x):
+    y = 44
+    for rule, name in RULES.items():
+        of_rule = [(n, member) for n, member in enumerate(plan.members, 1) if member[:2] == rule]
+        if not of_rule:
+            continue
+        if rule in ("VE", "AE", "BE", "SB"):
+            picture.add('<line x1="%d" y1="%d" x2="%d" y2="%d" stroke="%s" stroke-width="3" stroke-dasharray="%s"/>'
+                        % (x, y - 4, x + 14, y - 4, COLOURS[rule], {"BE": "7 4", "SB": "2 3"}.get(rule, "")))
+        else:
+            picture.add('<rect x="%d" y="%d" width="14" height="14" fill="%s" stroke="#8a8a80"/>'
+                        % (x, y - 12, COLOURS[rule]))
+        picture.write(x + 20, y, name, "note")
+        y += 17
+        for n, member in of_rule:
+            picture.write(x + 20, y, "%d  %s" % (n, member), "small")
+            y += 15
+        y += 5
+    return y
+
+
+def draw_answers(picture, plan, x, low):
+    """For each line the instance that answers it, in columns that are as high as what stands beside them."""
+    picture.write(x, 44, "Each line of White's, and what answers it", "note")
+    room = max(8, (low - 62) // 15)
+    for k, (name, _, member) in enumerate(plan.answers):
+        column, place = divmod(k, room)
+        n = plan.members.index(member) + 1
+        at = x + column * 190
+        picture.add('<rect x="%d" y="%d" width="9" height="9" fill="%s"/>' % (at, 53 + 15 * place, COLOURS[member[:2]]))
+        picture.write(at + 14, 62 + 15 * place, "%s by %d  %s" % (name, n, member), "small")
+
+
+def plan_text(plan, title):
+    width = len(str(len(plan.members)))
+    lines = [title, ""]
+    lines += grid_text(plan.cols, plan.rows, lambda s: plan.men.get(s) or str(plan.owner[s]), max(width, 1))
+    either = ", ? is either" if plan.note() else ""
+    lines += ["", "W, B are men%s; a number is the instance that owns the square:" % either]
+    for n, (member, zone) in enumerate(zip(plan.members, plan.zones), 1):
+        owned = "owns " + " ".join(map(name_of, zone)) if zone else "owns none"
+        lines.append("%*d  %s  %s, %s" % (width, n, member, RULES[member[:2]], owned))
+    lines += ["", "each line of White's, and what answers it:"]
+    lines += ["%s by %d  %s" % (name, plan.members.index(member) + 1, member) for name, _, member in plan.answers]
+    return "\n".join(lines) + "\n"
+
+
+# ---------------------------------------------------------------------------------------------------------------------
+# A duel, from the text of `play`.
+
+
+def read_duel(text, game, size):
+    """The boards of a duel: men, the two new ones, and a caption.
+
+    Without a game the men below the first squares are `?`.
+    """
+    turns = []
+    for n, line in enumerate(text.replace("\r", "").rstrip("\n").split("\n"), 1):
+        words = line.split(" ")
+        squares = [square_of(word) for word in words[:2]]
+        if len(words) not in (2, 3) or None in squares or words[2:] not in ([], ["won"], ["full"]):
+            raise Fault("line %d isn't what `play` writes: %r" % (n, line))
+        turns.append((squares, words))
+    all_squares = [square for squares, _ in turns for square in squares]
+    if game is not None:
+        cols, rows, men = game.cols, game.rows, dict(game.men)
+    else:
+        cols = max([4] + [i + 1 for i, _ in all_squares])
+        rows = min(r for r in boards.ROWS if r >= max(row for _, row in all_squares))
+        if size:
+            if cols > size[0] or rows > size[1]:
+                raise Fault("a square of the duel isn't on this board")
+            cols, rows = size
+        men = {}
+        for i in range(cols):
+            lowest = min((r for k, r in all_squares if k == i), default=1)
+            men.update({(i, r): "?" for r in range(1, lowest)})
+    shown = [(dict(men), (), "the start")]
+    for n, (squares, words) in enumerate(turns, 1):
+        for square, side in zip(squares, "WB"):
+            i, r = square
+            if i >= cols or r > rows or square in men or (r > 1 and (i, r - 1) not in men):
+                raise Fault("turn %d: %s isn't playable there%s"
+                            % (n, name_of(square), "" if game else " (--game names the game)"))
+            men[square] = side
+        shown.append((dict(men), tuple(squares), "%d.  %s" % (n, "  ".join(words))))
+    return cols, rows, shown
+
+
+def draw_duel(cols, rows, shown, is_text):
+    title = "a duel of %d turns by a plan" % (len(shown) - 1)
+    if is_text:
+        wide = 3 + 2 * cols
+        each = []
+        for men, _, caption in shown:
+            lines = grid_text(cols, rows, lambda s: men.get(s, ".")) + ["   " + caption]
+            each.append([line.ljust(max(wide, 18)) for line in lines])
+        many = max(1, 100 // len(each[0][0]))
+        out = []
+        for k in range(0, len(each), many):
+            out += [" ".join(parts).rstrip() for parts in zip(*each[k:k + many])] + [""]
+        return "\n".join(out)
+    picture = Picture()
+    cell = 26
+    many = max(1, 1100 // (cols * cell + EDGE + 20))
+    picture.write(8, 18, title, "head")
+    for k, (men, new, caption) in enumerate(shown):
+        line_up, across = divmod(k, many)
+        x, y = across * (cols * cell + EDGE + 20) + 4, line_up * (rows * cell + 56) + 34
+        grid = Grid(cols, rows, x, y, cell)
+        line = boards.line_through(men, new[1]) if new else ()
+        grid.draw(picture, men, {}, new, line)
+        picture.write(grid.x, y + rows * cell + 34, caption, "note")
+    return picture.text(title)
+
+
+# ---------------------------------------------------------------------------------------------------------------------
+# A proof as a page.
+
+LEMMA = re.compile(r"([1-9][0-9]*) (-|[a-j]+) ([WB][+-]) (end|one [a-j] [0-9]+|all(?: [a-j]:[0-9]+)+|plan(?: [!-~]+)+)")
+CITED = re.compile(r"(?:[a-j]:| [a-j] )([0-9]+)")
+
+
+def read_proof(text):
+    """The game, the lemmas as texts by their number, and the verdict's words. It isn't checked."""
+    lines = text.split("\n")
+    if lines and not lines[-1]:
+        lines.pop()
+    if len(lines) < 3 or lines[0] != "victor 1":
+        raise Fault("this is no proof: the first line isn't `victor 1`")
+    game = boards.read_game("\n".join(lines[1:3]))
+    lemmas, verdict = [], []
+    for n, line in enumerate(lines[3:], 4):
+        if line.startswith("#"):
+            continue
+        if line.startswith("value ") and not verdict:
+            verdict = line.split(" ")[1:]
+        elif verdict or not LEMMA.fullmatch(line) or line.split(" ", 1)[0] != str(len(lemmas) + 1):
+            raise Fault("line %d is no lemma that may stand there" % n)
+        else:
+            lemmas.append(line)
+    return game, lemmas, verdict
+
+
+def cites_of(line):
+    words = line.split(" ", 4)
+    if words[3] == "one":
+        return [int(words[4].split(" ")[1])]
+    return [int(item[2:]) for item in words[4].split(" ")] if words[3] == "all" else []
+
+
+def shown_lemmas(lemmas, verdict, most):
+    """The numbers of the lemmas that are shown: all, or those next to the verdict by the cites that lead there."""
+    if len(lemmas) <= most:
+        return range(1, len(lemmas) + 1)
+    queue = [int(word) for word in verdict if word.isdigit()]
+    if not queue:
+        queue = [len(lemmas)]
+    seen = {n for n in queue if 1 <= n <= len(lemmas)}
+    queue = [n for n in queue if n in seen]
+    for n in queue:
+        for cited in cites_of(lemmas[n - 1]):
+            if len(seen) < most and 1 <= cited < n and cited not in seen:
+                seen.add(cited)
+                queue.append(cited)
+    for n in range(len(lemmas), 0, -1):
+        if len(seen) >= most:
+            break
+        seen.add(n)
+    return sorted(seen)
+
+
+def draw_proof(game, lemmas, verdict, most):
+    numbers = shown_lemmas(lemmas, verdict, most)
+    data = {
+        "cols": game.cols, "rows": game.rows, "moves": game.letters(), "verdict": verdict, "count": len(lemmas),
+        "lemmas": [lemmas[n - 1] for n in numbers],
+    }
+    with open(os.path.join(os.path.dirname(os.path.abspath(__file__)), "proof.html"), encoding="ascii") as source:
+        page = source.read()
+    # No text can end the script's element.
+    return page.replace("DATA", json.dumps(data, separators=(",", ":")).replace("<", "\\u003c"), 1)
+
+
+# ---------------------------------------------------------------------------------------------------------------------
+
+
+def main():
+    parser = argparse.ArgumentParser(
+        prog="draw.py", description="Draws a position, a plan, a duel or a proof, as SVG, as text or as an HTML page.",
+        epilog="position: the text of a game. plan: what `victor explain` writes. duel: what `victor play` writes. "
+        "proof: what `victor prove` writes. What is drawn isn't checked, and nothing is proved of this program.",
+    )
+    parser.add_argument("kind", choices=("position", "plan", "duel", "proof"))
+    parser.add_argument("file", nargs="?", help="the file to draw; without it, standard input")
+    form = parser.add_mutually_exclusive_group()
+    form.add_argument("--svg", action="store_true", help="as SVG, which all but a proof are without an option")
+    form.add_argument("--text", action="store_true", help="as text")
+    form.add_argument("--html", action="store_true", help="a page, for a proof alone")
+    parser.add_argument("--game", metavar="FILE",
+                        help="a plan's or a duel's game: a file whose first two lines are one")
+    parser.add_argument("--board", metavar="7x6", help="the board of a duel, where no game is named")
+    parser.add_argument("--most", type=int, default=MOST_SHOWN, metavar="N",
+                        help="how many lemmas a page shows at most (%d)" % MOST_SHOWN)
+    parser.add_argument("-o", "--out", metavar="FILE", help="where to write; without it, standard output")
+    parser.error = lambda message: sys.exit(boards.complain("draw.py", message))
+    words = parser.parse_intermixed_args()
+    try:
+        made = draw(words)
+        if words.out:
+            with open(words.out, "w", encoding="ascii") as out:
+                out.write(made)
+        else:
+            sys.stdout.write(made)
+            sys.stdout.flush()
+    except Fault as fault:
+        return boards.complain("draw.py", fault)
+    except OSError as fault:
+        return boards.complain("draw.py", "%s: %s" % (words.out or "standard output", fault.strerror))
+    return 0
+
+
+def draw(words):
+    if words.kind == "proof" and (words.svg or words.text):
+        raise Fault("a proof is drawn as a page alone (--html)")
+    if words.html and words.kind != "proof":
+        raise Fault("only a proof is drawn as a page")
+    if words.most < 1:
+        raise Fault("--most takes a number from 1")
+    game = None
+    if words.game:
+        game = boards.read_game("\n".join(boards.read_input(words.game).replace("\r", "").split("\n")[:2]))
+    size = boards.board_size(words.board) if words.board else None
+    text = boards.read_input(words.file)
+    if words.kind == "position":
+        return draw_position(boards.read_game(text), words.text)
+    if words.kind == "plan":
+        return draw_plan(Explained(text, game), words.text)
+    if words.kind == "duel":
+        return draw_duel(*read_duel(text, game, size), words.text)
+    return draw_proof(*read_proof(text), words.most)
+
+
+if __name__ == "__main__":
+    sys.exit(main())

@@ -1,0 +1,103 @@
+// Boards as words of 64 bits: a column has a bit for each row and a spare one above them, and the columns stand side
+// by side.
+#pragma once
+
+#include <cstdint>
+
+using Word = uint64_t;
+
+// The men of the side to move, and all men.
+struct Position {
+    Word own;
+    Word men;
+};
+
+inline int count_of(Word word) { return __builtin_popcountll(word); }
+
+// A board with ROWS rows. The bits of all columns have to fit into 63.
+template <int ROWS>
+struct Board {
+    static constexpr int HEIGHT = ROWS + 1;
+    static constexpr Word COLUMN = (Word(1) << ROWS) - 1;
+
+    int columns;
+    Word bottom = 0;
+    Word full = 0;
+
+    explicit Board(int columns_) : columns(columns_) {
+        for (int c = 0; c < columns; ++c) {
+            bottom |= Word(1) << (c * HEIGHT);
+            full |= COLUMN << (c * HEIGHT);
+        }
+    }
+
+    static bool fits(int columns) { return columns * HEIGHT <= 63; }
+
+    // The lowest empty square of each column that isn't full.
+    Word playable(Word men) const { return (men + bottom) & full; }
+
+    Word column(int c) const { return COLUMN << (c * HEIGHT); }
+
+    // The position after a man on this square, for the other side.
+    static Position after(Position at, Word square) { return {at.own ^ at.men, at.men | square}; }
+
+    // A number of the position, below 2^63: no two positions have the same.
+    static Word key(Position at) { return at.own + at.men; }
+
+    // The position with this number: in each column the men end below the highest bit of the sum.
+    Position position(Word key) const {
+        Position at = {0, 0};
+        for (int c = 0; c < columns; ++c) {
+            Word sum = ((key >> (c * HEIGHT)) & ((Word(1) << HEIGHT) - 1)) + 1;
+            int height = 63 - __builtin_clzll(sum);
+            Word men = (Word(1) << height) - 1;
+            at.men |= men << (c * HEIGHT);
+            at.own |= (sum & men) << (c * HEIGHT);
+        }
+        return at;
+    }
+
+    // The same number, of the position as a mirror shows it.
+    Word mirrored(Word key) const {
+        Word other = 0;
+        for (int c = 0; c < columns; ++c) {
+            other |= ((key >> (c * HEIGHT)) & ((Word(1) << HEIGHT) - 1)) << ((columns - 1 - c) * HEIGHT);
+        }
+        return other;
+    }
+
+    // Some four of these squares are in line.
+    static bool has_line(Word squares) {
+        for (int step : {1, HEIGHT - 1, HEIGHT, HEIGHT + 1}) {
+            Word two = squares & (squares >> step);
+            if (two & (two >> (2 * step))) return true;
+        }
+        return false;
+    }
+
+    // The empty squares on which one man makes four in line with these, also where it would hang.
+    Word wins(Word own, Word men) const {
+        Word squares = (own << 1) & (own << 2) & (own << 3);
+        for (int step : {HEIGHT - 1, HEIGHT, HEIGHT + 1}) {
+            Word above = (own << step) & (own << (2 * step));
+            Word below = (own >> step) & (own >> (2 * step));
+            squares |= above & ((own << (3 * step)) | (own >> step));
+            squares |= below & ((own >> (3 * step)) | (own << step));
+        }
+        return squares & full & ~men;
+    }
+
+    // The side that isn't to move has made four.
+    static bool is_won(Position at) { return has_line(at.own ^ at.men); }
+
+    bool is_ended(Position at) const { return at.men == full || is_won(at); }
+
+    // The moves that don't lose at once, where the side to move can't win at once.
+    Word safe_moves(Position at) const {
+        Word threats = wins(at.own ^ at.men, at.men);
+        Word moves = playable(at.men);
+        Word forced = moves & threats;
+        if (forced & (forced - 1)) return 0;
+        return (forced ? forced : moves) & ~(threats >> 1);
+    }
+};

@@ -1,0 +1,274 @@
+// Solves a game and writes a proof of its value, which `victor check` judges. Nothing here is trusted.
+#include <cerrno>
+#include <csignal>
+#include <cstdlib>
+#include <cstring>
+#include <unistd.h>
+
+#include "game.h"
+#include "strategy.h"
+
+static const char usage[] =
+    "usage: solve [-o FILE] [--memory MIB] [--lemmas N] [--order N] [--no-reuse] [--look N] [--rounds N] [--nodes N]\n"
+    "             [--deep N] [--seconds N] [--quiet] [GAME]\n"
+    "Reads the text of a game from the file GAME or from standard input, and writes a proof of its value to FILE or\n"
+    "to standard output. docs/SOLVED.md says more.\n";
+
+// Where the proof goes: standard output, or FILE.part until it is whole.
+class Output {
+  public:
+    explicit Output(const std::string& name) : name_(name) {
+        file_ = name.empty() ? stdout : fopen(part().c_str(), "wb");
+        if (!file_) throw Fault("can't write " + part() + ": " + strerror(errno));
+    }
+
+    ~Output() {
+        if (file_ && !name_.empty()) {
+            fclose(file_);
+            unlink(part().c_str());
+        }
+    }
+
+    void write(const std::string& text) {
+        if (fwrite(text.data(), 1, text.size(), file_) != text.size()) fails();
+    }
+
+    void finish() {
+        if (fflush(file_)) fails();
+        if (name_.empty()) return;
+        if (fsync(fileno(file_)) && errno != EINVAL && errno != EROFS) fails();
+        FILE* file = file_;
+        file_ = nullptr;
+        if (fclose(file) || rename(part().c_str(), name_.c_str())) {
+            int why = errno;
+            unlink(part().c_str());
+            errno = why;
+            fails();
+        }
+    }
+
+  private:
+    std::string name_;
+    FILE* file_;
+
+    std::string part() const { return name_ + ".part"; }
+    [[noreturn]] void fails() {
+        throw Fault("can't write " + (name_.empty() ? "standard output" : name_) + ": " + strerror(errno));
+    }
+};
+
+static std::string read_all(const std::string& name) {
+    FILE* file = name.empty() ? stdin : fopen(name.c_str(), "rb");
+    if (!file) throw Fault("can't read " + name + ": " + strerror(errno));
+    char text[256];
+    size_t size = fread(text, 1, sizeof text, file);
+    if (ferror(file)) throw Fault("can't read " + (name.empty() ? "standard input" : name) + ": " + strerror(errno));
+    if (file != stdin) fclose(file);
+    return std::string(text, size);
+}
+
+// The game, as a proof of it begins.
+static std::string head_of(const Game& game) {
+    return "victor 1\nboard " + std::to_string(game.columns) + " " + std::to_string(game.rows) + "\nmoves " +
+           (game.moves.empty() ? "-" : game.moves) + "\n";
+}
+
+template <int ROWS>
+class Prover {
+  public:
+    Prover(const Game& game, const Options& options)
+        : game_(game), options_(options), board_(game.columns), root_(root_of(game, board_)),
+          decided_(table_bytes(board_, root_, options)) {
+        progress.bytes = decided_.bytes();
+    }
+
+    void run(const std::string& name) {
+        Output out(name);
+        out.write(head_of(game_));
+        int mover = count_of(root_.men) & 1;
+        std::string verdict;
+        if (int winner = winner_of(); winner >= 0) {
+            uint32_t lemma = prove(winner, true, out);
+            verdict = (winner == mover ? "value win " : "value loss ") + std::to_string(lemma);
+        } else {
+            uint32_t black = prove(1, false, out);
+            decided_.clear();
+            verdict = "value draw " + std::to_string(black) + " " + std::to_string(prove(0, false, out));
+        }
+        out.write(verdict + "\n");
+        out.finish();
+        if (!progress.is_quiet) {
+            fprintf(stderr, "solve: %7.1f s, %s, %u lemmas\n", progress.seconds(), verdict.c_str(), written_);
+        }
+    }
+
+  private:
+    const Game& game_;
+    const Options& options_;
+    Board<ROWS> board_;
+    Position root_;
+    Decided decided_;
+    uint32_t written_ = 0;
+
+    static Position root_of(const Game& game, const Board<ROWS>& board) {
+        Position at = {0, 0};
+        for (size_t n = 0; n < game.moves.size(); ++n) {
+            std::string where = " at move " + std::to_string(n + 1);
+            if (board.is_ended(at)) throw Fault("input fault: GameOver" + where);
+            Word square = board.playable(at.men) & board.column(game.moves[n] - 'a');
+            if (!square) throw Fault("input fault: ColumnFull" + where);
+            at = board.after(at, square);
+        }
+        return at;
+    }
+
+    // At most half of the memory, and less for a game that ends soon.
+    static uint64_t table_bytes(const Board<ROWS>& board, Position root, const Options& options) {
+        int empty = count_of(board.full & ~root.men);
+        return std::min(options.memory / 2, uint64_t(1) << std::min(40, 10 + empty * 3 / 4));
+    }
+
+    // The side that wins, or -1.
+    int winner_of() {
+        for (int asker : {0, 1}) {
+            if (asker) decided_.clear();
+            if (board_.is_ended(root_)) {
+                if (board_.is_won(root_) && (count_of(root_.men) & 1) != asker) return asker;
+                continue;
+            }
+            progress.stage = asker ? "does Black win" : "does White win";
+            Search<ROWS> search(board_, decided_, asker, root_);
+            bool is_mover = (count_of(root_.men) & 1) == asker;
+            if (search.reaches(root_, ~uint64_t(0)) == is_mover) {
+                progress.line(search.nodes);
+                return asker;
+            }
+            progress.line(search.nodes);
+        }
+        decided_.clear();
+        return -1;
+    }
+
+    // Writes the lemmas that show that the prover wins, or that the other side doesn't. The number of the last.
+    uint32_t prove(int prover, bool wins, Output& out) {
+        int asker = wins ? prover : 1 - prover;
+        Search<ROWS> search(board_, decided_, asker, root_);
+        uint64_t bytes = options_.memory > decided_.bytes() ? options_.memory - decided_.bytes() : 0;
+        Strategy<ROWS> strategy(board_, search, prover, options_, bytes);
+        progress.stage = "choosing";
+        strategy.build(root_);
+        progress.line(search.nodes);
+        uint64_t gains = 0;
+        for (int n = 0; n < options_.rounds && progress.seconds() < double(options_.seconds); ++n) {
+            uint64_t before = strategy.size();
+            progress.stage = "improving";
+            strategy.round(n % 5 < 4 ? n % 5 : 3, n % 5 == 4);
+            if (n % 5 == 4 && options_.deep) strategy.deep_round(options_.deep);
+            progress.lemmas = strategy.size();
+            progress.line(search.nodes);
+            gains = n % 5 ? gains : 0;
+            gains += before - strategy.size();
+            if (n % 5 == 4 && gains <= strategy.size() / 200) break;
+        }
+        if (written_ + strategy.size() > options_.lemmas) {
+            throw Fault("the proof would have " + std::to_string(written_ + strategy.size()) + " lemmas, more than " +
+                        std::to_string(options_.lemmas));
+        }
+        std::string claim = std::string(asker ? " B" : " W") + (wins ? "+" : "-");
+        strategy.visit([&](Position at, const std::string& path) {
+            out.write(lemma(strategy, at, path, claim));
+            return written_;
+        });
+        return written_;
+    }
+
+    // The next lemma.
+    std::string lemma(Strategy<ROWS>& strategy, Position at, const std::string& path, const std::string& claim) {
+        std::string text = std::to_string(++written_) + " " + (path.empty() ? "-" : path) + claim;
+        if (board_.is_ended(at)) return text + " end\n";
+        bool proves = strategy.proves(at);
+        text += proves ? " one" : " all";
+        Word moves = proves ? Word(1) << strategy.find(at)->move : board_.playable(at.men);
+        for (Word rest = moves; rest; rest &= rest - 1) {
+            text += ' ';
+            text += char('a' + __builtin_ctzll(rest) / board_.HEIGHT);
+            text += proves ? ' ' : ':';
+            text += std::to_string(strategy.find(board_.after(at, rest & -rest))->number());
+        }
+        return text + "\n";
+    }
+};
+
+template <int ROWS>
+static void solve(const Game& game, const Options& options, const std::string& name) {
+    if (!Board<ROWS>::fits(game.columns)) {
+        throw Fault("a board of " + std::to_string(game.columns) + " by " + std::to_string(game.rows) +
+                    " is too large for this tool");
+    }
+    Prover<ROWS>(game, options).run(name);
+}
+
+static uint64_t number_of(const std::string& option, const char* text, uint64_t least, uint64_t most) {
+    uint64_t number = 0;
+    bool is_number = text && *text && strlen(text) <= 12 && strspn(text, "0123456789") == strlen(text);
+    if (is_number) number = strtoull(text, nullptr, 10);
+    if (!is_number || number < least || number > most) {
+        throw Fault(option + " takes a number from " + std::to_string(least) + " to " + std::to_string(most));
+    }
+    return number;
+}
+
+static void run(int count, char** words) {
+    Options options;
+    std::string input, output;
+    for (int n = 1; n < count; ++n) {
+        std::string word = words[n];
+        auto number = [&](uint64_t least, uint64_t most) { return number_of(word, words[++n], least, most); };
+        if (word == "--help") {
+            fputs(usage, stdout);
+            return;
+        }
+        if (word == "--memory") options.memory = number(1, 1 << 20) << 20;
+        else if (word == "--lemmas") options.lemmas = number(1, 10'000'000);
+        else if (word == "--look") options.look = int(number(0, 63));
+        else if (word == "--rounds") options.rounds = int(number(0, 1000));
+        else if (word == "--nodes") options.nodes = number(0, 1'000'000'000);
+        else if (word == "--seconds") options.seconds = number(0, 1'000'000'000);
+        else if (word == "--deep") options.deep = number(0, 1'000'000'000);
+        else if (word == "--order") options.order = int(number(0, 4));
+        else if (word == "--no-reuse") options.reuses = false;
+        else if (word == "--quiet") progress.is_quiet = true;
+        else if (word == "-o" && n + 1 < count && *words[n + 1]) output = words[++n];
+        else if (word[0] == '-' && word != "-") throw Fault("unknown option " + word + "; --help lists them");
+        else if (input.empty()) input = word;
+        else throw Fault("more than one game is named");
+    }
+    Game game;
+    std::string kind;
+    size_t place = 0;
+    if (!read_game(read_all(input == "-" ? "" : input), game, kind, place)) {
+        throw Fault("input fault: " + kind + " at " + std::to_string(place));
+    }
+    switch (game.rows) {
+        case 4: return solve<4>(game, options, output);
+        case 6: return solve<6>(game, options, output);
+        case 8: return solve<8>(game, options, output);
+        default: return solve<10>(game, options, output);
+    }
+}
+
+int main(int count, char** words) {
+    // A file that gets too large is a fault like others.
+    signal(SIGXFSZ, SIG_IGN);
+    std::string why;
+    try {
+        run(count, words);
+        return 0;
+    } catch (const std::bad_alloc&) {
+        why = "out of memory";
+    } catch (const std::exception& fault) {
+        why = fault.what();
+    }
+    fprintf(stderr, "solve: %s\n", why.c_str());
+    return 2;
+}

@@ -1,0 +1,188 @@
+"""tools/ask.py: positions as people write them, and one sentence from a checked proof."""
+
+import os
+import random
+import stat
+import tempfile
+import unittest
+
+from common import ToolTest, boards, example, program, read, tool
+import ask
+import mutants
+
+
+def diagram_of(game, men="XO"):
+    return "\n".join("".join({"W": men[0], "B": men[1]}.get(game.men.get((i, r)), ".") for i in range(game.cols))
+                     for r in range(game.rows, 0, -1))
+
+
+class QuestionTest(ToolTest):
+    def reads(self, text, letters, size=None):
+        game = ask.read_question(text, size)
+        self.assertEqual(game.letters(), letters, text)
+        return game
+
+    def fails(self, text, said, size=None):
+        with self.assertRaises(boards.Fault) as caught:
+            ask.read_question(text, size)
+        self.assertIn(said, str(caught.exception))
+
+    def test_lists(self):
+        for text in ("444333", "4 4 4 3 3 3", "4,4,4,3,3,3\r\n", "dddccc", "DDDCCC", "d d d c c c", "D, D, D; c C c",
+                     "1. d d 2. d c 3. c c", "1 d d\r\n2 d c\r\n3 c c\r\n", "d1 d2 d3 c1 c2 c3", "d1d2d3c1c2c3",
+                     "board 7 6\nmoves dddccc", "board 7 6\r\nmoves dddccc\r\n", "\n dddccc \n"):
+            self.reads(text, "dddccc")
+        self.reads("-", "-")
+        self.reads("0", "j", (10, 6))
+        self.reads("19", "ai", (10, 10))
+
+    def test_faults_of_lists(self):
+        self.fails("", "there is no position")
+        self.fails("48", "move 2: the board has no column 8")
+        self.fails("40", "move 2: the board has no column 10")
+        self.fails("dh", "move 2: 'h' is no column")
+        self.fails("d2", "move 1: d2 hangs")
+        self.fails("d1 d1", "move 2: d1 hangs or is taken")
+        self.fails("ddddddd", "move 7: column d is full")
+        self.fails("d!", "'!' is nothing")
+        self.fails("ababab a b", "move 8: the game has ended before it")
+        self.fails("board 5 5\nmoves a", "no board has")
+        self.fails("board 7 6\nmoves a", "another board", (6, 6))
+
+    def test_diagrams(self):
+        game = ask.read_question("""
+            .......
+            .......
+            ...O...
+            ...X...
+            ...O...
+            ..XXO..
+        """)
+        self.assertEqual(sorted(game.letters()), list("cdddde"))
+        self.assertEqual({square for square, man in game.men.items() if man == "W"}, {(3, 1), (3, 3), (2, 1)})
+        framed = "| . . . . |\r\n| x . . . |\r\n| o . . . |\r\n| x o . . |\r\n+---------+\r\n  1 2 3 4\r\n"
+        self.reads(framed, "aaab")
+        # What draw.py writes is read again.
+        drawn = tool("draw.py", "position", "--text", text="board 4 4\nmoves cccdcd\n")[1].split("\n")[:5]
+        self.assertEqual(ask.read_question("\n".join(drawn)).men, boards.Game(4, 4, [2, 2, 2, 3, 2, 3]).men)
+
+    def test_random_diagrams(self):
+        """The men of a game in play, and of one that has ended, are those of the order that is found."""
+        rng = random.Random(8)
+        for n in range(150):
+            cols, rows = rng.choice(((4, 4), (7, 6), (7, 6), (6, 8), (10, 10)))
+            game = boards.Game(cols, rows)
+            most = rng.randrange(cols * rows + 1)
+            while not game.is_over and len(game.moves) < most:
+                game.play(rng.choice(game.open_columns()))
+            found = ask.read_question(diagram_of(game, rng.choice(("XO", "xo", "WB"))))
+            self.assertEqual((found.men, found.line, found.is_over), (game.men, game.line, game.is_over))
+
+    def test_faults_of_diagrams(self):
+        self.fails("....\n....\n....\nXXX.", "3 X and 0 O")
+        self.fails("....\n....\n....\nO...", "0 X and 1 O")
+        self.fails("....\n....\nX...\n....", "a man hangs over the empty square a1")
+        self.fails(".....\n....\n.....\n.....", "row 2 of the diagram, from the top, has 4 squares")
+        self.fails("....\n....\n....\n....\n....", "no board has 4 columns and 5 rows")
+        self.fails("....\n....\n....\n....", "has 4 columns and 4 rows", (7, 6))
+        # Both have four in a line.
+        self.fails("....\n....\nOOOO\nXXXX", "no single last man made")
+        # O moved first in both columns that are begun.
+        self.fails("....\n....\nXX..\nOO..", "can't take turns")
+        # X has a line, and O moved after it.
+        self.fails("....\nO...\nOOOX\nXXXX", "no single last man made")
+
+
+class SentenceTest(ToolTest):
+    def says(self, wanted, *words, status=0, text=None):
+        got = tool("ask.py", *words, "--victor", program(), text=text)
+        self.assertEqual((got[0], got[2]), (status, ""), got)
+        self.assertEqual(got[1].count("\n"), 1)
+        for part in wanted if isinstance(wanted, tuple) else (wanted,):
+            self.assertIn(part, got[1])
+
+    def test_values(self):
+        self.says("White, who is to move, wins after dcdcdc on 7 by 6 (2 lemmas accepted).", "dcdcdc")
+        self.says("White, who is to move, wins after dcdcdc", text="4 3 4 3 4 3\r\n")
+        self.says("White, who is to move, wins after dcdcdc", "--file", example("usual-board.txt"))
+        self.says("White has four in a line after abababa on 4 by 4, so Black has lost", "--board", "4x4", "abababa")
+        self.says("is a draw for White, who is to move", "--board", "4x4", "cdccddcdaaaabb")
+        self.says(("is a draw, since the board is full", "; there is no move."), "--moves", "--board", "4x4",
+                  "cdccddcdaaaabbbb")
+        self.says("White, who is to move, wins", "--board", "4x4", "dccbbdbbddcc")
+        # The same with one move more: Black is to move in column a, and every move leads to the line.
+        self.says("White wins after dccbbdbbddcca on 4 by 4 against Black, who is to move", "--board", "4x4",
+                  "dccbbdbbddcca")
+
+    def test_moves(self):
+        self.says("; the best move is d", "--moves", "--nodes", "20000", "dcdcdc")
+        self.says("; the best move is b.", "--moves", "--board", "4x4", "cdccddcdaaaabb")
+        # White has three men in column a.
+        self.says("; the best move is a (b, c and d lose).", "--moves", "--board", "4x4", "ababa")
+
+    def test_unknown(self):
+        self.says(("stays unknown", "raise it by --nodes above 3 or --reach above 0"), "--board", "4x4", "--nodes", "3",
+                  "--reach", "0", "-", status=5)
+
+    def test_keep(self):
+        with tempfile.TemporaryDirectory() as folder:
+            path = os.path.join(folder, "kept.proof")
+            self.says("wins", "dcdcdc", "--keep", path)
+            self.assertEqual(read(path), read(example("usual-board.proof")))
+
+    def test_faults(self):
+        self.helps("ask.py")
+        for words, said in (
+            (["dcdcdcx"], "'x' is no column"), (["--board", "7", "d"], "no board"), (["--nodes", "0", "d"], "--nodes"),
+            (["--reach", "-1", "d"], "--reach"), (["d", "--file", "x"], "given twice"),
+            (["--file", "/no/such"], "No such file"),
+            (["d", "--victor", "/no/such"], "is no program"), (["--nodes", "many", "d"], "--nodes"),
+        ):
+            self.refuses("ask.py", *words, said=said)
+
+    def test_stand_ins(self):
+        """A proof about another game, one that isn't accepted, and a program that fails are told, with status 1."""
+        usual, other = read(example("usual-board.proof")), read(example("full-board.proof"))
+        for proof, script, said in (
+            (other, 'cat "$0.proof"', "another game"),
+            (usual.replace("one d 1", "one d 2"), 'cat "$0.proof"', "wasn't accepted: refused line 5"),
+            (usual.replace("value win 2", "value unknown"), 'cat "$0.proof"', "isn't the one"),
+            (usual, 'cat "$0.proof"; exit 7', "status 7"),
+        ):
+            with tempfile.TemporaryDirectory() as folder:
+                path = os.path.join(folder, "victor")
+                with open(path, "w", encoding="ascii") as out:
+                    out.write("#!/bin/bash\n[ \"$1\" = check ] && exec %s check\n%s\n" % (program(), script))
+                os.chmod(path, stat.S_IRWXU)
+                with open(path + ".proof", "w", encoding="ascii") as out:
+                    out.write(proof)
+                status, out, err = tool("ask.py", "dcdcdc", "--victor", path)
+                self.assertEqual((status, out), (1, ""), err)
+                self.assertIn(said, err)
+                self.assertEqual(err.count("\n"), 1)
+
+
+class ValueTest(ToolTest):
+    def test_values_by_search(self):
+        """Values of random positions, against a search that is written apart."""
+        rng = random.Random(2)
+        for _ in range(25):
+            game = mutants.random_game(rng, 4, 4, 15)
+            if len(game.moves) < 7:
+                continue
+            status, out, err = tool("ask.py", "--board", "4x4", game.letters(), "--victor", program())
+            self.assertEqual((status, err), (0, ""))
+            best = worth(game)
+            part = {1: "who is to move, wins", 0: "is a draw", -1: "wins after"}[best]
+            self.assertIn(part, out)
+
+
+def worth(game):
+    """1 where the side to move wins, 0 for a draw, -1 where it loses."""
+    if game.is_over:
+        return -1 if game.line else 0
+    return max(-worth(boards.Game(game.cols, game.rows, game.moves + [i])) for i in game.open_columns())
+
+
+if __name__ == "__main__":
+    unittest.main()

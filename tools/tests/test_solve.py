@@ -1,0 +1,150 @@
+"""tools/solve: proofs of small boards and of ends of games, judged by both checkers; and what it refuses."""
+
+import os
+import random
+import resource
+import shutil
+import subprocess
+import tempfile
+import unittest
+
+from common import TOOLS, ToolTest, boards, program, read
+import mutants
+
+SOURCE = os.path.join(TOOLS, "solve", "solve.cpp")
+COMPILER = shutil.which("g++")
+
+
+def game_text(columns, rows, moves):
+    return "board %d %d\nmoves %s\n" % (columns, rows, moves or "-")
+
+
+def late_game(rng, columns, rows, length):
+    """A random game of this length that goes on before its last move; it may end with that."""
+    while True:
+        game = boards.Game(columns, rows)
+        while len(game.moves) < length and not game.is_over:
+            longer = [boards.Game(columns, rows, game.moves + [column]) for column in game.open_columns()]
+            game = rng.choice([one for one in longer if not one.is_over] or longer)
+        if len(game.moves) == length:
+            return game.letters()
+
+
+@unittest.skipUnless(COMPILER, "g++ isn't there: apt-get install g++")
+class SolveTest(ToolTest):
+    @classmethod
+    def setUpClass(cls):
+        cls.folder = tempfile.mkdtemp(prefix="solve test-")
+        cls.addClassCleanup(shutil.rmtree, cls.folder, True)
+        cls.solver = os.path.join(cls.folder, "solve")
+        subprocess.run([COMPILER, "-std=c++17", "-O2", "-Wall", "-Wextra", "-Werror", "-o", cls.solver, SOURCE],
+                       check=True)
+
+    def solve(self, text, *words, **more):
+        run = subprocess.run([self.solver, *words], input=text, stdout=subprocess.PIPE, stderr=subprocess.PIPE,
+                             encoding="utf-8", timeout=100, **more)
+        return run.returncode, run.stdout, run.stderr
+
+    def proof_of(self, text, *words):
+        """A proof that both checkers accept, and the line that they write."""
+        status, proof, err = self.solve(text, "--quiet", "--memory", "300", *words)
+        self.assertEqual((status, err), (0, ""), text)
+        self.assertTrue(proof.startswith("victor 1\n" + text), proof[:100])
+        answer = mutants.answer_of([program(), "check"], proof.encode())
+        self.assertEqual(answer[0], 0, (text, answer))
+        self.assertEqual(mutants.answer_here(proof.encode()), answer)
+        return proof, answer[1]
+
+    def test_small_boards(self):
+        for columns in (4, 5):
+            before = resource.getrusage(resource.RUSAGE_CHILDREN)
+            self.proof_of(game_text(columns, 4, ""))
+            after = resource.getrusage(resource.RUSAGE_CHILDREN)
+            self.assertLess(after.ru_utime - before.ru_utime, 20)
+
+    def test_ends_of_games(self):
+        """On ten boards, against the value that `victor prove` finds; positions with each value come."""
+        rng = random.Random(11)
+        words = set()
+        for columns, rows in ((4, 4), (6, 4), (10, 4), (4, 6), (7, 6), (9, 6), (5, 8), (7, 8), (4, 10), (5, 10)):
+            for empty in (0, 2, 7, 11, 14, 16):
+                moves = late_game(rng, columns, rows, columns * rows - empty)
+                text = game_text(columns, rows, moves)
+                said = self.proof_of(text)[1].split()
+                run = mutants.answer_of([program(), "prove", "--nodes", "1000000"], text.encode())
+                self.assertEqual(run[0], 0, text)
+                self.assertEqual(run[1].split("\n")[-2].split()[1], said[1], text)
+                words.add(said[1])
+        self.assertEqual(words, {"win", "loss", "draw"})
+
+    def test_ended_games(self):
+        for moves in ("abababa", "cdccddcdaaaabbbb"):
+            text = game_text(4, 4, moves)
+            proof = mutants.answer_of([program(), "prove"], text.encode())[1]
+            self.assertEqual(self.proof_of(text)[0], proof)
+
+    def test_options(self):
+        """Each way to choose gives a proof, and the better ones a smaller one."""
+        text = game_text(7, 6, "dcddddababec")
+        plain = self.proof_of(text, "--order", "0", "--no-reuse", "--look", "0", "--rounds", "0")[0]
+        for words in (["--order", "1"], ["--order", "2"], ["--order", "3", "--deep", "0"], ["--seconds", "0"], []):
+            proof = self.proof_of(text, *words)[0]
+            self.assertLessEqual(proof.count("\n"), plain.count("\n"))
+        self.assertLess(proof.count("\n") * 5, plain.count("\n"))
+
+    def test_file(self):
+        """A file gets its name when it is whole."""
+        text = game_text(4, 4, "dcddd")
+        path = os.path.join(self.folder, "a proof")
+        game = os.path.join(self.folder, "game.txt")
+        with open(game, "w", encoding="ascii") as out:
+            out.write(text.rstrip("\n"))
+        status, said, err = self.solve("", "-o", path, game)
+        self.assertEqual((status, said), (0, ""))
+        self.assertIn("searched", err)
+        self.assertEqual(read(path), self.proof_of(text)[0])
+        self.assertFalse(os.path.exists(path + ".part"))
+
+    def fails(self, text, said, *words, **more):
+        path = os.path.join(self.folder, "none")
+        status, out, err = self.solve(text, "--quiet", "-o", path, *words, **more)
+        self.assertEqual((status, out), (2, ""), err)
+        self.assertEqual(err.count("\n"), 1, err)
+        self.assertTrue(err.startswith("solve: "), err)
+        self.assertIn(said, err)
+        self.assertEqual([name for name in os.listdir(self.folder) if name.startswith("none")], [])
+
+    def test_bad_input(self):
+        for text, said in (("", "BadHeader at 0"), ("board 3 4\nmoves -\n", "BadSize at 6"),
+                           ("board 4 5\nmoves -\n", "BadSize at 8"), ("board 4 4\nmoves -\n\n", "Trailing at 18"),
+                           ("board 4 4\nmoves e\n", "BadColumn at 16"), ("board 4 4\nmoves \n", "BadColumn at 16"),
+                           ("board 4 4\nmoves ae\n", "BadColumn at 17"), ("board 4 4\nmoves -a\n", "Trailing at 17"),
+                           ("board 4 4\nmoves aaaaa\n", "ColumnFull"), ("board 4 4\nmoves abababab\n", "GameOver"),
+                           ("board 10 10\nmoves -\n", "too large")):
+            self.fails(text, said)
+        text = game_text(4, 4, "")
+        self.fails(text, "--lemmas", "--lemmas", "0")
+        self.fails(text, "--lemmas", "--lemmas", "10000001")
+        self.fails(text, "--memory", "--memory", "much")
+        self.fails(text, "--memory", "--memory")
+        self.fails(text, "--fast", "--fast")
+        self.fails(text, "can't read", os.path.join(self.folder, "no such file"))
+        self.fails(text, "can't read", self.folder)
+
+    def test_limits(self):
+        self.fails(game_text(4, 4, ""), "lemmas, more than 1000", "--lemmas", "1000")
+        self.fails(game_text(6, 4, ""), "more memory", "--memory", "1")
+        # A disk that is full.
+        limit = {"preexec_fn": lambda: resource.setrlimit(resource.RLIMIT_FSIZE, (20000, 20000))}
+        self.fails(game_text(4, 4, ""), "can't write", **limit)
+        with open("/dev/full", "w", encoding="ascii") as full:
+            run = subprocess.run([self.solver, "--quiet"], input=game_text(4, 4, ""), stdout=full,
+                                 stderr=subprocess.PIPE, encoding="ascii", timeout=100, check=False)
+        self.assertEqual((run.returncode, run.stderr.count("\n")), (2, 1))
+        path = os.path.join(self.folder, "no folder", "proof")
+        status, _, err = self.solve(game_text(4, 4, ""), "-o", path)
+        self.assertEqual((status, err.count("\n")), (2, 1))
+
+
+if __name__ == "__main__":
+    unittest.main()
