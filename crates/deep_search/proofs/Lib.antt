@@ -1,3 +1,6 @@
 pub mod Plans
 pub mod Moves
+pub mod Tables
+pub mod News
 pub mod Proving
+pub mod Lists

@@ -1,2 +1,4 @@
+pub mod Lists
 pub mod Planned
 pub mod Search
+pub mod Tables

@@ -1,5 +1,6 @@
 -- What a search with lemmas does, at any moment at which it may end.
-use Rattle.std.specs.Prelude.{◌≡◌, ℕ, ◌+◌, map, slice_index, Bool, true, false, List, ◌++◌, Option, Result, Ok, Err, IfOk, length}
+use Rattle.std.specs.Prelude.{◌≡◌, ℕ, ◌+◌, map, slice_index, Bool, true, false, List, ◌++◌, Option, None, Result, Ok, Err, IfOk, length, [], ◌∷◌, ⊤}
+use Rattle.std.specs.List.{AllByRecursion}
 use Rattle.device_rules.specs.Devices.{AppendsPrefix}
 use Rattle.game_rules.specs.Position.{Position}
 use Rattle.game_rules.specs.declared.Side.{Side}
@@ -7,7 +8,9 @@ use Rattle.proof_text.specs.Lemma.{claim_for, Cite, Lemma}
 use Rattle.proof_text.specs.Right.{Shown, Shows, AreRight}
 use Rattle.proof_text.specs.Spelling.{lines_of}
 use Rattle.proof_text.specs.Written.{AreSided}
+use Rattle.position_table.specs.Table.{Entries}
 use Rattle.deep_search.specs.Planned.{ArePlanned}
+use Rattle.deep_search.specs.Tables.{held, FitsTable, StaysWhole}
 use Rattle.deep_search.specs.declared.solving.Answer.{Answer}
 use Rattle.deep_search.specs.declared.solving.SearchStop.{SearchStop}
 use Rattle.deep_search.specs.declared.solving.SearchStop.TheVariants.{Spent, WriteFault}
@@ -28,18 +31,41 @@ uncounted (Err WriteFault) = 1
 abbrev pub cites_from : List ℕ → List ℕ → List Cite
 cites_from numbers columns = map (λ c. record { column = c; lemma = slice_index numbers c }) columns
 
+-- what stands at a moment: the table, and the bytes that were written
+pub record Moment : Type 0 where
+  pub table : Entries
+  pub bytes : Option (List ℕ)
+
+abbrev pub moment : Entries → Option (List ℕ) → Moment
+moment table bytes = record { table = table; bytes = bytes }
+
+-- no two stand at one position
+abbrev pub AreApart : List Shown → Type 0
+AreApart [] = ⊤
+AreApart (s ∷ more) = AllByRecursion (λ t. s.0 ≡ t.0 → ⊥) more × AreApart more
+
+-- While the table is whole, what was shown is new to it, no two of it stand at one position, and where all of it stands
+-- whole the table has it.
+pub record IsNew (done : Bool) (side : Side) (shown : List Shown) (before after : Entries) : Type 0 where
+  pub fresh : after.whole ≡ true → AllByRecursion (λ s. held before s.0 side ≡ None) shown
+  pub once : after.whole ≡ true → AreApart shown
+  pub kept : done ≡ true → after.whole ≡ true → AllByRecursion (λ s. held after s.0 side ≡ None → ⊥) shown
+
 -- Behind what is known, right lemmas of the side were written, of which the last may be cut where they don't stand whole:
--- what they show, and how many lemmas there are with them.
-pub record Wrote (whole : Bool) (root : Position) (side : Side) (reach : ℕ) (known : List Shown) (old new : Option (List ℕ)) (total : ℕ) : Type 0 where
+-- what they show, and how many lemmas there are with them. The entries of the table name lemmas among them.
+pub record Wrote (whole : Bool) (root : Position) (side : Side) (reach : ℕ) (known : List Shown) (old new : Moment) (total : ℕ) : Type 0 where
   pub more : List Lemma
   pub shown : List Shown
-  pub text : AppendsPrefix whole old new (lines_of more)
+  pub text : AppendsPrefix whole old.bytes new.bytes (lines_of more)
   pub right : AreRight root known more (known ++ shown)
   pub counted : length (known ++ shown) ≡ total
   pub sided : AreSided side more
   pub planned : ArePlanned reach root more
+  pub fits : FitsTable new.table (known ++ shown)
+  pub stays : StaysWhole old.table new.table
+  pub new_ones : IsNew whole side shown old.table new.table
 
 -- The lemmas that a search wrote; and its answer names one that shows at p whether the side wins.
-pub record Solves (root p : Position) (side : Side) (reach : ℕ) (known : List Shown) (old new : Option (List ℕ)) (count : ℕ) (result : Result Answer SearchStop) : Type 0 where
+pub record Solves (root p : Position) (side : Side) (reach : ℕ) (known : List Shown) (old new : Moment) (count : ℕ) (result : Result Answer SearchStop) : Type 0 where
   pub wrote : Wrote (is_whole result) root side reach known old new (count + uncounted result)
   pub named : IfOk result (λ answer. Shows (known ++ wrote.shown) answer.lemma p (claim_for side answer.yes))

@@ -1,6 +1,7 @@
-//! The search with lemmas: whether a side wins at a position, and a lemma for each position that it enters, each written
-//! after those that it cites. It goes through the moves from the middle outwards, up to the first that decides, and where
-//! White is asked about it answers without a move where Black has a plan. It takes no memory.
+//! The search with lemmas: whether a side wins at a position, and a lemma for each position that it enters and that its
+//! table doesn't have, each written after those that it cites. It goes through the moves from the middle outwards, up to
+//! the first that decides, and where White is asked about it answers without a move where Black has a plan. It takes no
+//! memory but what the table takes, and goes on where there is none.
 #![tactic(auto)]
 
 mod laws;

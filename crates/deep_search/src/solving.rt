@@ -1,6 +1,7 @@
 //! The search as a plain recursion. What stays the same in it is made once and lent, and the lists of its positions hold
-//! no more than the columns: neither a position's plan nor the text of a lemma stands in a frame.
-ghost use Rattle.std.specs.Prelude.{◌≡◌, ◌+◌, ◌<◌, ◌≤◌, true, List, Ok, Err, Some, length, map, IfOk, OnOk};
+//! no more than the columns: neither a position's plan nor the text of a lemma stands in a frame. The table is asked
+//! before all else, so a position that another path led to costs one look-up.
+ghost use Rattle.std.specs.Prelude.{◌≡◌, ◌+◌, ◌<◌, ◌≤◌, true, List, Ok, Err, Some, None, length, map, IfOk, OnOk};
 ghost use Rattle.device_rules.specs.Devices.{Rose};
 ghost use Rattle.game_rules.specs.Position.{Position as Men, played, empty_count, open_columns, same_side, side_to_move};
 ghost use Rattle.game_rules.specs.Value.{wins};
@@ -12,13 +13,17 @@ ghost use Rattle.proof_text.specs.Right.{Shown, HasReason};
 ghost use Rattle.cert_format.specs.Shape.{cite_of, reason_viewed};
 ghost use Rattle.rule_compat.specs.Written.{written_list};
 ghost use Rattle.deep_search.specs.Planned.{solved_within, plan_for, plan_in};
-ghost use Rattle.deep_search.specs.Search.{uncounted, Solves, cites_from};
+ghost use Rattle.proof_text.specs.Texts.{Entry};
+ghost use Rattle.deep_search.specs.Lists.{EndsIn, FitsMoment, Continues};
+ghost use Rattle.deep_search.specs.Search.{uncounted, moment, Solves, cites_from};
+ghost use Rattle.deep_search.specs.Tables.{asked, held, IsTrueTable, FitsTable, OnlyBelow, HasSame, IsKept};
 ghost use Rattle.deep_search.specs.declared.solving.SearchStop.TheVariants as stops;
 
 use arrayvec::ArrayVec;
-use board_bits::{Column, MOST_COLS, MOST_SQUARES, Position, Side, centre_out};
+use board_bits::{Column, MOST_COLS, MOST_SQUARES, Position, Question, Side, centre_out};
 use cert_format::{Cite, Claim, LemmaOut, ReasonView};
 use io_ports::{Failed, Sink};
+use position_table::{Found, Table};
 use rule_chooser::Chooser;
 
 /// The answer to whether a side wins, and the number of the lemma that shows it.
@@ -37,17 +42,19 @@ pub enum SearchStop {
     WriteFault,
 }
 
-/// What is asked at each position of a search: whether the side wins. A plan is looked for among the first `reach` sets of
-/// zones, and the columns are visited in the order that is kept here.
+/// What stays the same in a search: whether the side wins is asked at each position, a plan is looked for among the first
+/// `reach` sets of zones, and the columns are visited in the order that is kept here.
 #[derive(Drop)]
-struct Question {
+struct Aim {
     side: Side,
     reach: u32,
     order: ArrayVec<Column, MOST_COLS>,
 }
 
-/// Asks whether the side wins at a position, with lemmas that begin there. Each position entered takes 1 from the budget,
-/// and has its lemma put behind those that it cites. At a position with White to move, White is found not to win where
+/// Asks whether the side wins at a position, with lemmas that begin there. Each position entered takes 1 from the budget.
+/// Then the table is asked; where it has an answer, that is taken. Elsewhere the position has its lemma put behind those
+/// that it cites, and its answer is kept in the table. While the table is whole, no position has two lemmas. Want of
+/// memory for the table is no fault. At a position with White to move, White is found not to win where
 /// one of the first `reach` sets of zones gives a plan of Black's, which the lemma then rests on; `reach` is from 0, which
 /// looks for no plan, and the chooser is lent for that alone.
 ///
@@ -58,74 +65,93 @@ pub fn search<O: Sink>(
     side: Side,
     reach: u32,
     budget: &mut u32,
+    table: &mut Table,
     chooser: &mut Chooser,
     lemmas: &mut LemmaOut,
     out: &mut O,
 ) -> Result<Answer, SearchStop>
     requires room { lemmas.old + budget.old ≤ greatest_number }
+    requires entries { IsTrueTable table.old lemmas.old }
     ensures answer { IfOk result (λ answer. answer.yes ≡ wins side position.now) }
     ensures left { OnOk result (budget.old ≤ budget.new + count (solved_within reach) side position.now) }
     ensures spent { result ≡ Err stops.Spent → budget.old < count (solved_within reach) side position.now }
     ensures few { lemmas.new + uncounted result + budget.new ≤ lemmas.old + budget.old }
+    ensures more { lemmas.old ≤ lemmas.new }
+    ensures entries { IsTrueTable table.new lemmas.new }
     ensures later { O.faults out.old ≤ O.faults out.new }
     ensures fault { result ≡ Err stops.WriteFault → Rose (O.faults out.old) (O.faults out.new) }
-    ensures wrote { (known : List Shown) → length known ≡ lemmas.old
-        → Solves position.now position.now side reach known (O.written out.old) (O.written out.new) lemmas.new result }
+    ensures wrote { (known : List Shown) → length known ≡ lemmas.old → FitsTable table.old known
+        → Solves position.now position.now side reach known (moment table.old (O.written out.old)) (moment table.new (O.written out.new)) lemmas.new result }
+    ensures lists { (list : List Entry) (known : List Shown) → EndsIn list (O.written out.old) → FitsMoment position.now lemmas.old list known (moment table.old (O.written out.old))
+        → Continues position.now position.now side reach list known (moment table.old (O.written out.old)) (moment table.new (O.written out.new)) lemmas.new result }
 {
-    let question = Question {
+    let aim = Aim {
         side,
         reach,
         order: centre_out(position.size()),
     };
     let mut path = ArrayVec::new();
-    solve(position, &question, &mut path, budget, chooser, lemmas, out)
+    solve(
+        position, &aim, &mut path, budget, table, chooser, lemmas, out,
+    )
 }
 
 /// Asks the question at a position, to which `path` leads from the root.
 fn solve<O: Sink>(
     position: &Position,
-    question: &Question,
+    aim: &Aim,
     path: &mut ArrayVec<Column, MOST_SQUARES>,
     budget: &mut u32,
+    table: &mut Table,
     chooser: &mut Chooser,
     lemmas: &mut LemmaOut,
     out: &mut O,
 ) -> Result<Answer, SearchStop>
-    requires order { question.now.order.items ≡ centre_out (length position.now.columns) }
+    requires order { aim.now.order.items ≡ centre_out (length position.now.columns) }
     requires deep { length path.old.items + empty_count position.now ≤ longest_path }
     requires room { lemmas.old + budget.old ≤ greatest_number }
-    ensures answer { IfOk result (λ answer. answer.yes ≡ wins question.now.side position.now) }
-    ensures left { OnOk result (budget.old ≤ budget.new + count (solved_within question.now.reach) question.now.side position.now) }
-    ensures spent { result ≡ Err stops.Spent → budget.old < count (solved_within question.now.reach) question.now.side position.now }
+    requires entries { IsTrueTable table.old lemmas.old }
+    ensures answer { IfOk result (λ answer. answer.yes ≡ wins aim.now.side position.now) }
+    ensures left { OnOk result (budget.old ≤ budget.new + count (solved_within aim.now.reach) aim.now.side position.now) }
+    ensures spent { result ≡ Err stops.Spent → budget.old < count (solved_within aim.now.reach) aim.now.side position.now }
     ensures path { path.new.items ≡ path.old.items }
+    ensures below { OnlyBelow (empty_count position.now + 1) table.old table.new }
     ensures few { lemmas.new + uncounted result + budget.new ≤ lemmas.old + budget.old }
+    ensures more { lemmas.old ≤ lemmas.new }
+    ensures entries { IsTrueTable table.new lemmas.new }
     ensures later { O.faults out.old ≤ O.faults out.new }
     ensures fault { result ≡ Err stops.WriteFault → Rose (O.faults out.old) (O.faults out.new) }
-    ensures wrote { (root : Men) (known : List Shown) → played root path.old.items ≡ Some position.now → length known ≡ lemmas.old
-        → Solves root position.now question.now.side question.now.reach known (O.written out.old) (O.written out.new) lemmas.new result }
+    ensures wrote { (root : Men) (known : List Shown) → played root path.old.items ≡ Some position.now → length known ≡ lemmas.old → FitsTable table.old known
+        → Solves root position.now aim.now.side aim.now.reach known (moment table.old (O.written out.old)) (moment table.new (O.written out.new)) lemmas.new result }
 {
     let Some(left) = budget.checked_sub(1) else {
         return Err(SearchStop::Spent);
     };
     *budget = left;
-    let side = question.side;
+    let side = aim.side;
+    if let Some(kept) = look_up(table, position, side) {
+        return Ok(Answer {
+            yes: kept.answer,
+            lemma: kept.lemma,
+        });
+    }
     if let Some(end) = position.ended() {
         let yes = side.win() == end;
         let ended = ReasonView::Ended;
-        return put_lemma(position, path, question, yes, &ended, lemmas, out);
+        return put_lemma(position, path, aim, yes, &ended, table, lemmas, out);
     }
     let own = side == position.to_move();
-    if is_planned(position, question, own, chooser) {
+    if is_planned(position, aim, own, chooser) {
         let plan = ReasonView::Plan(chooser.plan());
-        return put_lemma(position, path, question, false, &plan, lemmas, out);
+        return put_lemma(position, path, aim, false, &plan, table, lemmas, out);
     }
-    let order = question.order.as_slice();
+    let order = aim.order.as_slice();
     let mut numbers = [0; MOST_COLS];
     for column in order {
         if position.has_room(*column) {
             let next = position.after(*column);
             path.push(*column);
-            let found = solve(&next, question, path, budget, chooser, lemmas, out);
+            let found = solve(&next, aim, path, budget, table, chooser, lemmas, out);
             path.pop();
             let found = found?;
             if found.yes == own {
@@ -134,27 +160,58 @@ fn solve<O: Sink>(
                     lemma: found.lemma,
                 };
                 let one = ReasonView::One(cite);
-                return put_lemma(position, path, question, own, &one, lemmas, out);
+                return put_lemma(position, path, aim, own, &one, table, lemmas, out);
             }
             numbers[column.index() as usize] = found.lemma;
         }
     }
     let cites = cites_from(position, &numbers);
     let all = ReasonView::All(&cites);
-    put_lemma(position, path, question, !own, &all, lemmas, out)
+    put_lemma(position, path, aim, !own, &all, table, lemmas, out)
+}
+
+/// The question whether the side wins.
+#[inline(always)]
+fn asked(side: Side) -> Question
+    ensures { result ≡ asked side }
+{
+    match side {
+        Side::White => Question::WhiteWins,
+        Side::Black => Question::BlackWins,
+    }
+}
+
+/// What the table has for whether the side wins at the position.
+#[inline(always)]
+#[tactic(auto, using(crate::proofs::Tables::found_held))]
+fn look_up(table: &mut Table, position: &Position, side: Side) -> Option<Found>
+    ensures found { result ≡ held table.old position.now side }
+    ensures same { HasSame table.old table.new }
+{
+    table.find(position, asked(side))
+}
+
+/// Keeps an answer in the table, where memory is found for it.
+#[inline(always)]
+#[tactic(auto, using(crate::proofs::Tables::kept_or_not))]
+fn keep(table: &mut Table, position: &Position, side: Side, found: Found)
+    requires absent { held table.old position.now side ≡ None }
+    ensures { IsKept position.now side found table.old table.new }
+{
+    let _memory = table.keep(position, asked(side), found);
 }
 
 /// Whether a plan answers the question at a position, where the side is `own` to move: the chooser then has it.
 #[inline(always)]
-fn is_planned(position: &Position, question: &Question, own: bool, chooser: &mut Chooser) -> bool
-    requires own { own ≡ same_side question.now.side (side_to_move position.now) }
-    ensures solved { result ≡ solved_within question.now.reach question.now.side position.now }
-    ensures plan { result ≡ true → plan_for question.now.reach question.now.side position.now ≡ Some (written_list chooser.new) }
+fn is_planned(position: &Position, aim: &Aim, own: bool, chooser: &mut Chooser) -> bool
+    requires own { own ≡ same_side aim.now.side (side_to_move position.now) }
+    ensures solved { result ≡ solved_within aim.now.reach aim.now.side position.now }
+    ensures plan { result ≡ true → plan_for aim.now.reach aim.now.side position.now ≡ Some (written_list chooser.new) }
 {
-    if !own || question.side == Side::Black || question.reach == 0 {
+    if !own || aim.side == Side::Black || aim.reach == 0 {
         return false;
     }
-    chooser.give(position, question.reach)
+    chooser.give(position, aim.reach)
 }
 
 /// Puts the lemma of a position, and answers with its number.
@@ -162,28 +219,38 @@ fn is_planned(position: &Position, question: &Question, own: bool, chooser: &mut
 fn put_lemma<O: Sink>(
     position: &Position,
     path: &[Column],
-    question: &Question,
+    aim: &Aim,
     yes: bool,
     reason: &ReasonView<'_>,
+    table: &mut Table,
     lemmas: &mut LemmaOut,
     out: &mut O,
 ) -> Result<Answer, SearchStop>
-    requires true_now { yes ≡ wins question.now.side position.now }
-    requires planned { plan_in (reason_viewed reason.now) ≡ plan_for question.now.reach question.now.side position.now }
+    requires true_now { yes ≡ wins aim.now.side position.now }
+    requires planned { plan_in (reason_viewed reason.now) ≡ plan_for aim.now.reach aim.now.side position.now }
+    requires absent { held table.old position.now aim.now.side ≡ None }
+    requires entries { IsTrueTable table.old lemmas.old }
     requires room { lemmas.old < greatest_number }
     requires deep { length path.now ≤ longest_path }
     requires short { length (members_in (reason_viewed reason.now)) ≤ most_members }
-    ensures answer { IfOk result (λ answer. answer.yes ≡ wins question.now.side position.now) }
+    ensures answer { IfOk result (λ answer. answer.yes ≡ wins aim.now.side position.now) }
     ensures spent { result ≡ Err stops.Spent → ⊥ }
     ensures few { lemmas.new + uncounted result ≤ lemmas.old + 1 }
+    ensures more { lemmas.old ≤ lemmas.new }
+    ensures entries { IsTrueTable table.new lemmas.new }
+    ensures below { OnlyBelow (empty_count position.now + 1) table.old table.new }
     ensures later { O.faults out.old ≤ O.faults out.new }
     ensures fault { result ≡ Err stops.WriteFault → Rose (O.faults out.old) (O.faults out.new) }
-    ensures wrote { (root : Men) (known : List Shown) → played root path.now ≡ Some position.now → length known ≡ lemmas.old
-        → HasReason known position.now (claim_for question.now.side yes) (reason_viewed reason.now)
-        → Solves root position.now question.now.side question.now.reach known (O.written out.old) (O.written out.new) lemmas.new result }
+    ensures wrote { (root : Men) (known : List Shown) → played root path.now ≡ Some position.now → length known ≡ lemmas.old → FitsTable table.old known
+        → HasReason known position.now (claim_for aim.now.side yes) (reason_viewed reason.now)
+        → Solves root position.now aim.now.side aim.now.reach known (moment table.old (O.written out.old)) (moment table.new (O.written out.new)) lemmas.new result }
 {
-    match lemmas.put_view(out, path, Claim::of(question.side, yes), reason) {
-        Ok(lemma) => Ok(Answer { yes, lemma }),
+    match lemmas.put_view(out, path, Claim::of(aim.side, yes), reason) {
+        Ok(lemma) => {
+            let found = Found { lemma, answer: yes };
+            keep(table, position, aim.side, found);
+            Ok(Answer { yes, lemma })
+        }
         Err(Failed) => Err(SearchStop::WriteFault),
     }
 }

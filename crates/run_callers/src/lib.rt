@@ -36,7 +36,7 @@ pub fn run_into_memory<S: Source>(
 }
 
 /// Proves a game whose cost is within the budget that the arguments give: where no stream failed, the run ends as one that
-/// did all that was asked.
+/// did all that was asked, or for want of memory.
 pub fn prove_within_budget<S: Source, O: Sink>(
     alloc: Global,
     words: &[String],
@@ -46,7 +46,7 @@ pub fn prove_within_budget<S: Source, O: Sink>(
     ensures { (nodes reach table : ℕ) (front : Option ℕ) (bytes : List ℕ) (p : Position) → IsWritten (map string_bytes words.now) (forms.Prove nodes reach front table)
         → S.left source.old ≡ Some bytes → game_at bytes ≡ Ok p → cost (solved_within reach) p ≤ nodes
         → (Rose (S.faults source.old) (S.faults source.new) → ⊥) → (Rose (O.faults out.old) (O.faults out.new) → ⊥)
-        → (ending : Ending) × (result ≡ status_of ending) × (ending ≡ endings.Done) }
+        → (ending : Ending) × (result ≡ status_of ending) × ((ending ≡ endings.Done) ⊎ (ending ≡ endings.Memory)) }
 {
     run(alloc, words, source, out, &mut NullSink::new())
 }

@@ -15,7 +15,8 @@ use Rattle.proof_text.proofs.Append.{Shows_more, AreRight_append}
 use Rattle.proof_text.proofs.Sound.{AreTrue_none, true_lemmas, true_verdict}
 use Rattle.proof_text.specs.declared.Verdict.{Verdict}
 use Rattle.proof_text.specs.declared.Verdict.TheVariants.{Draw, Unknown}
-use Rattle.deep_search.specs.Search.{is_whole, uncounted, Solves}
+use Rattle.position_table.specs.Table.{Entries}
+use Rattle.deep_search.specs.Search.{is_whole, uncounted, moment, Solves}
 use Rattle.victor_run.specs.Questions.{is_whole_verdict, won_by, Asks}
 use Rattle.deep_search.specs.declared.solving.Answer.{Answer}
 use Rattle.deep_search.specs.declared.solving.SearchStop.{SearchStop}
@@ -42,9 +43,9 @@ stopped_text : (stop : SearchStop) (old new : Option (List ℕ)) (text : List �
 stopped_text Spent old new text h = h
 stopped_text WriteFault old new text h = h
 
-module _ (root : Position) (nodes reach : ℕ) (old new : Option (List ℕ)) (count : ℕ) where
+module _ (root : Position) (nodes reach : ℕ) (before after : Entries) (old new : Option (List ℕ)) (count : ℕ) where
   -- the first question stopped
-  pub asks_none : (stop : SearchStop) → Solves root root White reach [] old new count (Err stop) → count + uncounted (Err stop) ≤ nodes → Asks root nodes reach old new (Err stop)
+  pub asks_none : (stop : SearchStop) → Solves root root White reach [] (moment before old) (moment after new) count (Err stop) → count + uncounted (Err stop) ≤ nodes → Asks root nodes reach old new (Err stop)
   asks_none stop white few = record {
     white = white.wrote.more;
     mid = white.wrote.shown;
@@ -63,7 +64,7 @@ module _ (root : Position) (nodes reach : ℕ) (old new : Option (List ℕ)) (co
   }
 
   -- White wins
-  pub asks_white : (answer : Answer) (to_move : Side) (v : Verdict) → Solves root root White reach [] old new count (Ok answer) → answer.yes ≡ true → to_move ≡ side_to_move root
+  pub asks_white : (answer : Answer) (to_move : Side) (v : Verdict) → Solves root root White reach [] (moment before old) (moment after new) count (Ok answer) → answer.yes ≡ true → to_move ≡ side_to_move root
       → v ≡ won_by White to_move answer.lemma → count ≤ nodes → Asks root nodes reach old new (Ok v)
   asks_white answer to_move v white won turn told few = record {
     white = white.wrote.more;
@@ -85,12 +86,12 @@ module _ (root : Position) (nodes reach : ℕ) (old new : Option (List ℕ)) (co
     few = omega (arith, white.wrote.counted, few);
   }
 
-module _ (root : Position) (nodes reach : ℕ) (old held new : Option (List ℕ)) (count : ℕ) (first : Answer) (white : Solves root root White reach [] old held count (Ok first)) (none : first.yes ≡ false) (counted : ℕ) where
+module _ (root : Position) (nodes reach : ℕ) (before mid after : Entries) (old held new : Option (List ℕ)) (count : ℕ) (first : Answer) (white : Solves root root White reach [] (moment before old) (moment mid held) count (Ok first)) (none : first.yes ≡ false) (counted : ℕ) where
   white_fails : Shows white.wrote.shown first.lemma root (claim_for White false)
   white_fails = subst (λ b. Shows white.wrote.shown first.lemma root (claim_for White b)) none white.named
 
   -- the second question stopped
-  pub asks_one : (stop : SearchStop) → Solves root root Black reach white.wrote.shown held new counted (Err stop) → counted + uncounted (Err stop) ≤ nodes → Asks root nodes reach old new (Err stop)
+  pub asks_one : (stop : SearchStop) → Solves root root Black reach white.wrote.shown (moment mid held) (moment after new) counted (Err stop) → counted + uncounted (Err stop) ≤ nodes → Asks root nodes reach old new (Err stop)
   asks_one stop black few = record {
     white = white.wrote.more;
     mid = white.wrote.shown;
@@ -108,7 +109,7 @@ module _ (root : Position) (nodes reach : ℕ) (old held new : Option (List ℕ)
     few = omega (arith, black.wrote.counted, few);
   }
 
-  module _ (second : Answer) (black : Solves root root Black reach white.wrote.shown held new counted (Ok second)) (few : counted ≤ nodes) where
+  module _ (second : Answer) (black : Solves root root Black reach white.wrote.shown (moment mid held) (moment after new) counted (Ok second)) (few : counted ≤ nodes) where
     -- a verdict behind the lemmas of both questions
     both_asked : (v : Verdict) → IsVerdict root (white.wrote.shown ++ black.wrote.shown) v × (v ≢ Unknown) → Asks root nodes reach old new (Ok v)
     both_asked v verdict = record {

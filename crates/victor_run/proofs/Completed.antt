@@ -39,8 +39,8 @@ same_position bytes p q one another = let same : Ok p ≡ Ok q = sym one ∙ ano
 
 module _ (s : Streams) where
   pub prove_completes : (nodes reach table : ℕ) (front : Option ℕ) (ending : Ending) → Outcome (Some (Prove nodes reach front table)) s ending → (ending ≡ endings.Read → ⊥) → (ending ≡ endings.Write → ⊥)
-      → IfSome s.input (λ bytes. (p : Position) → game_at bytes ≡ Ok p → cost (solved_within reach) p ≤ nodes → status_of ending ≡ 0)
-  prove_completes nodes reach table front endings.Done o unread unwritten = of_each s.input _ (λ bytes p game cheap. refl)
+      → IfSome s.input (λ bytes. (p : Position) → game_at bytes ≡ Ok p → cost (solved_within reach) p ≤ nodes → (status_of ending ≡ 0) ⊎ (status_of ending ≡ 8))
+  prove_completes nodes reach table front endings.Done o unread unwritten = of_each s.input _ (λ bytes p game cheap. inl refl)
   prove_completes nodes reach table front endings.Unknown o unread unwritten =
       let left = o.holds.0 in
       IfSome_more s.input (λ bytes. game_at bytes ≡ Ok left.position) _ (Consumes-whole s.input s.left o.taken (λ bytes. game_at bytes ≡ Ok left.position) o.gave o.holds.1 left.game)
@@ -53,7 +53,7 @@ module _ (s : Streams) where
   prove_completes nodes reach table front (endings.Refused refusal) o unread unwritten = absurd o.holds
   prove_completes nodes reach table front (endings.NoMove fault) o unread unwritten = absurd o.holds
   prove_completes nodes reach table front (endings.NoPlan fault) o unread unwritten = absurd o.holds
-  prove_completes nodes reach table front endings.Memory o unread unwritten = absurd o.holds
+  prove_completes nodes reach table front endings.Memory o unread unwritten = of_each s.input _ (λ bytes p game cheap. inr refl)
 
   pub check_completes : (ending : Ending) → Outcome (Some Check) s ending → (ending ≡ endings.Read → ⊥) → (ending ≡ endings.Write → ⊥)
       → IfSome s.input (λ bytes. (v : Verdict) (count : ℕ) → check_of bytes ≡ Accepted v count → (status_of ending ≡ 0) ⊎ (status_of ending ≡ 8))
@@ -100,8 +100,8 @@ module _ (s : Streams) where
   explain_completes reach endings.Memory o unread unwritten found = absurd o.holds
 
   pub drill_completes : (size : Board) (moves seed games nodes reach : ℕ) (ending : Ending) → Outcome (Some (Drill size moves seed games nodes reach)) s ending → (ending ≡ endings.Write → ⊥)
-      → status_of ending ≡ 0
-  drill_completes size moves seed games nodes reach endings.Done o unwritten = refl
+      → (status_of ending ≡ 0) ⊎ (status_of ending ≡ 8)
+  drill_completes size moves seed games nodes reach endings.Done o unwritten = inl refl
   drill_completes size moves seed games nodes reach endings.Write o unwritten = absurd (unwritten refl)
   drill_completes size moves seed games nodes reach endings.Unknown o unwritten = absurd o.holds
   drill_completes size moves seed games nodes reach (endings.Input fault) o unwritten = absurd o.holds
@@ -110,4 +110,4 @@ module _ (s : Streams) where
   drill_completes size moves seed games nodes reach (endings.Refused refusal) o unwritten = absurd o.holds
   drill_completes size moves seed games nodes reach (endings.NoMove fault) o unwritten = absurd o.holds
   drill_completes size moves seed games nodes reach (endings.NoPlan fault) o unwritten = absurd o.holds
-  drill_completes size moves seed games nodes reach endings.Memory o unwritten = absurd o.holds
+  drill_completes size moves seed games nodes reach endings.Memory o unwritten = inr refl

@@ -1,5 +1,6 @@
 -- What `drill` promises of its sink, by its end. What is said of what a sink holds is said of a sink that tells it.
 use Rattle.std.specs.Prelude.{ℕ, Bool, true, false, List, ◌++◌, Option, codes, decimal}
+use Rattle.std.specs.Io.KnownBytes.{Keeps}
 use Rattle.device_rules.specs.Devices.{AppendsPrefix}
 use Rattle.game_rules.specs.Position.{Position}
 use Rattle.game_rules.specs.Cost.{cost}
@@ -22,7 +23,8 @@ pub record HasDrilled (whole : Bool) (games : List Position) (nodes reach : ℕ)
   pub right : IsSummary (cost (solved_within reach)) nodes games tally
   pub written : AppendsPrefix whole old new (drill_line tally)
 
--- `drill` on games with so many nodes and this reach, by its end. It takes no memory, and nothing of its source.
+-- `drill` on games with so many nodes and this reach, by its end. It takes nothing of its source. Memory
+-- is taken before anything is written.
 abbrev pub Drills : List Position → ℕ → ℕ → Streams → Ending → Type 0
 Drills games nodes reach s endings.Done = HasDrilled true games nodes reach s.old s.new
 Drills games nodes reach s endings.Write = HasDrilled false games nodes reach s.old s.new
@@ -33,4 +35,4 @@ Drills games nodes reach s endings.Usage = ⊥
 Drills games nodes reach s (endings.Refused refusal) = ⊥
 Drills games nodes reach s (endings.NoMove fault) = ⊥
 Drills games nodes reach s (endings.NoPlan fault) = ⊥
-Drills games nodes reach s endings.Memory = ⊥
+Drills games nodes reach s endings.Memory = Keeps s.old s.new

@@ -83,7 +83,7 @@ Proves nodes reach taken s Usage = ⊥
 Proves nodes reach taken s (Refused refusal) = ⊥
 Proves nodes reach taken s (NoMove fault) = ⊥
 Proves nodes reach taken s (NoPlan fault) = ⊥
-Proves nodes reach taken s Memory = ⊥
+Proves nodes reach taken s Memory = Keeps s.old s.new
 
 -- How many bytes a run of the words that have this form takes at most: `check` and `play` take lines with their line feeds,
 -- and what comes with the last of them.

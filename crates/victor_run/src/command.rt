@@ -32,18 +32,21 @@ use victor_words::{Form, read_words};
 /// Runs the command that the arguments ask for, reads from `source`, writes to `out`, and answers the exit status; the
 /// text of a fault goes to `err`, whole unless the count of faults of `err` rose.
 ///
-/// `prove` reads a game and writes a proof of its value under perfect play, for the side to move; with `--nodes` and `--reach`
-/// the arguments say how many positions its search may enter, and how far it looks for a plan of Black's at each.
+/// `prove` reads a game and writes a proof of its value under perfect play, for the side to move; with `--nodes`, `--reach`
+/// and `--table` the arguments say how many positions its search may enter, how far it looks for a plan of Black's at each,
+/// and how many settled positions it keeps in a table.
 /// `check` reads a proof and writes a line where it is right. `play` reads a game, a plan at its position and then White's
 /// moves, and answers each by the plan, in a line that is written before the next move is read. `explain` reads a game and
 /// writes the plan of Black's that is chosen at its position, with what each instance owns and answers. `drill` reads
 /// nothing: it makes games from a number, searches each as `prove` does, and writes how many are won, drawn and lost for the
-/// side to move, and of how many the budget left the value unknown. Only `check` takes memory, and only for lemmas.
+/// side to move, and of how many the budget left the value unknown. `prove` and `drill` take memory for tables of settled
+/// positions, and `check` for lemmas.
 ///
 /// The status is 0 where that was done, 2 where the words are no written form, 3 where the game is none or a line of `play`
 /// no move, 4 where the proof is refused or the plan is none, 5 where the budget of `prove` was below the cost (the proof
 /// then says so) or `explain` found no plan within the reach (which it says), 6 where reading failed, 7 where writing failed,
-/// and 8 where `check` found no memory for a lemma. What stops the run first decides it.
+/// and 8 where `prove` or `drill` found no memory for a table, or `check` for a lemma; nothing was written then. What stops
+/// the run first decides it.
 pub fn run<S: Source, O: Sink, E: Sink>(
     alloc: Global,
     words: &[String],
@@ -60,12 +63,13 @@ pub fn run<S: Source, O: Sink, E: Sink>(
     ensures read_fault { result ≡ 6 → Rose (S.faults source.old) (S.faults source.new) }
     ensures write_fault { result ≡ 7 → Rose (O.faults out.old) (O.faults out.new) }
 
-    // Where no stream failed and the budget suffices, the value is written with its proof; a proof that is right is
+    // Where no stream failed and the budget suffices, the value is written with its proof, and a proof that is right is
     // accepted, unless memory runs out; a game, a plan and moves of White's are played to their end; a plan is explained
-    // where the position is solved within the reach, and is said to be none where it isn't; and games are made and counted.
+    // where the position is solved within the reach, and is said to be none where it isn't; and games are made and counted,
+    // unless memory runs out.
     ensures complete { (nodes reach table : ℕ) (front : Option ℕ) → IsWritten (map string_bytes words.now) (forms.Prove nodes reach front table)
         → (Rose (S.faults source.old) (S.faults source.new) → ⊥) → (Rose (O.faults out.old) (O.faults out.new) → ⊥)
-        → IfSome (S.left source.old) (λ bytes. (p : Position) → game_at bytes ≡ Ok p → cost (solved_within reach) p ≤ nodes → result ≡ 0) }
+        → IfSome (S.left source.old) (λ bytes. (p : Position) → game_at bytes ≡ Ok p → cost (solved_within reach) p ≤ nodes → (result ≡ 0) ⊎ (result ≡ 8)) }
     ensures check_complete { IsWritten (map string_bytes words.now) forms.Check
         → (Rose (S.faults source.old) (S.faults source.new) → ⊥) → (Rose (O.faults out.old) (O.faults out.new) → ⊥)
         → IfSome (S.left source.old) (λ bytes. (v : Verdict) (count : ℕ) → check_of bytes ≡ Accepted v count → (result ≡ 0) ⊎ (result ≡ 8)) }
@@ -79,7 +83,7 @@ pub fn run<S: Source, O: Sink, E: Sink>(
         → (Rose (S.faults source.old) (S.faults source.new) → ⊥) → (Rose (O.faults out.old) (O.faults out.new) → ⊥)
         → IfSome (S.left source.old) (λ bytes. (p : Position) → game_at bytes ≡ Ok p → solved p reach ≡ false → result ≡ 5) }
     ensures drill_complete { (size : Board) (moves seed games nodes reach : ℕ) → IsWritten (map string_bytes words.now) (forms.Drill size moves seed games nodes reach)
-        → (Rose (O.faults out.old) (O.faults out.new) → ⊥) → result ≡ 0 }
+        → (Rose (O.faults out.old) (O.faults out.new) → ⊥) → (result ≡ 0) ⊎ (result ≡ 8) }
 {
     let ending = run_words(alloc, words, source, out);
     report(err, &ending);
@@ -113,7 +117,12 @@ fn run_form<S: Source, O: Sink>(alloc: Global, form: Form, source: &mut S, out: 
     ensures write_fault { result ≡ endings.Write → Rose (O.faults out.old) (O.faults out.new) }
 {
     match form {
-        Form::Prove { nodes, reach, .. } => prove(nodes, reach, source, out),
+        Form::Prove {
+            nodes,
+            reach,
+            table,
+            ..
+        } => prove(alloc, nodes, reach, table, source, out),
         Form::Check => check(alloc, source, out),
         Form::Play => play(source, out),
         Form::Explain { reach } => explain(reach, source, out),
@@ -124,6 +133,6 @@ fn run_form<S: Source, O: Sink>(alloc: Global, form: Form, source: &mut S, out: 
             games,
             nodes,
             reach,
-        } => drill(size, moves, seed, games, nodes, reach, out),
+        } => drill(alloc, size, moves, seed, games, nodes, reach, out),
     }
 }

@@ -1,6 +1,6 @@
 //! The command `drill`: games are made from a number, each is searched, and a line with the counts of what was found is
-//! written. It reads nothing and takes no memory.
-ghost use Rattle.std.specs.Prelude.{◌≡◌, ℕ, ◌<◌, ◌≤◌, List, Option, is_ok};
+//! written. It reads nothing, and takes memory for a table of what was found alone, a new one for each game.
+ghost use Rattle.std.specs.Prelude.{◌≡◌, ℕ, ◌<◌, ◌≤◌, [], List, Option, IfOk, is_ok};
 ghost use Rattle.arrayvec.specs.ArrayVec.{array_vec_len};
 ghost use Rattle.device_rules.specs.Devices.{HasCause, Rose, AppendsPrefix};
 ghost use Rattle.game_rules.specs.Cost.{cost};
@@ -18,12 +18,18 @@ use board_bits::{Position, Size};
 use cert_format::{LineText, Verdict, push_number, push_text};
 use drill_games::{Tally, next_game};
 use io_ports::{Failed, NullSink, Sink};
+use position_table::Table;
 use rule_chooser::Chooser;
+use std::alloc::{AllocError, Global};
+
+/// How many settled positions the table of each game keeps.
+const GAME_TABLE: u32 = 100_000;
 
 /// Makes `games` games of at most `moves` moves each on a board of this size, from the number `seed`; searches each as
 /// `prove` does, within `nodes` positions and with plans from the first `reach` sets of zones; and writes how many are won,
 /// drawn and lost for the side to move, and of how many nothing was found.
 pub(crate) fn drill<O: Sink>(
+    alloc: Global,
     size: Size,
     moves: u32,
     seed: u32,
@@ -38,35 +44,53 @@ pub(crate) fn drill<O: Sink>(
     ensures no_read { result ≡ endings.Read → ⊥ }
     ensures write_fault { result ≡ endings.Write → Rose (O.faults out.old) (O.faults out.new) }
 {
-    let tally = tally_of(size, moves, seed, games, nodes, reach);
-    match put_line(out, drill_line(tally).as_slice()) {
-        Ok(()) => Ending::Done,
-        Err(Failed) => Ending::Write,
+    match tally_of(alloc, size, moves, seed, games, nodes, reach) {
+        Ok(tally) => match put_line(out, drill_line(tally).as_slice()) {
+            Ok(()) => Ending::Done,
+            Err(Failed) => Ending::Write,
+        },
+        Err(AllocError) => Ending::Memory,
     }
 }
 
-/// The counts of what is found of the games.
-fn tally_of(size: Size, moves: u32, seed: u32, games: u32, nodes: u32, reach: u32) -> Tally
+/// The counts of what is found of the games, each with a table of its own.
+fn tally_of(
+    alloc: Global,
+    size: Size,
+    moves: u32,
+    seed: u32,
+    games: u32,
+    nodes: u32,
+    reach: u32,
+) -> Result<Tally, AllocError>
     requires nodes { nodes ≤ greatest_number }
-    ensures { IsSummary (cost (solved_within reach)) nodes (games_from games size moves seed) result }
+    ensures { IfOk result (IsSummary (cost (solved_within reach)) nodes (games_from games size moves seed)) }
 {
     let mut chooser = Chooser::new();
     let mut tally = Tally::new();
     let mut state = seed;
     for made in 0..games {
         let game = next_game(size, moves, &mut state);
-        tally.count(found(&game, nodes, reach, &mut chooser));
+        let mut table = Table::new(alloc, GAME_TABLE)?;
+        tally.count(found(&game, nodes, reach, &mut table, &mut chooser));
     }
-    tally
+    Ok(tally)
 }
 
 /// What a search finds of a game, whose proof is written nowhere. It is the game's value, or, only where `nodes` is below the
 /// game's cost, `Unknown`.
-fn found(game: &Position, nodes: u32, reach: u32, chooser: &mut Chooser) -> Verdict
+fn found(
+    game: &Position,
+    nodes: u32,
+    reach: u32,
+    table: &mut Table,
+    chooser: &mut Chooser,
+) -> Verdict
     requires nodes { nodes ≤ greatest_number }
+    requires empty { table.old.entries ≡ [] }
     ensures { MayTell (cost (solved_within reach)) nodes game.now result }
 {
-    let asked = ask(game, nodes, reach, chooser, &mut NullSink::new());
+    let asked = ask(game, nodes, reach, table, chooser, &mut NullSink::new());
     asked.unwrap_or(Verdict::Unknown)
 }
 

@@ -30,7 +30,7 @@ pub enum Ending {
     Read,
     /// The sink of the output failed, which comes only where its count of faults rose: status 7.
     Write,
-    /// Memory ran out in `check`, and nothing was written: status 8.
+    /// Memory ran out in `check`, `prove` or `drill`, and nothing was written: status 8.
     Memory,
 }
 

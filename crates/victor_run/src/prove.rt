@@ -1,5 +1,6 @@
-//! `prove`: a game is read, and a proof of its value is written, each line as soon as it is known. It takes no memory.
-ghost use Rattle.std.specs.Prelude.{◌≡◌, ℕ, Option, ◌≤◌, ◌<◌, Ok, Some, length, is_ok, IfOk};
+//! `prove`: a game is read, and a proof of its value is written, each line as soon as it is known. It takes memory for a
+//! table of what was found alone, and none where it can't go on without.
+ghost use Rattle.std.specs.Prelude.{◌≡◌, ℕ, Option, [], ◌≤◌, ◌<◌, Ok, Some, length, is_ok, IfOk};
 ghost use Rattle.device_rules.specs.Devices.{HasCause, Rose, AppendsPrefix};
 ghost use Rattle.game_rules.specs.Cost.{cost};
 ghost use Rattle.game_rules.specs.Text.{game_at};
@@ -18,18 +19,24 @@ use board_bits::Position;
 use cert_format::{FIRST_LINE, Line, LineText, Verdict, print_line, push_text};
 use deep_search::SearchStop;
 use io_ports::{Failed, Sink, Source, put_all};
+use position_table::Table;
 use rule_chooser::Chooser;
+use std::alloc::{AllocError, Global};
 
 /// Reads a game and writes a proof of its position's value, from a search that may enter `nodes` positions, with plans from
 /// the first `reach` sets of zones.
 pub(crate) fn prove<S: Source, O: Sink>(
+    alloc: Global,
     nodes: u32,
     reach: u32,
+    table: u32,
     source: &mut S,
     out: &mut O,
 ) -> Ending
     requires nodes { nodes ≤ 10000000 }
-    ensures outcome { (front : Option ℕ) (table : ℕ) → Outcome (Some (forms.Prove nodes reach front table))
+    requires some { 1 ≤ table }
+    requires few { table ≤ 1000000 }
+    ensures outcome { (front : Option ℕ) → Outcome (Some (forms.Prove nodes reach front table))
         (record { input = S.left source.old; left = S.left source.new; old = O.written out.old; new = O.written out.new }) result }
     ensures read_fault { result ≡ endings.Read → Rose (S.faults source.old) (S.faults source.new) }
     ensures write_fault { result ≡ endings.Write → Rose (O.faults out.old) (O.faults out.new) }
@@ -38,7 +45,13 @@ pub(crate) fn prove<S: Source, O: Sink>(
     match read_game_input(source, &mut buffer) {
         Ok(game) => {
             let text = &buffer[..game.length];
-            ending_of(write_proof(&game.position, text, nodes, reach, out))
+            match Table::new(alloc, table) {
+                Ok(mut table) => {
+                    let proved = write_proof(&game.position, text, nodes, reach, &mut table, out);
+                    ending_of(proved)
+                }
+                Err(AllocError) => Ending::Memory,
+            }
         }
         Err(stop) => stop.ending(),
     }
@@ -62,16 +75,18 @@ fn write_proof<O: Sink>(
     text: &[u8],
     nodes: u32,
     reach: u32,
+    table: &mut Table,
     out: &mut O,
 ) -> Result<Verdict, Failed>
     requires game { game_at text.now ≡ Ok position.now }
     requires nodes { nodes ≤ 10000000 }
+    requires empty { table.old.entries ≡ [] }
     ensures written { Writes nodes reach text.now position.now (O.written out.old) (O.written out.new) result }
     ensures unknown { result ≡ Ok verdicts.Unknown → nodes < cost (solved_within reach) position.now }
     ensures cause { HasCause (O.faults out.old) (O.faults out.new) result }
 {
     put_all(out, head_for(text).as_slice())?;
-    match ask(position, nodes, reach, &mut Chooser::new(), out) {
+    match ask(position, nodes, reach, table, &mut Chooser::new(), out) {
         Ok(verdict) => write_verdict(verdict, out),
         Err(SearchStop::Spent) => write_verdict(Verdict::Unknown, out),
         Err(SearchStop::WriteFault) => Err(Failed),

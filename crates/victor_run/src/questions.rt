@@ -1,5 +1,5 @@
 //! The two questions of a proof, one behind the other: whether White wins, and where it doesn't, whether Black does.
-ghost use Rattle.std.specs.Prelude.{◌≡◌, ◌<◌, ◌≤◌, Err};
+ghost use Rattle.std.specs.Prelude.{◌≡◌, ◌<◌, ◌≤◌, [], Err};
 ghost use Rattle.device_rules.specs.Devices.{Rose};
 ghost use Rattle.game_rules.specs.Cost.{cost};
 ghost use Rattle.proof_text.specs.Spelling.{greatest_number};
@@ -11,18 +11,22 @@ use board_bits::{Position, Side};
 use cert_format::{LemmaOut, Verdict};
 use deep_search::{SearchStop, search};
 use io_ports::Sink;
+use position_table::Table;
 use rule_chooser::Chooser;
 
 /// Asks whether White wins and, where it doesn't, whether Black does, within one budget of `nodes` positions and with plans
-/// from the first `reach` sets of zones, for which the chooser is lent. `Spent` comes only where the budget is below the position's cost.
+/// from the first `reach` sets of zones, for which the chooser is lent. What is found is kept in the table, which has no entry
+/// yet, and isn't searched again while it is there. `Spent` comes only where the budget is below the position's cost.
 pub(crate) fn ask<O: Sink>(
     position: &Position,
     nodes: u32,
     reach: u32,
+    table: &mut Table,
     chooser: &mut Chooser,
     out: &mut O,
 ) -> Result<Verdict, SearchStop>
     requires nodes { nodes ≤ greatest_number }
+    requires empty { table.old.entries ≡ [] }
     ensures asked { Asks position.now nodes reach (O.written out.old) (O.written out.new) result }
     ensures spent { result ≡ Err stops.Spent → nodes < cost (solved_within reach) position.now }
     ensures later { O.faults out.old ≤ O.faults out.new }
@@ -35,6 +39,7 @@ pub(crate) fn ask<O: Sink>(
         Side::White,
         reach,
         &mut budget,
+        table,
         chooser,
         &mut lemmas,
         out,
@@ -47,6 +52,7 @@ pub(crate) fn ask<O: Sink>(
         Side::Black,
         reach,
         &mut budget,
+        table,
         chooser,
         &mut lemmas,
         out,

@@ -474,7 +474,7 @@ fn a_line_that_is_too_long_is_refused(rt: HostRuntime) -> Result<(), Fail> {
 
 #[test]
 fn other_words_are_no_command(rt: HostRuntime) -> Result<(), Fail> {
-    let rows: [&[&str]; 14] = [
+    let rows: [&[&str]; 15] = [
         &[],
         &["--help"],
         &["value"],
@@ -485,7 +485,8 @@ fn other_words_are_no_command(rt: HostRuntime) -> Result<(), Fail> {
         &["prove", "--nodes", "5", "--nodes", "5"],
         &["prove", "--nodes=5", "--nodes", "5"],
         &["prove", "--front", "5"],
-        &["prove", "--table", "5"],
+        &["prove", "--table", "0"],
+        &["prove", "--table=1000001"],
         &["check", "--reach", "3"],
         &["explain", "--nodes", "5"],
         &["drill", "5", "5", "3", "1", "1"],
@@ -501,6 +502,47 @@ fn other_words_are_no_command(rt: HostRuntime) -> Result<(), Fail> {
             "{words:?}"
         );
     }
+    Ok(())
+}
+
+/// No line can be made any more, and many orders of the last four moves lead to one position.
+const FOUR_TOPS_LEFT: &str = "board 4 4\nmoves abbacddcbadc";
+
+/// What stands behind the head of its proof without plans.
+const FOUR_TOPS_LEMMAS: &str = "1 bcad W- end\n2 bca W- one d 1\n3 bcda W- end\n4 bcd W- one a 3\n\
+    5 bc W- all a:2 d:4\n6 b W- one c 5\n7 cbad W- end\n8 cba W- one d 7\n9 cbda W- end\n10 cbd W- one a 9\n\
+    11 cb W- all a:8 d:10\n12 c W- one b 11\n13 abdc W- end\n14 abd W- one c 13\n15 ab W- all c:8 d:14\n\
+    16 a W- one b 15\n17 db W- all a:14 c:10\n18 d W- one b 17\n19 - W- all a:16 b:6 c:12 d:18\n\
+    20 bcad B- end\n21 bca B- all d:20\n22 bc B- one a 21\n23 bacd B- end\n24 bac B- all d:23\n\
+    25 ba B- one c 24\n26 bdc B- all a:23\n27 bd B- one c 26\n28 b B- all a:25 c:22 d:27\n29 - B- one b 28\n\
+    value draw 19 29\n";
+
+#[test]
+fn a_table_saves_lemmas_and_budget(rt: HostRuntime) -> Result<(), Fail> {
+    let rows: [(&[&str], u8, &str); 6] = [
+        (&["prove", "--reach", "0"], 0, FOUR_TOPS_LEMMAS),
+        (&["prove", "--reach=0", "--nodes=33"], 0, FOUR_TOPS_LEMMAS),
+        (&["prove", "--reach=0", "--nodes=32"], 5, "value unknown\n"),
+        (&["prove", "--reach=0", "--table=1", "--nodes=36"], 0, ""),
+        (
+            &["prove", "--reach=0", "--table=1", "--nodes=35"],
+            5,
+            "value unknown\n",
+        ),
+        (&["prove"], 0, ""),
+    ];
+    let draw = b"\nvalue draw ".as_slice();
+    for (words, status, end) in rows {
+        let got = run_over(rt.alloc(), words, FOUR_TOPS_LEFT.as_bytes(), SOUND)?;
+        assert_eq!(rt; got.status, status, "{words:?}");
+        assert!(rt; got.out.ends_with(end.as_bytes()), "{words:?}");
+        let drawn = got.out.windows(draw.len()).any(|piece| piece == draw);
+        assert_eq!(rt; drawn, status == 0, "{words:?}");
+    }
+    let planned = run_over(rt.alloc(), &["prove"], FOUR_TOPS_LEFT.as_bytes(), SOUND)?;
+    let head =
+        b"victor 1\nboard 4 4\nmoves abbacddcbadc\n1 - W- plan BI:a4,b4 BI:c4,d4\n".as_slice();
+    assert!(rt; planned.out.starts_with(head));
     Ok(())
 }
 

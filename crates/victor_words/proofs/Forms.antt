@@ -1,6 +1,7 @@
 -- The form of a command with what was given, both ways.
-use Rattle.std.proofs.Common.{◌≡◌, ℕ, true, ◌&&◌, cond, nat_le, List, [], ◌∷◌, Option, Some, None, option_to_list, unwrap_or, refl, sym, ap, ◌∙◌, subst, inl, inr}
+use Rattle.std.proofs.Common.{◌≡◌, ℕ, true, ◌&&◌, cond, nat_le, List, [], ◌∷◌, Option, Some, None, is_none, option_to_list, unwrap_or, refl, sym, ap, ◌∙◌, subst, inl, inr}
 use Rattle.std.specs.Int.{IsInRange}
+use Rattle.std.specs.Option.{option_map}
 use Rattle.std.proofs.lemmas.Bool.{and_parts, and_from, leb-true, le-leb}
 use Rattle.game_rules.specs.Board.{Board, is_board, same_length}
 use Rattle.game_rules.specs.Grammar.{is_spelled}
@@ -8,13 +9,14 @@ use Rattle.game_rules.specs.declared.Length.{Length}
 use Rattle.game_rules.specs.declared.Length.TheVariants.{Four, Five}
 use Rattle.plan_text.proofs.Spaced.{bind_some, map_some, chosen_some}
 use Rattle.plan_text.specs.Words.{◌>>=◌}
-use Rattle.victor_words.specs.Words.{command_of, numbers_of, number_in, usual, usual_table, HasRanges, IsGiven}
-use Rattle.victor_words.specs.Reading.{within, nodes_from, reach_from, board_with, size_from, prove_from, without_options, explain_from, drill_from, form_with}
+use Rattle.victor_words.specs.Words.{command_of, numbers_of, number_in, usual, HasRanges, IsGiven}
+use Rattle.victor_words.specs.Reading.{within, nodes_from, reach_from, table_from, board_with, size_from, prove_from, without_options, explain_from, five_from, drill_from, form_with}
 use Rattle.victor_words.specs.declared.form.Command.{Command}
 use Rattle.victor_words.specs.declared.form.Command.TheVariants as commands
 use Rattle.victor_words.specs.declared.form.Form.{Form}
 use Rattle.victor_words.specs.declared.form.Form.TheVariants.{Prove, Check, Play, Explain, Drill}
-use Rattle.victor_words.specs.declared.piece.Name.TheVariants.{Nodes, Reach}
+use Rattle.victor_words.specs.declared.piece.Name.{Name}
+use Rattle.victor_words.specs.declared.piece.Name.TheVariants.{Nodes, Reach, Table}
 
 -- ---- numbers
 
@@ -39,9 +41,13 @@ given_says usually n None (inr (none, same)) = sym same
 given_says usually n (Some m) (inl alone) = cc
 given_says usually n (Some m) (inr (none, same)) = cc
 
-not_given : (usually : ℕ) (number : Option ℕ) → IsGiven usually None (option_to_list number) → number ≡ None
-not_given usually None h = refl
-not_given usually (Some n) h = cc
+none_is : (usually : ℕ) (number : Option ℕ) → is_none number ≡ true → IsGiven usually None (option_to_list number)
+none_is usually None h = refl
+none_is usually (Some n) h = cc
+
+none_says : (usually : ℕ) (number : Option ℕ) → IsGiven usually None (option_to_list number) → is_none number ≡ true
+none_says usually None h = refl
+none_says usually (Some n) h = cc
 
 option_gives : (low high usually n : ℕ) (number : Option ℕ) → within low high (unwrap_or number usually) ≡ Some n → (IsInRange low high n) × (IsGiven usually (Some n) (option_to_list number))
 option_gives low high usually n number h =
@@ -71,112 +77,148 @@ size_spelled size h =
 
 -- ---- forms
 
+-- the form has the options that are given
+abbrev pub HasOptions : (Name → Option ℕ) → Form → Type 0
+HasOptions given form = (name : Name) → IsGiven (usual name) (number_in form name) (option_to_list (given name))
+
 -- the form is the command's, and has these numbers and options
-pub record IsFormOf (first : Command) (alone : List ℕ) (nodes reach : Option ℕ) (form : Form) : Type 0 where
+pub record IsFormOf (first : Command) (alone : List ℕ) (given : Name → Option ℕ) (form : Form) : Type 0 where
   pub command : command_of form ≡ first
   pub numbers : alone ≡ numbers_of form
-  pub for_nodes : IsGiven (usual Nodes) (number_in form Nodes) (option_to_list nodes)
-  pub for_reach : IsGiven (usual Reach) (number_in form Reach) (option_to_list reach)
+  pub options : HasOptions given form
   pub ranges : HasRanges form
 
-prove_gives : (nodes reach : Option ℕ) (form : Form) → prove_from nodes reach ≡ Some form → IsFormOf commands.Prove [] nodes reach form
-prove_gives nodes reach form h =
-    let n = bind_some (nodes_from nodes) _ form h in
-    let k = bind_some (reach_from reach) _ form n.2 in
-    let same : Prove n.0 k.0 None usual_table ≡ form = cc (k.2) in
-    let of_nodes = option_gives 1 10000000 (usual Nodes) n.0 nodes n.1 in
-    let of_reach = option_gives 0 1000000 (usual Reach) k.0 reach k.1 in
-    subst (IsFormOf commands.Prove [] nodes reach) same (record { command = refl; numbers = refl; for_nodes = of_nodes.1; for_reach = of_reach.1; ranges = (of_nodes.0, of_reach.0, refl, refl) })
+prove_gives : (given : Name → Option ℕ) (form : Form) → prove_from given ≡ Some form → IsFormOf commands.Prove [] given form
+prove_gives given form h =
+    let n = bind_some (nodes_from (given Nodes)) _ form h in
+    let k = bind_some (reach_from (given Reach)) _ form n.2 in
+    let t = bind_some (table_from (given Table)) _ form k.2 in
+    let same : Prove n.0 k.0 None t.0 ≡ form = cc (t.2) in
+    let of_nodes = option_gives 1 10000000 (usual Nodes) n.0 (given Nodes) n.1 in
+    let of_reach = option_gives 0 1000000 (usual Reach) k.0 (given Reach) k.1 in
+    let of_table = option_gives 1 1000000 (usual Table) t.0 (given Table) t.1 in
+    subst (IsFormOf commands.Prove [] given) same (record { command = refl; numbers = refl; options = each n.0 k.0 t.0 of_nodes.1 of_reach.1 of_table.1; ranges = (of_nodes.0, of_reach.0, refl, of_table.0) })
+  where
+    each : (n k t : ℕ) → IsGiven (usual Nodes) (Some n) (option_to_list (given Nodes)) → IsGiven (usual Reach) (Some k) (option_to_list (given Reach))
+        → IsGiven (usual Table) (Some t) (option_to_list (given Table)) → HasOptions given (Prove n k None t)
+    each n k t of_nodes of_reach of_table Nodes = of_nodes
+    each n k t of_nodes of_reach of_table Reach = of_reach
+    each n k t of_nodes of_reach of_table Table = of_table
 
-check_gives : (nodes reach : Option ℕ) (form : Form) → without_options Check nodes reach ≡ Some form → IsFormOf commands.Check [] nodes reach form
-check_gives None None form h = let same : Check ≡ form = cc in subst (IsFormOf commands.Check [] None None) same (record { command = refl; numbers = refl; for_nodes = refl; for_reach = refl; ranges = tt })
-check_gives (Some n) reach form h = cc
-check_gives None (Some k) form h = cc
+-- a form of a command without options and numbers
+bare_gives : (given : Name → Option ℕ) (bare form : Form) → HasRanges bare → numbers_of bare ≡ [] → ((name : Name) → number_in bare name ≡ None)
+    → without_options bare given ≡ Some form → IsFormOf (command_of bare) [] given form
+bare_gives given bare form ranges numbers options h =
+    let told = chosen_some (is_none (given Nodes) && (is_none (given Reach) && is_none (given Table))) (Some bare) form h in
+    let first = and_parts (is_none (given Nodes)) (is_none (given Reach) && is_none (given Table)) told.0 in
+    let second = and_parts (is_none (given Reach)) (is_none (given Table)) first.1 in
+    let same : bare ≡ form = cc (told.1) in
+    subst (IsFormOf (command_of bare) [] given) same (record { command = refl; numbers = sym numbers; options = each first.0 second.0 second.1; ranges = ranges })
+  where
+    each : is_none (given Nodes) ≡ true → is_none (given Reach) ≡ true → is_none (given Table) ≡ true → HasOptions given bare
+    each nodes reach table Nodes = rw (options Nodes) (none_is (usual Nodes) (given Nodes) nodes)
+    each nodes reach table Reach = rw (options Reach) (none_is (usual Reach) (given Reach) reach)
+    each nodes reach table Table = rw (options Table) (none_is (usual Table) (given Table) table)
 
-play_gives : (nodes reach : Option ℕ) (form : Form) → without_options Play nodes reach ≡ Some form → IsFormOf commands.Play [] nodes reach form
-play_gives None None form h = let same : Play ≡ form = cc in subst (IsFormOf commands.Play [] None None) same (record { command = refl; numbers = refl; for_nodes = refl; for_reach = refl; ranges = tt })
-play_gives (Some n) reach form h = cc
-play_gives None (Some k) form h = cc
+explain_gives : (given : Name → Option ℕ) (form : Form) → explain_from given ≡ Some form → IsFormOf commands.Explain [] given form
+explain_gives given form h =
+    let told = chosen_some (is_none (given Nodes) && is_none (given Table)) (option_map Explain (reach_from (given Reach))) form h in
+    let none = and_parts (is_none (given Nodes)) (is_none (given Table)) told.0 in
+    let k = map_some Explain (reach_from (given Reach)) form told.1 in
+    let of_reach = option_gives 0 1000000 (usual Reach) k.0 (given Reach) k.1 in
+    subst (IsFormOf commands.Explain [] given) k.2 (record { command = refl; numbers = refl; options = each k.0 none.0 of_reach.1 none.1; ranges = of_reach.0 })
+  where
+    each : (k : ℕ) → is_none (given Nodes) ≡ true → IsGiven (usual Reach) (Some k) (option_to_list (given Reach)) → is_none (given Table) ≡ true → HasOptions given (Explain k)
+    each k nodes of_reach table Nodes = none_is (usual Nodes) (given Nodes) nodes
+    each k nodes of_reach table Reach = of_reach
+    each k nodes of_reach table Table = none_is (usual Table) (given Table) table
 
-explain_gives : (nodes reach : Option ℕ) (form : Form) → explain_from nodes reach ≡ Some form → IsFormOf commands.Explain [] nodes reach form
-explain_gives (Some n) reach form h = cc
-explain_gives None reach form h =
-    let k = map_some Explain (reach_from reach) form h in
-    let of_reach = option_gives 0 1000000 (usual Reach) k.0 reach k.1 in
-    subst (IsFormOf commands.Explain [] None reach) k.2 (record { command = refl; numbers = refl; for_nodes = refl; for_reach = of_reach.1; ranges = of_reach.0 })
-
-five_give : (cols rows moves seed games : ℕ) (nodes reach : Option ℕ) (form : Form) → drill_from (cols ∷ rows ∷ moves ∷ seed ∷ games ∷ []) nodes reach ≡ Some form
-    → IsFormOf commands.Drill (cols ∷ rows ∷ moves ∷ seed ∷ games ∷ []) nodes reach form
-five_give cols rows moves seed games nodes reach form h =
+five_give : (cols rows moves seed games : ℕ) (given : Name → Option ℕ) (form : Form) → is_none (given Table) ≡ true → five_from (cols ∷ rows ∷ moves ∷ seed ∷ games ∷ []) given ≡ Some form
+    → IsFormOf commands.Drill (cols ∷ rows ∷ moves ∷ seed ∷ games ∷ []) given form
+five_give cols rows moves seed games given form no_table h =
     let size = bind_some (size_from cols rows) _ form h in
     let most = bind_some (within 0 100 moves) _ form size.2 in
     let from = bind_some (within 1 2147483646 seed) _ form most.2 in
     let count = bind_some (within 1 1000 games) _ form from.2 in
-    let n = bind_some (nodes_from nodes) _ form count.2 in
-    let k = bind_some (reach_from reach) _ form n.2 in
+    let n = bind_some (nodes_from (given Nodes)) _ form count.2 in
+    let k = bind_some (reach_from (given Reach)) _ form n.2 in
     let same : Drill size.0 most.0 from.0 count.0 n.0 k.0 ≡ form = cc (k.2) in
     let of_size = size_gives cols rows size.0 size.1 in
     let of_most = within_gives 0 100 moves most.0 most.1 in
     let of_seed = within_gives 1 2147483646 seed from.0 from.1 in
     let of_games = within_gives 1 1000 games count.0 count.1 in
-    let of_nodes = option_gives 1 10000000 (usual Nodes) n.0 nodes n.1 in
-    let of_reach = option_gives 0 1000000 (usual Reach) k.0 reach k.1 in
+    let of_nodes = option_gives 1 10000000 (usual Nodes) n.0 (given Nodes) n.1 in
+    let of_reach = option_gives 0 1000000 (usual Reach) k.0 (given Reach) k.1 in
     let first : cols ≡ size.0.cols = cc (of_size.1) in
     let second : rows ≡ size.0.rows = cc (of_size.1) in
-    subst (IsFormOf commands.Drill (cols ∷ rows ∷ moves ∷ seed ∷ games ∷ []) nodes reach) same (record {
+    subst (IsFormOf commands.Drill (cols ∷ rows ∷ moves ∷ seed ∷ games ∷ []) given) same (record {
       command = refl;
       numbers = cc (first, second, of_most.1, of_seed.1, of_games.1);
-      for_nodes = of_nodes.1;
-      for_reach = of_reach.1;
+      options = each size.0 most.0 from.0 count.0 n.0 k.0 of_nodes.1 of_reach.1;
       ranges = (record { size = of_size.0; moves = of_most.0; seed = of_seed.0; games = of_games.0 }, of_nodes.0, of_reach.0);
     })
+  where
+    each : (size : Board) (most from count n k : ℕ) → IsGiven (usual Nodes) (Some n) (option_to_list (given Nodes)) → IsGiven (usual Reach) (Some k) (option_to_list (given Reach))
+        → HasOptions given (Drill size most from count n k)
+    each size most from count n k of_nodes of_reach Nodes = of_nodes
+    each size most from count n k of_nodes of_reach Reach = of_reach
+    each size most from count n k of_nodes of_reach Table = none_is (usual Table) (given Table) no_table
 
-drill_gives : (alone : List ℕ) (nodes reach : Option ℕ) (form : Form) → drill_from alone nodes reach ≡ Some form → IsFormOf commands.Drill alone nodes reach form
-drill_gives [] nodes reach form h = cc
-drill_gives (cols ∷ []) nodes reach form h = cc
-drill_gives (cols ∷ rows ∷ []) nodes reach form h = cc
-drill_gives (cols ∷ rows ∷ moves ∷ []) nodes reach form h = cc
-drill_gives (cols ∷ rows ∷ moves ∷ seed ∷ []) nodes reach form h = cc
-drill_gives (cols ∷ rows ∷ moves ∷ seed ∷ games ∷ []) nodes reach form h = five_give cols rows moves seed games nodes reach form h
-drill_gives (cols ∷ rows ∷ moves ∷ seed ∷ games ∷ another ∷ more) nodes reach form h = cc
+numbers_give : (alone : List ℕ) (given : Name → Option ℕ) (form : Form) → is_none (given Table) ≡ true → five_from alone given ≡ Some form → IsFormOf commands.Drill alone given form
+numbers_give [] given form no_table h = cc
+numbers_give (cols ∷ []) given form no_table h = cc
+numbers_give (cols ∷ rows ∷ []) given form no_table h = cc
+numbers_give (cols ∷ rows ∷ moves ∷ []) given form no_table h = cc
+numbers_give (cols ∷ rows ∷ moves ∷ seed ∷ []) given form no_table h = cc
+numbers_give (cols ∷ rows ∷ moves ∷ seed ∷ games ∷ []) given form no_table h = five_give cols rows moves seed games given form no_table h
+numbers_give (cols ∷ rows ∷ moves ∷ seed ∷ games ∷ another ∷ more) given form no_table h = cc
 
-pub form_gives : (command : Command) (alone : List ℕ) (nodes reach : Option ℕ) (form : Form) → form_with command alone nodes reach ≡ Some form → IsFormOf command alone nodes reach form
-form_gives commands.Prove [] nodes reach form h = prove_gives nodes reach form h
-form_gives commands.Prove (n ∷ alone) nodes reach form h = cc
-form_gives commands.Check [] nodes reach form h = check_gives nodes reach form h
-form_gives commands.Check (n ∷ alone) nodes reach form h = cc
-form_gives commands.Play [] nodes reach form h = play_gives nodes reach form h
-form_gives commands.Play (n ∷ alone) nodes reach form h = cc
-form_gives commands.Explain [] nodes reach form h = explain_gives nodes reach form h
-form_gives commands.Explain (n ∷ alone) nodes reach form h = cc
-form_gives commands.Drill alone nodes reach form h = drill_gives alone nodes reach form h
+drill_gives : (alone : List ℕ) (given : Name → Option ℕ) (form : Form) → drill_from alone given ≡ Some form → IsFormOf commands.Drill alone given form
+drill_gives alone given form h = let told = chosen_some (is_none (given Table)) (five_from alone given) form h in numbers_give alone given form told.0 told.1
+
+pub form_gives : (command : Command) (alone : List ℕ) (given : Name → Option ℕ) (form : Form) → form_with command alone given ≡ Some form → IsFormOf command alone given form
+form_gives commands.Prove [] given form h = prove_gives given form h
+form_gives commands.Prove (n ∷ alone) given form h = cc
+form_gives commands.Check [] given form h = bare_gives given Check form tt refl (λ name. refl) h
+form_gives commands.Check (n ∷ alone) given form h = cc
+form_gives commands.Play [] given form h = bare_gives given Play form tt refl (λ name. refl) h
+form_gives commands.Play (n ∷ alone) given form h = cc
+form_gives commands.Explain [] given form h = explain_gives given form h
+form_gives commands.Explain (n ∷ alone) given form h = cc
+form_gives commands.Drill alone given form h = drill_gives alone given form h
+
+-- a bare form is found where no option is given
+bare_found : (given : Name → Option ℕ) (bare : Form) → ((name : Name) → is_none (given name) ≡ true) → without_options bare given ≡ Some bare
+bare_found given bare none =
+    ap (λ b. cond b (Some bare) None) (and_from (is_none (given Nodes)) (is_none (given Reach) && is_none (given Table)) (none Nodes) (and_from (is_none (given Reach)) (is_none (given Table)) (none Reach) (none Table)))
 
 -- and the form that has them is found
-form_found : (form : Form) (nodes reach : Option ℕ)
-    → IsGiven (usual Nodes) (number_in form Nodes) (option_to_list nodes) → IsGiven (usual Reach) (number_in form Reach) (option_to_list reach) → HasRanges form
-    → form_with (command_of form) (numbers_of form) nodes reach ≡ Some form
-form_found (Prove n k front table) nodes reach for_nodes for_reach ranges =
-    ap (λ found. found >>= λ n. reach_from reach >>= λ k. Some (Prove n k None usual_table)) (option_spelled 1 10000000 (usual Nodes) n nodes ranges.0 for_nodes)
-    ∙ ap (λ found. found >>= λ k. Some (Prove n k None usual_table)) (option_spelled 0 1000000 (usual Reach) k reach ranges.1 for_reach)
-    ∙ rw (ranges.2, ranges.3) refl
-form_found Check nodes reach for_nodes for_reach ranges = rw (not_given (usual Nodes) nodes for_nodes, not_given (usual Reach) reach for_reach) refl
-form_found Play nodes reach for_nodes for_reach ranges = rw (not_given (usual Nodes) nodes for_nodes, not_given (usual Reach) reach for_reach) refl
-form_found (Explain k) nodes reach for_nodes for_reach ranges =
-    ap (λ nodes. explain_from nodes reach) (not_given (usual Nodes) nodes for_nodes)
-    ∙ ap (λ found. found >>= λ k. Some (Explain k)) (option_spelled 0 1000000 (usual Reach) k reach ranges for_reach)
-form_found (Drill size moves seed games n k) nodes reach for_nodes for_reach ranges =
-    ap (λ found. found >>= λ size. within 0 100 moves >>= λ moves. within 1 2147483646 seed >>= λ seed. within 1 1000 games >>= λ games.
-    nodes_from nodes >>= λ n. reach_from reach >>= λ k. Some (Drill size moves seed games n k)) (size_spelled size ranges.0.size)
+form_found : (form : Form) (given : Name → Option ℕ) → HasOptions given form → HasRanges form → form_with (command_of form) (numbers_of form) given ≡ Some form
+form_found (Prove n k front t) given options ranges =
+    ap (λ found. found >>= λ n. reach_from (given Reach) >>= λ k. table_from (given Table) >>= λ t. Some (Prove n k None t)) (option_spelled 1 10000000 (usual Nodes) n (given Nodes) ranges.0 (options Nodes))
+    ∙ ap (λ found. found >>= λ k. table_from (given Table) >>= λ t. Some (Prove n k None t)) (option_spelled 0 1000000 (usual Reach) k (given Reach) ranges.1 (options Reach))
+    ∙ ap (λ found. found >>= λ t. Some (Prove n k None t)) (option_spelled 1 1000000 (usual Table) t (given Table) ranges.3 (options Table))
+    ∙ ap (λ front. Some (Prove n k front t)) (sym ranges.2)
+form_found Check given options ranges = bare_found given Check (λ name. none_says (usual name) (given name) (options name))
+form_found Play given options ranges = bare_found given Play (λ name. none_says (usual name) (given name) (options name))
+form_found (Explain k) given options ranges =
+    ap (λ b. cond b (option_map Explain (reach_from (given Reach))) None)
+    (and_from (is_none (given Nodes)) (is_none (given Table)) (none_says (usual Nodes) (given Nodes) (options Nodes)) (none_says (usual Table) (given Table) (options Table)))
+    ∙ ap (option_map Explain) (option_spelled 0 1000000 (usual Reach) k (given Reach) ranges (options Reach))
+form_found (Drill size moves seed games n k) given options ranges =
+    ap (λ b. cond b (five_from (numbers_of (Drill size moves seed games n k)) given) None) (none_says (usual Table) (given Table) (options Table))
+    ∙ ap (λ found. found >>= λ size. within 0 100 moves >>= λ moves. within 1 2147483646 seed >>= λ seed. within 1 1000 games >>= λ games.
+    nodes_from (given Nodes) >>= λ n. reach_from (given Reach) >>= λ k. Some (Drill size moves seed games n k)) (size_spelled size ranges.0.size)
     ∙ ap (λ found. found >>= λ moves. within 1 2147483646 seed >>= λ seed. within 1 1000 games >>= λ games.
-    nodes_from nodes >>= λ n. reach_from reach >>= λ k. Some (Drill size moves seed games n k)) (within_spelled 0 100 moves ranges.0.moves)
+    nodes_from (given Nodes) >>= λ n. reach_from (given Reach) >>= λ k. Some (Drill size moves seed games n k)) (within_spelled 0 100 moves ranges.0.moves)
     ∙ ap (λ found. found >>= λ seed. within 1 1000 games >>= λ games.
-    nodes_from nodes >>= λ n. reach_from reach >>= λ k. Some (Drill size moves seed games n k)) (within_spelled 1 2147483646 seed ranges.0.seed)
-    ∙ ap (λ found. found >>= λ games. nodes_from nodes >>= λ n. reach_from reach >>= λ k. Some (Drill size moves seed games n k)) (within_spelled 1 1000 games ranges.0.games)
-    ∙ ap (λ found. found >>= λ n. reach_from reach >>= λ k. Some (Drill size moves seed games n k)) (option_spelled 1 10000000 (usual Nodes) n nodes ranges.1 for_nodes)
-    ∙ ap (λ found. found >>= λ k. Some (Drill size moves seed games n k)) (option_spelled 0 1000000 (usual Reach) k reach ranges.2 for_reach)
+    nodes_from (given Nodes) >>= λ n. reach_from (given Reach) >>= λ k. Some (Drill size moves seed games n k)) (within_spelled 1 2147483646 seed ranges.0.seed)
+    ∙ ap (λ found. found >>= λ games. nodes_from (given Nodes) >>= λ n. reach_from (given Reach) >>= λ k. Some (Drill size moves seed games n k)) (within_spelled 1 1000 games ranges.0.games)
+    ∙ ap (λ found. found >>= λ n. reach_from (given Reach) >>= λ k. Some (Drill size moves seed games n k)) (option_spelled 1 10000000 (usual Nodes) n (given Nodes) ranges.1 (options Nodes))
+    ∙ ap (λ found. found >>= λ k. Some (Drill size moves seed games n k)) (option_spelled 0 1000000 (usual Reach) k (given Reach) ranges.2 (options Reach))
 
-pub form_spelled : (command : Command) (alone : List ℕ) (nodes reach : Option ℕ) (form : Form) → IsFormOf command alone nodes reach form → form_with command alone nodes reach ≡ Some form
-form_spelled command alone nodes reach form is =
-    ap (λ command. form_with command alone nodes reach) (sym is.command)
-    ∙ ap (λ alone. form_with (command_of form) alone nodes reach) is.numbers
-    ∙ form_found form nodes reach is.for_nodes is.for_reach is.ranges
+pub form_spelled : (command : Command) (alone : List ℕ) (given : Name → Option ℕ) (form : Form) → IsFormOf command alone given form → form_with command alone given ≡ Some form
+form_spelled command alone given form is =
+    ap (λ command. form_with command alone given) (sym is.command)
+    ∙ ap (λ alone. form_with (command_of form) alone given) is.numbers
+    ∙ form_found form given is.options is.ranges

@@ -5,9 +5,10 @@ use Rattle.std.proofs.Math.Seq.{drop-append_seam}
 use Rattle.std.proofs.lemmas.List.Concat.{flat_map-append}
 use Rattle.plan_text.proofs.Spaced.{all_append}
 use Rattle.victor_words.specs.Words.{words_of, given_by, own_by, given, own}
-use Rattle.victor_words.specs.Reading.{first_piece, IsSmall, AreWordsOf, AreFew, AreFound, AddsPiece, IsTooMany}
+use Rattle.victor_words.specs.Reading.{first_piece, IsSmall, AreWordsOf, number_found, AreFew, AreFound, AddsPiece, IsTooMany}
 use Rattle.victor_words.specs.declared.found.Found.{Found}
-use Rattle.victor_words.specs.declared.piece.Name.TheVariants.{Nodes, Reach}
+use Rattle.victor_words.specs.declared.piece.Name.{Name}
+use Rattle.victor_words.specs.declared.piece.Name.TheVariants.{Nodes, Reach, Table}
 use Rattle.victor_words.specs.declared.piece.Piece.{Piece}
 use Rattle.victor_words.proofs.Pieces.{first_of_words, first_gives, goes_on, GoesOn}
 
@@ -18,13 +19,18 @@ pub record FoundSoFar (words left : List (List ℕ)) (found : Found) : Type 0 wh
   pub small : AllByRecursion IsSmall before
   pub are_found : AreFound before found
 
-pub nothing_found : (words : List (List ℕ)) (found : Found) → found.nodes ≡ None → found.reach ≡ None → found.numbers.items ≡ [] → FoundSoFar words words found
-nothing_found words found nodes reach numbers = record {
+pub nothing_found : (words : List (List ℕ)) (found : Found) → found.nodes ≡ None → found.reach ≡ None → found.table ≡ None → found.numbers.items ≡ [] → FoundSoFar words words found
+nothing_found words found nodes reach table numbers = record {
   before = [];
   spelled = refl;
   small = tt;
-  are_found = record { nodes = ap option_to_list (sym nodes); reach = ap option_to_list (sym reach); numbers = sym numbers };
+  are_found = record { options = none; numbers = sym numbers };
 }
+  where
+    none : (name : Name) → [] ≡ option_to_list (number_found found name)
+    none Nodes = ap option_to_list (sym nodes)
+    none Reach = ap option_to_list (sym reach)
+    none Table = ap option_to_list (sym table)
 
 flat_map_snoc : {A : Type 0} (f : Piece → List A) (before : List Piece) (piece : Piece) → flat_map f (before ++ piece ∷ []) ≡ flat_map f before ++ f piece
 flat_map_snoc f before piece = flat_map-append f before (piece ∷ []) ∙ ap (λ rest. flat_map f before ++ rest) (append-nil (f piece))
@@ -40,8 +46,7 @@ one_more_found words left found next piece far first adds =
           ∙ ap (λ words. words ++ start.rest) (sym (flat_map_snoc words_of far.before piece)) ∙ ap (λ left. flat_map words_of (far.before ++ piece ∷ []) ++ left) (sym rest);
       small = all_append IsSmall far.before (piece ∷ []) far.small (start.small, tt);
       are_found = record {
-        nodes = flat_map_snoc (given_by Nodes) far.before piece ∙ ap (λ xs. xs ++ given_by Nodes piece) far.are_found.nodes ∙ sym adds.nodes;
-        reach = flat_map_snoc (given_by Reach) far.before piece ∙ ap (λ xs. xs ++ given_by Reach piece) far.are_found.reach ∙ sym adds.reach;
+        options = λ name. flat_map_snoc (given_by name) far.before piece ∙ ap (λ xs. xs ++ given_by name piece) (far.are_found.options name) ∙ sym (adds.options name);
         numbers = flat_map_snoc own_by far.before piece ∙ ap (λ xs. xs ++ own_by piece) far.are_found.numbers ∙ sym adds.numbers;
       };
     }
@@ -78,11 +83,8 @@ too_many words left found piece far first many pieces words_are few =
 
     of_more : (more : List Piece) → pieces ≡ far.before ++ piece ∷ more → ⊥
     of_more more whole = elim many [
-      | inl nodes ↦ omega (arith, nodes, few.nodes, given_more (given_by Nodes) _ more far.are_found.nodes, ap (λ pieces. length (given Nodes pieces)) whole)
-      | inr others ↦ elim others [
-        | inl reach ↦ omega (arith, reach, few.reach, given_more (given_by Reach) _ more far.are_found.reach, ap (λ pieces. length (given Reach pieces)) whole)
-        | inr numbers ↦ omega (arith, numbers, few.numbers, given_more own_by _ more far.are_found.numbers, ap (λ pieces. length (own pieces)) whole)
-      ]
+      | inl twice ↦ omega (arith, twice.1, few.options twice.0, given_more (given_by twice.0) _ more (far.are_found.options twice.0), ap (λ pieces. length (given twice.0 pieces)) whole)
+      | inr numbers ↦ omega (arith, numbers, few.numbers, given_more own_by _ more far.are_found.numbers, ap (λ pieces. length (own pieces)) whole)
     ]
 
     next : (more : List Piece) → pieces ≡ far.before ++ more → AreWordsOf more left → ⊥

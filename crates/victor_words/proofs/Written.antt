@@ -1,23 +1,24 @@
 -- Words and their one form: what their pieces are like, and that what is read of them is their form.
-use Rattle.std.proofs.Common.{◌≡◌, ℕ, ◌-◌, ◌≤◌, List, [], ◌∷◌, flat_map, map, take, drop, get_or, length, Option, Some, None, option_to_list, IfSome, refl, sym, ap, ◌∙◌, subst, inl, inr, arith}
+use Rattle.std.proofs.Common.{◌≡◌, ℕ, ◌-◌, ◌≤◌, List, [], ◌∷◌, ◌++◌, flat_map, map, take, drop, get_or, length, Option, Some, None, option_to_list, IfSome, refl, sym, ap, ◌∙◌, subst, inl, inr, arith}
 use Rattle.std.specs.List.{AllByRecursion}
 use Rattle.std.proofs.lemmas.Bool.{and_parts}
 use Rattle.std.proofs.lemmas.List.{take_rest}
 use Rattle.game_rules.proofs.Groups.{board_most}
 use Rattle.game_rules.specs.Board.{is_board, same_length}
 use Rattle.game_rules.specs.declared.Length.TheVariants.{Four}
-use Rattle.victor_words.specs.Words.{command_word, words_of, given, own, command_of, numbers_of, number_in, usual, HasRanges, IsGiven, IsWritten, IsReadAs}
-use Rattle.victor_words.specs.Reading.{command_named, form_with, IsSmall, AreWordsOf, AreFew, AreFound}
+use Rattle.proof_text.proofs.Append.{all_left, all_right}
+use Rattle.victor_words.specs.Words.{command_word, words_of, given_by, own_by, given, own, command_of, numbers_of, number_in, usual, HasRanges, IsGiven, IsWritten, IsReadAs}
+use Rattle.victor_words.specs.Reading.{command_named, form_with, number_found, IsSmall, AreWordsOf, AreFew, AreFound}
 use Rattle.victor_words.specs.declared.form.Command.{Command}
 use Rattle.victor_words.specs.declared.form.Form.{Form}
 use Rattle.victor_words.specs.declared.form.Form.TheVariants.{Prove, Check, Play, Explain, Drill}
 use Rattle.victor_words.specs.declared.found.Found.{Found}
 use Rattle.victor_words.specs.declared.piece.Name.{Name}
-use Rattle.victor_words.specs.declared.piece.Name.TheVariants.{Nodes, Reach}
+use Rattle.victor_words.specs.declared.piece.Name.TheVariants.{Nodes, Reach, Table}
 use Rattle.victor_words.specs.declared.piece.Piece.{Piece}
 use Rattle.victor_words.specs.declared.piece.Piece.TheVariants.{Apart, Joined, Own}
 use Rattle.victor_words.proofs.Pieces.{command_gives, command_spelled, same_pieces}
-use Rattle.victor_words.proofs.Forms.{IsFormOf, form_gives, form_spelled}
+use Rattle.victor_words.proofs.Forms.{form_gives, form_spelled}
 
 -- ---- how many, and how large
 
@@ -35,8 +36,7 @@ five_at_most (Drill size moves seed games nodes reach) = omega arith
 
 few : (words : List (List ℕ)) (form : Form) (written : IsWritten words form) → AreFew written.pieces
 few words form written = record {
-  nodes = given_few (usual Nodes) (number_in form Nodes) _ (written.options Nodes);
-  reach = given_few (usual Reach) (number_in form Reach) _ (written.options Reach);
+  options = λ name. given_few (usual name) (number_in form name) _ (written.options name);
   numbers = let most = five_at_most form in omega (arith, most, ap length written.numbers);
 }
 
@@ -46,10 +46,13 @@ Fits n = n ≤ 4294967295
 option_fits : (form : Form) (name : Name) (n : ℕ) → HasRanges form → number_in form name ≡ Some n → Fits n
 option_fits (Prove nodes reach front table) Nodes n ranges h = let same : nodes ≡ n = cc in omega (arith, ranges.0.1)
 option_fits (Prove nodes reach front table) Reach n ranges h = let same : reach ≡ n = cc in omega (arith, ranges.1.1)
+option_fits (Prove nodes reach front table) Table n ranges h = let same : table ≡ n = cc in omega (arith, ranges.3.1)
 option_fits Check name n ranges h = cc
 option_fits Play name n ranges h = cc
 option_fits (Explain reach) Nodes n ranges h = cc
+option_fits (Explain reach) Table n ranges h = cc
 option_fits (Explain reach) Reach n ranges h = let same : reach ≡ n = cc in omega (arith, ranges.1)
+option_fits (Drill size moves seed games nodes reach) Table n ranges h = cc
 option_fits (Drill size moves seed games nodes reach) Nodes n ranges h = let same : nodes ≡ n = cc in omega (arith, ranges.1.1)
 option_fits (Drill size moves seed games nodes reach) Reach n ranges h = let same : reach ≡ n = cc in omega (arith, ranges.2.1)
 
@@ -68,18 +71,25 @@ given_fit usually None numbers fit h = subst (AllByRecursion Fits) (sym h) tt
 given_fit usually (Some n) numbers fit (inl alone) = subst (AllByRecursion Fits) (sym alone) (fit n refl, tt)
 given_fit usually (Some n) numbers fit (inr none) = subst (AllByRecursion Fits) (sym none.0) tt
 
-pieces_fit : (pieces : List Piece) → AllByRecursion Fits (given Nodes pieces) → AllByRecursion Fits (given Reach pieces) → AllByRecursion Fits (own pieces) → AllByRecursion IsSmall pieces
-pieces_fit [] nodes reach alone = tt
-pieces_fit (Apart Nodes n ∷ pieces) nodes reach alone = (nodes.0, pieces_fit pieces nodes.1 reach alone)
-pieces_fit (Apart Reach n ∷ pieces) nodes reach alone = (reach.0, pieces_fit pieces nodes reach.1 alone)
-pieces_fit (Joined Nodes n ∷ pieces) nodes reach alone = (nodes.0, pieces_fit pieces nodes.1 reach alone)
-pieces_fit (Joined Reach n ∷ pieces) nodes reach alone = (reach.0, pieces_fit pieces nodes reach.1 alone)
-pieces_fit (Own n ∷ pieces) nodes reach alone = (alone.0, pieces_fit pieces nodes reach alone.1)
+first_fits : (piece : Piece) → ((name : Name) → AllByRecursion Fits (given_by name piece)) → AllByRecursion Fits (own_by piece) → IsSmall piece
+first_fits (Apart Nodes n) options alone = (options Nodes).0
+first_fits (Apart Reach n) options alone = (options Reach).0
+first_fits (Apart Table n) options alone = (options Table).0
+first_fits (Joined Nodes n) options alone = (options Nodes).0
+first_fits (Joined Reach n) options alone = (options Reach).0
+first_fits (Joined Table n) options alone = (options Table).0
+first_fits (Own n) options alone = alone.0
+
+pieces_fit : (pieces : List Piece) → ((name : Name) → AllByRecursion Fits (given name pieces)) → AllByRecursion Fits (own pieces) → AllByRecursion IsSmall pieces
+pieces_fit [] options alone = tt
+pieces_fit (piece ∷ pieces) options alone = (
+  first_fits piece (λ name. all_left Fits (given_by name piece) (given name pieces) (options name)) (all_left Fits (own_by piece) (own pieces) alone),
+  pieces_fit pieces (λ name. all_right Fits (given_by name piece) (given name pieces) (options name)) (all_right Fits (own_by piece) (own pieces) alone),
+)
 
 small : (words : List (List ℕ)) (form : Form) (written : IsWritten words form) → AllByRecursion IsSmall written.pieces
 small words form written = pieces_fit written.pieces
-    (given_fit (usual Nodes) (number_in form Nodes) _ (λ n. option_fits form Nodes n written.ranges) (written.options Nodes))
-    (given_fit (usual Reach) (number_in form Reach) _ (λ n. option_fits form Reach n written.ranges) (written.options Reach))
+    (λ name. given_fit (usual name) (number_in form name) _ (λ n. option_fits form name n written.ranges) (written.options name))
     (subst (AllByRecursion Fits) (sym written.numbers) (numbers_fit form written.ranges))
 
 -- ---- words behind a command
@@ -90,47 +100,42 @@ words_behind word words form written = record { spelled = cc (written.spelled); 
 pub no_pieces : (word : List ℕ) (words : List (List ℕ)) → ((pieces : List Piece) → AreWordsOf pieces words → AreFew pieces → ⊥) → IsReadAs (word ∷ words) None
 no_pieces word words never form written = never written.pieces (words_behind word words form written) (few (word ∷ words) form written)
 
-form_is : (word : List ℕ) (words : List (List ℕ)) (command : Command) (pieces : List Piece) (nodes reach : Option ℕ) (form : Form)
-    → command_named word ≡ Some command → AreWordsOf pieces words → given Nodes pieces ≡ option_to_list nodes → given Reach pieces ≡ option_to_list reach → IsWritten (word ∷ words) form
-    → form_with command (own pieces) nodes reach ≡ Some form
-form_is word words command pieces nodes reach form named words_are of_nodes of_reach written =
+form_is : (word : List ℕ) (words : List (List ℕ)) (command : Command) (pieces : List Piece) (numbers : Name → Option ℕ) (form : Form)
+    → command_named word ≡ Some command → AreWordsOf pieces words → ((name : Name) → given name pieces ≡ option_to_list (numbers name)) → IsWritten (word ∷ words) form
+    → form_with command (own pieces) numbers ≡ Some form
+form_is word words command pieces numbers form named words_are options written =
     let same : written.pieces ≡ pieces = same_pieces written.pieces pieces words (words_behind word words form written) words_are in
     let first : word ≡ command_word (command_of form) = cc (written.spelled) in
     let found : Some (command_of form) ≡ Some command = sym (command_spelled (command_of form)) ∙ ap command_named (sym first) ∙ named in
-    form_spelled command (own pieces) nodes reach form (record {
+    form_spelled command (own pieces) numbers form (record {
       command = cc (found);
       numbers = ap own (sym same) ∙ written.numbers;
-      for_nodes = subst (IsGiven (usual Nodes) (number_in form Nodes)) (ap (given Nodes) same ∙ of_nodes) (written.options Nodes);
-      for_reach = subst (IsGiven (usual Reach) (number_in form Reach)) (ap (given Reach) same ∙ of_reach) (written.options Reach);
+      options = λ name. subst (IsGiven (usual name) (number_in form name)) (ap (given name) same ∙ options name) (written.options name);
       ranges = written.ranges;
     })
 
-form_of_words : (word : List ℕ) (words : List (List ℕ)) (command : Command) (pieces : List Piece) (nodes reach : Option ℕ) (form : Form)
-    → command_named word ≡ Some command → AreWordsOf pieces words → given Nodes pieces ≡ option_to_list nodes → given Reach pieces ≡ option_to_list reach
-    → form_with command (own pieces) nodes reach ≡ Some form → IsWritten (word ∷ words) form
-form_of_words word words command pieces nodes reach form named words_are of_nodes of_reach h =
-    let is = form_gives command (own pieces) nodes reach form h in
+form_of_words : (word : List ℕ) (words : List (List ℕ)) (command : Command) (pieces : List Piece) (numbers : Name → Option ℕ) (form : Form)
+    → command_named word ≡ Some command → AreWordsOf pieces words → ((name : Name) → given name pieces ≡ option_to_list (numbers name))
+    → form_with command (own pieces) numbers ≡ Some form → IsWritten (word ∷ words) form
+form_of_words word words command pieces numbers form named words_are options h =
+    let is = form_gives command (own pieces) numbers form h in
     record {
       pieces = pieces;
       spelled = ap (λ first. first ∷ words) (command_gives word command named ∙ ap command_word (sym is.command)) ∙ ap (λ words. command_word (command_of form) ∷ words) words_are.spelled;
       numbers = is.numbers;
-      options = both is;
+      options = λ name. subst (IsGiven (usual name) (number_in form name)) (sym (options name)) (is.options name);
       ranges = is.ranges;
     }
-  where
-    both : IsFormOf command (own pieces) nodes reach form → (name : Name) → IsGiven (usual name) (number_in form name) (given name pieces)
-    both is Nodes = subst (IsGiven (usual Nodes) (number_in form Nodes)) (sym of_nodes) is.for_nodes
-    both is Reach = subst (IsGiven (usual Reach) (number_in form Reach)) (sym of_reach) is.for_reach
 
 -- what is read of words is their form, or they have none
 pub reads_as : (word : List ℕ) (words : List (List ℕ)) (command : Command) (found : Found) → command_named word ≡ Some command → ((pieces : List Piece) × AreWordsOf pieces words × AreFound pieces found)
-    → IsReadAs (word ∷ words) (form_with command found.numbers.items found.nodes found.reach)
+    → IsReadAs (word ∷ words) (form_with command found.numbers.items (number_found found))
 reads_as word words command found named (pieces, words_are, are_found) =
-    subst (λ alone. IsReadAs (word ∷ words) (form_with command alone found.nodes found.reach)) are_found.numbers (at (form_with command (own pieces) found.nodes found.reach) refl)
+    subst (λ alone. IsReadAs (word ∷ words) (form_with command alone (number_found found))) are_found.numbers (at (form_with command (own pieces) (number_found found)) refl)
   where
-    at : (read : Option Form) → form_with command (own pieces) found.nodes found.reach ≡ read → IsReadAs (word ∷ words) read
-    at (Some form) h = form_of_words word words command pieces found.nodes found.reach form named words_are are_found.nodes are_found.reach h
-    at None h = λ form written. let never : None ≡ Some form = sym h ∙ form_is word words command pieces found.nodes found.reach form named words_are are_found.nodes are_found.reach written in cc
+    at : (read : Option Form) → form_with command (own pieces) (number_found found) ≡ read → IsReadAs (word ∷ words) read
+    at (Some form) h = form_of_words word words command pieces (number_found found) form named words_are are_found.options h
+    at None h = λ form written. let never : None ≡ Some form = sym h ∙ form_is word words command pieces (number_found found) form named words_are are_found.options written in cc
 
 pub read_ranges : (words : List (List ℕ)) (read : Option Form) → IsReadAs words read → IfSome read HasRanges
 read_ranges words None is = tt
@@ -145,11 +150,11 @@ as_option usually (Some n) numbers (inr none) = (None, none.0)
 
 pub one_form : (words : List (List ℕ)) (one another : Form) → IsWritten words one → IsWritten words another → one ≡ another
 one_form words one another of_one of_another =
-    let nodes = as_option (usual Nodes) (number_in one Nodes) _ (of_one.options Nodes) in
-    let reach = as_option (usual Reach) (number_in one Reach) _ (of_one.options Reach) in
+    let numbers : Name → Option ℕ = λ name. (as_option (usual name) (number_in one name) _ (of_one.options name)).0 in
+    let options : (name : Name) → given name of_one.pieces ≡ option_to_list (numbers name) = λ name. (as_option (usual name) (number_in one name) _ (of_one.options name)).1 in
     let are : AreWordsOf of_one.pieces (flat_map words_of of_one.pieces) = record { spelled = refl; small = small words one of_one } in
-    let read = λ (form : Form) (written : IsWritten words form). form_is (command_word (command_of one)) (flat_map words_of of_one.pieces) (command_of one) of_one.pieces nodes.0 reach.0 form
-    (command_spelled (command_of one)) are nodes.1 reach.1 (subst (λ words. IsWritten words form) of_one.spelled written) in
+    let read = λ (form : Form) (written : IsWritten words form). form_is (command_word (command_of one)) (flat_map words_of of_one.pieces) (command_of one) of_one.pieces numbers form
+    (command_spelled (command_of one)) are options (subst (λ words. IsWritten words form) of_one.spelled written) in
     let same : Some one ≡ Some another = sym (read one of_one) ∙ read another of_another in
     cc
 

@@ -1,20 +1,20 @@
 -- What the reader's functions answer: the first piece of some words, what pieces give, and the form of a command with
 -- what was given.
-use Rattle.std.specs.Prelude.{◌≡◌, ℕ, ◌<◌, ◌≤◌, ◌&&◌, nat_le, if◌then◌else◌, ◌⊎◌, List, [], ◌∷◌, ◌++◌, length, Option, Some, None, codes, option_map, option_to_list, unwrap_or}
+use Rattle.std.specs.Prelude.{◌≡◌, ℕ, ◌<◌, ◌≤◌, ◌&&◌, nat_le, if◌then◌else◌, ◌⊎◌, List, [], ◌∷◌, ◌++◌, length, Option, Some, None, codes, is_none, option_map, option_to_list, unwrap_or}
 use Rattle.std.specs.List.{flat_map, AllByRecursion}
 use Rattle.std.specs.Str.{bytes_eq}
 use Rattle.game_rules.specs.Board.{Board, is_board}
 use Rattle.game_rules.specs.Number.{number_between}
 use Rattle.game_rules.specs.declared.Length.TheVariants.{Four}
 use Rattle.plan_text.specs.Words.{◌>>=◌, split_once}
-use Rattle.victor_words.specs.Words.{words_of, given_by, own_by, given, own, usual, usual_table}
+use Rattle.victor_words.specs.Words.{words_of, given_by, own_by, given, own, usual}
 use Rattle.victor_words.specs.declared.form.Command.{Command}
 use Rattle.victor_words.specs.declared.form.Command.TheVariants as commands
 use Rattle.victor_words.specs.declared.form.Form.{Form}
 use Rattle.victor_words.specs.declared.form.Form.TheVariants.{Prove, Check, Play, Explain, Drill}
 use Rattle.victor_words.specs.declared.found.Found.{Found}
 use Rattle.victor_words.specs.declared.piece.Name.{Name}
-use Rattle.victor_words.specs.declared.piece.Name.TheVariants.{Nodes, Reach}
+use Rattle.victor_words.specs.declared.piece.Name.TheVariants.{Nodes, Reach, Table}
 use Rattle.victor_words.specs.declared.piece.Piece.{Piece}
 use Rattle.victor_words.specs.declared.piece.Piece.TheVariants.{Apart, Joined, Own}
 
@@ -24,7 +24,7 @@ abbrev pub command_named : List ℕ → Option Command
 command_named word = if bytes_eq word (codes "prove") then Some commands.Prove else (if bytes_eq word (codes "check") then Some commands.Check else (if bytes_eq word (codes "play") then Some commands.Play else (if bytes_eq word (codes "explain") then Some commands.Explain else (if bytes_eq word (codes "drill") then Some commands.Drill else None))))
 
 abbrev pub option_named : List ℕ → Option Name
-option_named word = if bytes_eq word (codes "--nodes") then Some Nodes else (if bytes_eq word (codes "--reach") then Some Reach else None)
+option_named word = if bytes_eq word (codes "--nodes") then Some Nodes else (if bytes_eq word (codes "--reach") then Some Reach else (if bytes_eq word (codes "--table") then Some Table else None))
 
 abbrev pub number_of : List ℕ → Option ℕ
 number_of word = number_between 0 4294967295 word
@@ -64,27 +64,30 @@ pub record AreWordsOf (pieces : List Piece) (words : List (List ℕ)) : Type 0 w
   pub spelled : words ≡ flat_map words_of pieces
   pub small : AllByRecursion IsSmall pieces
 
+-- the number of an option that was found, if any
+abbrev pub number_found : Found → Name → Option ℕ
+number_found found Nodes = found.nodes
+number_found found Reach = found.reach
+number_found found Table = found.table
+
 -- no option is given twice, and no more than five numbers stand alone
 pub record AreFew (pieces : List Piece) : Type 0 where
-  pub nodes : length (given Nodes pieces) ≤ 1
-  pub reach : length (given Reach pieces) ≤ 1
+  pub options : (name : Name) → length (given name pieces) ≤ 1
   pub numbers : length (own pieces) ≤ 5
 
 -- that was found of the pieces
 pub record AreFound (pieces : List Piece) (found : Found) : Type 0 where
-  pub nodes : given Nodes pieces ≡ option_to_list found.nodes
-  pub reach : given Reach pieces ≡ option_to_list found.reach
+  pub options : (name : Name) → given name pieces ≡ option_to_list (number_found found name)
   pub numbers : own pieces ≡ found.numbers.items
 
 -- a piece more was found
 pub record AddsPiece (before : Found) (piece : Piece) (after : Found) : Type 0 where
-  pub nodes : option_to_list after.nodes ≡ option_to_list before.nodes ++ given_by Nodes piece
-  pub reach : option_to_list after.reach ≡ option_to_list before.reach ++ given_by Reach piece
+  pub options : (name : Name) → option_to_list (number_found after name) ≡ option_to_list (number_found before name) ++ given_by name piece
   pub numbers : after.numbers.items ≡ before.numbers.items ++ own_by piece
 
 -- a piece more gives an option again, or is a sixth number
 abbrev pub IsTooMany : Found → Piece → Type 0
-IsTooMany found piece = (1 < length (option_to_list found.nodes ++ given_by Nodes piece)) ⊎ (1 < length (option_to_list found.reach ++ given_by Reach piece)) ⊎ (5 < length (found.numbers.items ++ own_by piece))
+IsTooMany found piece = ((name : Name) × (1 < length (option_to_list (number_found found name) ++ given_by name piece))) ⊎ (5 < length (found.numbers.items ++ own_by piece))
 
 -- ---- the form of a command with what was given
 
@@ -97,34 +100,38 @@ nodes_from number = within 1 10000000 (unwrap_or number (usual Nodes))
 abbrev pub reach_from : Option ℕ → Option ℕ
 reach_from number = within 0 1000000 (unwrap_or number (usual Reach))
 
+abbrev pub table_from : Option ℕ → Option ℕ
+table_from number = within 1 1000000 (unwrap_or number (usual Table))
+
 abbrev pub board_with : ℕ → ℕ → Board
 board_with cols rows = record { cols = cols; rows = rows; len = Four }
 
 abbrev pub size_from : ℕ → ℕ → Option Board
 size_from cols rows = if is_board (board_with cols rows) then Some (board_with cols rows) else None
 
-abbrev pub prove_from : Option ℕ → Option ℕ → Option Form
-prove_from nodes reach = nodes_from nodes >>= λ n. reach_from reach >>= λ k. Some (Prove n k None usual_table)
+-- what is given are the options' numbers
+abbrev pub prove_from : (Name → Option ℕ) → Option Form
+prove_from given = nodes_from (given Nodes) >>= λ n. reach_from (given Reach) >>= λ k. table_from (given Table) >>= λ t. Some (Prove n k None t)
 
-abbrev pub without_options : Form → Option ℕ → Option ℕ → Option Form
-without_options form None None = Some form
-without_options form (Some n) reach = None
-without_options form None (Some k) = None
+abbrev pub without_options : Form → (Name → Option ℕ) → Option Form
+without_options form given = if is_none (given Nodes) && (is_none (given Reach) && is_none (given Table)) then Some form else None
 
-abbrev pub explain_from : Option ℕ → Option ℕ → Option Form
-explain_from (Some n) reach = None
-explain_from None reach = option_map Explain (reach_from reach)
+abbrev pub explain_from : (Name → Option ℕ) → Option Form
+explain_from given = if is_none (given Nodes) && is_none (given Table) then option_map Explain (reach_from (given Reach)) else None
 
-abbrev pub drill_from : List ℕ → Option ℕ → Option ℕ → Option Form
-drill_from (cols ∷ rows ∷ moves ∷ seed ∷ games ∷ []) nodes reach =
+abbrev pub five_from : List ℕ → (Name → Option ℕ) → Option Form
+five_from (cols ∷ rows ∷ moves ∷ seed ∷ games ∷ []) given =
     size_from cols rows >>= λ size. within 0 100 moves >>= λ moves. within 1 2147483646 seed >>= λ seed. within 1 1000 games >>= λ games.
-    nodes_from nodes >>= λ n. reach_from reach >>= λ k. Some (Drill size moves seed games n k)
-drill_from _ nodes reach = None
+    nodes_from (given Nodes) >>= λ n. reach_from (given Reach) >>= λ k. Some (Drill size moves seed games n k)
+five_from _ given = None
 
-abbrev pub form_with : Command → List ℕ → Option ℕ → Option ℕ → Option Form
-form_with commands.Prove [] nodes reach = prove_from nodes reach
-form_with commands.Check [] nodes reach = without_options Check nodes reach
-form_with commands.Play [] nodes reach = without_options Play nodes reach
-form_with commands.Explain [] nodes reach = explain_from nodes reach
-form_with commands.Drill numbers nodes reach = drill_from numbers nodes reach
-form_with _ (n ∷ numbers) nodes reach = None
+abbrev pub drill_from : List ℕ → (Name → Option ℕ) → Option Form
+drill_from numbers given = if is_none (given Table) then five_from numbers given else None
+
+abbrev pub form_with : Command → List ℕ → (Name → Option ℕ) → Option Form
+form_with commands.Prove [] given = prove_from given
+form_with commands.Check [] given = without_options Check given
+form_with commands.Play [] given = without_options Play given
+form_with commands.Explain [] given = explain_from given
+form_with commands.Drill numbers given = drill_from numbers given
+form_with _ (n ∷ numbers) given = None

@@ -11,7 +11,7 @@ use Rattle.victor_words.specs.declared.form.Command.TheVariants as commands
 use Rattle.victor_words.specs.declared.form.Form.{Form}
 use Rattle.victor_words.specs.declared.form.Form.TheVariants.{Prove, Check, Play, Explain, Drill}
 use Rattle.victor_words.specs.declared.piece.Name.{Name}
-use Rattle.victor_words.specs.declared.piece.Name.TheVariants.{Nodes, Reach}
+use Rattle.victor_words.specs.declared.piece.Name.TheVariants.{Nodes, Reach, Table}
 use Rattle.victor_words.specs.declared.piece.Piece.{Piece}
 use Rattle.victor_words.specs.declared.piece.Piece.TheVariants.{Apart, Joined, Own}
 
@@ -27,6 +27,7 @@ command_word commands.Drill = codes "drill"
 abbrev pub name_word : Name → List ℕ
 name_word Nodes = codes "--nodes"
 name_word Reach = codes "--reach"
+name_word Table = codes "--table"
 
 -- Behind the command the words are pieces: an option and its number, in two words or in one with `=` between them, or a
 -- number alone.
@@ -40,8 +41,13 @@ words_of (Own n) = decimal n ∷ []
 abbrev pub same_name : Name → Name → Bool
 same_name Nodes Nodes = true
 same_name Nodes Reach = false
+same_name Nodes Table = false
 same_name Reach Nodes = false
 same_name Reach Reach = true
+same_name Reach Table = false
+same_name Table Nodes = false
+same_name Table Reach = false
+same_name Table Table = true
 
 abbrev pub given_by : Name → Piece → List ℕ
 given_by name (Apart other n) = if same_name name other then n ∷ [] else []
@@ -81,21 +87,21 @@ numbers_of (Drill size moves seed games nodes reach) = size.cols ∷ size.rows �
 abbrev pub number_in : Form → Name → Option ℕ
 number_in (Prove nodes reach front table) Nodes = Some nodes
 number_in (Prove nodes reach front table) Reach = Some reach
+number_in (Prove nodes reach front table) Table = Some table
 number_in Check name = None
 number_in Play name = None
 number_in (Explain reach) Nodes = None
 number_in (Explain reach) Reach = Some reach
+number_in (Explain reach) Table = None
 number_in (Drill size moves seed games nodes reach) Nodes = Some nodes
 number_in (Drill size moves seed games nodes reach) Reach = Some reach
+number_in (Drill size moves seed games nodes reach) Table = None
 
 -- the number of an option that isn't given
 abbrev pub usual : Name → ℕ
 usual Nodes = 1000000
 usual Reach = 1000
-
--- how many settled positions are kept in a table; no option says so yet
-abbrev pub usual_table : ℕ
-usual_table = 100000
+usual Table = 100000
 
 -- how many positions a search may enter, and at how many sets of zones a walk may look
 abbrev pub AreNodes : ℕ → Type 0
@@ -103,6 +109,10 @@ AreNodes n = IsInRange 1 10000000 n
 
 abbrev pub IsReach : ℕ → Type 0
 IsReach n = IsInRange 0 1000000 n
+
+-- how many settled positions a table may keep
+abbrev pub IsRoom : ℕ → Type 0
+IsRoom n = IsInRange 1 1000000 n
 
 -- games on a board with lines of four, with their most moves, the number that they are made from, and how many they are
 pub record AreGames (board : Board) (most from count : ℕ) : Type 0 where
@@ -113,7 +123,7 @@ pub record AreGames (board : Board) (most from count : ℕ) : Type 0 where
 
 -- the numbers of a form are in their ranges
 abbrev pub HasRanges : Form → Type 0
-HasRanges (Prove nodes reach front table) = AreNodes nodes × IsReach reach × (front ≡ None) × (table ≡ usual_table)
+HasRanges (Prove nodes reach front table) = AreNodes nodes × IsReach reach × (front ≡ None) × IsRoom table
 HasRanges Check = Unit {0}
 HasRanges Play = Unit {0}
 HasRanges (Explain reach) = IsReach reach

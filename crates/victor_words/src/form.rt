@@ -16,7 +16,7 @@ pub enum Form {
         reach: u32,
         /// How often a front is grown before the search. No words ask for a front yet: None.
         front: Option<u32>,
-        /// How many settled positions are kept in a table. No words say so yet: 100,000.
+        /// How many settled positions a table keeps, from 1 to 1,000,000; 100,000 where the words don't say.
         table: u32,
     },
     /// Read a proof and say whether it is right.

@@ -16,6 +16,7 @@ const MOST_NUMBERS: usize = 5;
 pub(crate) struct Found {
     pub(crate) nodes: Option<u32>,
     pub(crate) reach: Option<u32>,
+    pub(crate) table: Option<u32>,
     pub(crate) numbers: ArrayVec<u32, MOST_NUMBERS>,
 }
 
@@ -28,6 +29,7 @@ pub(crate) fn found_in(words: &[String]) -> Option<Found>
     let mut found = Found {
         nodes: None,
         reach: None,
+        table: None,
         numbers: ArrayVec::new(),
     };
     let mut left = words;
@@ -49,17 +51,22 @@ impl Found {
             Piece::Own(number) => self.own(number),
         }
     }
+
     /// What was found with a number for an option; None exactly where the option was given before.
     fn given(self, name: Name, number: u32) -> Option<Found>
         ensures { MatchOption result (IsTooMany self (Apart name number)) (AddsPiece self (Apart name number)) }
     {
-        match (name, self.nodes, self.reach) {
-            (Name::Nodes, None, _) => Some(Found {
+        match (name, self.nodes, self.reach, self.table) {
+            (Name::Nodes, None, _, _) => Some(Found {
                 nodes: Some(number),
                 ..self
             }),
-            (Name::Reach, _, None) => Some(Found {
+            (Name::Reach, _, None, _) => Some(Found {
                 reach: Some(number),
+                ..self
+            }),
+            (Name::Table, _, _, None) => Some(Found {
+                table: Some(number),
                 ..self
             }),
             _ => None,

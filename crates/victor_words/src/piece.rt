@@ -13,6 +13,8 @@ pub(crate) enum Name {
     Nodes,
     /// `--reach`
     Reach,
+    /// `--table`
+    Table,
 }
 
 /// One or two words behind the command that belong together.
@@ -35,6 +37,8 @@ impl Name {
             Some(Name::Nodes)
         } else if word == b"--reach".as_slice() {
             Some(Name::Reach)
+        } else if word == b"--table".as_slice() {
+            Some(Name::Table)
         } else {
             None
         }

@@ -2,7 +2,7 @@
 ghost use Rattle.std.specs.Prelude.{◌≡◌, ◌&&◌, map, string_bytes, List, ℕ, IfSome, is_none};
 ghost use Rattle.victor_words.specs.declared.form.Form.{Form};
 ghost use Rattle.victor_words.specs.Words.{IsReadAs, IsWritten, HasRanges};
-ghost use Rattle.victor_words.specs.Reading.{within, nodes_from, reach_from, size_from, prove_from, explain_from, drill_from, form_with};
+ghost use Rattle.victor_words.specs.Reading.{within, nodes_from, reach_from, table_from, size_from, five_from, number_found, form_with};
 
 use crate::form::{Command, Form};
 use crate::found::{Found, found_in};
@@ -20,7 +20,10 @@ const MOST_REACH: u32 = 1_000_000;
 /// How many sets of zones a walk looks at, where the words don't say.
 const USUAL_REACH: u32 = 1_000;
 
-/// How many settled positions are kept in a table, where the words don't say.
+/// The most settled positions that a table may be given to keep.
+const MOST_TABLE: u32 = 1_000_000;
+
+/// How many settled positions a table keeps, where the words don't say.
 const USUAL_TABLE: u32 = 100_000;
 
 /// The most moves that a game made from a number may be given.
@@ -56,19 +59,19 @@ pub fn a_list_of_words_is_at_most_one_form()
 
 /// The form of a command with what the words give; None exactly where the command hasn't these numbers and options.
 fn form_with(command: Command, found: &Found) -> Option<Form>
-    ensures { result ≡ form_with command found.now.numbers.items found.now.nodes found.now.reach }
+    ensures { result ≡ form_with command found.now.numbers.items (number_found found.now) }
 {
     let numbers = found.numbers.as_slice();
     match command {
-        Command::Drill => drill_form(numbers, found),
+        Command::Drill if found.table.is_none() => drill_form(numbers, found),
         _ if !numbers.is_empty() => None,
         Command::Prove => Some(Form::Prove {
             nodes: found.nodes()?,
             reach: found.reach()?,
             front: None,
-            table: USUAL_TABLE,
+            table: found.table()?,
         }),
-        Command::Explain if found.nodes.is_none() => Some(Form::Explain {
+        Command::Explain if found.nodes.is_none() && found.table.is_none() => Some(Form::Explain {
             reach: found.reach()?,
         }),
         Command::Check if found.has_no_option() => Some(Form::Check),
@@ -79,7 +82,7 @@ fn form_with(command: Command, found: &Found) -> Option<Form>
 
 /// The form of `drill` with these numbers.
 fn drill_form(numbers: &[u32], found: &Found) -> Option<Form>
-    ensures { result ≡ drill_from numbers.now found.now.nodes found.now.reach }
+    ensures { result ≡ five_from numbers.now (number_found found.now) }
 {
     let [cols, rows, moves, seed, games] = numbers else {
         return None;
@@ -129,9 +132,16 @@ impl Found {
         within(0, MOST_REACH, self.reach.unwrap_or(USUAL_REACH))
     }
 
-    fn has_no_option(&self) -> bool
-        ensures { result ≡ (is_none self.now.nodes && is_none self.now.reach) }
+    /// The number of `--table`, or the usual one; None exactly where it is out of range.
+    fn table(&self) -> Option<u32>
+        ensures { result ≡ table_from self.now.table }
     {
-        self.nodes.is_none() && self.reach.is_none()
+        within(1, MOST_TABLE, self.table.unwrap_or(USUAL_TABLE))
+    }
+
+    fn has_no_option(&self) -> bool
+        ensures { result ≡ (is_none self.now.nodes && (is_none self.now.reach && is_none self.now.table)) }
+    {
+        self.nodes.is_none() && self.reach.is_none() && self.table.is_none()
     }
 }

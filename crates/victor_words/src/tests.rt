@@ -11,19 +11,40 @@ fn words_of(alloc: Global, words: &[&str]) -> Result<Vec<String>, AllocError> {
         .try_collect(alloc)
 }
 
-/// The numbers of `--nodes` and of `--reach` that `prove` has.
-const PROVE: [(&[&str], u32, u32); 6] = [
-    (&["prove"], 1_000_000, 1_000),
-    (&["prove", "--nodes", "5"], 5, 1_000),
-    (&["prove", "--nodes=6", "--reach=0"], 6, 0),
-    (&["prove", "--reach", "0", "--nodes", "6"], 6, 0),
-    (&["prove", "--nodes", "10000000"], 10_000_000, 1_000),
-    (&["prove", "--reach=1000000", "--nodes", "1"], 1, 1_000_000),
+/// The numbers of `--nodes`, of `--reach` and of `--table` that `prove` has.
+const PROVE: [(&[&str], u32, u32, u32); 7] = [
+    (&["prove"], 1_000_000, 1_000, 100_000),
+    (&["prove", "--nodes", "5"], 5, 1_000, 100_000),
+    (&["prove", "--nodes=6", "--reach=0"], 6, 0, 100_000),
+    (
+        &["prove", "--reach", "0", "--table=1", "--nodes", "6"],
+        6,
+        0,
+        1,
+    ),
+    (
+        &["prove", "--nodes", "10000000"],
+        10_000_000,
+        1_000,
+        100_000,
+    ),
+    (
+        &["prove", "--reach=1000000", "--nodes", "1"],
+        1,
+        1_000_000,
+        100_000,
+    ),
+    (
+        &["prove", "--table", "1000000"],
+        1_000_000,
+        1_000,
+        1_000_000,
+    ),
 ];
 
 #[test]
 fn prove_has_its_options_in_any_order_and_spelling(rt: HostRuntime) -> Result<(), Fail> {
-    for (words, nodes, reach) in PROVE {
+    for (words, nodes, reach, table) in PROVE {
         let got = read_words(&words_of(rt.alloc(), words)?);
         assert_eq!(rt;
             got,
@@ -31,7 +52,7 @@ fn prove_has_its_options_in_any_order_and_spelling(rt: HostRuntime) -> Result<()
                 nodes,
                 reach,
                 front: None,
-                table: 100_000
+                table
             }),
             "{words:?}"
         );
@@ -119,7 +140,7 @@ fn options_stand_before_between_and_after_the_numbers(rt: HostRuntime) -> Result
 }
 
 /// Lists of words that are no form.
-const NONE: [&[&str]; 49] = [
+const NONE: [&[&str]; 53] = [
     &[],
     &[""],
     &["", "prove"],
@@ -155,7 +176,11 @@ const NONE: [&[&str]; 49] = [
     &["prove", "--reach", "00"],
     &["prove", "--reach", "18446744073709551616"],
     &["prove", "--front", "3"],
-    &["prove", "--table=7"],
+    &["prove", "--table=0"],
+    &["prove", "--table", "1000001"],
+    &["prove", "--table=7", "--table", "7"],
+    &["explain", "--table=7"],
+    &["drill", "4", "4", "12", "1", "1", "--table=7"],
     &["check", "--reach", "3"],
     &["play", "--nodes", "3"],
     &["explain", "--nodes", "3"],

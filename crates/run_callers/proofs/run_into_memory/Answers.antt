@@ -1,3 +1,4 @@
+use Rattle.std.proofs.Common.{◌≡◌, ◌⊎◌, subst}
 use Rattle.victor_run.proofs.Completed.{by_form}
 use Rattle.run_callers.proofs.Kept.{still_held, holds_proof}
 use Rattle.run_callers.proofs.run_into_memory.Goals as goal
@@ -10,4 +11,4 @@ returns-clause-kept g c =
 pub returns-clause-proved : goal.returns-clause-proved
 returns-clause-proved g c = λ nodes reach table front written ended.
     let outcome = c.run.ensures.outcome in
-    holds_proof nodes reach table front _ _ c.args.out.now.written c.run.new.out.written outcome.2 c.run.result (by_form _ _ _ outcome.2 (outcome.0, outcome.1, outcome.4) written) outcome.3 ended
+    holds_proof nodes reach table front _ _ c.args.out.now.written c.run.new.out.written outcome.2 (by_form _ _ _ outcome.2 (outcome.0, outcome.1, outcome.4) written) (subst (λ status. (status ≡ 0) ⊎ (status ≡ 5)) outcome.3 ended)

@@ -1,0 +1,3 @@
+pub mod KeyFields
+pub mod Keys
+pub mod Table

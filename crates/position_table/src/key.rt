@@ -1,0 +1,76 @@
+//! What an entry of the table is for, in 40 bytes: the words of both sides' men, the board's size and the question. A
+//! contract sees the position and the question. The hash is fed the words and not the board's size, since the positions
+//! of one search are all of one board.
+ghost use Rattle.std.specs.Prelude.{◌≡◌};
+ghost use Rattle.position_table.specs.Keys.{same_key, hashed, alike_keys, same_key_equiv, same_key_partial};
+
+use crate::word::Word;
+use board_bits::{Position, Question, Size};
+use std::hash::{Hash, Hasher};
+use std::marker::Model;
+
+/// A position and what is asked of it. Two are equal where the positions are the same and the question is one.
+#[derive(Drop)]
+pub(crate) struct Key {
+    white: Word,
+    black: Word,
+    size: Size,
+    question: Question,
+}
+
+impl Model for Key {
+    ghost use Rattle.position_table.specs.Keys.{Key as Asked};
+
+    ghost Value = { Asked };
+
+    ghost use Rattle.position_table.specs.KeyFields.{key_of, IsKey};
+
+    ghost view = { key_of };
+
+    ghost invariant = { IsKey };
+}
+
+impl Key {
+    /// The key of this position and this question.
+    pub(crate) fn of(position: &Position, question: Question) -> Key
+        ensures { result ≡ record { position = position.now; question = question } }
+    {
+        Key {
+            white: Word::of(position.white().bits()),
+            black: Word::of(position.black().bits()),
+            size: position.size(),
+            question,
+        }
+    }
+}
+
+impl PartialEq for Key {
+    ghost eq = { same_key };
+
+    ghost laws = { same_key_partial };
+
+    fn eq(&self, other: &Key) -> bool {
+        let own = (self.white.number(), self.black.number(), self.question);
+        let others = (other.white.number(), other.black.number(), other.question);
+        own == others && self.size.same(&other.size)
+    }
+}
+
+impl Eq for Key {
+    ghost laws = { same_key_equiv };
+}
+
+impl Hash for Key {
+    ghost hash_input = { hashed };
+
+    ghost respects_eq = { alike_keys };
+
+    fn hash<H: Hasher>(&self, state: &mut H) {
+        state.write_u128(self.white.number());
+        state.write_u128(self.black.number());
+        state.write_u8(match self.question {
+            Question::WhiteWins => 0,
+            Question::BlackWins => 1,
+        });
+    }
+}
