@@ -87,16 +87,16 @@ module _ (side : Side) where
   row_dual (inner p kids rest) proof smallest =
       dual_joined smallest _ _ _ _ (row_dual kids proof (takes_least side proof p) ∙ ap (λ w. is_infinite (number_of side (not proof) w kids)) (sym (turned proof p))) (row_dual rest proof smallest)
 
-  node_dual : (p : Position) (kids : Row) (proof : Bool) → is_zero (node_number side proof p kids) ≡ is_infinite (node_number side (not proof) p kids)
+  pub node_dual : (p : Position) (kids : Row) (proof : Bool) → is_zero (node_number side proof p kids) ≡ is_infinite (node_number side (not proof) p kids)
   node_dual p kids proof = row_dual kids proof (takes_least side proof p) ∙ ap (λ w. is_infinite (number_of side (not proof) w kids)) (sym (turned proof p))
 
   -- ---- a settled node as a leaf
 
-  settled_yes : (p : Position) (kids : Row) (proof : Bool) → is_zero (node_number side true p kids) ≡ true → leaf_number proof Yes ≡ node_number side proof p kids
+  pub settled_yes : (p : Position) (kids : Row) (proof : Bool) → is_zero (node_number side true p kids) ≡ true → leaf_number proof Yes ≡ node_number side proof p kids
   settled_yes p kids true h = sym (zero_is _ h)
   settled_yes p kids false h = sym (infinite_is _ (sym (node_dual p kids true) ∙ h))
 
-  settled_no : (p : Position) (kids : Row) (proof : Bool) → is_zero (node_number side false p kids) ≡ true → leaf_number proof No ≡ node_number side proof p kids
+  pub settled_no : (p : Position) (kids : Row) (proof : Bool) → is_zero (node_number side false p kids) ≡ true → leaf_number proof No ≡ node_number side proof p kids
   settled_no p kids true h = sym (infinite_is _ (sym (node_dual p kids false) ∙ h))
   settled_no p kids false h = sym (zero_is _ h)
 

@@ -18,13 +18,13 @@ module _ (side : Side) where
   clean_stays (leaf p v rest) h = ap (leaf p v) (clean_stays rest h)
   clean_stays (inner p kids rest) h = rw (h.0, clean_stays kids h.1, clean_stays rest h.2) refl
 
-  clean_as : (v : Verdict) (p : Position) (kids rest : Row) → verdict_on side p kids ≡ v → IsClean side kids → IsClean side rest → IsClean side (node_as v p kids rest)
+  pub clean_as : (v : Verdict) (p : Position) (kids rest : Row) → verdict_on side p kids ≡ v → IsClean side kids → IsClean side rest → IsClean side (node_as v p kids rest)
   clean_as Unsettled p kids rest e k r = (e, k, r)
   clean_as Yes p kids rest e k r = r
   clean_as No p kids rest e k r = r
 
   module _ (closed : Side → Position → Bool) where
-    clean_leaves : (ps : List Position) → IsClean side (leaves side closed ps)
+    pub clean_leaves : (ps : List Position) → IsClean side (leaves side closed ps)
     clean_leaves [] = tt
     clean_leaves (p ∷ ps) = clean_leaves ps
 

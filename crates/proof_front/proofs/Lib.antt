@@ -1,0 +1,12 @@
+pub mod Cells
+pub mod Reading
+pub mod Opening
+pub mod Going
+pub mod Leaves
+pub mod Parts
+pub mod Renewing
+pub mod Expanding
+pub mod Skipping
+pub mod Descending
+pub mod Branches
+pub mod Root

@@ -1,0 +1,52 @@
+-- A front as its callers see it: a tree, the side that is asked about, the reach of the plans, and the number of slots.
+use Rattle.std.specs.Prelude.{◌≡◌, ℕ, ◌-◌, nat_lt, ◌≤◌, List, [], length, Option, Some, Bool}
+use Rattle.game_rules.specs.Position.{Position}
+use Rattle.game_rules.specs.declared.Side.{Side}
+use Rattle.game_rules.specs.declared.Side.TheVariants.{White, Black}
+use Rattle.game_rules.specs.declared.Question.{Question}
+use Rattle.game_rules.specs.declared.Question.TheVariants.{WhiteWins, BlackWins}
+use Rattle.front_rules.specs.Front.{Row, nothing, leaf, inner, node_count, asked, front}
+use Rattle.proof_front.specs.Rows.{Placed, row_of, Lies, row_at}
+use Rattle.proof_front.specs.declared.node.Node.{Node}
+
+-- the side that a question asks about
+abbrev pub side_asked : Question → Side
+side_asked WhiteWins = White
+side_asked BlackWins = Black
+
+pub record FrontState : Type 0 where
+  pub side : Side
+  pub reach : ℕ
+  pub slots : List (Option Node)
+  pub root : ℕ
+
+abbrev pub tree_of : FrontState → Row
+tree_of f = row_at f.slots (Some f.root)
+
+-- how many slots the front has
+abbrev pub capacity : FrontState → ℕ
+capacity f = length f.slots
+
+-- the row beside the first node
+abbrev pub beside : Row → Row
+beside nothing = nothing
+beside (leaf p v rest) = rest
+beside (inner p kids rest) = rest
+
+-- A tree of one root lies in the pool, and nothing beside it; no inner node is settled.
+pub record IsFront (side : Side) (slots : List (Option Node)) (root : ℕ) : Type 0 where
+  pub tree : Placed
+  pub lies : Lies side slots (Some root) tree []
+  pub alone : beside (row_of tree) ≡ nothing
+  pub few : length slots ≤ 1000000
+
+-- the most-proving leaf has more moves than there are free slots
+abbrev pub is_full : Side → ℕ → Row → Bool
+is_full side slots tree = nat_lt (slots - node_count tree) (asked side tree)
+
+-- The front of a position for a side, after so many expansions.
+pub record IsFrontOf (p : Position) (side : Side) (reach n slots : ℕ) (f : FrontState) : Type 0 where
+  pub tree : tree_of f ≡ front p side reach n
+  pub same_side : f.side ≡ side
+  pub same_reach : f.reach ≡ reach
+  pub same_slots : capacity f ≡ slots
