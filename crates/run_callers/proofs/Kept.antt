@@ -72,7 +72,7 @@ still_held (Some (Drill size moves seed games nodes reach)) input left old new t
 
 -- behind what was there stands the proof that a run of `prove` wrote
 pub holds_proof : (nodes reach table : ℕ) (front : Option ℕ) (input left : Option (List ℕ)) (old new : List ℕ) (ending : Ending)
-    → Outcome (Some (Prove nodes reach front table)) (record { input = input; left = left; old = Some old; new = Some new }) ending → (status_of ending ≡ 0) ⊎ (status_of ending ≡ 5) → HoldsProof nodes reach old new
+    → Outcome (Some (Prove nodes reach front table)) (record { input = input; left = left; old = Some old; new = Some new }) ending → (status_of ending ≡ 0) ⊎ (status_of ending ≡ 5) → HoldsProof nodes reach front old new
 holds_proof nodes reach table front input left old new endings.Done o ended =
     let proved = o.holds.0 in
     record { game = o.taken; position = proved.position; is_game = proved.game; verdict = proved.verdict; text = proved.text; proof = proved.proof; behind = proved.written }

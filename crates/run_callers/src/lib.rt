@@ -30,7 +30,7 @@ pub fn run_into_memory<S: Source>(
 ) -> u8
     ensures kept { StillHolds out.old.written out.new.written }
     ensures proved { (nodes reach table : ℕ) (front : Option ℕ) → IsWritten (map string_bytes words.now) (forms.Prove nodes reach front table) → (result ≡ 0) ⊎ (result ≡ 5)
-        → HoldsProof nodes reach out.old.written out.new.written }
+        → HoldsProof nodes reach front out.old.written out.new.written }
 {
     run(alloc, words, source, out, &mut NullSink::new())
 }

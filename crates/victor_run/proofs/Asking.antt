@@ -1,23 +1,29 @@
 -- The two questions of a proof, one behind the other.
-use Rattle.std.proofs.Common.{◌≡◌, ◌≢◌, ℕ, ◌+◌, ◌≤◌, true, false, List, [], ◌++◌, Option, Result, Ok, Err, refl, sym, ap, ◌∙◌, subst, inl, inr, arith, append-nil}
-use Rattle.std.specs.Io.KnownBytes.{Appends}
+use mathlib.Core.Bool.{true≢false}
+use Rattle.std.proofs.Common.{◌≡◌, ◌≢◌, ℕ, ◌+◌, ◌<◌, ◌≤◌, Bool, true, false, List, [], ◌++◌, Option, None, Result, Ok, Err, IfOk, length, refl, sym, ap, ◌∙◌, subst, inl, inr, arith, append-nil, append_assoc}
 use Rattle.std.proofs.lemmas.Bool.{cases_Bool}
 use Rattle.device_rules.specs.Devices.{AppendsPrefix}
 use Rattle.device_rules.proofs.DeviceLaws.{AppendsPrefix_more}
+use Rattle.game_rules.specs.Cost.{count}
 use Rattle.game_rules.specs.Position.{Position, same_side, side_to_move, other}
+use Rattle.game_rules.specs.Value.{wins}
 use Rattle.game_rules.proofs.Moves.{same_side_is, other_side, other_other}
 use Rattle.game_rules.specs.declared.Side.{Side}
 use Rattle.game_rules.specs.declared.Side.TheVariants.{White, Black}
-use Rattle.proof_text.specs.Lemma.{claim_for}
+use Rattle.proof_text.specs.Lemma.{claim_for, Lemma}
 use Rattle.proof_text.specs.Right.{Shown, Shows, IsVerdict, IsTrueVerdict}
 use Rattle.proof_text.specs.Spelling.{lines_of}
+use Rattle.proof_text.specs.Written.{IsAskedInTurn, remark_line}
 use Rattle.proof_text.proofs.Append.{Shows_more, AreRight_append}
 use Rattle.proof_text.proofs.Sound.{AreTrue_none, true_lemmas, true_verdict}
 use Rattle.proof_text.specs.declared.Verdict.{Verdict}
 use Rattle.proof_text.specs.declared.Verdict.TheVariants.{Draw, Unknown}
 use Rattle.position_table.specs.Table.{Entries}
+use Rattle.deep_search.specs.Planned.{solved_within}
 use Rattle.deep_search.specs.Search.{is_whole, uncounted, moment, Solves}
-use Rattle.victor_run.specs.Questions.{is_whole_verdict, won_by, Asks}
+use Rattle.deep_search.specs.Tables.{FitsTable}
+use Rattle.victor_run.specs.SizedFronts.{LeavesRemark}
+use Rattle.victor_run.specs.Questions.{AsksSide, is_whole_verdict, won_by, IsRemarkedInTurn, HasBothRemarks, verdict_told, Asks}
 use Rattle.deep_search.specs.declared.solving.Answer.{Answer}
 use Rattle.deep_search.specs.declared.solving.SearchStop.{SearchStop}
 use Rattle.deep_search.specs.declared.solving.SearchStop.TheVariants.{Spent, WriteFault}
@@ -38,119 +44,224 @@ won_known winner to_move n h = elim (cases_Bool (same_side winner to_move)) [
   | inr against ↦ cc (rw against at h)
 ]
 
+-- ---- texts
+
 -- a text that stops stands as its search does
 stopped_text : (stop : SearchStop) (old new : Option (List ℕ)) (text : List ℕ) → AppendsPrefix (is_whole (Err stop)) old new text → AppendsPrefix (is_whole_verdict (Err stop)) old new text
 stopped_text Spent old new text h = h
 stopped_text WriteFault old new text h = h
 
-module _ (root : Position) (nodes reach : ℕ) (before after : Entries) (old new : Option (List ℕ)) (count : ℕ) where
+-- the remark and the lemmas of one question alone
+alone : (b : Bool) (old new : Option (List ℕ)) (remark lemmas : List ℕ) → AppendsPrefix b old new (remark ++ lemmas) → AppendsPrefix b old new (remark ++ (lemmas ++ []))
+alone b old new remark lemmas h = subst (λ text. AppendsPrefix b old new (remark ++ text)) (sym (append-nil lemmas)) h
+
+-- those of both
+together : (b : Bool) (old held new : Option (List ℕ)) (remark lemmas also more : List ℕ) → AppendsPrefix true old held (remark ++ lemmas) → AppendsPrefix b held new (also ++ more)
+    → AppendsPrefix b old new (remark ++ (lemmas ++ (also ++ more)))
+together b old held new remark lemmas also more first second =
+    subst (AppendsPrefix b old new) (append_assoc remark lemmas (also ++ more)) (AppendsPrefix_more b old held new (remark ++ lemmas) (also ++ more) first second)
+
+-- ---- one question
+
+module _ (root : Position) (side : Side) (reach : ℕ) (slots : Option ℕ) (known : List Shown) (most : ℕ) (before after : Entries) (old mid new : Option (List ℕ)) (total : ℕ) where
+  -- its remark, and behind it what its search wrote
+  pub asks_side : (result : Result Answer SearchStop) → LeavesRemark slots reach root side true old mid → Solves root root side reach known (moment before mid) (moment after new) total result → total + uncounted result ≤ most
+      → AsksSide root side reach slots known most (moment before old) (moment after new) total result
+  asks_side result remarks solves few = record {
+    remark = remarks.remark;
+    lemmas = solves.wrote.more;
+    shown = solves.wrote.shown;
+    remarked = remarks.right;
+    line = remarks.line;
+    text = AppendsPrefix_more (is_whole result) old mid new (remark_line remarks.remark) (lines_of solves.wrote.more) remarks.text solves.wrote.text;
+    right = solves.wrote.right;
+    sided = solves.wrote.sided;
+    planned = solves.wrote.planned;
+    few = omega (arith, solves.wrote.counted, few);
+    counted = at result solves.wrote.counted;
+    fits = solves.wrote.fits;
+    named = solves.named;
+  }
+    where
+      at : (result : Result Answer SearchStop) → length (known ++ solves.wrote.shown) ≡ total + uncounted result → IfOk result (λ answer. length (known ++ solves.wrote.shown) ≡ total)
+      at (Ok answer) counted = omega (arith, counted)
+      at (Err stop) counted = tt
+
+module _ (root : Position) (side : Side) (reach : ℕ) (slots : Option ℕ) (known : List Shown) (most : ℕ) (before : Entries) (old new : Option (List ℕ)) (total : ℕ) where
+  -- its remark was cut
+  pub asks_cut : LeavesRemark slots reach root side false old new → FitsTable before known → length known ≤ most → AsksSide root side reach slots known most (moment before old) (moment before new) total (Err WriteFault)
+  asks_cut remarks fits few = record {
+    remark = remarks.remark;
+    lemmas = [];
+    shown = [];
+    remarked = remarks.right;
+    line = remarks.line;
+    text = subst (AppendsPrefix false old new) (sym (append-nil (remark_line remarks.remark))) remarks.text;
+    right = append-nil known;
+    sided = tt;
+    planned = tt;
+    few = omega (arith, few, ap length (append-nil known));
+    counted = tt;
+    fits = subst (FitsTable before) (sym (append-nil known)) fits;
+    named = tt;
+  }
+
+-- ---- which questions have remarks
+
+module _ (root : Position) (nodes reach : ℕ) (slots : Option ℕ) where
+  -- White's question was spent, so the budget doesn't suffice for it
+  unasked : (stop : SearchStop) (remark : Option (List ℕ)) → (stop ≡ Spent → nodes < count (solved_within reach) White root) → is_whole_verdict (Err stop) ≡ true
+      → HasBothRemarks slots nodes reach root remark (verdict_told (Err stop))
+  unasked Spent remark short whole fails (inl known) = absurd (known refl)
+  unasked Spent remark short whole fails (inr within) = absurd (omega (arith, short refl, within))
+  unasked WriteFault remark short whole fails known = absurd (true≢false (sym whole))
+
+  -- White wins, so Black isn't asked about
+  unneeded : (remark : Option (List ℕ)) (v : Verdict) → wins White root ≡ true → HasBothRemarks slots nodes reach root remark v
+  unneeded remark v won fails known = absurd (true≢false (sym won ∙ fails))
+
+-- lemmas of Black's question come in its turn
+pub in_turn : (slots : Option ℕ) (reach : ℕ) (root : Position) (mid : List Shown) (remark : Option (List ℕ)) (lemmas : List Lemma) → IsRemarkedInTurn slots reach root mid remark lemmas → IsAskedInTurn root mid lemmas
+in_turn slots reach root mid remark lemmas (inl asked) some = (asked.1, asked.2)
+in_turn slots reach root mid remark lemmas (inr none) some = absurd (some none.1)
+
+-- ---- both questions
+
+module _ (root : Position) (nodes reach : ℕ) (slots : Option ℕ) (before after : Entries) (old new : Option (List ℕ)) (total most : ℕ) (within : most ≤ nodes) where
   -- the first question stopped
-  pub asks_none : (stop : SearchStop) → Solves root root White reach [] (moment before old) (moment after new) count (Err stop) → count + uncounted (Err stop) ≤ nodes → Asks root nodes reach old new (Err stop)
-  asks_none stop white few = record {
-    white = white.wrote.more;
-    mid = white.wrote.shown;
+  pub asks_none : (stop : SearchStop) → AsksSide root White reach slots [] most (moment before old) (moment after new) total (Err stop) → (stop ≡ Spent → nodes < count (solved_within reach) White root)
+      → Asks root nodes reach slots old new (Err stop)
+  asks_none stop white short = record {
+    white_remark = white.remark;
+    white = white.lemmas;
+    mid = white.shown;
+    black_remark = None;
     black = [];
-    after = white.wrote.shown;
-    text = stopped_text stop old new (lines_of white.wrote.more ++ []) (subst (AppendsPrefix (is_whole (Err stop)) old new) (sym (append-nil (lines_of white.wrote.more))) white.wrote.text);
-    white_right = white.wrote.right;
+    after = white.shown;
+    text = stopped_text stop old new (remark_line white.remark ++ (lines_of white.lemmas ++ [])) (alone (is_whole (Err stop)) old new (remark_line white.remark) (lines_of white.lemmas) white.text);
+    white_remarked = white.remarked;
+    white_line = white.line;
+    black_remarked = inr (refl, refl);
+    black_line = tt;
+    both_remarked = unasked root nodes reach slots stop None short;
+    white_right = white.right;
     black_right = refl;
-    white_sided = white.wrote.sided;
+    white_sided = white.sided;
     black_sided = tt;
-    white_planned = white.wrote.planned;
+    white_planned = white.planned;
     black_planned = tt;
-    asked = λ some. absurd (some refl);
     verdict = tt;
-    few = omega (arith, white.wrote.counted, few);
+    few = omega (arith, white.few, within);
   }
 
   -- White wins
-  pub asks_white : (answer : Answer) (to_move : Side) (v : Verdict) → Solves root root White reach [] (moment before old) (moment after new) count (Ok answer) → answer.yes ≡ true → to_move ≡ side_to_move root
-      → v ≡ won_by White to_move answer.lemma → count ≤ nodes → Asks root nodes reach old new (Ok v)
-  asks_white answer to_move v white won turn told few = record {
-    white = white.wrote.more;
-    mid = white.wrote.shown;
+  pub asks_white : (answer : Answer) (to_move : Side) (v : Verdict) → AsksSide root White reach slots [] most (moment before old) (moment after new) total (Ok answer) → answer.yes ≡ true → to_move ≡ side_to_move root
+      → wins White root ≡ true → v ≡ won_by White to_move answer.lemma → Asks root nodes reach slots old new (Ok v)
+  asks_white answer to_move v white won turn wins_root told = record {
+    white_remark = white.remark;
+    white = white.lemmas;
+    mid = white.shown;
+    black_remark = None;
     black = [];
-    after = white.wrote.shown;
-    text = subst (Appends old new) (sym (append-nil (lines_of white.wrote.more))) white.wrote.text;
-    white_right = white.wrote.right;
+    after = white.shown;
+    text = alone true old new (remark_line white.remark) (lines_of white.lemmas) white.text;
+    white_remarked = white.remarked;
+    white_line = white.line;
+    black_remarked = inr (refl, refl);
+    black_line = tt;
+    both_remarked = λ _. unneeded root nodes reach slots None v wins_root;
+    white_right = white.right;
     black_right = refl;
-    white_sided = white.wrote.sided;
+    white_sided = white.sided;
     black_sided = tt;
-    white_planned = white.wrote.planned;
+    white_planned = white.planned;
     black_planned = tt;
-    asked = λ some. absurd (some refl);
     verdict = (
-      rw told (won_verdict root white.wrote.shown White to_move answer.lemma turn (subst (λ b. Shows white.wrote.shown answer.lemma root (claim_for White b)) won white.named)),
+      rw told (won_verdict root white.shown White to_move answer.lemma turn (subst (λ b. Shows white.shown answer.lemma root (claim_for White b)) won white.named)),
       (λ h. won_known White to_move answer.lemma (sym told ∙ h)),
     );
-    few = omega (arith, white.wrote.counted, few);
+    few = omega (arith, white.few, within);
   }
 
-module _ (root : Position) (nodes reach : ℕ) (before mid after : Entries) (old held new : Option (List ℕ)) (count : ℕ) (first : Answer) (white : Solves root root White reach [] (moment before old) (moment mid held) count (Ok first)) (none : first.yes ≡ false) (counted : ℕ) where
-  white_fails : Shows white.wrote.shown first.lemma root (claim_for White false)
-  white_fails = subst (λ b. Shows white.wrote.shown first.lemma root (claim_for White b)) none white.named
+module _ (root : Position) (nodes reach : ℕ) (slots : Option ℕ) (before mid after : Entries) (old held new : Option (List ℕ)) (total : ℕ) (first : Answer)
+    (begun : ℕ) (white : AsksSide root White reach slots [] begun (moment before old) (moment mid held) total (Ok first)) (none : first.yes ≡ false) (most counted : ℕ) (within : most ≤ nodes) where
+  white_fails : Shows white.shown first.lemma root (claim_for White false)
+  white_fails = subst (λ b. Shows white.shown first.lemma root (claim_for White b)) none white.named
 
   -- the second question stopped
-  pub asks_one : (stop : SearchStop) → Solves root root Black reach white.wrote.shown (moment mid held) (moment after new) counted (Err stop) → counted + uncounted (Err stop) ≤ nodes → Asks root nodes reach old new (Err stop)
-  asks_one stop black few = record {
-    white = white.wrote.more;
-    mid = white.wrote.shown;
-    black = black.wrote.more;
-    after = (white.wrote.shown ++ black.wrote.shown);
-    text = stopped_text stop old new (lines_of white.wrote.more ++ lines_of black.wrote.more) (AppendsPrefix_more (is_whole (Err stop)) old held new (lines_of white.wrote.more) (lines_of black.wrote.more) white.wrote.text black.wrote.text);
-    white_right = white.wrote.right;
-    black_right = black.wrote.right;
-    white_sided = white.wrote.sided;
-    black_sided = black.wrote.sided;
-    white_planned = white.wrote.planned;
-    black_planned = black.wrote.planned;
-    asked = λ _. (first.lemma, white_fails);
+  pub asks_one : (stop : SearchStop) → AsksSide root Black reach slots white.shown most (moment mid held) (moment after new) counted (Err stop) → Asks root nodes reach slots old new (Err stop)
+  asks_one stop black = record {
+    white_remark = white.remark;
+    white = white.lemmas;
+    mid = white.shown;
+    black_remark = black.remark;
+    black = black.lemmas;
+    after = (white.shown ++ black.shown);
+    text = stopped_text stop old new (remark_line white.remark ++ (lines_of white.lemmas ++ (remark_line black.remark ++ lines_of black.lemmas)))
+        (together (is_whole (Err stop)) old held new (remark_line white.remark) (lines_of white.lemmas) (remark_line black.remark) (lines_of black.lemmas) white.text black.text);
+    white_remarked = white.remarked;
+    white_line = white.line;
+    black_remarked = inl (black.remarked, first.lemma, white_fails);
+    black_line = black.line;
+    both_remarked = λ _ _ _. black.remarked;
+    white_right = white.right;
+    black_right = black.right;
+    white_sided = white.sided;
+    black_sided = black.sided;
+    white_planned = white.planned;
+    black_planned = black.planned;
     verdict = tt;
-    few = omega (arith, black.wrote.counted, few);
+    few = omega (arith, black.few, within);
   }
 
-  module _ (second : Answer) (black : Solves root root Black reach white.wrote.shown (moment mid held) (moment after new) counted (Ok second)) (few : counted ≤ nodes) where
+  module _ (second : Answer) (black : AsksSide root Black reach slots white.shown most (moment mid held) (moment after new) counted (Ok second)) where
     -- a verdict behind the lemmas of both questions
-    both_asked : (v : Verdict) → IsVerdict root (white.wrote.shown ++ black.wrote.shown) v × (v ≢ Unknown) → Asks root nodes reach old new (Ok v)
+    both_asked : (v : Verdict) → IsVerdict root (white.shown ++ black.shown) v × (v ≢ Unknown) → Asks root nodes reach slots old new (Ok v)
     both_asked v verdict = record {
-      white = white.wrote.more;
-      mid = white.wrote.shown;
-      black = black.wrote.more;
-      after = (white.wrote.shown ++ black.wrote.shown);
-      text = AppendsPrefix_more true old held new (lines_of white.wrote.more) (lines_of black.wrote.more) white.wrote.text black.wrote.text;
-      white_right = white.wrote.right;
-      black_right = black.wrote.right;
-      white_sided = white.wrote.sided;
-      black_sided = black.wrote.sided;
-      white_planned = white.wrote.planned;
-      black_planned = black.wrote.planned;
-      asked = λ _. (first.lemma, white_fails);
+      white_remark = white.remark;
+      white = white.lemmas;
+      mid = white.shown;
+      black_remark = black.remark;
+      black = black.lemmas;
+      after = (white.shown ++ black.shown);
+      text = together true old held new (remark_line white.remark) (lines_of white.lemmas) (remark_line black.remark) (lines_of black.lemmas) white.text black.text;
+      white_remarked = white.remarked;
+      white_line = white.line;
+      black_remarked = inl (black.remarked, first.lemma, white_fails);
+      black_line = black.line;
+      both_remarked = λ _ _ _. black.remarked;
+      white_right = white.right;
+      black_right = black.right;
+      white_sided = white.sided;
+      black_sided = black.sided;
+      white_planned = white.planned;
+      black_planned = black.planned;
       verdict = verdict;
-      few = omega (arith, black.wrote.counted, few);
+      few = omega (arith, black.few, within);
     }
 
     -- Black wins
-    pub asks_black : (to_move : Side) (v : Verdict) → second.yes ≡ true → to_move ≡ side_to_move root → v ≡ won_by Black to_move second.lemma → Asks root nodes reach old new (Ok v)
+    pub asks_black : (to_move : Side) (v : Verdict) → second.yes ≡ true → to_move ≡ side_to_move root → v ≡ won_by Black to_move second.lemma → Asks root nodes reach slots old new (Ok v)
     asks_black to_move v won turn told = both_asked v (
-      rw told (won_verdict root (white.wrote.shown ++ black.wrote.shown) Black to_move second.lemma turn (subst (λ b. Shows (white.wrote.shown ++ black.wrote.shown) second.lemma root (claim_for Black b)) won black.named)),
+      rw told (won_verdict root (white.shown ++ black.shown) Black to_move second.lemma turn (subst (λ b. Shows (white.shown ++ black.shown) second.lemma root (claim_for Black b)) won black.named)),
       (λ h. won_known Black to_move second.lemma (sym told ∙ h)),
     )
 
     -- neither wins
-    pub asks_draw : second.yes ≡ false → Asks root nodes reach old new (Ok (Draw first.lemma second.lemma))
+    pub asks_draw : second.yes ≡ false → Asks root nodes reach slots old new (Ok (Draw first.lemma second.lemma))
     asks_draw never =
         both_asked (Draw first.lemma second.lemma) (
           (
-            Shows_more white.wrote.shown black.wrote.shown first.lemma root (claim_for White false) white_fails,
-            subst (λ b. Shows (white.wrote.shown ++ black.wrote.shown) second.lemma root (claim_for Black b)) never black.named,
+            Shows_more white.shown black.shown first.lemma root (claim_for White false) white_fails,
+            subst (λ b. Shows (white.shown ++ black.shown) second.lemma root (claim_for Black b)) never black.named,
           ),
           (λ h. cc),
         )
 
 -- a verdict that the lemmas of both questions show is true
-pub asked_truth : (root : Position) (nodes reach : ℕ) (old new : Option (List ℕ)) (r : Result Verdict SearchStop) (asks : Asks root nodes reach old new r) (v : Verdict)
+pub asked_truth : (root : Position) (nodes reach : ℕ) (slots : Option ℕ) (old new : Option (List ℕ)) (r : Result Verdict SearchStop) (asks : Asks root nodes reach slots old new r) (v : Verdict)
     → IsVerdict root asks.after v → IsTrueVerdict root v
-asked_truth root nodes reach old new r asks v right =
+asked_truth root nodes reach slots old new r asks v right =
     true_verdict root asks.after v (true_lemmas root [] (asks.white ++ asks.black) asks.after (AreRight_append root [] asks.mid asks.after asks.white asks.black asks.white_right asks.black_right) AreTrue_none) right
 
 pub same_stop : {A : Type 0} (r : Result A SearchStop) (stop other : SearchStop) → r ≡ Err stop → r ≡ Err other → stop ≡ other

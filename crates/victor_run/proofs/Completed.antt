@@ -1,5 +1,5 @@
 -- How a run ends where no stream failed, by the form that its words are and by all of its input, where the source tells it.
-use Rattle.std.proofs.Common.{◌≡◌, ℕ, ◌≤◌, Bool, true, false, if◌then◌else◌, List, [], Option, Some, None, Ok, Err, IfSome, ◌⊎◌, refl, sym, ap, ◌∙◌, subst, inl, inr, arith}
+use Rattle.std.proofs.Common.{◌≡◌, ℕ, ◌≤◌, Bool, if◌then◌else◌, List, Option, Some, None, Ok, Err, IfSome, ◌⊎◌, refl, sym, ap, ◌∙◌, subst, inl, inr, arith}
 use Rattle.std.proofs.KnownBytes.{Consumes-whole}
 use Rattle.game_rules.specs.Board.{Board}
 use Rattle.game_rules.specs.Position.{Position}

@@ -1,4 +1,5 @@
 pub mod Ends
+pub mod Growing
 pub mod Asking
 pub mod Writing
 pub mod Drilling

@@ -1,5 +1,5 @@
 -- The text of a proof as it is put together: its head, the lemmas of both questions, and its last line.
-use Rattle.std.proofs.Common.{◌≡◌, ◌≢◌, ℕ, ◌+◌, ◌-◌, ◌≤◌, Bool, true, false, List, [], ◌∷◌, ◌++◌, map, Option, None, Result, Ok, Err, IfOk, is_ok, length, get_or, refl, sym, ap, ◌∙◌, subst, arith, append-nil, append_assoc, length-append, codes}
+use Rattle.std.proofs.Common.{◌≡◌, ◌≢◌, ℕ, ◌+◌, ◌-◌, ◌≤◌, Bool, true, false, List, [], ◌∷◌, ◌++◌, map, Option, Result, Ok, Err, IfOk, is_ok, length, get_or, refl, sym, ap, ◌∙◌, subst, inl, inr, arith, append-nil, append_assoc, length-append, codes}
 use Rattle.std.specs.Io.KnownBytes.{Appends}
 use Rattle.std.proofs.lemmas.Bool.{eq-eqb, ne_eqb}
 use Rattle.std.proofs.lemmas.List.{get_or-append_right, get_or-map, length-map}
@@ -10,12 +10,12 @@ use Rattle.game_rules.specs.Grammar.{IsGameText, game_text, board_line, moves_li
 use Rattle.proof_text.specs.Right.{IsVerdict}
 use Rattle.proof_text.specs.Spelling.{as_line, lines_of, verdict_line}
 use Rattle.proof_text.specs.Texts.{first_line, head_of}
-use Rattle.proof_text.specs.Written.{IsProof}
+use Rattle.proof_text.specs.Written.{IsProof, remark_line}
 use Rattle.proof_text.proofs.Written.{both_written, lemmas_stand, head_stands, proof_stands, proof_accepted, head_of_fed, head_of_bare}
 use Rattle.proof_text.specs.declared.Verdict.{Verdict}
 use Rattle.victor_run.specs.Proof.{head_for, IsProofOf, Writes}
-use Rattle.victor_run.specs.Questions.{Asks}
-use Rattle.victor_run.proofs.Asking.{asked_truth}
+use Rattle.victor_run.specs.Questions.{HasBothRemarks, Asks}
+use Rattle.victor_run.proofs.Asking.{asked_truth, in_turn}
 use Rattle.deep_search.specs.declared.solving.SearchStop.{SearchStop}
 use Rattle.deep_search.specs.declared.solving.SearchStop.TheVariants.{WriteFault}
 use Rattle.io_ports.specs.declared.ports.Failed.{Failed}
@@ -65,61 +65,87 @@ head_is bytes p game = at game.ended refl
 
 -- ---- the whole
 
--- the head, the lemmas of both questions, and the last line, of which a prefix may be missing
-stands_all : (b : Bool) (old mid held new : Option (List ℕ)) (head white black last : List ℕ) → Appends old mid head → Appends mid held (white ++ black) → AppendsPrefix b held new last
-    → AppendsPrefix b old new (head ++ (white ++ (black ++ last)))
-stands_all b old mid held new head white black last first both rest =
-    AppendsPrefix_more b old mid new head (white ++ (black ++ last)) first
-    (subst (AppendsPrefix b mid new) (append_assoc white black last) (AppendsPrefix_more b mid held new (white ++ black) last both rest))
+-- the head, the remarks and the lemmas of both questions, and the last line, of which a prefix may be missing
+stands_all : (b : Bool) (old mid held new : Option (List ℕ)) (head remark white also black last : List ℕ) → Appends old mid head → Appends mid held (remark ++ (white ++ (also ++ black))) → AppendsPrefix b held new last
+    → AppendsPrefix b old new (head ++ (remark ++ (white ++ (also ++ (black ++ last)))))
+stands_all b old mid held new head remark white also black last first both rest =
+    AppendsPrefix_more b old mid new head (remark ++ (white ++ (also ++ (black ++ last)))) first
+    (subst (AppendsPrefix b mid new) (moved) (AppendsPrefix_more b mid held new (remark ++ (white ++ (also ++ black))) last both rest))
+  where
+    moved : (remark ++ (white ++ (also ++ black))) ++ last ≡ remark ++ (white ++ (also ++ (black ++ last)))
+    moved =
+        append_assoc remark (white ++ (also ++ black)) last
+        ∙ ap (λ text. remark ++ text) (append_assoc white (also ++ black) last ∙ ap (λ text. white ++ text) (append_assoc also black last))
 
-module _ (nodes reach : ℕ) (bytes : List ℕ) (p : Position) (game : IsGameText bytes p) (small : nodes ≤ 10000000) where
+module _ (nodes reach : ℕ) (slots : Option ℕ) (bytes : List ℕ) (p : Position) (game : IsGameText bytes p) (small : nodes ≤ 10000000) where
   abbrev the_head : List ℕ
   the_head = head_of game.board game.columns
 
-  -- a proof, with the verdict behind the lemmas
-  module _ (mid held : Option (List ℕ)) (r : Result Verdict SearchStop) (asks : Asks p nodes reach mid held r) (v : Verdict) (right : IsVerdict p asks.after v) where
-    abbrev proof_text : List ℕ
-    proof_text = the_head ++ (lines_of asks.white ++ (lines_of asks.black ++ verdict_line v))
+  module _ (mid held : Option (List ℕ)) (r : Result Verdict SearchStop) (asks : Asks p nodes reach slots mid held r) where
+    -- both questions' remarks and lemmas
+    abbrev middle : List ℕ
+    middle = remark_line asks.white_remark ++ (lines_of asks.white ++ (remark_line asks.black_remark ++ lines_of asks.black))
 
-    abbrev is_proof : IsProof p the_head proof_text v
-    is_proof = record {
-      after = asks.after;
-      written = both_written p the_head proof_text None asks.white asks.mid None asks.black asks.after (verdict_line v) asks.white_right asks.black_right asks.white_sided asks.black_sided asks.asked tt tt refl;
-      verdict = right;
-    }
+    -- a proof, with the verdict behind the lemmas
+    module _ (v : Verdict) (right : IsVerdict p asks.after v) where
+      abbrev proof_text : List ℕ
+      proof_text = the_head ++ (remark_line asks.white_remark ++ (lines_of asks.white ++ (remark_line asks.black_remark ++ (lines_of asks.black ++ verdict_line v))))
 
-    pub proof_of : IsProofOf nodes reach bytes p proof_text v
-    proof_of = record {
-      game = game;
-      proof = is_proof;
-      plain = (refl, refl);
-      planned = (asks.white_planned, asks.black_planned);
-      few = asks.few;
-      accepted = proof_accepted game.board game.columns p proof_text v is_proof game.has_board game.has_moves (let few : length asks.after ≤ nodes = asks.few in omega arith);
-      says = asked_truth p nodes reach mid held r asks v right;
-    }
+      abbrev is_proof : IsProof p the_head proof_text v
+      is_proof = record {
+        after = asks.after;
+        written = both_written p the_head proof_text asks.white_remark asks.white asks.mid asks.black_remark asks.black asks.after (verdict_line v) asks.white_right asks.black_right asks.white_sided asks.black_sided
+            (in_turn slots reach p asks.mid asks.black_remark asks.black asks.black_remarked) asks.white_line asks.black_line refl;
+        verdict = right;
+      }
 
-    pub writes_verdict : (old new : Option (List ℕ)) (result : Result Verdict Failed) → Appends old mid (head_for bytes) → Appends mid held (lines_of asks.white ++ lines_of asks.black)
-        → IfOk result (λ told. told ≡ v) → AppendsPrefix (is_ok result) held new (verdict_line v) → Writes nodes reach bytes p old new result
-    writes_verdict old new (Ok told) head lemmas same stands = (
-      proof_text,
-      subst (IsProofOf nodes reach bytes p proof_text) (sym same) proof_of,
-      stands_all true old mid held new the_head (lines_of asks.white) (lines_of asks.black) (verdict_line v) (subst (Appends old mid) (head_is bytes p game) head) lemmas stands,
-    )
-    writes_verdict old new (Err failed) head lemmas same stands = (
-      proof_text,
-      record { game = game; stands = proof_stands p the_head proof_text v is_proof; plain = (refl, refl); planned = (asks.white_planned, asks.black_planned); few = asks.few },
-      stands_all false old mid held new the_head (lines_of asks.white) (lines_of asks.black) (verdict_line v) (subst (Appends old mid) (head_is bytes p game) head) lemmas stands,
-    )
+      pub proof_of : HasBothRemarks slots nodes reach p asks.black_remark v → IsProofOf nodes reach slots bytes p proof_text v
+      proof_of both = record {
+        game = game;
+        proof = is_proof;
+        remarked = (asks.white_remarked, asks.black_remarked);
+        both_remarked = both;
+        planned = (asks.white_planned, asks.black_planned);
+        few = asks.few;
+        accepted = proof_accepted game.board game.columns p proof_text v is_proof game.has_board game.has_moves (let few : length asks.after ≤ nodes = asks.few in omega arith);
+        says = asked_truth p nodes reach slots mid held r asks v right;
+      }
+
+      pub writes_verdict : (old new : Option (List ℕ)) (result : Result Verdict Failed) → HasBothRemarks slots nodes reach p asks.black_remark v → Appends old mid (head_for bytes) → Appends mid held middle
+          → IfOk result (λ told. told ≡ v) → AppendsPrefix (is_ok result) held new (verdict_line v) → Writes nodes reach slots bytes p old new result
+      writes_verdict old new (Ok told) both head lemmas same stands = (
+        proof_text,
+        subst (IsProofOf nodes reach slots bytes p proof_text) (sym same) (proof_of both),
+        stands_all true old mid held new the_head (remark_line asks.white_remark) (lines_of asks.white) (remark_line asks.black_remark) (lines_of asks.black) (verdict_line v)
+            (subst (Appends old mid) (head_is bytes p game) head) lemmas stands,
+      )
+      writes_verdict old new (Err failed) both head lemmas same stands = (
+        proof_text,
+        record { game = game; stands = proof_stands p the_head proof_text v is_proof; remarked = inr (asks.white_remarked, asks.black_remarked); planned = (asks.white_planned, asks.black_planned); few = asks.few },
+        stands_all false old mid held new the_head (remark_line asks.white_remark) (lines_of asks.white) (remark_line asks.black_remark) (lines_of asks.black) (verdict_line v)
+            (subst (Appends old mid) (head_is bytes p game) head) lemmas stands,
+      )
 
   -- the head was cut
-  pub writes_head : (old new : Option (List ℕ)) (failed : Failed) → AppendsPrefix false old new (head_for bytes) → Writes nodes reach bytes p old new (Err failed)
-  writes_head old new failed stands = (the_head, record { game = game; stands = head_stands p the_head; plain = (refl, refl); planned = (tt, tt); few = omega arith }, subst (AppendsPrefix false old new) (head_is bytes p game) stands)
-
-  -- a lemma was cut
-  pub writes_lemmas : (old mid new : Option (List ℕ)) (failed : Failed) (asks : Asks p nodes reach mid new (Err WriteFault)) → Appends old mid (head_for bytes) → Writes nodes reach bytes p old new (Err failed)
-  writes_lemmas old mid new failed asks head = (
-    the_head ++ (lines_of asks.white ++ lines_of asks.black),
-    record { game = game; stands = lemmas_stand p the_head (the_head ++ (lines_of asks.white ++ lines_of asks.black)) None asks.white asks.mid None asks.black asks.after asks.white_right asks.black_right asks.white_sided asks.black_sided asks.asked tt tt refl; plain = (refl, refl); planned = (asks.white_planned, asks.black_planned); few = asks.few },
-    AppendsPrefix_more false old mid new the_head (lines_of asks.white ++ lines_of asks.black) (subst (Appends old mid) (head_is bytes p game) head) asks.text,
+  pub writes_head : (old new : Option (List ℕ)) (failed : Failed) → AppendsPrefix false old new (head_for bytes) → Writes nodes reach slots bytes p old new (Err failed)
+  writes_head old new failed stands = (
+    the_head,
+    record { game = game; stands = head_stands p the_head; remarked = inl refl; planned = (tt, tt); few = omega arith },
+    subst (AppendsPrefix false old new) (head_is bytes p game) stands,
   )
+
+  -- a remark or a lemma was cut
+  pub writes_lemmas : (old mid new : Option (List ℕ)) (failed : Failed) (asks : Asks p nodes reach slots mid new (Err WriteFault)) → Appends old mid (head_for bytes) → Writes nodes reach slots bytes p old new (Err failed)
+  writes_lemmas old mid new failed asks head =
+      let text = the_head ++ middle mid new (Err WriteFault) asks in (
+        text,
+        record {
+          game = game;
+          stands = lemmas_stand p the_head text asks.white_remark asks.white asks.mid asks.black_remark asks.black asks.after asks.white_right asks.black_right asks.white_sided asks.black_sided
+              (in_turn slots reach p asks.mid asks.black_remark asks.black asks.black_remarked) asks.white_line asks.black_line refl;
+          remarked = inr (asks.white_remarked, asks.black_remarked);
+          planned = (asks.white_planned, asks.black_planned);
+          few = asks.few;
+        },
+        AppendsPrefix_more false old mid new the_head (middle mid new (Err WriteFault) asks) (subst (Appends old mid) (head_is bytes p game) head) asks.text,
+      )

@@ -1,6 +1,8 @@
 pub mod Output
 pub mod Outcome
 pub mod Streams
+pub mod Remarks
+pub mod SizedFronts
 pub mod Questions
 pub mod Proof
 pub mod Check

@@ -45,45 +45,46 @@ ending_of (Ok verdicts.Unknown) = Unknown
 ending_of (Err failed) = Write
 
 -- The bytes are a game, and a proof of its position was written whose verdict is a win, a loss or a draw.
-pub record HasProved (nodes reach : ℕ) (bytes : List ℕ) (old new : Option (List ℕ)) : Type 0 where
+pub record HasProved (nodes reach : ℕ) (slots : Option ℕ) (bytes : List ℕ) (old new : Option (List ℕ)) : Type 0 where
   pub position : Position
   pub game : game_at bytes ≡ Ok position
   pub verdict : Verdict
   pub known : verdict ≢ verdicts.Unknown
   pub text : List ℕ
-  pub proof : IsProofOf nodes reach bytes position text verdict
+  pub proof : IsProofOf nodes reach slots bytes position text verdict
   pub written : Appends old new text
 
 -- The same with the verdict unknown, which comes only where the number of nodes is below the position's cost.
-pub record LeavesUnknown (nodes reach : ℕ) (bytes : List ℕ) (old new : Option (List ℕ)) : Type 0 where
+pub record LeavesUnknown (nodes reach : ℕ) (slots : Option ℕ) (bytes : List ℕ) (old new : Option (List ℕ)) : Type 0 where
   pub position : Position
   pub game : game_at bytes ≡ Ok position
   pub short : nodes < cost (solved_within reach) position
   pub text : List ℕ
-  pub proof : IsProofOf nodes reach bytes position text verdicts.Unknown
+  pub proof : IsProofOf nodes reach slots bytes position text verdicts.Unknown
   pub written : Appends old new text
 
 -- The bytes are a game, and of a text that may stand while a proof is written a prefix was.
-pub record WasCut (nodes reach : ℕ) (bytes : List ℕ) (old new : Option (List ℕ)) : Type 0 where
+pub record WasCut (nodes reach : ℕ) (slots : Option ℕ) (bytes : List ℕ) (old new : Option (List ℕ)) : Type 0 where
   pub position : Position
   pub game : game_at bytes ≡ Ok position
   pub text : List ℕ
-  pub stands : MayStandFor nodes reach bytes position text
+  pub stands : MayStandFor nodes reach slots bytes position text
   pub written : AppendsPrefix false old new text
 
--- `prove` with so many nodes and this reach, from the bytes that it took, by its ending. A proof is of the game that they are, and all of the
--- input was read then; a fault is theirs, and that of all of the input, where the source tells it.
-abbrev pub Proves : ℕ → ℕ → List ℕ → Streams → Ending → Type 0
-Proves nodes reach taken s Done = HasProved nodes reach taken s.old s.new × IsAtEnd s.left
-Proves nodes reach taken s Unknown = LeavesUnknown nodes reach taken s.old s.new × IsAtEnd s.left
-Proves nodes reach taken s Write = WasCut nodes reach taken s.old s.new × IsAtEnd s.left
-Proves nodes reach taken s (Input fault) = (game_at taken ≡ Err fault) × IfSome s.input (λ bytes. game_at bytes ≡ Err fault) × Keeps s.old s.new
-Proves nodes reach taken s Read = Keeps s.old s.new
-Proves nodes reach taken s Usage = ⊥
-Proves nodes reach taken s (Refused refusal) = ⊥
-Proves nodes reach taken s (NoMove fault) = ⊥
-Proves nodes reach taken s (NoPlan fault) = ⊥
-Proves nodes reach taken s Memory = Keeps s.old s.new
+-- `prove` with so many nodes, this reach and a front of so many slots, if any, from the bytes that it took, by its ending.
+-- A proof is of the game that they are, and all of the input was read then; a fault is theirs, and that of all of the
+-- input, where the source tells it.
+abbrev pub Proves : (nodes reach : ℕ) (slots : Option ℕ) → List ℕ → Streams → Ending → Type 0
+Proves nodes reach slots taken s Done = HasProved nodes reach slots taken s.old s.new × IsAtEnd s.left
+Proves nodes reach slots taken s Unknown = LeavesUnknown nodes reach slots taken s.old s.new × IsAtEnd s.left
+Proves nodes reach slots taken s Write = WasCut nodes reach slots taken s.old s.new × IsAtEnd s.left
+Proves nodes reach slots taken s (Input fault) = (game_at taken ≡ Err fault) × IfSome s.input (λ bytes. game_at bytes ≡ Err fault) × Keeps s.old s.new
+Proves nodes reach slots taken s Read = Keeps s.old s.new
+Proves nodes reach slots taken s Usage = ⊥
+Proves nodes reach slots taken s (Refused refusal) = ⊥
+Proves nodes reach slots taken s (NoMove fault) = ⊥
+Proves nodes reach slots taken s (NoPlan fault) = ⊥
+Proves nodes reach slots taken s Memory = Keeps s.old s.new
 
 -- How many bytes a run of the words that have this form takes at most: `check` and `play` take lines with their line feeds,
 -- and what comes with the last of them.
@@ -98,7 +99,7 @@ most_taken (Some (Drill size moves seed games nodes reach)) = 0
 -- what a run of the words that have this form promises, from the bytes that it took
 abbrev pub Promise : Option Form → Streams → Ending → List ℕ → Type 0
 Promise None s ending taken = (ending ≡ Usage) × Keeps s.old s.new
-Promise (Some (Prove nodes reach front table)) s ending taken = Proves nodes reach taken s ending
+Promise (Some (Prove nodes reach front table)) s ending taken = Proves nodes reach front taken s ending
 Promise (Some Check) s ending taken = Checks taken s ending × TakesLines most_lines_read taken
 Promise (Some Play) s ending taken = Plays taken s ending
 Promise (Some (Explain reach)) s ending taken = Explains reach taken s ending

@@ -34,18 +34,19 @@ use victor_words::{Form, read_words};
 ///
 /// `prove` reads a game and writes a proof of its value under perfect play, for the side to move; with `--nodes`, `--reach`
 /// and `--table` the arguments say how many positions its search may enter, how far it looks for a plan of Black's at each,
-/// and how many settled positions it keeps in a table.
+/// and how many settled positions it keeps in a table. With `--front` a tree of at most so many positions grows before each
+/// question, and a remark says how often it was expanded and how much is left to be shown by its numbers.
 /// `check` reads a proof and writes a line where it is right. `play` reads a game, a plan at its position and then White's
 /// moves, and answers each by the plan, in a line that is written before the next move is read. `explain` reads a game and
 /// writes the plan of Black's that is chosen at its position, with what each instance owns and answers. `drill` reads
 /// nothing: it makes games from a number, searches each as `prove` does, and writes how many are won, drawn and lost for the
 /// side to move, and of how many the budget left the value unknown. `prove` and `drill` take memory for tables of settled
-/// positions, and `check` for lemmas.
+/// positions, `prove` for the tree too, and `check` for lemmas.
 ///
 /// The status is 0 where that was done, 2 where the words are no written form, 3 where the game is none or a line of `play`
 /// no move, 4 where the proof is refused or the plan is none, 5 where the budget of `prove` was below the cost (the proof
 /// then says so) or `explain` found no plan within the reach (which it says), 6 where reading failed, 7 where writing failed,
-/// and 8 where `prove` or `drill` found no memory for a table, or `check` for a lemma; nothing was written then. What stops
+/// and 8 where `prove` or `drill` found no memory for a table or a tree, or `check` for a lemma; nothing was written then. What stops
 /// the run first decides it.
 pub fn run<S: Source, O: Sink, E: Sink>(
     alloc: Global,
@@ -120,9 +121,9 @@ fn run_form<S: Source, O: Sink>(alloc: Global, form: Form, source: &mut S, out: 
         Form::Prove {
             nodes,
             reach,
+            front,
             table,
-            ..
-        } => prove(alloc, nodes, reach, table, source, out),
+        } => prove(alloc, nodes, reach, front, table, source, out),
         Form::Check => check(alloc, source, out),
         Form::Play => play(source, out),
         Form::Explain { reach } => explain(reach, source, out),

@@ -90,7 +90,15 @@ fn found(
     requires empty { table.old.entries ≡ [] }
     ensures { MayTell (cost (solved_within reach)) nodes game.now result }
 {
-    let asked = ask(game, nodes, reach, table, chooser, &mut NullSink::new());
+    let asked = ask(
+        game,
+        nodes,
+        reach,
+        table,
+        &mut None,
+        chooser,
+        &mut NullSink::new(),
+    );
     asked.unwrap_or(Verdict::Unknown)
 }
 

@@ -7,6 +7,9 @@ mod command;
 mod drill;
 mod ending;
 mod explain;
+#[cfg(test)]
+mod front_tests;
+mod fronts;
 mod game_input;
 mod game_lines;
 mod input_lines;

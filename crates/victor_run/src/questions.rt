@@ -1,45 +1,57 @@
-//! The two questions of a proof, one behind the other: whether White wins, and where it doesn't, whether Black does.
-ghost use Rattle.std.specs.Prelude.{◌≡◌, ◌<◌, ◌≤◌, [], Err};
+//! The two questions of a proof, one behind the other: whether White wins, and where it doesn't, whether Black does. For
+//! each a front may grow before the search.
+ghost use Rattle.std.specs.Prelude.{◌≡◌, ◌+◌, ◌<◌, ◌≤◌, List, [], length, Err, IfOk, OnOk};
 ghost use Rattle.device_rules.specs.Devices.{Rose};
-ghost use Rattle.game_rules.specs.Cost.{cost};
+ghost use Rattle.game_rules.specs.Cost.{cost, count};
+ghost use Rattle.game_rules.specs.Value.{wins};
+ghost use Rattle.game_rules.specs.declared.Side.TheVariants as sides;
+ghost use Rattle.proof_text.specs.Right.{Shown};
 ghost use Rattle.proof_text.specs.Spelling.{greatest_number};
 ghost use Rattle.deep_search.specs.Planned.{solved_within};
+ghost use Rattle.deep_search.specs.Search.{moment};
+ghost use Rattle.deep_search.specs.Tables.{IsTrueTable, FitsTable};
 ghost use Rattle.deep_search.specs.declared.solving.SearchStop.TheVariants as stops;
-ghost use Rattle.victor_run.specs.Questions.{Asks, won_by};
+ghost use Rattle.victor_run.specs.Questions.{AsksSide, Asks, won_by};
+ghost use Rattle.victor_run.specs.SizedFronts.{slots_of, IsAfter, IsAfterSome};
 
+use crate::fronts::{SizedFront, turn_to_black, write_remark};
 use board_bits::{Position, Side};
 use cert_format::{LemmaOut, Verdict};
-use deep_search::{SearchStop, search};
+use deep_search::{Answer, SearchStop, search};
 use io_ports::Sink;
 use position_table::Table;
 use rule_chooser::Chooser;
 
 /// Asks whether White wins and, where it doesn't, whether Black does, within one budget of `nodes` positions and with plans
 /// from the first `reach` sets of zones, for which the chooser is lent. What is found is kept in the table, which has no entry
-/// yet, and isn't searched again while it is there. `Spent` comes only where the budget is below the position's cost.
+/// yet, and isn't searched again while it is there. A front, where there is one, is that of White's question and grows before
+/// each. `Spent` comes only where the budget is below the position's cost.
 pub(crate) fn ask<O: Sink>(
     position: &Position,
     nodes: u32,
     reach: u32,
     table: &mut Table,
+    front: &mut Option<SizedFront>,
     chooser: &mut Chooser,
     out: &mut O,
 ) -> Result<Verdict, SearchStop>
     requires nodes { nodes ≤ greatest_number }
     requires empty { table.old.entries ≡ [] }
-    ensures asked { Asks position.now nodes reach (O.written out.old) (O.written out.new) result }
+    requires front { IsAfter position.now sides.White reach 0 front.old }
+    ensures asked { Asks position.now nodes reach (slots_of front.old) (O.written out.old) (O.written out.new) result }
     ensures spent { result ≡ Err stops.Spent → nodes < cost (solved_within reach) position.now }
     ensures later { O.faults out.old ≤ O.faults out.new }
     ensures fault { result ≡ Err stops.WriteFault → Rose (O.faults out.old) (O.faults out.new) }
 {
     let mut budget = nodes;
     let mut lemmas = LemmaOut::new();
-    let white = search(
+    let white = ask_side(
         position,
         Side::White,
         reach,
         &mut budget,
         table,
+        front,
         chooser,
         &mut lemmas,
         out,
@@ -47,12 +59,14 @@ pub(crate) fn ask<O: Sink>(
     if white.yes {
         return Ok(won_by(Side::White, position.to_move(), white.lemma));
     }
-    let black = search(
+    turn_to_black(front, position, chooser);
+    let black = ask_side(
         position,
         Side::Black,
         reach,
         &mut budget,
         table,
+        front,
         chooser,
         &mut lemmas,
         out,
@@ -61,6 +75,40 @@ pub(crate) fn ask<O: Sink>(
         return Ok(won_by(Side::Black, position.to_move(), black.lemma));
     }
     Ok(Verdict::Draw(white.lemma, black.lemma))
+}
+
+/// Asks whether a side wins, within the budget: first the front grows, where there is one, and its remark is written, and
+/// then the search goes on behind the lemmas that stand already.
+fn ask_side<O: Sink>(
+    position: &Position,
+    side: Side,
+    reach: u32,
+    budget: &mut u32,
+    table: &mut Table,
+    front: &mut Option<SizedFront>,
+    chooser: &mut Chooser,
+    lemmas: &mut LemmaOut,
+    out: &mut O,
+) -> Result<Answer, SearchStop>
+    requires room { lemmas.old + budget.old ≤ greatest_number }
+    requires entries { IsTrueTable table.old lemmas.old }
+    requires front { IsAfter position.now side reach 0 front.old }
+    ensures answer { IfOk result (λ answer. answer.yes ≡ wins side position.now) }
+    ensures left { OnOk result (budget.old ≤ budget.new + count (solved_within reach) side position.now) }
+    ensures spent { result ≡ Err stops.Spent → budget.old < count (solved_within reach) side position.now }
+    ensures few { OnOk result (lemmas.new + budget.new ≤ lemmas.old + budget.old) }
+    ensures entries { IsTrueTable table.new lemmas.new }
+    ensures front { IsAfterSome position.now side reach front.new }
+    ensures slots { slots_of front.new ≡ slots_of front.old }
+    ensures later { O.faults out.old ≤ O.faults out.new }
+    ensures fault { result ≡ Err stops.WriteFault → Rose (O.faults out.old) (O.faults out.new) }
+    ensures asked { (known : List Shown) → length known ≡ lemmas.old → FitsTable table.old known
+        → AsksSide position.now side reach (slots_of front.old) known (lemmas.old + budget.old) (moment table.old (O.written out.old)) (moment table.new (O.written out.new)) lemmas.new result }
+{
+    let Ok(()) = write_remark(front, side, chooser, out) else {
+        return Err(SearchStop::WriteFault);
+    };
+    search(position, side, reach, budget, table, chooser, lemmas, out)
 }
 
 /// The verdict for the side to move where a side wins by this lemma.

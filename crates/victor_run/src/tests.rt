@@ -62,7 +62,7 @@ const FULL_BOARD: &str = "board 4 4\nmoves cdccddcdaaaabbbb";
 
 const TWO_SQUARES_LEFT: &str = "board 4 4\nmoves cdccddcdaaaabb";
 
-const FORCED_WIN: &str = "board 4 4\nmoves dccbbdbbddcc";
+pub(crate) const FORCED_WIN: &str = "board 4 4\nmoves dccbbdbbddcc";
 
 const USUAL_BOARD: &str = "board 7 6\nmoves dcdcdc\n";
 
@@ -138,7 +138,7 @@ const PROVE_BY_SEARCH: &[&str] = &["prove", "--reach", "0"];
 const CHECK: &[&str] = &["check"];
 
 /// The words of a run, its input, its status and its output.
-type Written = (&'static [&'static str], &'static str, u8, &'static str);
+pub(crate) type Written = (&'static [&'static str], &'static str, u8, &'static str);
 
 const PROOFS: [Written; 13] = [
     (
@@ -484,7 +484,7 @@ fn other_words_are_no_command(rt: HostRuntime) -> Result<(), Fail> {
         &["prove", "--nodes", "10000001"],
         &["prove", "--nodes", "5", "--nodes", "5"],
         &["prove", "--nodes=5", "--nodes", "5"],
-        &["prove", "--front", "5"],
+        &["prove", "--front", "0"],
         &["prove", "--table", "0"],
         &["prove", "--table=1000001"],
         &["check", "--reach", "3"],

@@ -16,7 +16,7 @@ use Rattle.victor_words.specs.Reading.{command_named, option_named, number_of, j
 use Rattle.victor_words.specs.declared.form.Command.{Command}
 use Rattle.victor_words.specs.declared.form.Command.TheVariants as commands
 use Rattle.victor_words.specs.declared.piece.Name.{Name}
-use Rattle.victor_words.specs.declared.piece.Name.TheVariants.{Nodes, Reach, Table}
+use Rattle.victor_words.specs.declared.piece.Name.TheVariants.{Nodes, Reach, Front, Table}
 use Rattle.victor_words.specs.declared.piece.Piece.{Piece}
 use Rattle.victor_words.specs.declared.piece.Piece.TheVariants.{Apart, Joined, Own}
 
@@ -36,7 +36,8 @@ none_named word y spelling h = cc
 pub name_gives : (word : List ℕ) (name : Name) → option_named word ≡ Some name → word ≡ name_word name
 name_gives word name h = named_first word (name_word Nodes) Nodes name _ name_word refl
     (named_first word (name_word Reach) Reach name _ name_word refl
-    (named_first word (name_word Table) Table name None name_word refl (none_named word name name_word))) h
+    (named_first word (name_word Front) Front name _ name_word refl
+    (named_first word (name_word Table) Table name None name_word refl (none_named word name name_word)))) h
 
 pub command_gives : (word : List ℕ) (command : Command) → command_named word ≡ Some command → word ≡ command_word command
 command_gives word command h = named_first word (command_word commands.Prove) commands.Prove command _ command_word refl
@@ -69,9 +70,11 @@ number_read n small = number_spelled 0 4294967295 n (decimal n) (omega arith) sm
 pub first_of_words : (piece : Piece) (words : List (List ℕ)) → IsSmall piece → first_piece (words_of piece ++ words) ≡ Some piece
 first_of_words (Apart Nodes n) words small = ap (option_map (Apart Nodes)) (number_read n small)
 first_of_words (Apart Reach n) words small = ap (option_map (Apart Reach)) (number_read n small)
+first_of_words (Apart Front n) words small = ap (option_map (Apart Front)) (number_read n small)
 first_of_words (Apart Table n) words small = ap (option_map (Apart Table)) (number_read n small)
 first_of_words (Joined Nodes n) words small = ap (option_map (Joined Nodes)) (number_read n small)
 first_of_words (Joined Reach n) words small = ap (option_map (Joined Reach)) (number_read n small)
+first_of_words (Joined Front n) words small = ap (option_map (Joined Front)) (number_read n small)
 first_of_words (Joined Table n) words small = ap (option_map (Joined Table)) (number_read n small)
 first_of_words (Own n) words small =
     let wide : n < 2 ^ 64 = omega (arith, small) in

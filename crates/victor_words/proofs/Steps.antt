@@ -8,7 +8,7 @@ use Rattle.victor_words.specs.Words.{words_of, given_by, own_by, given, own}
 use Rattle.victor_words.specs.Reading.{first_piece, IsSmall, AreWordsOf, number_found, AreFew, AreFound, AddsPiece, IsTooMany}
 use Rattle.victor_words.specs.declared.found.Found.{Found}
 use Rattle.victor_words.specs.declared.piece.Name.{Name}
-use Rattle.victor_words.specs.declared.piece.Name.TheVariants.{Nodes, Reach, Table}
+use Rattle.victor_words.specs.declared.piece.Name.TheVariants.{Nodes, Reach, Front, Table}
 use Rattle.victor_words.specs.declared.piece.Piece.{Piece}
 use Rattle.victor_words.proofs.Pieces.{first_of_words, first_gives, goes_on, GoesOn}
 
@@ -19,8 +19,8 @@ pub record FoundSoFar (words left : List (List ℕ)) (found : Found) : Type 0 wh
   pub small : AllByRecursion IsSmall before
   pub are_found : AreFound before found
 
-pub nothing_found : (words : List (List ℕ)) (found : Found) → found.nodes ≡ None → found.reach ≡ None → found.table ≡ None → found.numbers.items ≡ [] → FoundSoFar words words found
-nothing_found words found nodes reach table numbers = record {
+pub nothing_found : (words : List (List ℕ)) (found : Found) → found.nodes ≡ None → found.reach ≡ None → found.front ≡ None → found.table ≡ None → found.numbers.items ≡ [] → FoundSoFar words words found
+nothing_found words found nodes reach front table numbers = record {
   before = [];
   spelled = refl;
   small = tt;
@@ -30,6 +30,7 @@ nothing_found words found nodes reach table numbers = record {
     none : (name : Name) → [] ≡ option_to_list (number_found found name)
     none Nodes = ap option_to_list (sym nodes)
     none Reach = ap option_to_list (sym reach)
+    none Front = ap option_to_list (sym front)
     none Table = ap option_to_list (sym table)
 
 flat_map_snoc : {A : Type 0} (f : Piece → List A) (before : List Piece) (piece : Piece) → flat_map f (before ++ piece ∷ []) ≡ flat_map f before ++ f piece

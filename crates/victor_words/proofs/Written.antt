@@ -1,5 +1,5 @@
 -- Words and their one form: what their pieces are like, and that what is read of them is their form.
-use Rattle.std.proofs.Common.{◌≡◌, ℕ, ◌-◌, ◌≤◌, List, [], ◌∷◌, ◌++◌, flat_map, map, take, drop, get_or, length, Option, Some, None, option_to_list, IfSome, refl, sym, ap, ◌∙◌, subst, inl, inr, arith}
+use Rattle.std.proofs.Common.{◌≡◌, ℕ, ◌-◌, ◌≤◌, List, [], ◌∷◌, flat_map, map, take, drop, get_or, length, Option, Some, None, option_to_list, IfSome, refl, sym, ap, ◌∙◌, subst, inl, inr, arith}
 use Rattle.std.specs.List.{AllByRecursion}
 use Rattle.std.proofs.lemmas.Bool.{and_parts}
 use Rattle.std.proofs.lemmas.List.{take_rest}
@@ -14,7 +14,7 @@ use Rattle.victor_words.specs.declared.form.Form.{Form}
 use Rattle.victor_words.specs.declared.form.Form.TheVariants.{Prove, Check, Play, Explain, Drill}
 use Rattle.victor_words.specs.declared.found.Found.{Found}
 use Rattle.victor_words.specs.declared.piece.Name.{Name}
-use Rattle.victor_words.specs.declared.piece.Name.TheVariants.{Nodes, Reach, Table}
+use Rattle.victor_words.specs.declared.piece.Name.TheVariants.{Nodes, Reach, Front, Table}
 use Rattle.victor_words.specs.declared.piece.Piece.{Piece}
 use Rattle.victor_words.specs.declared.piece.Piece.TheVariants.{Apart, Joined, Own}
 use Rattle.victor_words.proofs.Pieces.{command_gives, command_spelled, same_pieces}
@@ -22,7 +22,7 @@ use Rattle.victor_words.proofs.Forms.{form_gives, form_spelled}
 
 -- ---- how many, and how large
 
-given_few : (usually : ℕ) (number : Option ℕ) (numbers : List ℕ) → IsGiven usually number numbers → length numbers ≤ 1
+given_few : (usually : Option ℕ) (number : Option ℕ) (numbers : List ℕ) → IsGiven usually number numbers → length numbers ≤ 1
 given_few usually None numbers h = omega (arith, ap length h)
 given_few usually (Some n) numbers (inl alone) = omega (arith, ap length alone)
 given_few usually (Some n) numbers (inr none) = omega (arith, ap length none.0)
@@ -46,12 +46,16 @@ Fits n = n ≤ 4294967295
 option_fits : (form : Form) (name : Name) (n : ℕ) → HasRanges form → number_in form name ≡ Some n → Fits n
 option_fits (Prove nodes reach front table) Nodes n ranges h = let same : nodes ≡ n = cc in omega (arith, ranges.0.1)
 option_fits (Prove nodes reach front table) Reach n ranges h = let same : reach ≡ n = cc in omega (arith, ranges.1.1)
+option_fits (Prove nodes reach None table) Front n ranges h = cc
+option_fits (Prove nodes reach (Some times) table) Front n ranges h = let same : times ≡ n = cc in omega (arith, ranges.2.1)
 option_fits (Prove nodes reach front table) Table n ranges h = let same : table ≡ n = cc in omega (arith, ranges.3.1)
 option_fits Check name n ranges h = cc
 option_fits Play name n ranges h = cc
 option_fits (Explain reach) Nodes n ranges h = cc
+option_fits (Explain reach) Front n ranges h = cc
 option_fits (Explain reach) Table n ranges h = cc
 option_fits (Explain reach) Reach n ranges h = let same : reach ≡ n = cc in omega (arith, ranges.1)
+option_fits (Drill size moves seed games nodes reach) Front n ranges h = cc
 option_fits (Drill size moves seed games nodes reach) Table n ranges h = cc
 option_fits (Drill size moves seed games nodes reach) Nodes n ranges h = let same : nodes ≡ n = cc in omega (arith, ranges.1.1)
 option_fits (Drill size moves seed games nodes reach) Reach n ranges h = let same : reach ≡ n = cc in omega (arith, ranges.2.1)
@@ -66,7 +70,7 @@ numbers_fit (Drill size moves seed games nodes reach) ranges =
     let most = board_most size board.0 in
     (omega (arith, most.0), (omega (arith, most.1), (omega (arith, ranges.0.moves.1), (omega (arith, ranges.0.seed.1), (omega (arith, ranges.0.games.1), tt)))))
 
-given_fit : (usually : ℕ) (number : Option ℕ) (numbers : List ℕ) → ((n : ℕ) → number ≡ Some n → Fits n) → IsGiven usually number numbers → AllByRecursion Fits numbers
+given_fit : (usually : Option ℕ) (number : Option ℕ) (numbers : List ℕ) → ((n : ℕ) → number ≡ Some n → Fits n) → IsGiven usually number numbers → AllByRecursion Fits numbers
 given_fit usually None numbers fit h = subst (AllByRecursion Fits) (sym h) tt
 given_fit usually (Some n) numbers fit (inl alone) = subst (AllByRecursion Fits) (sym alone) (fit n refl, tt)
 given_fit usually (Some n) numbers fit (inr none) = subst (AllByRecursion Fits) (sym none.0) tt
@@ -74,9 +78,11 @@ given_fit usually (Some n) numbers fit (inr none) = subst (AllByRecursion Fits) 
 first_fits : (piece : Piece) → ((name : Name) → AllByRecursion Fits (given_by name piece)) → AllByRecursion Fits (own_by piece) → IsSmall piece
 first_fits (Apart Nodes n) options alone = (options Nodes).0
 first_fits (Apart Reach n) options alone = (options Reach).0
+first_fits (Apart Front n) options alone = (options Front).0
 first_fits (Apart Table n) options alone = (options Table).0
 first_fits (Joined Nodes n) options alone = (options Nodes).0
 first_fits (Joined Reach n) options alone = (options Reach).0
+first_fits (Joined Front n) options alone = (options Front).0
 first_fits (Joined Table n) options alone = (options Table).0
 first_fits (Own n) options alone = alone.0
 
@@ -143,7 +149,7 @@ read_ranges words (Some form) is = is.ranges
 
 -- ---- one form
 
-as_option : (usually : ℕ) (number : Option ℕ) (numbers : List ℕ) → IsGiven usually number numbers → (given : Option ℕ) × (numbers ≡ option_to_list given)
+as_option : (usually : Option ℕ) (number : Option ℕ) (numbers : List ℕ) → IsGiven usually number numbers → (given : Option ℕ) × (numbers ≡ option_to_list given)
 as_option usually None numbers h = (None, h)
 as_option usually (Some n) numbers (inl alone) = (Some n, alone)
 as_option usually (Some n) numbers (inr none) = (None, none.0)

@@ -1,20 +1,20 @@
 -- What the reader's functions answer: the first piece of some words, what pieces give, and the form of a command with
 -- what was given.
-use Rattle.std.specs.Prelude.{◌≡◌, ℕ, ◌<◌, ◌≤◌, ◌&&◌, nat_le, if◌then◌else◌, ◌⊎◌, List, [], ◌∷◌, ◌++◌, length, Option, Some, None, codes, is_none, option_map, option_to_list, unwrap_or}
+use Rattle.std.specs.Prelude.{◌≡◌, ℕ, Bool, ◌<◌, ◌≤◌, ◌&&◌, nat_le, if◌then◌else◌, ◌⊎◌, List, [], ◌∷◌, ◌++◌, length, Option, Some, None, codes, is_none, option_map, option_to_list, unwrap_or}
 use Rattle.std.specs.List.{flat_map, AllByRecursion}
 use Rattle.std.specs.Str.{bytes_eq}
 use Rattle.game_rules.specs.Board.{Board, is_board}
 use Rattle.game_rules.specs.Number.{number_between}
 use Rattle.game_rules.specs.declared.Length.TheVariants.{Four}
 use Rattle.plan_text.specs.Words.{◌>>=◌, split_once}
-use Rattle.victor_words.specs.Words.{words_of, given_by, own_by, given, own, usual}
+use Rattle.victor_words.specs.Words.{words_of, given_by, own_by, given, own, usual_nodes, usual_reach, usual_table}
 use Rattle.victor_words.specs.declared.form.Command.{Command}
 use Rattle.victor_words.specs.declared.form.Command.TheVariants as commands
 use Rattle.victor_words.specs.declared.form.Form.{Form}
 use Rattle.victor_words.specs.declared.form.Form.TheVariants.{Prove, Check, Play, Explain, Drill}
 use Rattle.victor_words.specs.declared.found.Found.{Found}
 use Rattle.victor_words.specs.declared.piece.Name.{Name}
-use Rattle.victor_words.specs.declared.piece.Name.TheVariants.{Nodes, Reach, Table}
+use Rattle.victor_words.specs.declared.piece.Name.TheVariants.{Nodes, Reach, Front, Table}
 use Rattle.victor_words.specs.declared.piece.Piece.{Piece}
 use Rattle.victor_words.specs.declared.piece.Piece.TheVariants.{Apart, Joined, Own}
 
@@ -24,7 +24,7 @@ abbrev pub command_named : List ℕ → Option Command
 command_named word = if bytes_eq word (codes "prove") then Some commands.Prove else (if bytes_eq word (codes "check") then Some commands.Check else (if bytes_eq word (codes "play") then Some commands.Play else (if bytes_eq word (codes "explain") then Some commands.Explain else (if bytes_eq word (codes "drill") then Some commands.Drill else None))))
 
 abbrev pub option_named : List ℕ → Option Name
-option_named word = if bytes_eq word (codes "--nodes") then Some Nodes else (if bytes_eq word (codes "--reach") then Some Reach else (if bytes_eq word (codes "--table") then Some Table else None))
+option_named word = if bytes_eq word (codes "--nodes") then Some Nodes else (if bytes_eq word (codes "--reach") then Some Reach else (if bytes_eq word (codes "--front") then Some Front else (if bytes_eq word (codes "--table") then Some Table else None)))
 
 abbrev pub number_of : List ℕ → Option ℕ
 number_of word = number_between 0 4294967295 word
@@ -68,6 +68,7 @@ pub record AreWordsOf (pieces : List Piece) (words : List (List ℕ)) : Type 0 w
 abbrev pub number_found : Found → Name → Option ℕ
 number_found found Nodes = found.nodes
 number_found found Reach = found.reach
+number_found found Front = found.front
 number_found found Table = found.table
 
 -- no option is given twice, and no more than five numbers stand alone
@@ -95,13 +96,17 @@ abbrev pub within : ℕ → ℕ → ℕ → Option ℕ
 within low high n = if nat_le low n && nat_le n high then Some n else None
 
 abbrev pub nodes_from : Option ℕ → Option ℕ
-nodes_from number = within 1 10000000 (unwrap_or number (usual Nodes))
+nodes_from number = within 1 10000000 (unwrap_or number usual_nodes)
 
 abbrev pub reach_from : Option ℕ → Option ℕ
-reach_from number = within 0 1000000 (unwrap_or number (usual Reach))
+reach_from number = within 0 1000000 (unwrap_or number usual_reach)
+
+abbrev pub front_from : Option ℕ → Option (Option ℕ)
+front_from None = Some None
+front_from (Some times) = option_map Some (within 1 1000000 times)
 
 abbrev pub table_from : Option ℕ → Option ℕ
-table_from number = within 1 1000000 (unwrap_or number (usual Table))
+table_from number = within 1 1000000 (unwrap_or number usual_table)
 
 abbrev pub board_with : ℕ → ℕ → Board
 board_with cols rows = record { cols = cols; rows = rows; len = Four }
@@ -111,13 +116,20 @@ size_from cols rows = if is_board (board_with cols rows) then Some (board_with c
 
 -- what is given are the options' numbers
 abbrev pub prove_from : (Name → Option ℕ) → Option Form
-prove_from given = nodes_from (given Nodes) >>= λ n. reach_from (given Reach) >>= λ k. table_from (given Table) >>= λ t. Some (Prove n k None t)
+prove_from given = nodes_from (given Nodes) >>= λ n. reach_from (given Reach) >>= λ k. front_from (given Front) >>= λ f. table_from (given Table) >>= λ t. Some (Prove n k f t)
+
+-- neither option that is prove's alone is given
+abbrev pub none_of_prove : (Name → Option ℕ) → Bool
+none_of_prove given = is_none (given Front) && is_none (given Table)
+
+abbrev pub none_given : (Name → Option ℕ) → Bool
+none_given given = is_none (given Nodes) && (is_none (given Reach) && none_of_prove given)
 
 abbrev pub without_options : Form → (Name → Option ℕ) → Option Form
-without_options form given = if is_none (given Nodes) && (is_none (given Reach) && is_none (given Table)) then Some form else None
+without_options form given = if none_given given then Some form else None
 
 abbrev pub explain_from : (Name → Option ℕ) → Option Form
-explain_from given = if is_none (given Nodes) && is_none (given Table) then option_map Explain (reach_from (given Reach)) else None
+explain_from given = if is_none (given Nodes) && none_of_prove given then option_map Explain (reach_from (given Reach)) else None
 
 abbrev pub five_from : List ℕ → (Name → Option ℕ) → Option Form
 five_from (cols ∷ rows ∷ moves ∷ seed ∷ games ∷ []) given =
@@ -126,7 +138,7 @@ five_from (cols ∷ rows ∷ moves ∷ seed ∷ games ∷ []) given =
 five_from _ given = None
 
 abbrev pub drill_from : List ℕ → (Name → Option ℕ) → Option Form
-drill_from numbers given = if is_none (given Table) then five_from numbers given else None
+drill_from numbers given = if none_of_prove given then five_from numbers given else None
 
 abbrev pub form_with : Command → List ℕ → (Name → Option ℕ) → Option Form
 form_with commands.Prove [] given = prove_from given

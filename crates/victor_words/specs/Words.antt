@@ -1,6 +1,6 @@
 -- Which lists of words are a written form of the command line, and of which one: what a form's words may be, not how
 -- they are read. The commands, the options and their ranges are this project's own.
-use Rattle.std.specs.Prelude.{◌≡◌, ℕ, Bool, true, false, if◌then◌else◌, ◌⊎◌, List, [], ◌∷◌, ◌++◌, Option, Some, None, codes}
+use Rattle.std.specs.Prelude.{◌≡◌, ℕ, Bool, true, false, if◌then◌else◌, ◌⊎◌, List, [], ◌∷◌, ◌++◌, Option, Some, None, IfSome, codes}
 use Rattle.std.specs.List.{flat_map}
 use Rattle.std.specs.Int.{IsInRange}
 use Rattle.std.specs.Fmt.{decimal}
@@ -11,7 +11,7 @@ use Rattle.victor_words.specs.declared.form.Command.TheVariants as commands
 use Rattle.victor_words.specs.declared.form.Form.{Form}
 use Rattle.victor_words.specs.declared.form.Form.TheVariants.{Prove, Check, Play, Explain, Drill}
 use Rattle.victor_words.specs.declared.piece.Name.{Name}
-use Rattle.victor_words.specs.declared.piece.Name.TheVariants.{Nodes, Reach, Table}
+use Rattle.victor_words.specs.declared.piece.Name.TheVariants.{Nodes, Reach, Front, Table}
 use Rattle.victor_words.specs.declared.piece.Piece.{Piece}
 use Rattle.victor_words.specs.declared.piece.Piece.TheVariants.{Apart, Joined, Own}
 
@@ -27,6 +27,7 @@ command_word commands.Drill = codes "drill"
 abbrev pub name_word : Name → List ℕ
 name_word Nodes = codes "--nodes"
 name_word Reach = codes "--reach"
+name_word Front = codes "--front"
 name_word Table = codes "--table"
 
 -- Behind the command the words are pieces: an option and its number, in two words or in one with `=` between them, or a
@@ -41,12 +42,19 @@ words_of (Own n) = decimal n ∷ []
 abbrev pub same_name : Name → Name → Bool
 same_name Nodes Nodes = true
 same_name Nodes Reach = false
+same_name Nodes Front = false
 same_name Nodes Table = false
 same_name Reach Nodes = false
 same_name Reach Reach = true
+same_name Reach Front = false
 same_name Reach Table = false
+same_name Front Nodes = false
+same_name Front Reach = false
+same_name Front Front = true
+same_name Front Table = false
 same_name Table Nodes = false
 same_name Table Reach = false
+same_name Table Front = false
 same_name Table Table = true
 
 abbrev pub given_by : Name → Piece → List ℕ
@@ -83,25 +91,38 @@ numbers_of Play = []
 numbers_of (Explain reach) = []
 numbers_of (Drill size moves seed games nodes reach) = size.cols ∷ size.rows ∷ moves ∷ seed ∷ games ∷ []
 
--- the number of an option, if the command has that option
+-- the number of an option, if the form has one
 abbrev pub number_in : Form → Name → Option ℕ
 number_in (Prove nodes reach front table) Nodes = Some nodes
 number_in (Prove nodes reach front table) Reach = Some reach
+number_in (Prove nodes reach front table) Front = front
 number_in (Prove nodes reach front table) Table = Some table
 number_in Check name = None
 number_in Play name = None
 number_in (Explain reach) Nodes = None
 number_in (Explain reach) Reach = Some reach
+number_in (Explain reach) Front = None
 number_in (Explain reach) Table = None
 number_in (Drill size moves seed games nodes reach) Nodes = Some nodes
 number_in (Drill size moves seed games nodes reach) Reach = Some reach
+number_in (Drill size moves seed games nodes reach) Front = None
 number_in (Drill size moves seed games nodes reach) Table = None
 
--- the number of an option that isn't given
-abbrev pub usual : Name → ℕ
-usual Nodes = 1000000
-usual Reach = 1000
-usual Table = 100000
+-- the number of an option that isn't given; a front that isn't asked for has none
+abbrev pub usual_nodes : ℕ
+usual_nodes = 1000000
+
+abbrev pub usual_reach : ℕ
+usual_reach = 1000
+
+abbrev pub usual_table : ℕ
+usual_table = 100000
+
+abbrev pub usual : Name → Option ℕ
+usual Nodes = Some usual_nodes
+usual Reach = Some usual_reach
+usual Front = None
+usual Table = Some usual_table
 
 -- how many positions a search may enter, and at how many sets of zones a walk may look
 abbrev pub AreNodes : ℕ → Type 0
@@ -109,6 +130,10 @@ AreNodes n = IsInRange 1 10000000 n
 
 abbrev pub IsReach : ℕ → Type 0
 IsReach n = IsInRange 0 1000000 n
+
+-- how often a front may be grown
+abbrev pub AreTimes : ℕ → Type 0
+AreTimes n = IsInRange 1 1000000 n
 
 -- how many settled positions a table may keep
 abbrev pub IsRoom : ℕ → Type 0
@@ -123,17 +148,17 @@ pub record AreGames (board : Board) (most from count : ℕ) : Type 0 where
 
 -- the numbers of a form are in their ranges
 abbrev pub HasRanges : Form → Type 0
-HasRanges (Prove nodes reach front table) = AreNodes nodes × IsReach reach × (front ≡ None) × IsRoom table
+HasRanges (Prove nodes reach front table) = AreNodes nodes × IsReach reach × IfSome front AreTimes × IsRoom table
 HasRanges Check = Unit {0}
 HasRanges Play = Unit {0}
 HasRanges (Explain reach) = IsReach reach
 HasRanges (Drill size moves seed games nodes reach) = AreGames size moves seed games × AreNodes nodes × IsReach reach
 
--- An option that the command has is given once with the form's number, or isn't given and the form has the usual one. Any
--- other option isn't given.
-abbrev pub IsGiven : ℕ → Option ℕ → List ℕ → Type 0
+-- An option of which the form has a number is given once with that number, or isn't given and the number is the usual
+-- one, where there is one. Any other option isn't given.
+abbrev pub IsGiven : Option ℕ → Option ℕ → List ℕ → Type 0
 IsGiven usually None numbers = numbers ≡ []
-IsGiven usually (Some n) numbers = (numbers ≡ n ∷ []) ⊎ ((numbers ≡ []) × (n ≡ usually))
+IsGiven usually (Some n) numbers = (numbers ≡ n ∷ []) ⊎ ((numbers ≡ []) × (usually ≡ Some n))
 
 -- ---- words and forms
 

@@ -16,6 +16,7 @@ const MOST_NUMBERS: usize = 5;
 pub(crate) struct Found {
     pub(crate) nodes: Option<u32>,
     pub(crate) reach: Option<u32>,
+    pub(crate) front: Option<u32>,
     pub(crate) table: Option<u32>,
     pub(crate) numbers: ArrayVec<u32, MOST_NUMBERS>,
 }
@@ -29,6 +30,7 @@ pub(crate) fn found_in(words: &[String]) -> Option<Found>
     let mut found = Found {
         nodes: None,
         reach: None,
+        front: None,
         table: None,
         numbers: ArrayVec::new(),
     };
@@ -56,16 +58,20 @@ impl Found {
     fn given(self, name: Name, number: u32) -> Option<Found>
         ensures { MatchOption result (IsTooMany self (Apart name number)) (AddsPiece self (Apart name number)) }
     {
-        match (name, self.nodes, self.reach, self.table) {
-            (Name::Nodes, None, _, _) => Some(Found {
+        match (name, self.nodes, self.reach, self.front, self.table) {
+            (Name::Nodes, None, _, _, _) => Some(Found {
                 nodes: Some(number),
                 ..self
             }),
-            (Name::Reach, _, None, _) => Some(Found {
+            (Name::Reach, _, None, _, _) => Some(Found {
                 reach: Some(number),
                 ..self
             }),
-            (Name::Table, _, _, None) => Some(Found {
+            (Name::Front, _, _, None, _) => Some(Found {
+                front: Some(number),
+                ..self
+            }),
+            (Name::Table, _, _, _, None) => Some(Found {
                 table: Some(number),
                 ..self
             }),

@@ -13,6 +13,8 @@ pub(crate) enum Name {
     Nodes,
     /// `--reach`
     Reach,
+    /// `--front`
+    Front,
     /// `--table`
     Table,
 }
@@ -37,6 +39,8 @@ impl Name {
             Some(Name::Nodes)
         } else if word == b"--reach".as_slice() {
             Some(Name::Reach)
+        } else if word == b"--front".as_slice() {
+            Some(Name::Front)
         } else if word == b"--table".as_slice() {
             Some(Name::Table)
         } else {

@@ -2,7 +2,7 @@
 ghost use Rattle.std.specs.Prelude.{◌≡◌, ◌&&◌, map, string_bytes, List, ℕ, IfSome, is_none};
 ghost use Rattle.victor_words.specs.declared.form.Form.{Form};
 ghost use Rattle.victor_words.specs.Words.{IsReadAs, IsWritten, HasRanges};
-ghost use Rattle.victor_words.specs.Reading.{within, nodes_from, reach_from, table_from, size_from, five_from, number_found, form_with};
+ghost use Rattle.victor_words.specs.Reading.{within, nodes_from, reach_from, table_from, size_from, prove_from, five_from, none_of_prove, none_given, number_found, form_with};
 
 use crate::form::{Command, Form};
 use crate::found::{Found, found_in};
@@ -19,6 +19,9 @@ const MOST_REACH: u32 = 1_000_000;
 
 /// How many sets of zones a walk looks at, where the words don't say.
 const USUAL_REACH: u32 = 1_000;
+
+/// The most times that a front may be given to grow.
+const MOST_FRONT: u32 = 1_000_000;
 
 /// The most settled positions that a table may be given to keep.
 const MOST_TABLE: u32 = 1_000_000;
@@ -63,21 +66,33 @@ fn form_with(command: Command, found: &Found) -> Option<Form>
 {
     let numbers = found.numbers.as_slice();
     match command {
-        Command::Drill if found.table.is_none() => drill_form(numbers, found),
+        Command::Drill if found.has_none_of_prove() => drill_form(numbers, found),
         _ if !numbers.is_empty() => None,
-        Command::Prove => Some(Form::Prove {
-            nodes: found.nodes()?,
-            reach: found.reach()?,
-            front: None,
-            table: found.table()?,
-        }),
-        Command::Explain if found.nodes.is_none() && found.table.is_none() => Some(Form::Explain {
-            reach: found.reach()?,
-        }),
+        Command::Prove => prove_form(found),
+        Command::Explain if found.nodes.is_none() && found.has_none_of_prove() => {
+            Some(Form::Explain {
+                reach: found.reach()?,
+            })
+        }
         Command::Check if found.has_no_option() => Some(Form::Check),
         Command::Play if found.has_no_option() => Some(Form::Play),
         _ => None,
     }
+}
+
+/// The form of `prove` with these options; None exactly where a number is out of range.
+fn prove_form(found: &Found) -> Option<Form>
+    ensures { result ≡ prove_from (number_found found.now) }
+{
+    Some(Form::Prove {
+        nodes: found.nodes()?,
+        reach: found.reach()?,
+        front: match found.front {
+            Some(times) => Some(within(1, MOST_FRONT, times)?),
+            None => None,
+        },
+        table: found.table()?,
+    })
 }
 
 /// The form of `drill` with these numbers.
@@ -139,9 +154,16 @@ impl Found {
         within(1, MOST_TABLE, self.table.unwrap_or(USUAL_TABLE))
     }
 
-    fn has_no_option(&self) -> bool
-        ensures { result ≡ (is_none self.now.nodes && (is_none self.now.reach && is_none self.now.table)) }
+    /// Neither option that is `prove`'s alone was given.
+    fn has_none_of_prove(&self) -> bool
+        ensures { result ≡ none_of_prove (number_found self.now) }
     {
-        self.nodes.is_none() && self.reach.is_none() && self.table.is_none()
+        self.front.is_none() && self.table.is_none()
+    }
+
+    fn has_no_option(&self) -> bool
+        ensures { result ≡ none_given (number_found self.now) }
+    {
+        self.nodes.is_none() && self.reach.is_none() && self.has_none_of_prove()
     }
 }

@@ -11,47 +11,88 @@ fn words_of(alloc: Global, words: &[&str]) -> Result<Vec<String>, AllocError> {
         .try_collect(alloc)
 }
 
-/// The numbers of `--nodes`, of `--reach` and of `--table` that `prove` has.
-const PROVE: [(&[&str], u32, u32, u32); 7] = [
-    (&["prove"], 1_000_000, 1_000, 100_000),
-    (&["prove", "--nodes", "5"], 5, 1_000, 100_000),
-    (&["prove", "--nodes=6", "--reach=0"], 6, 0, 100_000),
+/// The numbers of `--nodes`, `--reach`, `--front` and `--table` that `prove` has.
+const PROVE: [(&[&str], u32, u32, Option<u32>, u32); 12] = [
+    (&["prove"], 1_000_000, 1_000, None, 100_000),
+    (&["prove", "--nodes", "5"], 5, 1_000, None, 100_000),
+    (&["prove", "--nodes=6", "--reach=0"], 6, 0, None, 100_000),
     (
         &["prove", "--reach", "0", "--table=1", "--nodes", "6"],
         6,
         0,
+        None,
         1,
     ),
     (
         &["prove", "--nodes", "10000000"],
         10_000_000,
         1_000,
+        None,
         100_000,
     ),
     (
         &["prove", "--reach=1000000", "--nodes", "1"],
         1,
         1_000_000,
+        None,
         100_000,
     ),
     (
         &["prove", "--table", "1000000"],
         1_000_000,
         1_000,
+        None,
         1_000_000,
+    ),
+    (
+        &["prove", "--front", "4"],
+        1_000_000,
+        1_000,
+        Some(4),
+        100_000,
+    ),
+    (&["prove", "--front=1"], 1_000_000, 1_000, Some(1), 100_000),
+    (
+        &["prove", "--front", "1000000", "--nodes=6"],
+        6,
+        1_000,
+        Some(1_000_000),
+        100_000,
+    ),
+    (
+        &[
+            "prove",
+            "--table=2",
+            "--front=3",
+            "--reach",
+            "0",
+            "--nodes",
+            "5",
+        ],
+        5,
+        0,
+        Some(3),
+        2,
+    ),
+    (
+        &["prove", "--nodes=5", "--front", "7", "--table", "8"],
+        5,
+        1_000,
+        Some(7),
+        8,
     ),
 ];
 
 #[test]
 fn prove_has_its_options_in_any_order_and_spelling(rt: HostRuntime) -> Result<(), Fail> {
-    for (words, nodes, reach, table) in PROVE {
+    for (words, nodes, reach, front, table) in PROVE {
         let got = read_words(&words_of(rt.alloc(), words)?);
         assert_eq!(rt;
             got,
             Some(Form::Prove {
                 nodes,
                 reach,
-                front: None,
+                front,
                 table
             }),
             "{words:?}"
@@ -140,7 +181,7 @@ fn options_stand_before_between_and_after_the_numbers(rt: HostRuntime) -> Result
 }
 
 /// Lists of words that are no form.
-const NONE: [&[&str]; 53] = [
+const NONE: [&[&str]; 68] = [
     &[],
     &[""],
     &["", "prove"],
@@ -175,7 +216,22 @@ const NONE: [&[&str]; 53] = [
     &["prove", "--reach", "1000001"],
     &["prove", "--reach", "00"],
     &["prove", "--reach", "18446744073709551616"],
-    &["prove", "--front", "3"],
+    &["prove", "--front"],
+    &["prove", "--front="],
+    &["prove", "--front", "0"],
+    &["prove", "--front=0"],
+    &["prove", "--front", "1000001"],
+    &["prove", "--front=4294967296"],
+    &["prove", "--front", "+3"],
+    &["prove", "--front=-3"],
+    &["prove", "--front=03"],
+    &["prove", "--front", "3", "--front", "3"],
+    &["prove", "--front=3", "--front", "4"],
+    &["check", "--front", "3"],
+    &["play", "--front=3"],
+    &["explain", "--front=3"],
+    &["drill", "4", "4", "12", "1", "1", "--front=3"],
+    &["drill", "--front", "3", "4", "4", "12", "1", "1"],
     &["prove", "--table=0"],
     &["prove", "--table", "1000001"],
     &["prove", "--table=7", "--table", "7"],

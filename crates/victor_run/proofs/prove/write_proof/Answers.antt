@@ -1,4 +1,4 @@
-use Rattle.std.proofs.Common.{◌≡◌, false, Ok, Err, ◌∙◌, subst}
+use Rattle.std.proofs.Common.{◌≡◌, false, Ok, Err, refl, ◌∙◌, subst}
 use Rattle.std.specs.Io.KnownBytes.{Appends}
 use Rattle.std.proofs.lemmas.Result.{err_from_is_err_and}
 use Rattle.device_rules.specs.Devices.{AppendsPrefix}
@@ -7,6 +7,7 @@ use Rattle.game_rules.proofs.Grammar.{read_in_grammar}
 use Rattle.proof_text.specs.declared.Verdict.TheVariants.{Unknown}
 use Rattle.victor_run.specs.Proof.{head_for}
 use Rattle.victor_run.specs.Questions.{Asks}
+use Rattle.victor_run.specs.SizedFronts.{slots_of}
 use Rattle.deep_search.specs.declared.solving.SearchStop.TheVariants.{Spent}
 use Rattle.victor_run.proofs.Writing.{writes_head, writes_lemmas, writes_verdict}
 use Rattle.victor_run.proofs.prove.write_proof.Goals as goal
@@ -18,28 +19,28 @@ pub returns-in_err-put_all-clause-written : goal.returns-in_err-put_all-clause-w
 returns-in_err-put_all-clause-written g c =
     let same = err_from_is_err_and c.from_residual.result c.from_residual.ensures.1 in
     let head : c.as_slice.result.now ≡ head_for c.args.text.now = c.as_slice.ensures.value ∙ c.head_for.ensures in
-    rw same.1 (writes_head c.args.nodes c.args.reach c.args.text.now c.args.position.now (read_in_grammar c.args.text.now c.args.position.now c.requires.game) c.requires.nodes _ _ same.0
+    rw same.1 (writes_head c.args.nodes c.args.reach (slots_of c.args.front.now) c.args.text.now c.args.position.now (read_in_grammar c.args.text.now c.args.position.now c.requires.game) c.requires.nodes _ _ same.0
     (subst (AppendsPrefix false (g.O.Sink.written c.args.out.now) (g.O.Sink.written c.put_all.new.out)) head c.in_err-put_all.ensures.bytes))
 
 pub returns-in-Ok-clause-written : goal.returns-in-Ok-clause-written
 returns-in-Ok-clause-written g c =
     let head : c.as_slice.result.now ≡ head_for c.args.text.now = c.as_slice.ensures.value ∙ c.head_for.ensures in
     let asks = c.in-Ok.ensures.asked in
-    writes_verdict c.args.nodes c.args.reach c.args.text.now c.args.position.now (read_in_grammar c.args.text.now c.args.position.now c.requires.game) c.requires.nodes _ _ (Ok c.in-Ok.verdict) asks c.in-Ok.verdict asks.verdict.0 _ _ c.write_verdict.result
+    writes_verdict c.args.nodes c.args.reach (slots_of c.args.front.now) c.args.text.now c.args.position.now (read_in_grammar c.args.text.now c.args.position.now c.requires.game) c.requires.nodes _ _ (Ok c.in-Ok.verdict) asks c.in-Ok.verdict asks.verdict.0 _ _ c.write_verdict.result (asks.both_remarked refl)
     (subst (Appends (g.O.Sink.written c.args.out.now) (g.O.Sink.written c.put_all.new.out)) head c.in_ok-put_all.ensures.bytes) asks.text c.write_verdict.ensures.verdict c.write_verdict.ensures.written
 
 pub returns-in-Err-Spent-clause-written : goal.returns-in-Err-Spent-clause-written
 returns-in-Err-Spent-clause-written g c =
     let p = c.args.position.now in
     let head : c.as_slice.result.now ≡ head_for c.args.text.now = c.as_slice.ensures.value ∙ c.head_for.ensures in
-    let asks = subst (λ stop. Asks p c.args.nodes c.args.reach (g.O.Sink.written c.put_all.new.out) (g.O.Sink.written c.ask.new.out) (Err stop)) c.in-Err-Spent.field-0-is c.in-Err-Spent.ensures.asked in
-    writes_verdict c.args.nodes c.args.reach c.args.text.now p (read_in_grammar c.args.text.now p c.requires.game) c.requires.nodes _ _ (Err Spent) asks Unknown tt _ _ c.write_verdict-in-Err-Spent.result
+    let asks = subst (λ stop. Asks p c.args.nodes c.args.reach (slots_of c.args.front.now) (g.O.Sink.written c.put_all.new.out) (g.O.Sink.written c.ask.new.out) (Err stop)) c.in-Err-Spent.field-0-is c.in-Err-Spent.ensures.asked in
+    writes_verdict c.args.nodes c.args.reach (slots_of c.args.front.now) c.args.text.now p (read_in_grammar c.args.text.now p c.requires.game) c.requires.nodes _ _ (Err Spent) asks Unknown tt _ _ c.write_verdict-in-Err-Spent.result (asks.both_remarked refl)
     (subst (Appends (g.O.Sink.written c.args.out.now) (g.O.Sink.written c.put_all.new.out)) head c.in_ok-put_all.ensures.bytes) asks.text c.write_verdict-in-Err-Spent.ensures.verdict c.write_verdict-in-Err-Spent.ensures.written
 
 pub returns-in-Err-WriteFault-clause-written : goal.returns-in-Err-WriteFault-clause-written
 returns-in-Err-WriteFault-clause-written g c =
     let p = c.args.position.now in
     let head : c.as_slice.result.now ≡ head_for c.args.text.now = c.as_slice.ensures.value ∙ c.head_for.ensures in
-    let asks = subst (λ stop. Asks p c.args.nodes c.args.reach (g.O.Sink.written c.put_all.new.out) (g.O.Sink.written c.ask.new.out) (Err stop)) c.in-Err-WriteFault.field-0-is c.in-Err-WriteFault.ensures.asked in
-    writes_lemmas c.args.nodes c.args.reach c.args.text.now p (read_in_grammar c.args.text.now p c.requires.game) c.requires.nodes _ _ _ _ asks
+    let asks = subst (λ stop. Asks p c.args.nodes c.args.reach (slots_of c.args.front.now) (g.O.Sink.written c.put_all.new.out) (g.O.Sink.written c.ask.new.out) (Err stop)) c.in-Err-WriteFault.field-0-is c.in-Err-WriteFault.ensures.asked in
+    writes_lemmas c.args.nodes c.args.reach (slots_of c.args.front.now) c.args.text.now p (read_in_grammar c.args.text.now p c.requires.game) c.requires.nodes _ _ _ _ asks
     (subst (Appends (g.O.Sink.written c.args.out.now) (g.O.Sink.written c.put_all.new.out)) head c.in_ok-put_all.ensures.bytes)
