@@ -9,8 +9,8 @@
 #include "strategy.h"
 
 static const char usage[] =
-    "usage: solve [-o FILE] [--memory MIB] [--lemmas N] [--order N] [--no-reuse] [--look N] [--rounds N] [--nodes N]\n"
-    "             [--deep N] [--seconds N] [--quiet] [GAME]\n"
+    "usage: solve [-o FILE] [--memory MIB] [--lemmas N] [--order N] [--closure N] [--high N] [--probe N]\n"
+    "             [--part N] [--no-reuse] [--look N] [--rounds N] [--nodes N] [--deep N] [--seconds N] [--quiet] [GAME]\n"
     "Reads the text of a game from the file GAME or from standard input, and writes a proof of its value to FILE or\n"
     "to standard output. docs/SOLVED.md says more.\n";
 
@@ -188,7 +188,7 @@ class Prover {
         if (board_.is_ended(at)) return text + " end\n";
         bool proves = strategy.proves(at);
         text += proves ? " one" : " all";
-        Word moves = proves ? Word(1) << strategy.find(at)->move : board_.playable(at.men);
+        Word moves = proves ? strategy.move_of(at) : board_.playable(at.men);
         for (Word rest = moves; rest; rest &= rest - 1) {
             text += ' ';
             text += char('a' + __builtin_ctzll(rest) / board_.HEIGHT);
@@ -235,6 +235,10 @@ static void run(int count, char** words) {
         else if (word == "--nodes") options.nodes = number(0, 1'000'000'000);
         else if (word == "--seconds") options.seconds = number(0, 1'000'000'000);
         else if (word == "--deep") options.deep = number(0, 1'000'000'000);
+        else if (word == "--closure") options.closure = number(0, 1'000'000);
+        else if (word == "--part") options.part = number(0, 1'000'000'000);
+        else if (word == "--high") options.high = int(number(0, 63));
+        else if (word == "--probe") options.probe = number(1, 1'000'000'000);
         else if (word == "--order") options.order = int(number(0, 4));
         else if (word == "--no-reuse") options.reuses = false;
         else if (word == "--quiet") progress.is_quiet = true;

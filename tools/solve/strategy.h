@@ -4,15 +4,12 @@
 // and the size of the set stays known. What was dropped keeps its move, which is taken where the position comes again.
 #pragma once
 
-#include <stdexcept>
 #include <string>
 #include <vector>
 
+#include "closure.h"
+#include "nodes.h"
 #include "search.h"
-
-struct Fault : std::runtime_error {
-    using std::runtime_error::runtime_error;
-};
 
 struct Options {
     uint64_t memory = uint64_t(6) << 30;
@@ -20,93 +17,14 @@ struct Options {
     int look = 8;         // with at most so many empty squares, all winning moves are tried
     int rounds = 20;      // at most so many rounds of better choices
     uint64_t nodes = 20'000;  // so many nodes may be spent to see whether another move wins
+    int high = 16;        // with at most so many men, each winning move is taken in for a trial
+    uint64_t probe = 300'000;  // a trial ends where it has so many positions
+    uint64_t closure = 2000;  // positions that an answer in the same column may lead to in all; 0 for no such answer
+    uint64_t part = 1000;  // parts with so many of the prover's moves are bettered while the first strategy grows
     uint64_t deep = 100;  // parts of at least this size are bettered before they are compared; 0 for none
     uint64_t seconds = 1'000'000'000;  // no position is bettered after so many
-    int order = 4;        // which moves are tried first; 4 is the better of 1 and 3
+    int order = 4;        // which moves are tried first; 4 is the better of 1 and 2
     bool reuses = true;   // positions of the set are taken first
-};
-
-constexpr unsigned NO_MOVE = 63;
-
-struct Node {
-    Word key = 0;        // one more than the number of the position; 0 in an empty slot
-    uint64_t refs : 26;  // 0 where it isn't of the set; behind NUMBERED it is the number of its lemma
-    uint64_t move : 6;   // the square of the present move of the prover's
-    uint64_t kept : 6;   // that of the move when it was last taken in to stay
-    uint64_t order0 : 6, order1 : 6, order2 : 6, order3 : 6;  // those that the orders choose
-    Node()
-        : refs(0), move(NO_MOVE), kept(NO_MOVE), order0(NO_MOVE), order1(NO_MOVE), order2(NO_MOVE), order3(NO_MOVE) {}
-
-    unsigned chosen(int order) const {
-        return order == 0 ? order0 : order == 1 ? order1 : order == 2 ? order2 : order3;
-    }
-
-    void choose(int order, unsigned square) {
-        if (order == 0) order0 = square;
-        else if (order == 1) order1 = square;
-        else if (order == 2) order2 = square;
-        else order3 = square;
-    }
-
-    static constexpr uint32_t NUMBERED = uint32_t(1) << 25;
-    uint32_t number() const { return refs & NUMBERED ? refs & ~NUMBERED : 0; }
-};
-
-// Positions by their numbers. A reference holds until the next call of `add`.
-class NodeTable {
-  public:
-    explicit NodeTable(uint64_t bytes) : most_(bytes) { slots_.resize(size_t(1) << 12); }
-
-    Node* find(Word key) {
-        for (size_t at = place(key);; at = (at + 1) & (slots_.size() - 1)) {
-            if (slots_[at].key == key + 1) return &slots_[at];
-            if (!slots_[at].key) return nullptr;
-        }
-    }
-
-    Node& add(Word key) {
-        if (Node* node = find(key)) return *node;
-        if ((used_ + 1) * 4 > slots_.size() * 3) make_room();
-        ++used_;
-        return put(key);
-    }
-
-    uint64_t bytes() const { return slots_.size() * sizeof(Node); }
-    const std::vector<Node>& slots() const { return slots_; }
-
-  private:
-    std::vector<Node> slots_;
-    uint64_t most_;
-    size_t used_ = 0;
-
-    size_t place(Word key) const {
-        return (key * 0x9e3779b97f4a7c15u) >> (64 - __builtin_ctzll(slots_.size()));
-    }
-
-    Node& put(Word key) {
-        size_t at = place(key);
-        while (slots_[at].key) at = (at + 1) & (slots_.size() - 1);
-        slots_[at].key = key + 1;
-        return slots_[at];
-    }
-
-    // More slots, while there is memory for them; else what isn't in the set goes.
-    void make_room() {
-        bool can_grow = bytes() * 4 <= most_;
-        std::vector<Node> kept;
-        for (const Node& node : slots_) {
-            if (node.key && (node.refs || can_grow)) kept.push_back(node);
-        }
-        size_t size = can_grow ? slots_.size() * 2 : slots_.size();
-        if (kept.size() * 5 > size * 3) throw Fault("the strategy needs more memory than --memory allows");
-        std::vector<Node>().swap(slots_);
-        slots_.resize(size);
-        used_ = kept.size();
-        for (const Node& node : kept) {
-            Node& slot = put(node.key - 1);
-            slot = node;
-        }
-    }
 };
 
 template <int ROWS>
@@ -114,28 +32,20 @@ class Strategy {
   public:
     // The prover shows that the asker of the search wins, or where it is the other side that the asker doesn't.
     Strategy(const Board<ROWS>& board, Search<ROWS>& search, int prover, const Options& options, uint64_t bytes)
-        : board_(board), search_(search), prover_(prover), options_(options), table_(bytes) {}
+        : board_(board), search_(search), prover_(prover), options_(options), table_(bytes),
+          closure_(board, search.asker() == prover) {}
 
     uint64_t size() const { return live_; }
 
     void build(Position root) {
         root_ = root;
-        stays_ = true;
-        keeps_ = false;
-        order_ = options_.order < 4 ? options_.order : 3;
-        take(root);
-        uint64_t size = live_;
+        grow(options_.order < 4 ? options_.order : 2);
         if (options_.order == 4) {
-            report();
-            drop(root);
-            order_ = 1;
-            most_ = size;
-            bool is_smaller = take(root);
+            std::vector<Moved> moves;
+            most_ = drop_noted(root, moves);
+            bool is_smaller = grow(1);
             most_ = ~uint64_t(0);
-            if (!is_smaller) {
-                order_ = 3;
-                take(root);
-            }
+            if (!is_smaller) take_again(root, moves);
         }
         progress.lemmas = live_;
         progress.bytes = search_.bytes() + table_.bytes();
@@ -176,10 +86,13 @@ class Strategy {
 
     Node* find(Position at) { return table_.find(board_.key(at)); }
 
+    // The prover's move at a position of the set.
+    Word move_of(Position at) { return square_in(at, find(at)->move); }
+
   private:
     struct Moved {
         Word key;
-        unsigned square;
+        unsigned column;
     };
 
     const Board<ROWS>& board_;
@@ -187,6 +100,7 @@ class Strategy {
     int prover_;
     const Options& options_;
     NodeTable table_;
+    Closure<ROWS> closure_;
     Position root_ = {0, 0};
     uint64_t live_ = 0;
     uint64_t most_ = ~uint64_t(0);  // no position is taken in where the set has so many
@@ -197,8 +111,14 @@ class Strategy {
     std::vector<Word>* taken_ = nullptr;     // where the prover's positions that are taken in are noted
     bool keeps_ = true;  // moves of before go before the order
     int order_ = 0;
+    bool grows_ = false;   // the first strategy is being taken in, and its parts are bettered
+    bool probes_ = false;  // and there are trials
+    bool tries_ = false;   // this is one
+    size_t part_ = 0;     // how many moves the largest bettered part of what was just taken in has
 
-    static Word square_of(const Node& node) { return Word(1) << node.move; }
+    Word square_in(Position at, unsigned column) const { return board_.playable(at.men) & board_.column(int(column)); }
+
+    static unsigned column_of(Word square) { return unsigned(__builtin_ctzll(square)) / Board<ROWS>::HEIGHT; }
 
     // The time for better choices is over. The clock is looked at now and then.
     bool is_late() {
@@ -216,6 +136,16 @@ class Strategy {
         bool is_lost = search_.reaches(at, most);
         return !is_lost && !search_.is_spent;
     }
+
+    // As `holds`, of the position after a move of the prover's; what doesn't is noted and not looked at again.
+    bool move_holds(Position at, Word square, uint64_t most) {
+        if (is_refused(at, square)) return false;
+        if (holds(board_.after(at, square), most)) return true;
+        find(at)->refused |= 1u << column_of(square);
+        return false;
+    }
+
+    bool is_refused(Position at, Word square) { return table_.add(board_.key(at)).refused >> column_of(square) & 1; }
 
     // Takes a position in. False, and the set is as before, where it would get too large.
     bool take(Position at) {
@@ -236,18 +166,95 @@ class Strategy {
 
     bool take_one(Position at) {
         Word square = choose(at);
+        size_t start = taken_ ? taken_->size() : 0;
         if (!square || !take(board_.after(at, square))) return false;
         Node& node = *find(at);
-        node.move = __builtin_ctzll(square);
+        node.move = column_of(square);
         if (stays_) node.kept = node.move;
         if (taken_) taken_->push_back(board_.key(at));
+        if (grows_) better_grown(start);
         return true;
+    }
+
+    // Takes in the first strategy by an order. False where it would get too large.
+    bool grow(int order) {
+        std::vector<Word> keys;
+        order_ = order;
+        keeps_ = false;
+        stays_ = true;
+        grows_ = options_.part;
+        probes_ = options_.high;
+        taken_ = grows_ ? &keys : nullptr;
+        part_ = 0;
+        bool is_taken = take(root_);
+        grows_ = probes_ = false;
+        taken_ = nullptr;
+        return is_taken;
+    }
+
+    // Betters a part of the first strategy where it has four times the moves of what was bettered in it.
+    void better_grown(size_t start) {
+        size_t grown = part_;
+        size_t size = taken_->size() - start;
+        if (size < options_.part || size < grown * 4) return;
+        std::vector<Word> keys(taken_->begin() + long(start), taken_->end());
+        taken_->resize(start);
+        std::vector<Word>* taken = taken_;
+        uint64_t most = most_;
+        int order = order_;
+        bool probes = probes_;
+        grows_ = probes_ = false;
+        better_part(keys);
+        taken->insert(taken->end(), keys.begin(), keys.end());
+        part_ = keys.size();
+        taken_ = taken;
+        most_ = most;
+        order_ = order;
+        keeps_ = false;
+        grows_ = true;
+        probes_ = probes;
+    }
+
+    // Three rounds at these positions and what comes in for them.
+    void better_part(std::vector<Word>& keys) {
+        std::vector<Word> more;
+        taken_ = &more;
+        for (int n = 0; n < 3; ++n) {
+            order_ = n == 1 ? 1 : 3;
+            keeps_ = n == 2;
+            for (Word key : keys) {
+                if (!is_late()) improve(key);
+            }
+            keys.insert(keys.end(), more.begin(), more.end());
+            more.clear();
+            from_the_end(keys);
+        }
+    }
+
+    // Leaves those of the set, each once, with most men first.
+    void from_the_end(std::vector<Word>& keys) {
+        auto is_gone = [&](Word key) {
+            Node* node = table_.find(key);
+            return !node || !node->refs;
+        };
+        keys.erase(std::remove_if(keys.begin(), keys.end(), is_gone), keys.end());
+        std::vector<std::pair<int, Word>> sorted;
+        for (Word key : keys) sorted.push_back({-count_of(board_.position(key).men), key});
+        std::sort(sorted.begin(), sorted.end());
+        sorted.erase(std::unique(sorted.begin(), sorted.end()), sorted.end());
+        keys.clear();
+        for (const auto& [men, key] : sorted) keys.push_back(key);
     }
 
     bool take_all(Position at) {
         Word moves = board_.playable(at.men);
+        size_t part = 0;
         for (Word rest = moves; rest; rest &= rest - 1) {
-            if (take(board_.after(at, rest & -rest))) continue;
+            part_ = 0;
+            if (take(board_.after(at, rest & -rest))) {
+                part_ = part = std::max(part, part_);
+                continue;
+            }
             for (Word done = moves & ((rest & -rest) - 1); done; done &= done - 1) drop(board_.after(at, done & -done));
             return false;
         }
@@ -261,9 +268,35 @@ class Strategy {
         if (board_.is_ended(at)) return;
         if (proves(at)) {
             if (dropped_) dropped_->push_back({node.key - 1, unsigned(node.move)});
-            return drop(board_.after(at, square_of(node)));
+            return drop(board_.after(at, square_in(at, node.move)));
         }
         for (Word rest = board_.playable(at.men); rest; rest &= rest - 1) drop(board_.after(at, rest & -rest));
+    }
+
+    // Of the moves that are seen to win the one that adds least, each taken in by the order alone. 0 where none is seen
+    // to win, or each adds too much.
+    Word probed(Position at, const Word* squares, int count) {
+        uint64_t nodes = count_of(at.men) < 9 ? 3'000'000 : 100'000;
+        Word good[10];
+        int known = 0;
+        for (int n = 0; n < count; ++n) {
+            if (!is_refused(at, squares[n]) && holds(board_.after(at, squares[n]), nodes)) good[known++] = squares[n];
+        }
+        if (known < 2) return known ? good[0] : 0;
+        bool grows = grows_;
+        grows_ = probes_ = false;
+        tries_ = true;
+        std::vector<Word>* taken = taken_;
+        taken_ = nullptr;
+        uint64_t most = most_;
+        most_ = std::min(most_, live_ + options_.probe);
+        Word best = least(at, good, known);
+        most_ = most;
+        taken_ = taken;
+        grows_ = grows;
+        tries_ = false;
+        probes_ = true;
+        return best ? best : good[0];
     }
 
     // A move to a position of the set, or 0. Such a position holds.
@@ -281,11 +314,13 @@ class Strategy {
             if (Word square = free_move(at)) return square;
         }
         const Node& node = *find(at);
-        if (keeps_ && node.kept != NO_MOVE) return Word(1) << node.kept;
-        if (node.chosen(order_) != NO_MOVE) return Word(1) << node.chosen(order_);
+        if (keeps_ && node.kept != NO_MOVE) return square_in(at, node.kept);
+        if (node.chosen(order_) != NO_MOVE) return square_in(at, node.chosen(order_));
         if (Word wins = board_.playable(at.men) & board_.wins(at.own, at.men)) return wins & -wins;
         Word square = chosen(at);
-        if (square) find(at)->choose(order_, __builtin_ctzll(square));
+        // What is chosen without a probe where there should be one is for the probe alone.
+        bool is_rough = tries_ && count_of(at.men) <= options_.high;
+        if (square && !is_rough) find(at)->choose(order_, column_of(square));
         return square;
     }
 
@@ -293,11 +328,31 @@ class Strategy {
         Word squares[10];
         int count = sorted(at, board_.safe_moves(at), squares);
         if (count == 1) return squares[0];
+        if (Word square = order_ == 2 ? closing(at, squares, count) : 0) return square;
         if (empty_squares(at) <= options_.look) return least(at, squares, count);
-        for (int n = 0; n + 1 < count; ++n) {
+        if (probes_ && count_of(at.men) <= options_.high) {
+            if (Word square = probed(at, squares, count)) return square;
+        }
+        for (int n = 0; n < count; ++n) {
+            if (move_holds(at, squares[n], ~uint64_t(0))) return squares[n];
+        }
+        // One that was refused for the nodes that it takes.
+        for (int n = 0; n < count; ++n) {
             if (holds(board_.after(at, squares[n]), ~uint64_t(0))) return squares[n];
         }
-        return squares[count - 1];
+        return 0;
+    }
+
+    // The move behind which the closure meets the fewest positions, or 0.
+    Word closing(Position at, const Word* squares, int count) {
+        Word best = 0;
+        size_t most = options_.closure;
+        for (int n = 0; n < count; ++n) {
+            if (!closure_.reaches(board_.after(at, squares[n]), most) || closure_.size > most) continue;
+            best = squares[n];
+            most = closure_.size - 1;
+        }
+        return best;
     }
 
     // Of the winning moves the one that adds least.
@@ -308,7 +363,7 @@ class Strategy {
         Word best = 0;
         for (int n = 0; n < count; ++n) {
             Position next = board_.after(at, squares[n]);
-            if (!holds(next, ~uint64_t(0))) continue;
+            if (!move_holds(at, squares[n], ~uint64_t(0))) continue;
             uint64_t before = live_;
             if (!take(next)) continue;
             best = squares[n];
@@ -357,7 +412,6 @@ class Strategy {
         Word own = at.own | square;
         Word men = at.men | square;
         Word wins = board_.wins(own, men);
-        bool forces = wins & board_.playable(men);
         int place = __builtin_ctzll(square);
         int row = place % board_.HEIGHT;
         int column = place / board_.HEIGHT;
@@ -366,7 +420,6 @@ class Strategy {
         switch (order_) {
             case 0: return count_of(wins) * 32 + side;
             case 1: return follows * 10000 + count_of(wins) * 3 - new_replies(at, square) * 1000;
-            case 2: return forces * 2000 + follows * 1000 + count_of(wins) * 32 + side;
             default: return follows * 100 + count_of(wins) * 3 - new_replies(at, square) * 1000;
         }
     }
@@ -387,7 +440,7 @@ class Strategy {
         Node* node = table_.find(key);
         if (!node || !node->refs) return;
         Position at = board_.position(key);
-        Word old = square_of(*node);
+        Word old = square_in(at, node->move);
         Position there = board_.after(at, old);
         if (find(there)->refs > 1) return;
         uint64_t before = live_;
@@ -407,7 +460,7 @@ class Strategy {
         take(board_.after(at, best));
         keeps_ = keeps;
         Node& changed = *table_.find(key);
-        changed.move = changed.kept = __builtin_ctzll(best);
+        changed.move = changed.kept = column_of(best);
     }
 
     void deeply_improve(Word key, uint64_t least_part) {
@@ -415,7 +468,7 @@ class Strategy {
         if (!node || !node->refs) return;
         Position at = board_.position(key);
         if (board_.playable(at.men) & board_.wins(at.own, at.men)) return;
-        Word best = square_of(*node);
+        Word best = square_in(at, node->move);
         if (find(board_.after(at, best))->refs > 1) return;
         std::vector<Moved> moves, other;
         uint64_t least = drop_noted(board_.after(at, best), moves);
@@ -423,7 +476,7 @@ class Strategy {
             for (Word rest = board_.safe_moves(at); rest; rest &= rest - 1) {
                 Word square = rest & -rest;
                 Position next = board_.after(at, square);
-                if (!holds(next, options_.nodes)) continue;
+                if (!move_holds(at, square, options_.nodes)) continue;
                 for (int order = 0; order < 4; ++order) {
                     if (!take_bettered(next, order, live_ + 3 * least)) continue;
                     uint64_t size = drop_noted(next, other);
@@ -434,11 +487,9 @@ class Strategy {
                 }
             }
         }
-        for (const Moved& moved : moves) table_.add(moved.key).kept = moved.square;
-        keeps_ = true;
-        take(board_.after(at, best));
+        take_again(board_.after(at, best), moves);
         Node& changed = *table_.find(key);
-        changed.move = changed.kept = __builtin_ctzll(best);
+        changed.move = changed.kept = column_of(best);
     }
 
     // How many positions went.
@@ -449,6 +500,13 @@ class Strategy {
         drop(at);
         dropped_ = nullptr;
         return before - live_;
+    }
+
+    // Takes in what was dropped, with the moves that were noted.
+    void take_again(Position at, const std::vector<Moved>& moves) {
+        for (const Moved& moved : moves) table_.add(moved.key).kept = moved.column;
+        keeps_ = true;
+        take(at);
     }
 
     // Takes a position in by an order, and betters what came with it.
@@ -480,7 +538,7 @@ class Strategy {
         for (Word rest = moves; rest; rest &= rest - 1) {
             Word square = rest & -rest;
             Position next = board_.after(at, square);
-            if (square != old && !holds(next, options_.nodes)) continue;
+            if (square != old && !move_holds(at, square, options_.nodes)) continue;
             uint64_t before = live_;
             most_ = before + least - !keeps_;
             if (take(next)) {
@@ -497,7 +555,7 @@ class Strategy {
     void visit(Position at, std::string& path, Write& write) {
         if (find(at)->number()) return;
         if (!board_.is_ended(at)) {
-            Word moves = proves(at) ? square_of(*find(at)) : board_.playable(at.men);
+            Word moves = proves(at) ? move_of(at) : board_.playable(at.men);
             for (Word rest = moves; rest; rest &= rest - 1) {
                 path.push_back(char('a' + __builtin_ctzll(rest) / board_.HEIGHT));
                 visit(board_.after(at, rest & -rest), path, write);

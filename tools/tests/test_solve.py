@@ -86,8 +86,10 @@ class SolveTest(ToolTest):
     def test_options(self):
         """Each way to choose gives a proof, and the better ones a smaller one."""
         text = game_text(7, 6, "dcddddababec")
-        plain = self.proof_of(text, "--order", "0", "--no-reuse", "--look", "0", "--rounds", "0")[0]
-        for words in (["--order", "1"], ["--order", "2"], ["--order", "3", "--deep", "0"], ["--seconds", "0"], []):
+        plain = self.proof_of(text, "--order", "0", "--no-reuse", "--look", "0", "--rounds", "0", "--part", "0",
+                              "--high", "0")[0]
+        for words in (["--order", "1"], ["--order", "2"], ["--order", "2", "--closure", "0"], ["--part", "10"],
+                      ["--high", "42", "--probe", "100"], ["--order", "3", "--deep", "0"], ["--seconds", "0"], []):
             proof = self.proof_of(text, *words)[0]
             self.assertLessEqual(proof.count("\n"), plain.count("\n"))
         self.assertLess(proof.count("\n") * 5, plain.count("\n"))

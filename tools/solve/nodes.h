@@ -1,0 +1,96 @@
+// The positions that a strategy is chosen from, and what is known of each.
+#pragma once
+
+#include <stdexcept>
+#include <vector>
+
+#include "board.h"
+
+struct Fault : std::runtime_error {
+    using std::runtime_error::runtime_error;
+};
+
+constexpr unsigned NO_MOVE = 15;
+
+struct Node {
+    Word key = 0;        // one more than the number of the position; 0 in an empty slot
+    uint64_t refs : 26;  // 0 where it isn't of the set; behind NUMBERED it is the number of its lemma
+    uint64_t move : 4;   // the column of the present move of the prover's
+    uint64_t kept : 4;   // that of the move when it was last taken in to stay
+    uint64_t order0 : 4, order1 : 4, order2 : 4, order3 : 4;  // those that the orders choose
+    uint64_t refused : 10;  // the columns of moves that weren't found to win
+    Node()
+        : refs(0), move(NO_MOVE), kept(NO_MOVE), order0(NO_MOVE), order1(NO_MOVE), order2(NO_MOVE), order3(NO_MOVE),
+          refused(0) {}
+
+    unsigned chosen(int order) const {
+        return order == 0 ? order0 : order == 1 ? order1 : order == 2 ? order2 : order3;
+    }
+
+    void choose(int order, unsigned column) {
+        if (order == 0) order0 = column;
+        else if (order == 1) order1 = column;
+        else if (order == 2) order2 = column;
+        else order3 = column;
+    }
+
+    static constexpr uint32_t NUMBERED = uint32_t(1) << 25;
+    uint32_t number() const { return refs & NUMBERED ? refs & ~NUMBERED : 0; }
+};
+
+// Positions by their numbers. A reference holds until the next call of `add`.
+class NodeTable {
+  public:
+    explicit NodeTable(uint64_t bytes) : most_(bytes) { slots_.resize(size_t(1) << 12); }
+
+    Node* find(Word key) {
+        for (size_t at = place(key);; at = (at + 1) & (slots_.size() - 1)) {
+            if (slots_[at].key == key + 1) return &slots_[at];
+            if (!slots_[at].key) return nullptr;
+        }
+    }
+
+    Node& add(Word key) {
+        if (Node* node = find(key)) return *node;
+        if ((used_ + 1) * 4 > slots_.size() * 3) make_room();
+        ++used_;
+        return put(key);
+    }
+
+    uint64_t bytes() const { return slots_.size() * sizeof(Node); }
+    const std::vector<Node>& slots() const { return slots_; }
+
+  private:
+    std::vector<Node> slots_;
+    uint64_t most_;
+    size_t used_ = 0;
+
+    size_t place(Word key) const {
+        return (key * 0x9e3779b97f4a7c15u) >> (64 - __builtin_ctzll(slots_.size()));
+    }
+
+    Node& put(Word key) {
+        size_t at = place(key);
+        while (slots_[at].key) at = (at + 1) & (slots_.size() - 1);
+        slots_[at].key = key + 1;
+        return slots_[at];
+    }
+
+    // More slots, while there is memory for them; else what isn't in the set goes.
+    void make_room() {
+        bool can_grow = bytes() * 4 <= most_;
+        std::vector<Node> kept;
+        for (const Node& node : slots_) {
+            if (node.key && (node.refs || can_grow)) kept.push_back(node);
+        }
+        size_t size = can_grow ? slots_.size() * 2 : slots_.size();
+        if (kept.size() * 5 > size * 3) throw Fault("the strategy needs more memory than --memory allows");
+        std::vector<Node>().swap(slots_);
+        slots_.resize(size);
+        used_ = kept.size();
+        for (const Node& node : kept) {
+            Node& slot = put(node.key - 1);
+            slot = node;
+        }
+    }
+};
