@@ -31,8 +31,6 @@ struct Board {
         }
     }
 
-    static bool fits(int columns) { return columns * HEIGHT <= 63; }
-
     // The lowest empty square of each column that isn't full.
     Word playable(Word men) const { return (men + bottom) & full; }
 

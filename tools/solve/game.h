@@ -3,6 +3,9 @@
 
 #include <string>
 
+#include "board.h"
+#include "input.h"
+
 struct Game {
     int columns = 0;
     int rows = 0;
@@ -47,4 +50,44 @@ inline bool read_game(const std::string& text, Game& game, std::string& kind, si
     }
     if (at + 1 < text.size()) return fails("Trailing", at + 1);
     return true;
+}
+
+// The game in a file, or in standard input.
+inline Game game_of(const std::string& name) {
+    Game game;
+    std::string kind;
+    size_t place = 0;
+    if (!read_game(read_all(name == "-" ? "" : name, 256), game, kind, place)) {
+        throw Fault("input fault: " + kind + " at " + std::to_string(place));
+    }
+    return game;
+}
+
+// The position behind the moves of a game.
+template <int ROWS>
+Position position_of(const Game& game, const Board<ROWS>& board) {
+    Position at = {0, 0};
+    for (size_t n = 0; n < game.moves.size(); ++n) {
+        std::string where = " at move " + std::to_string(n + 1);
+        if (board.is_ended(at)) throw Fault("input fault: GameOver" + where);
+        Word square = board.playable(at.men) & board.column(game.moves[n] - 'a');
+        if (!square) throw Fault("input fault: ColumnFull" + where);
+        at = board.after(at, square);
+    }
+    return at;
+}
+
+// Calls `run` with the board of a game.
+template <class Run>
+void with_board(const Game& game, Run run) {
+    if (game.columns * (game.rows + 1) > 63) {
+        throw Fault("a board of " + std::to_string(game.columns) + " by " + std::to_string(game.rows) +
+                    " is too large for this tool");
+    }
+    switch (game.rows) {
+        case 4: return run(Board<4>(game.columns));
+        case 6: return run(Board<6>(game.columns));
+        case 8: return run(Board<8>(game.columns));
+        default: return run(Board<10>(game.columns));
+    }
 }

@@ -1,14 +1,10 @@
 // The positions that a strategy is chosen from, and what is known of each.
 #pragma once
 
-#include <stdexcept>
 #include <vector>
 
 #include "board.h"
-
-struct Fault : std::runtime_error {
-    using std::runtime_error::runtime_error;
-};
+#include "input.h"
 
 constexpr unsigned NO_MOVE = 15;
 
@@ -19,9 +15,12 @@ struct Node {
     uint64_t kept : 4;   // that of the move when it was last taken in to stay
     uint64_t order0 : 4, order1 : 4, order2 : 4, order3 : 4;  // those that the orders choose
     uint64_t refused : 10;  // the columns of moves that weren't found to win
+    uint64_t plan : 2;      // whether there is a plan: NO_PLAN or HAS_PLAN, or 0 where it isn't known
     Node()
         : refs(0), move(NO_MOVE), kept(NO_MOVE), order0(NO_MOVE), order1(NO_MOVE), order2(NO_MOVE), order3(NO_MOVE),
-          refused(0) {}
+          refused(0), plan(0) {}
+
+    static constexpr unsigned NO_PLAN = 1, HAS_PLAN = 2;
 
     unsigned chosen(int order) const {
         return order == 0 ? order0 : order == 1 ? order1 : order == 2 ? order2 : order3;

@@ -14,6 +14,7 @@ class Decided {
   public:
     explicit Decided(size_t bytes) {
         while ((Word(16) << bits_) <= bytes && bits_ < 40) ++bits_;
+        most_bits_ = bits_;
         slots_.reset(new Word[size_t(1) << bits_]());
     }
 
@@ -44,12 +45,20 @@ class Decided {
         }
     }
 
+    // Empties it, and takes no more slots from here on than a search with so many nodes needs.
+    void clear(uint64_t nodes) {
+        bits_ = std::min(12, most_bits_);
+        while (bits_ < most_bits_ && (uint64_t(1) << bits_) < 2 * nodes) ++bits_;
+        clear();
+    }
+
     void clear() { std::fill_n(slots_.get(), size_t(1) << bits_, Word(0)); }
 
     size_t bytes() const { return sizeof(Word) << bits_; }
 
   private:
     int bits_ = 10;
+    int most_bits_ = 10;
     std::unique_ptr<Word[]> slots_;
 };
 
@@ -70,6 +79,9 @@ class Search {
     }
 
     int asker() const { return asker_; }
+
+    // The root is its own mirror image.
+    bool mirrors() const { return mirrors_; }
 
     uint64_t bytes() const { return decided_.bytes(); }
 

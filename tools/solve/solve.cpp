@@ -9,8 +9,9 @@
 #include "strategy.h"
 
 static const char usage[] =
-    "usage: solve [-o FILE] [--memory MIB] [--lemmas N] [--order N] [--closure N] [--high N] [--probe N]\n"
-    "             [--part N] [--no-reuse] [--look N] [--rounds N] [--nodes N] [--deep N] [--seconds N] [--quiet] [GAME]\n"
+    "usage: solve [-o FILE] [--memory MIB] [--lemmas N] [--book FILE] [--mirror N] [--reach N] [--order N]\n"
+    "             [--closure N] [--high N] [--probe N] [--part N] [--no-reuse] [--look N] [--rounds N] [--nodes N]\n"
+    "             [--deep N] [--seconds N] [--quiet] [GAME]\n"
     "Reads the text of a game from the file GAME or from standard input, and writes a proof of its value to FILE or\n"
     "to standard output. docs/SOLVED.md says more.\n";
 
@@ -57,16 +58,6 @@ class Output {
     }
 };
 
-static std::string read_all(const std::string& name) {
-    FILE* file = name.empty() ? stdin : fopen(name.c_str(), "rb");
-    if (!file) throw Fault("can't read " + name + ": " + strerror(errno));
-    char text[256];
-    size_t size = fread(text, 1, sizeof text, file);
-    if (ferror(file)) throw Fault("can't read " + (name.empty() ? "standard input" : name) + ": " + strerror(errno));
-    if (file != stdin) fclose(file);
-    return std::string(text, size);
-}
-
 // The game, as a proof of it begins.
 static std::string head_of(const Game& game) {
     return "victor 1\nboard " + std::to_string(game.columns) + " " + std::to_string(game.rows) + "\nmoves " +
@@ -76,9 +67,10 @@ static std::string head_of(const Game& game) {
 template <int ROWS>
 class Prover {
   public:
-    Prover(const Game& game, const Options& options)
-        : game_(game), options_(options), board_(game.columns), root_(root_of(game, board_)),
+    Prover(const Board<ROWS>& board, const Game& game, const Options& options)
+        : game_(game), options_(options), board_(board), root_(position_of(game, board_)), book_(board_),
           decided_(table_bytes(board_, root_, options)) {
+        if (!options.book.empty()) book_.read(options.book);
         progress.bytes = decided_.bytes();
     }
 
@@ -107,20 +99,9 @@ class Prover {
     const Options& options_;
     Board<ROWS> board_;
     Position root_;
+    Book<ROWS> book_;
     Decided decided_;
     uint32_t written_ = 0;
-
-    static Position root_of(const Game& game, const Board<ROWS>& board) {
-        Position at = {0, 0};
-        for (size_t n = 0; n < game.moves.size(); ++n) {
-            std::string where = " at move " + std::to_string(n + 1);
-            if (board.is_ended(at)) throw Fault("input fault: GameOver" + where);
-            Word square = board.playable(at.men) & board.column(game.moves[n] - 'a');
-            if (!square) throw Fault("input fault: ColumnFull" + where);
-            at = board.after(at, square);
-        }
-        return at;
-    }
 
     // At most half of the memory, and less for a game that ends soon.
     static uint64_t table_bytes(const Board<ROWS>& board, Position root, const Options& options) {
@@ -154,7 +135,7 @@ class Prover {
         int asker = wins ? prover : 1 - prover;
         Search<ROWS> search(board_, decided_, asker, root_);
         uint64_t bytes = options_.memory > decided_.bytes() ? options_.memory - decided_.bytes() : 0;
-        Strategy<ROWS> strategy(board_, search, prover, options_, bytes);
+        Strategy<ROWS> strategy(board_, search, prover, book_, options_, bytes);
         progress.stage = "choosing";
         strategy.build(root_);
         progress.line(search.nodes);
@@ -186,6 +167,7 @@ class Prover {
     std::string lemma(Strategy<ROWS>& strategy, Position at, const std::string& path, const std::string& claim) {
         std::string text = std::to_string(++written_) + " " + (path.empty() ? "-" : path) + claim;
         if (board_.is_ended(at)) return text + " end\n";
+        if (std::string plan = strategy.plan_of(at); !plan.empty()) return text + " plan" + plan + "\n";
         bool proves = strategy.proves(at);
         text += proves ? " one" : " all";
         Word moves = proves ? strategy.move_of(at) : board_.playable(at.men);
@@ -198,25 +180,6 @@ class Prover {
         return text + "\n";
     }
 };
-
-template <int ROWS>
-static void solve(const Game& game, const Options& options, const std::string& name) {
-    if (!Board<ROWS>::fits(game.columns)) {
-        throw Fault("a board of " + std::to_string(game.columns) + " by " + std::to_string(game.rows) +
-                    " is too large for this tool");
-    }
-    Prover<ROWS>(game, options).run(name);
-}
-
-static uint64_t number_of(const std::string& option, const char* text, uint64_t least, uint64_t most) {
-    uint64_t number = 0;
-    bool is_number = text && *text && strlen(text) <= 12 && strspn(text, "0123456789") == strlen(text);
-    if (is_number) number = strtoull(text, nullptr, 10);
-    if (!is_number || number < least || number > most) {
-        throw Fault(option + " takes a number from " + std::to_string(least) + " to " + std::to_string(most));
-    }
-    return number;
-}
 
 static void run(int count, char** words) {
     Options options;
@@ -239,40 +202,23 @@ static void run(int count, char** words) {
         else if (word == "--part") options.part = number(0, 1'000'000'000);
         else if (word == "--high") options.high = int(number(0, 63));
         else if (word == "--probe") options.probe = number(1, 1'000'000'000);
+        else if (word == "--mirror") options.mirror = int(number(0, 63));
+        else if (word == "--reach") options.reach = unsigned(number(0, 1'000'000));
         else if (word == "--order") options.order = int(number(0, 4));
         else if (word == "--no-reuse") options.reuses = false;
         else if (word == "--quiet") progress.is_quiet = true;
+        else if (word == "--book" && n + 1 < count && *words[n + 1]) options.book = words[++n];
         else if (word == "-o" && n + 1 < count && *words[n + 1]) output = words[++n];
         else if (word[0] == '-' && word != "-") throw Fault("unknown option " + word + "; --help lists them");
         else if (input.empty()) input = word;
         else throw Fault("more than one game is named");
     }
-    Game game;
-    std::string kind;
-    size_t place = 0;
-    if (!read_game(read_all(input == "-" ? "" : input), game, kind, place)) {
-        throw Fault("input fault: " + kind + " at " + std::to_string(place));
-    }
-    switch (game.rows) {
-        case 4: return solve<4>(game, options, output);
-        case 6: return solve<6>(game, options, output);
-        case 8: return solve<8>(game, options, output);
-        default: return solve<10>(game, options, output);
-    }
+    Game game = game_of(input);
+    with_board(game, [&](const auto& board) { Prover(board, game, options).run(output); });
 }
 
 int main(int count, char** words) {
     // A file that gets too large is a fault like others.
     signal(SIGXFSZ, SIG_IGN);
-    std::string why;
-    try {
-        run(count, words);
-        return 0;
-    } catch (const std::bad_alloc&) {
-        why = "out of memory";
-    } catch (const std::exception& fault) {
-        why = fault.what();
-    }
-    fprintf(stderr, "solve: %s\n", why.c_str());
-    return 2;
+    return status_of("solve", [&] { run(count, words); });
 }

@@ -7,8 +7,10 @@
 #include <string>
 #include <vector>
 
+#include "book.h"
 #include "closure.h"
 #include "nodes.h"
+#include "plans.h"
 #include "search.h"
 
 struct Options {
@@ -17,8 +19,11 @@ struct Options {
     int look = 8;         // with at most so many empty squares, all winning moves are tried
     int rounds = 20;      // at most so many rounds of better choices
     uint64_t nodes = 20'000;  // so many nodes may be spent to see whether another move wins
+    std::string book;     // a file with moves that are taken where they win
+    int mirror = 0;       // with at most so many men, the image of a move of the set is taken
     int high = 16;        // with at most so many men, each winning move is taken in for a trial
     uint64_t probe = 300'000;  // a trial ends where it has so many positions
+    unsigned reach = 200;  // so many layouts of a plan are tried at a position; 0 for no plans
     uint64_t closure = 2000;  // positions that an answer in the same column may lead to in all; 0 for no such answer
     uint64_t part = 1000;  // parts with so many of the prover's moves are bettered while the first strategy grows
     uint64_t deep = 100;  // parts of at least this size are bettered before they are compared; 0 for none
@@ -31,9 +36,11 @@ template <int ROWS>
 class Strategy {
   public:
     // The prover shows that the asker of the search wins, or where it is the other side that the asker doesn't.
-    Strategy(const Board<ROWS>& board, Search<ROWS>& search, int prover, const Options& options, uint64_t bytes)
-        : board_(board), search_(search), prover_(prover), options_(options), table_(bytes),
-          closure_(board, search.asker() == prover) {}
+    Strategy(const Board<ROWS>& board, Search<ROWS>& search, int prover, const Book<ROWS>& book, const Options& options,
+             uint64_t bytes)
+        : board_(board), search_(search), prover_(prover), book_(book), options_(options), table_(bytes),
+          closure_(board, search.asker() == prover), plans_(board, options.reach),
+          has_plans_(options.reach && prover && !search.asker()) {}
 
     uint64_t size() const { return live_; }
 
@@ -86,6 +93,9 @@ class Strategy {
 
     Node* find(Position at) { return table_.find(board_.key(at)); }
 
+    // The plan that closes a position of the set, or nothing.
+    std::string plan_of(Position at) { return closes(at) && plans_.finds(at) ? plans_.text() : ""; }
+
     // The prover's move at a position of the set.
     Word move_of(Position at) { return square_in(at, find(at)->move); }
 
@@ -98,9 +108,12 @@ class Strategy {
     const Board<ROWS>& board_;
     Search<ROWS>& search_;
     int prover_;
+    const Book<ROWS>& book_;
     const Options& options_;
     NodeTable table_;
     Closure<ROWS> closure_;
+    Plans<ROWS> plans_;
+    bool has_plans_;  // a plan shows what the prover has to
     Position root_ = {0, 0};
     uint64_t live_ = 0;
     uint64_t most_ = ~uint64_t(0);  // no position is taken in where the set has so many
@@ -147,6 +160,14 @@ class Strategy {
 
     bool is_refused(Position at, Word square) { return table_.add(board_.key(at)).refused >> column_of(square) & 1; }
 
+    // A plan shows at this position, which hasn't ended, what the prover has to.
+    bool closes(Position at) {
+        if (!has_plans_ || proves(at)) return false;
+        Node* node = &table_.add(board_.key(at));
+        if (!node->plan) node->plan = plans_.finds(at) ? Node::HAS_PLAN : Node::NO_PLAN;
+        return node->plan == Node::HAS_PLAN;
+    }
+
     // Takes a position in. False, and the set is as before, where it would get too large.
     bool take(Position at) {
         Node& node = table_.add(board_.key(at));
@@ -157,7 +178,7 @@ class Strategy {
         if (live_ >= most_) return false;
         node.refs = 1;
         if ((++live_ & 0xffff) == 0) report();
-        if (board_.is_ended(at)) return true;
+        if (board_.is_ended(at) || closes(at)) return true;
         if (proves(at) ? take_one(at) : take_all(at)) return true;
         find(at)->refs = 0;
         --live_;
@@ -165,13 +186,14 @@ class Strategy {
     }
 
     bool take_one(Position at) {
-        Word square = choose(at);
+        Word image = image_move(at);
+        Word square = image ? image : choose(at);
         size_t start = taken_ ? taken_->size() : 0;
         if (!square || !take(board_.after(at, square))) return false;
         Node& node = *find(at);
         node.move = column_of(square);
         if (stays_) node.kept = node.move;
-        if (taken_) taken_->push_back(board_.key(at));
+        if (taken_ && !image) taken_->push_back(board_.key(at));
         if (grows_) better_grown(start);
         return true;
     }
@@ -265,7 +287,7 @@ class Strategy {
         Node& node = *find(at);
         if (--node.refs) return;
         --live_;
-        if (board_.is_ended(at)) return;
+        if (board_.is_ended(at) || closes(at)) return;
         if (proves(at)) {
             if (dropped_) dropped_->push_back({node.key - 1, unsigned(node.move)});
             return drop(board_.after(at, square_in(at, node.move)));
@@ -308,6 +330,24 @@ class Strategy {
         return 0;
     }
 
+    // Where the first strategy has the position's mirror image: the image of the move there, or 0.
+    Word image_move(Position at) {
+        if (!grows_ || count_of(at.men) > options_.mirror || !search_.mirrors() || free_move(at)) return 0;
+        Node* node = table_.find(board_.mirrored(board_.key(at)));
+        if (!node || !node->refs || node->move == NO_MOVE) return 0;
+        return square_in(at, unsigned(board_.columns) - 1 - node->move);
+    }
+
+    // A move to a position that a plan closes, or 0.
+    Word closing_move(Position at) {
+        if (!has_plans_) return 0;
+        for (Word rest = board_.safe_moves(at); rest; rest &= rest - 1) {
+            Position next = board_.after(at, rest & -rest);
+            if (!board_.is_ended(next) && closes(next)) return rest & -rest;
+        }
+        return 0;
+    }
+
     // The prover's move at a position where it reaches its end; 0 where each would make the set too large.
     Word choose(Position at) {
         if (options_.reuses) {
@@ -317,6 +357,7 @@ class Strategy {
         if (keeps_ && node.kept != NO_MOVE) return square_in(at, node.kept);
         if (node.chosen(order_) != NO_MOVE) return square_in(at, node.chosen(order_));
         if (Word wins = board_.playable(at.men) & board_.wins(at.own, at.men)) return wins & -wins;
+        if (Word square = closing_move(at)) return square;
         Word square = chosen(at);
         // What is chosen without a probe where there should be one is for the probe alone.
         bool is_rough = tries_ && count_of(at.men) <= options_.high;
@@ -325,6 +366,8 @@ class Strategy {
     }
 
     Word chosen(Position at) {
+        Word given = book_.find(at);
+        if (given && move_holds(at, given, ~uint64_t(0))) return given;
         Word squares[10];
         int count = sorted(at, board_.safe_moves(at), squares);
         if (count == 1) return squares[0];
@@ -554,7 +597,7 @@ class Strategy {
     template <class Write>
     void visit(Position at, std::string& path, Write& write) {
         if (find(at)->number()) return;
-        if (!board_.is_ended(at)) {
+        if (!board_.is_ended(at) && !closes(at)) {
             Word moves = proves(at) ? move_of(at) : board_.playable(at.men);
             for (Word rest = moves; rest; rest &= rest - 1) {
                 path.push_back(char('a' + __builtin_ctzll(rest) / board_.HEIGHT));

@@ -1,7 +1,8 @@
-"""tools/solve: proofs of small boards and of ends of games, judged by both checkers; and what it refuses."""
+"""tools/solve: proofs of small boards and of ends of games, judged by both checkers; books; and what it refuses."""
 
 import os
 import random
+import re
 import resource
 import shutil
 import subprocess
@@ -11,7 +12,7 @@ import unittest
 from common import TOOLS, ToolTest, boards, program, read
 import mutants
 
-SOURCE = os.path.join(TOOLS, "solve", "solve.cpp")
+SOURCES = os.path.join(TOOLS, "solve")
 COMPILER = shutil.which("g++")
 
 
@@ -36,9 +37,15 @@ class SolveTest(ToolTest):
     def setUpClass(cls):
         cls.folder = tempfile.mkdtemp(prefix="solve test-")
         cls.addClassCleanup(shutil.rmtree, cls.folder, True)
-        cls.solver = os.path.join(cls.folder, "solve")
-        subprocess.run([COMPILER, "-std=c++17", "-O2", "-Wall", "-Wextra", "-Werror", "-o", cls.solver, SOURCE],
-                       check=True)
+        cls.solver = cls.made("solve")
+        cls.planner = cls.made("openings")
+
+    @classmethod
+    def made(cls, name):
+        path = os.path.join(cls.folder, name)
+        subprocess.run([COMPILER, "-std=c++17", "-O2", "-Wall", "-Wextra", "-Werror", "-o", path,
+                        os.path.join(SOURCES, name + ".cpp")], check=True)
+        return path
 
     def solve(self, text, *words, **more):
         run = subprocess.run([self.solver, *words], input=text, stdout=subprocess.PIPE, stderr=subprocess.PIPE,
@@ -77,6 +84,21 @@ class SolveTest(ToolTest):
                 words.add(said[1])
         self.assertEqual(words, {"win", "loss", "draw"})
 
+    def test_plans(self):
+        """Plans close positions in proofs of draws: on 5 by 4 the first. Here each of the nine rules comes."""
+        text = game_text(5, 4, "")
+        proof = self.proof_of(text, "--rounds", "0")[0]
+        self.assertTrue(proof.split("\n")[3].startswith("1 - W- plan "))
+        kinds = set()
+        for moves in ("dbdcddddcaba", "babaabbaddbcadbc"):
+            text = game_text(4, 6, moves)
+            proof = self.proof_of(text)[0]
+            kinds |= set(re.findall(r" ([A-Z][A-Z]):", proof))
+            plain = self.proof_of(text, "--reach", "0")[0]
+            self.assertNotIn(" plan ", plain)
+            self.assertLess(proof.count("\n"), plain.count("\n"))
+        self.assertEqual(kinds, {"CE", "BI", "LI", "HI", "BC", "VE", "AE", "BE", "SB"})
+
     def test_ended_games(self):
         for moves in ("abababa", "cdccddcdaaaabbbb"):
             text = game_text(4, 4, moves)
@@ -89,10 +111,54 @@ class SolveTest(ToolTest):
         plain = self.proof_of(text, "--order", "0", "--no-reuse", "--look", "0", "--rounds", "0", "--part", "0",
                               "--high", "0")[0]
         for words in (["--order", "1"], ["--order", "2"], ["--order", "2", "--closure", "0"], ["--part", "10"],
-                      ["--high", "42", "--probe", "100"], ["--order", "3", "--deep", "0"], ["--seconds", "0"], []):
+                      ["--high", "42", "--probe", "100"], ["--order", "3", "--deep", "0"], ["--seconds", "0"],
+                      ["--mirror", "42"], ["--reach", "1"], []):
             proof = self.proof_of(text, *words)[0]
             self.assertLessEqual(proof.count("\n"), plain.count("\n"))
         self.assertLess(proof.count("\n") * 5, plain.count("\n"))
+
+    def book(self, text):
+        path = os.path.join(self.folder, "a book")
+        with open(path, "w", encoding="ascii") as out:
+            out.write(text)
+        return path
+
+    def openings(self, text, *words):
+        run = subprocess.run([self.planner, *words], input=text, stdout=subprocess.PIPE, stderr=subprocess.PIPE,
+                             encoding="ascii", timeout=100, check=False)
+        return run.returncode, run.stdout, run.stderr
+
+    def test_openings(self):
+        """The moves that `openings` writes win, and a proof is made with them; also from mirror images."""
+        text = game_text(6, 4, "")
+        status, book, err = self.openings(text, "--black")
+        self.assertEqual((status, err), (0, ""))
+        head, *lines = book.splitlines()
+        self.assertEqual(head, "board 6 4")
+        lengths = [len(line.split()[0]) for line in lines]
+        self.assertEqual(set(lengths), {1, 3, 5, 7})
+        for line in [line for line in lines if len(line) == 9][::40]:
+            run = mutants.answer_of([program(), "prove", "--nodes", "1000000"],
+                                    game_text(6, 4, line.replace(" ", "")).encode())
+            self.assertEqual(run[1].split("\n")[-2].split()[:2], ["value", "loss"], line)
+        for words in ([], ["--mirror", "8"]):
+            self.proof_of(text, "--book", self.book(book), "--rounds", "0", *words)
+        status, out, err = self.openings(text)
+        self.assertEqual((status, out), (2, ""))
+        self.assertEqual(err, "openings: that side wasn't seen to win\n")
+
+    def test_books(self):
+        """What a book says is tried, and nothing of it is trusted."""
+        text = game_text(4, 4, "dcddd")
+        for book in ("board 4 4\n", "# nothing\nboard 4 4\n# nothing", "board 4 4\ndcddd a\ndcdddab a\n- d\n"):
+            self.proof_of(text, "--book", self.book(book))
+        self.proof_of(game_text(7, 6, "dcddddababec"), "--book", os.path.join(SOURCES, "usual.book"))
+        for book, line in (("", "it is empty"), ("board 5 4\n", "line 1"), ("board 4 4\na\n", "line 2"),
+                           ("board 4 4\na b\nd e\n", "line 3"), ("board 4 4\n- b c\n", "line 2"),
+                           ("board 4 4\naaaa a\n", "line 2"), ("board 4 4\nabababa b\n", "line 2"),
+                           ("board 4 4\n\n", "line 2"), ("board 4 4\na- b\n", "line 2")):
+            self.fails(text, "no book of this board: " + line, "--book", self.book(book))
+        self.fails(text, "can't read", "--book", os.path.join(self.folder, "no such book"))
 
     def test_file(self):
         """A file gets its name when it is whole."""
@@ -134,10 +200,10 @@ class SolveTest(ToolTest):
         self.fails(text, "can't read", self.folder)
 
     def test_limits(self):
-        self.fails(game_text(4, 4, ""), "lemmas, more than 1000", "--lemmas", "1000")
+        self.fails(game_text(4, 4, ""), "lemmas, more than 500", "--lemmas", "500")
         self.fails(game_text(6, 4, ""), "more memory", "--memory", "1")
         # A disk that is full.
-        limit = {"preexec_fn": lambda: resource.setrlimit(resource.RLIMIT_FSIZE, (20000, 20000))}
+        limit = {"preexec_fn": lambda: resource.setrlimit(resource.RLIMIT_FSIZE, (10000, 10000))}
         self.fails(game_text(4, 4, ""), "can't write", **limit)
         with open("/dev/full", "w", encoding="ascii") as full:
             run = subprocess.run([self.solver, "--quiet"], input=game_text(4, 4, ""), stdout=full,
