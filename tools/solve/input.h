@@ -1,4 +1,4 @@
-// What both programs do alike: they read files and numbers, and say why they fail.
+// How both programs read files, and the numbers behind options.
 #pragma once
 
 #include <cerrno>
@@ -6,13 +6,9 @@
 #include <cstdio>
 #include <cstdlib>
 #include <cstring>
-#include <new>
-#include <stdexcept>
 #include <string>
 
-struct Fault : std::runtime_error {
-    using std::runtime_error::runtime_error;
-};
+#include "fault.h"
 
 // The first bytes of a file, at most so many; of standard input where there is no name.
 inline std::string read_all(const std::string& name, size_t most) {
@@ -35,20 +31,4 @@ inline uint64_t number_of(const std::string& option, const char* text, uint64_t 
         throw Fault(option + " takes a number from " + std::to_string(least) + " to " + std::to_string(most));
     }
     return number;
-}
-
-// The status of a program that runs this. What it can't do is said in one line.
-template <class Run>
-int status_of(const char* program, Run run) {
-    std::string why;
-    try {
-        run();
-        return 0;
-    } catch (const std::bad_alloc&) {
-        why = "out of memory";
-    } catch (const std::exception& fault) {
-        why = fault.what();
-    }
-    fprintf(stderr, "%s: %s\n", program, why.c_str());
-    return 2;
 }

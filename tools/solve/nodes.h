@@ -4,7 +4,7 @@
 #include <vector>
 
 #include "board.h"
-#include "input.h"
+#include "fault.h"
 
 constexpr unsigned NO_MOVE = 15;
 

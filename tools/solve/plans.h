@@ -75,8 +75,9 @@ class Plans {
     enum Kind { BASEINVERSE, LOWINVERSE, HIGHINVERSE, BASECLAIM };
     struct Zone {
         Kind kind;
-        Word first, second;          // the lowest squares of the two columns; of a Baseclaim a and e
-        Word first_top, second_top;  // of a Lowinverse; of a Baseclaim b
+        Word first, second;                  // the lowest squares of the two columns; of a Baseclaim a and e
+        Word third = 0;                      // of a Baseclaim b
+        Word first_top = 0, second_top = 0;  // of a Lowinverse
     };
 
     const Board<ROWS>& board_;
@@ -141,7 +142,7 @@ class Plans {
         if (with(claimevens(first, lowest_[first]), [&] { return lays(columns); })) return true;
         for (int c = first + 1; c < board_.columns; ++c) {
             if (!(columns >> c & 1)) continue;
-            zones_.push_back({BASEINVERSE, square(first, lowest_[first]), square(c, lowest_[c]), 0, 0});
+            zones_.push_back({BASEINVERSE, square(first, lowest_[first]), square(c, lowest_[c])});
             if (inverts(columns & ~(1u << c), first, lowest_[first] + 1, c, lowest_[c] + 1)) return true;
             zones_.pop_back();
         }
@@ -152,14 +153,14 @@ class Plans {
     bool pairs(unsigned columns, int one, int two) {
         int row = lowest_[one], other = lowest_[two];
         Word above = claimevens(one, row + 1) | claimevens(two, other + 1);
-        if (lays_zone({BASEINVERSE, square(one, row), square(two, other), 0, 0}, above, columns)) return true;
+        if (lays_zone({BASEINVERSE, square(one, row), square(two, other)}, above, columns)) return true;
         for (int c = 0; c < board_.columns; ++c) {
             if (!(columns >> c & 1) || !is_odd(c)) continue;
             Word b = square(c, lowest_[c]);
             Word over = above | claimevens(c, lowest_[c] + 2);
             unsigned rest = columns & ~(1u << c);
-            if (lays_zone({BASECLAIM, square(one, row), square(two, other), b, b}, over, rest)) return true;
-            if (lays_zone({BASECLAIM, square(two, other), square(one, row), b, b}, over, rest)) return true;
+            if (lays_zone({BASECLAIM, square(one, row), square(two, other), b}, over, rest)) return true;
+            if (lays_zone({BASECLAIM, square(two, other), square(one, row), b}, over, rest)) return true;
         }
         return inverts(columns, one, row, two, other);
     }
@@ -168,15 +169,16 @@ class Plans {
     bool inverts(unsigned columns, int one, int row, int two, int other) {
         for (int top = row + 2; top <= ROWS; top += 2) {
             for (int other_top = other + 2; other_top <= ROWS; other_top += 2) {
-                Word tops[] = {square(one, top), square(two, other_top)};
-                Zone zone = {LOWINVERSE, square(one, row), square(two, other), tops[0], tops[1]};
+                Zone zone = {LOWINVERSE, square(one, row), square(two, other)};
+                zone.first_top = square(one, top);
+                zone.second_top = square(two, other_top);
                 Word above = claimevens(one, top + 1) | claimevens(two, other_top + 1);
                 if (lays_zone(zone, above, columns)) return true;
             }
         }
         if (row + 2 > ROWS || other + 2 > ROWS) return false;
         Word above = claimevens(one, row + 3) | claimevens(two, other + 3);
-        return lays_zone({HIGHINVERSE, square(one, row), square(two, other), 0, 0}, above, columns);
+        return lays_zone({HIGHINVERSE, square(one, row), square(two, other)}, above, columns);
     }
 
     bool lays_zone(const Zone& zone, Word above, unsigned columns) {
@@ -228,7 +230,7 @@ class Plans {
         Word x = zone.first, y = zone.second;
         switch (zone.kind) {
             case BASEINVERSE: return has(group, x | y);
-            case BASECLAIM: return has(group, x | zone.first_top << 1) || has(group, zone.first_top | y);
+            case BASECLAIM: return has(group, x | zone.third << 1) || has(group, zone.third | y);
             case HIGHINVERSE:
                 return has(group, x << 2 | y << 2) || has(group, x << 1 | y << 1) || has(group, x << 1 | x << 2) ||
                        has(group, y << 1 | y << 2) || has(group, x | y << 2) || has(group, y | x << 2);
@@ -289,7 +291,7 @@ class Plans {
         switch (zone.kind) {
             case BASEINVERSE: return "BI:" + name_of(x) + "," + name_of(y);
             case HIGHINVERSE: return "HI:" + name_of(x) + "," + name_of(y);
-            case BASECLAIM: return "BC:" + name_of(x) + "," + name_of(zone.first_top) + "," + name_of(y);
+            case BASECLAIM: return "BC:" + name_of(x) + "," + name_of(zone.third) + "," + name_of(y);
             default:
                 return "LI:" + name_of(x) + "-" + name_of(zone.first_top) + "," + name_of(y) + "-" +
                        name_of(zone.second_top);

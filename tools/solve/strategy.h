@@ -32,6 +32,20 @@ struct Options {
     bool reuses = true;   // positions of the set are taken first
 };
 
+// Puts a value back at the end of its scope.
+template <class Value>
+class Restored {
+  public:
+    explicit Restored(Value& place) : place_(place), value_(place) {}
+    ~Restored() { place_ = value_; }
+    Restored(const Restored&) = delete;
+    Restored& operator=(const Restored&) = delete;
+
+  private:
+    Value& place_;
+    Value value_;
+};
+
 template <int ROWS>
 class Strategy {
   public:
@@ -46,12 +60,11 @@ class Strategy {
 
     void build(Position root) {
         root_ = root;
-        grow(options_.order < 4 ? options_.order : 2);
+        grow(options_.order < 4 ? options_.order : 2, NO_LIMIT);
         if (options_.order == 4) {
             std::vector<Moved> moves;
-            most_ = drop_noted(root, moves);
-            bool is_smaller = grow(1);
-            most_ = ~uint64_t(0);
+            uint64_t size = drop_noted(root, moves);
+            bool is_smaller = grow(1, size);
             if (!is_smaller) take_again(root, moves);
         }
         progress.lemmas = live_;
@@ -61,8 +74,9 @@ class Strategy {
     // Tries other moves at each position of the prover's, from the end to the root, and below them this order of moves;
     // or the moves of before, where `keeps`.
     void round(int order, bool keeps) {
-        order_ = order;
-        keeps_ = keeps;
+        Restored before(mode_);
+        mode_.order = order;
+        mode_.keeps = keeps;
         for (const std::vector<Word>& keys : prover_keys()) {
             for (Word key : keys) {
                 if (is_late()) return;
@@ -93,7 +107,7 @@ class Strategy {
 
     Node* find(Position at) { return table_.find(board_.key(at)); }
 
-    // The plan that closes a position of the set, or nothing.
+    // The plan that closes a position of the set, or nothing. It is found again: texts of all would take much memory.
     std::string plan_of(Position at) { return closes(at) && plans_.finds(at) ? plans_.text() : ""; }
 
     // The prover's move at a position of the set.
@@ -103,6 +117,21 @@ class Strategy {
     struct Moved {
         Word key;
         unsigned column;
+    };
+
+    static constexpr uint64_t NO_LIMIT = ~uint64_t(0);  // of nodes, or of positions
+
+    // How positions are taken in and dropped.
+    struct Mode {
+        int order = 0;        // of the moves
+        bool keeps = true;    // moves of before go before the order
+        bool stays = true;    // what is taken in stays
+        bool grows = false;   // the first strategy is being taken in, and its parts are bettered
+        bool probes = false;  // and there are trials
+        bool tries = false;   // this is one
+        uint64_t most = NO_LIMIT;  // no position is taken in where the set has so many
+        std::vector<Word>* taken = nullptr;     // where the prover's positions that are taken in are noted
+        std::vector<Moved>* dropped = nullptr;  // where the moves of what is dropped are noted
     };
 
     const Board<ROWS>& board_;
@@ -116,18 +145,10 @@ class Strategy {
     bool has_plans_;  // a plan shows what the prover has to
     Position root_ = {0, 0};
     uint64_t live_ = 0;
-    uint64_t most_ = ~uint64_t(0);  // no position is taken in where the set has so many
     uint64_t calls_ = 0;
     bool late_ = false;
-    bool stays_ = true;  // what is taken in now stays
-    std::vector<Moved>* dropped_ = nullptr;  // where the moves of what is dropped are noted
-    std::vector<Word>* taken_ = nullptr;     // where the prover's positions that are taken in are noted
-    bool keeps_ = true;  // moves of before go before the order
-    int order_ = 0;
-    bool grows_ = false;   // the first strategy is being taken in, and its parts are bettered
-    bool probes_ = false;  // and there are trials
-    bool tries_ = false;   // this is one
-    size_t part_ = 0;     // how many moves the largest bettered part of what was just taken in has
+    Mode mode_;
+    size_t part_ = 0;  // how many moves the largest bettered part of what was just taken in has
 
     Word square_in(Position at, unsigned column) const { return board_.playable(at.men) & board_.column(int(column)); }
 
@@ -175,7 +196,7 @@ class Strategy {
             ++node.refs;
             return true;
         }
-        if (live_ >= most_) return false;
+        if (live_ >= mode_.most) return false;
         node.refs = 1;
         if ((++live_ & 0xffff) == 0) report();
         if (board_.is_ended(at) || closes(at)) return true;
@@ -186,64 +207,55 @@ class Strategy {
     }
 
     bool take_one(Position at) {
-        Word image = image_move(at);
-        Word square = image ? image : choose(at);
-        size_t start = taken_ ? taken_->size() : 0;
+        Word image = 0;
+        Word square = options_.reuses ? free_move(at) : 0;
+        if (!square) square = image = image_move(at);
+        if (!square) square = choose(at);
+        size_t start = mode_.taken ? mode_.taken->size() : 0;
         if (!square || !take(board_.after(at, square))) return false;
         Node& node = *find(at);
         node.move = column_of(square);
-        if (stays_) node.kept = node.move;
-        if (taken_ && !image) taken_->push_back(board_.key(at));
-        if (grows_) better_grown(start);
+        if (mode_.stays) node.kept = node.move;
+        if (mode_.taken && !image) mode_.taken->push_back(board_.key(at));
+        if (mode_.grows) better_grown(start);
         return true;
     }
 
-    // Takes in the first strategy by an order. False where it would get too large.
-    bool grow(int order) {
+    // Takes in the first strategy by an order. False where it would get larger than this.
+    bool grow(int order, uint64_t most) {
         std::vector<Word> keys;
-        order_ = order;
-        keeps_ = false;
-        stays_ = true;
-        grows_ = options_.part;
-        probes_ = options_.high;
-        taken_ = grows_ ? &keys : nullptr;
+        Restored before(mode_);
+        mode_.order = order;
+        mode_.keeps = false;
+        mode_.most = most;
+        mode_.grows = options_.part;
+        mode_.probes = options_.high;
+        mode_.taken = mode_.grows ? &keys : nullptr;
         part_ = 0;
-        bool is_taken = take(root_);
-        grows_ = probes_ = false;
-        taken_ = nullptr;
-        return is_taken;
+        return take(root_);
     }
 
     // Betters a part of the first strategy where it has four times the moves of what was bettered in it.
     void better_grown(size_t start) {
-        size_t grown = part_;
-        size_t size = taken_->size() - start;
-        if (size < options_.part || size < grown * 4) return;
-        std::vector<Word> keys(taken_->begin() + long(start), taken_->end());
-        taken_->resize(start);
-        std::vector<Word>* taken = taken_;
-        uint64_t most = most_;
-        int order = order_;
-        bool probes = probes_;
-        grows_ = probes_ = false;
+        std::vector<Word>& taken = *mode_.taken;
+        size_t size = taken.size() - start;
+        if (size < options_.part || size < part_ * 4) return;
+        std::vector<Word> keys(taken.begin() + long(start), taken.end());
         better_part(keys);
-        taken->insert(taken->end(), keys.begin(), keys.end());
+        taken.resize(start);
+        taken.insert(taken.end(), keys.begin(), keys.end());
         part_ = keys.size();
-        taken_ = taken;
-        most_ = most;
-        order_ = order;
-        keeps_ = false;
-        grows_ = true;
-        probes_ = probes;
     }
 
     // Three rounds at these positions and what comes in for them.
     void better_part(std::vector<Word>& keys) {
         std::vector<Word> more;
-        taken_ = &more;
+        Restored before(mode_);
+        mode_.grows = mode_.probes = false;
+        mode_.taken = &more;
         for (int n = 0; n < 3; ++n) {
-            order_ = n == 1 ? 1 : 3;
-            keeps_ = n == 2;
+            mode_.order = n == 1 ? 1 : 3;
+            mode_.keeps = n == 2;
             for (Word key : keys) {
                 if (!is_late()) improve(key);
             }
@@ -289,7 +301,7 @@ class Strategy {
         --live_;
         if (board_.is_ended(at) || closes(at)) return;
         if (proves(at)) {
-            if (dropped_) dropped_->push_back({node.key - 1, unsigned(node.move)});
+            if (mode_.dropped) mode_.dropped->push_back({node.key - 1, unsigned(node.move)});
             return drop(board_.after(at, square_in(at, node.move)));
         }
         for (Word rest = board_.playable(at.men); rest; rest &= rest - 1) drop(board_.after(at, rest & -rest));
@@ -305,19 +317,12 @@ class Strategy {
             if (!is_refused(at, squares[n]) && holds(board_.after(at, squares[n]), nodes)) good[known++] = squares[n];
         }
         if (known < 2) return known ? good[0] : 0;
-        bool grows = grows_;
-        grows_ = probes_ = false;
-        tries_ = true;
-        std::vector<Word>* taken = taken_;
-        taken_ = nullptr;
-        uint64_t most = most_;
-        most_ = std::min(most_, live_ + options_.probe);
+        Restored before(mode_);
+        mode_.grows = mode_.probes = false;
+        mode_.tries = true;
+        mode_.taken = nullptr;
+        mode_.most = std::min(mode_.most, live_ + options_.probe);
         Word best = least(at, good, known);
-        most_ = most;
-        taken_ = taken;
-        grows_ = grows;
-        tries_ = false;
-        probes_ = true;
         return best ? best : good[0];
     }
 
@@ -332,7 +337,7 @@ class Strategy {
 
     // Where the first strategy has the position's mirror image: the image of the move there, or 0.
     Word image_move(Position at) {
-        if (!grows_ || count_of(at.men) > options_.mirror || !search_.mirrors() || free_move(at)) return 0;
+        if (!mode_.grows || count_of(at.men) > options_.mirror || !search_.mirrors()) return 0;
         Node* node = table_.find(board_.mirrored(board_.key(at)));
         if (!node || !node->refs || node->move == NO_MOVE) return 0;
         return square_in(at, unsigned(board_.columns) - 1 - node->move);
@@ -350,38 +355,35 @@ class Strategy {
 
     // The prover's move at a position where it reaches its end; 0 where each would make the set too large.
     Word choose(Position at) {
-        if (options_.reuses) {
-            if (Word square = free_move(at)) return square;
-        }
         const Node& node = *find(at);
-        if (keeps_ && node.kept != NO_MOVE) return square_in(at, node.kept);
-        if (node.chosen(order_) != NO_MOVE) return square_in(at, node.chosen(order_));
+        if (mode_.keeps && node.kept != NO_MOVE) return square_in(at, node.kept);
+        if (node.chosen(mode_.order) != NO_MOVE) return square_in(at, node.chosen(mode_.order));
         if (Word wins = board_.playable(at.men) & board_.wins(at.own, at.men)) return wins & -wins;
         if (Word square = closing_move(at)) return square;
         Word square = chosen(at);
         // What is chosen without a probe where there should be one is for the probe alone.
-        bool is_rough = tries_ && count_of(at.men) <= options_.high;
-        if (square && !is_rough) find(at)->choose(order_, column_of(square));
+        bool is_rough = mode_.tries && count_of(at.men) <= options_.high;
+        if (square && !is_rough) find(at)->choose(mode_.order, column_of(square));
         return square;
     }
 
     Word chosen(Position at) {
         Word given = book_.find(at);
-        if (given && move_holds(at, given, ~uint64_t(0))) return given;
+        if (given && move_holds(at, given, NO_LIMIT)) return given;
         Word squares[10];
         int count = sorted(at, board_.safe_moves(at), squares);
         if (count == 1) return squares[0];
-        if (Word square = order_ == 2 ? closing(at, squares, count) : 0) return square;
+        if (Word square = mode_.order == 2 ? closing(at, squares, count) : 0) return square;
         if (empty_squares(at) <= options_.look) return least(at, squares, count);
-        if (probes_ && count_of(at.men) <= options_.high) {
+        if (mode_.probes && count_of(at.men) <= options_.high) {
             if (Word square = probed(at, squares, count)) return square;
         }
         for (int n = 0; n < count; ++n) {
-            if (move_holds(at, squares[n], ~uint64_t(0))) return squares[n];
+            if (move_holds(at, squares[n], NO_LIMIT)) return squares[n];
         }
         // One that was refused for the nodes that it takes.
         for (int n = 0; n < count; ++n) {
-            if (holds(board_.after(at, squares[n]), ~uint64_t(0))) return squares[n];
+            if (holds(board_.after(at, squares[n]), NO_LIMIT)) return squares[n];
         }
         return 0;
     }
@@ -400,23 +402,20 @@ class Strategy {
 
     // Of the winning moves the one that adds least.
     Word least(Position at, const Word* squares, int count) {
-        uint64_t most = most_;
-        bool stays = stays_;
-        stays_ = false;
+        Restored before(mode_);
+        mode_.stays = false;
         Word best = 0;
         for (int n = 0; n < count; ++n) {
             Position next = board_.after(at, squares[n]);
-            if (!move_holds(at, squares[n], ~uint64_t(0))) continue;
-            uint64_t before = live_;
+            if (!move_holds(at, squares[n], NO_LIMIT)) continue;
+            uint64_t size = live_;
             if (!take(next)) continue;
             best = squares[n];
-            uint64_t added = live_ - before;
+            uint64_t added = live_ - size;
             drop(next);
-            most_ = std::min(most_, before + added - 1);
+            mode_.most = std::min(mode_.most, size + added - 1);
             if (added <= 1) break;
         }
-        most_ = most;
-        stays_ = stays;
         return best;
     }
 
@@ -460,7 +459,7 @@ class Strategy {
         int column = place / board_.HEIGHT;
         int side = std::min(column, board_.columns - 1 - column);
         bool follows = row & 1;
-        switch (order_) {
+        switch (mode_.order) {
             case 0: return count_of(wins) * 32 + side;
             case 1: return follows * 10000 + count_of(wins) * 3 - new_replies(at, square) * 1000;
             default: return follows * 100 + count_of(wins) * 3 - new_replies(at, square) * 1000;
@@ -486,22 +485,17 @@ class Strategy {
         Word old = square_in(at, node->move);
         Position there = board_.after(at, old);
         if (find(there)->refs > 1) return;
-        uint64_t before = live_;
+        uint64_t size = live_;
         drop(there);
-        uint64_t least = before - live_;
-        bool keeps = keeps_;
+        uint64_t least = size - live_;
         Word best = free_move(at);
-        if (!best && least > 1) {
-            stays_ = false;
-            best = better(at, old, least);
-            stays_ = true;
-        }
+        if (!best && least > 1) best = better(at, old, least);
+        Restored before(mode_);
         if (!best) {
             best = old;
-            keeps_ = true;
+            mode_.keeps = true;
         }
         take(board_.after(at, best));
-        keeps_ = keeps;
         Node& changed = *table_.find(key);
         changed.move = changed.kept = column_of(best);
     }
@@ -537,34 +531,35 @@ class Strategy {
 
     // How many positions went.
     uint64_t drop_noted(Position at, std::vector<Moved>& moves) {
-        uint64_t before = live_;
+        uint64_t size = live_;
+        Restored before(mode_);
         moves.clear();
-        dropped_ = &moves;
+        mode_.dropped = &moves;
         drop(at);
-        dropped_ = nullptr;
-        return before - live_;
+        return size - live_;
     }
 
     // Takes in what was dropped, with the moves that were noted.
     void take_again(Position at, const std::vector<Moved>& moves) {
         for (const Moved& moved : moves) table_.add(moved.key).kept = moved.column;
-        keeps_ = true;
+        Restored before(mode_);
+        mode_.keeps = true;
         take(at);
     }
 
     // Takes a position in by an order, and betters what came with it.
     bool take_bettered(Position at, int order, uint64_t most) {
         std::vector<Word> keys;
-        order_ = order;
-        keeps_ = false;
-        most_ = most;
-        taken_ = &keys;
-        bool is_taken = take(at);
-        taken_ = nullptr;
-        most_ = ~uint64_t(0);
-        if (!is_taken) return false;
+        Restored before(mode_);
+        mode_.order = order;
+        mode_.keeps = false;
+        mode_.most = most;
+        mode_.taken = &keys;
+        if (!take(at)) return false;
+        mode_.taken = nullptr;
+        mode_.most = NO_LIMIT;
         for (int n = 0; n < 2; ++n) {
-            order_ = n ? 3 : order;
+            mode_.order = n ? 3 : order;
             for (Word key : keys) improve(key);
         }
         return true;
@@ -572,25 +567,24 @@ class Strategy {
 
     // A move that adds less than this, or 0. The old move is among them where what follows may be another.
     Word better(Position at, Word old, uint64_t least) {
-        Word moves = board_.playable(at.men);
-        Word wins = moves & board_.wins(at.own, at.men);
-        if (wins) return 0;
-        moves = board_.safe_moves(at);
-        if (keeps_) moves &= ~old;
+        if (board_.playable(at.men) & board_.wins(at.own, at.men)) return 0;
+        Word moves = board_.safe_moves(at);
+        if (mode_.keeps) moves &= ~old;
+        Restored before(mode_);
+        mode_.stays = false;
         Word best = 0;
         for (Word rest = moves; rest; rest &= rest - 1) {
             Word square = rest & -rest;
             Position next = board_.after(at, square);
             if (square != old && !move_holds(at, square, options_.nodes)) continue;
-            uint64_t before = live_;
-            most_ = before + least - !keeps_;
+            uint64_t size = live_;
+            mode_.most = size + least - !mode_.keeps;
             if (take(next)) {
                 best = square;
-                least = live_ - before;
+                least = live_ - size;
                 drop(next);
             }
         }
-        most_ = ~uint64_t(0);
         return best;
     }
 
