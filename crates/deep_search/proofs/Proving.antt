@@ -10,29 +10,31 @@ use Rattle.std.proofs.lemmas.List.Concat.{flat_map-append}
 use Rattle.device_rules.specs.Devices.{AppendsPrefix}
 use Rattle.device_rules.proofs.DeviceLaws.{AppendsPrefix_more}
 use Rattle.game_rules.specs.Board.{below}
-use Rattle.game_rules.specs.Position.{Position, has_room, after_move, played, is_legal, end_of, same_side, side_to_move, open_columns}
+use Rattle.game_rules.specs.Position.{Position, has_room, after_move, empty_count, played, is_legal, end_of, same_side, side_to_move, open_columns}
 use Rattle.game_rules.specs.Value.{same_end, win_of}
 use Rattle.game_rules.specs.Cost.{centre_out}
 use Rattle.game_rules.specs.declared.End.{End}
 use Rattle.game_rules.proofs.Lists.{chosen, Among, Among-filter_gives, Among-below_gives}
 use Rattle.game_rules.proofs.Costs.{Among-centre_out}
+use Rattle.game_rules.proofs.Moves.{empty_count_moved}
 use Rattle.game_rules.specs.declared.Side.{Side}
 use Rattle.game_rules.specs.declared.Side.TheVariants.{White, Black}
 use Rattle.proof_text.specs.declared.Claim.{Claim}
 use Rattle.proof_text.specs.Lemma.{claim_side, claim_for, claim_of_end, agrees, Reason, ByEnd, ByOne, ByAll, Lemma}
 use Rattle.proof_text.specs.Right.{Shown, Shows, IsCited, goes_by_one, HasReason, AreRight}
 use Rattle.proof_text.specs.Spelling.{lemma_line, lines_of, members_in, IsShort}
-use Rattle.plan_text.proofs.Spaced.{all_append}
+use Rattle.plan_text.proofs.Spaced.{all_append, all_each}
 use Rattle.proof_text.proofs.Append.{Shows_more, Shows_last, AreRight_append}
 use Rattle.deep_search.specs.Planned.{plan_in, plan_for, IsPlanned}
 use Rattle.position_table.specs.Table.{Entries}
 use Rattle.position_table.specs.declared.table.Found.{Found}
 use Rattle.deep_search.specs.Tables.{held, FitsTable, HasSame, StaysWhole, IsKept}
-use Rattle.deep_search.specs.Search.{is_whole, uncounted, cites_from, Moment, moment, IsNew, Wrote, Solves}
+use Rattle.deep_search.specs.Search.{is_whole, uncounted, cites_from, Moment, moment, IsNew, Wrote, AreBelow, limit_of, Solves}
 use Rattle.deep_search.proofs.Tables.{fits_same, fits_kept, fits_more, stays_same, stays_then}
 use Rattle.deep_search.proofs.News.{new_nothing, new_then}
 use Rattle.deep_search.specs.declared.solving.Answer.{Answer}
 use Rattle.deep_search.specs.declared.solving.SearchStop.{SearchStop}
+use Rattle.deep_search.specs.declared.solving.SearchStop.TheVariants.{Spent, WriteFault}
 use Rattle.plan_text.specs.PlanLine.{most_members}
 
 pub lines_append : (ls more : List Lemma) → lines_of (ls ++ more) ≡ lines_of ls ++ lines_of more
@@ -84,6 +86,30 @@ new_after p side won count before after (Err stop) absent (cut, same) = record {
   kept = λ whole now. absurd (both_ways (is_whole (Err stop)) cut whole);
 }
 
+-- ---- where what is shown stands
+
+below_raised : (limit raised : ℕ) (shown : List Shown) → limit ≤ raised → AreBelow limit shown → AreBelow raised shown
+below_raised limit raised shown more below = all_each (λ s. empty_count s.0 < limit) (λ s. empty_count s.0 < raised) shown (λ s low. omega arith) below
+
+below_both : (limit : ℕ) (first rest : List Shown) → AreBelow limit first → AreBelow limit rest → AreBelow limit (first ++ rest)
+below_both limit first rest = all_append (λ s. empty_count s.0 < limit) first rest
+
+limit_least : (p : Position) (result : Result Answer SearchStop) → empty_count p ≤ limit_of p result
+limit_least p (Ok answer) = omega arith
+limit_least p (Err Spent) = omega arith
+limit_least p (Err WriteFault) = omega arith
+
+limit_most : (p : Position) (result : Result Answer SearchStop) → limit_of p result ≤ empty_count p + 1
+limit_most p (Ok answer) = omega arith
+limit_most p (Err Spent) = omega arith
+limit_most p (Err WriteFault) = omega arith
+
+-- a position's own lemma is begun only where the search isn't spent
+limit_after : (p : Position) (side : Side) (won : Bool) (count : ℕ) (before after : Entries) (result : Result Answer SearchStop) → IsAfter p side won count before after result → empty_count p < limit_of p result
+limit_after p side won count before after (Ok answer) kept = omega arith
+limit_after p side won count before after (Err Spent) (cut, same) = absurd (both_ways true cut refl)
+limit_after p side won count before after (Err WriteFault) (cut, same) = omega arith
+
 -- a lemma that is right behind what is known
 pub told : (root p : Position) (side : Side) (reach : ℕ) (won : Bool) (said : Claim) (known : List Shown) (path : List ℕ) (reason : Reason) (old new : Moment) (count counted : ℕ) (result : Result Answer SearchStop)
     → said ≡ claim_for side won → played root path ≡ Some p → length known ≡ count → FitsTable old.table known → held old.table p side ≡ None
@@ -104,6 +130,7 @@ told root p side reach won said known path reason old new count counted result i
     stays = stays_after p side won count old.table new.table result after;
     new_ones = new_after p side won count old.table new.table result absent after;
   };
+  below = (limit_after p side won count old.table new.table result after, tt);
   named = by result answer;
 }
   where
@@ -115,7 +142,7 @@ pub same_itself : (t : Entries) → HasSame t t
 same_itself t = record { entries = λ p side. refl; whole = refl }
 
 -- nothing was written, and the table has what it had
-pub wrote_nothing : (root : Position) (side : Side) (reach : ℕ) (known : List Shown) (bytes : Option (List ℕ)) (before after : Entries) (total : ℕ) → HasSame before after → FitsTable before known → length known ≡ total
+abbrev pub wrote_nothing : (root : Position) (side : Side) (reach : ℕ) (known : List Shown) (bytes : Option (List ℕ)) (before after : Entries) (total : ℕ) → HasSame before after → FitsTable before known → length known ≡ total
     → Wrote true root side reach known (moment before bytes) (moment after bytes) total
 wrote_nothing root side reach known bytes before after total same fits many = record {
   more = [];
@@ -133,9 +160,9 @@ wrote_nothing root side reach known bytes before after total same fits many = re
 -- what the table has answers the question
 pub solves_found : (root p : Position) (side : Side) (reach : ℕ) (known : List Shown) (bytes : Option (List ℕ)) (before after : Entries) (count : ℕ) (f : Found) → HasSame before after → FitsTable before known → held before p side ≡ Some f
     → length known ≡ count → Solves root p side reach known (moment before bytes) (moment after bytes) count (Ok (record { yes = f.answer; lemma = f.lemma }))
-unfolding wrote_nothing
 solves_found root p side reach known bytes before after count f same fits there many = record {
   wrote = wrote_nothing root side reach known bytes before after (count + 0) same fits (omega (arith, many));
+  below = tt;
   named = subst (λ all. Shows all f.lemma p (claim_for side f.answer)) (sym (append-nil known)) (fits p side f there);
 }
 
@@ -155,6 +182,7 @@ solves_entered root p side reach known bytes before mid new count result same re
     stays = stays_then before mid new.table (stays_same before mid same) rest.wrote.stays;
     new_ones = new_then (is_whole result) side [] rest.wrote.shown before mid new.table (stays_same before mid same) rest.wrote.stays (new_nothing true side before mid) rest.wrote.new_ones;
   };
+  below = rest.below;
   named = rest.named;
 }
 
@@ -174,21 +202,29 @@ module _ (root : Position) (side : Side) (reach : ℕ) (known : List Shown) (old
     new_ones = new_then whole side first.shown rest.shown old.table mid.table new.table first.stays rest.stays first.new_ones rest.new_ones;
   }
 
-  pub then_solves : (p : Position) (count : ℕ) (result : Result Answer SearchStop) → Solves root p side reach (known ++ first.shown) mid new count result → Solves root p side reach known old new count result
-  then_solves p count result rest = record {
+  pub then_solves : (p : Position) (count : ℕ) (result : Result Answer SearchStop) → AreBelow (limit_of p result) first.shown → Solves root p side reach (known ++ first.shown) mid new count result → Solves root p side reach known old new count result
+  then_solves p count result below rest = record {
     wrote = then_wrote (is_whole result) (count + uncounted result) (count + uncounted result) refl rest.wrote;
+    below = below_both (limit_of p result) first.shown rest.wrote.shown below rest.below;
     named = subst (λ all. IfOk result (λ answer. Shows all answer.lemma p (claim_for side answer.yes))) (append_assoc known first.shown rest.wrote.shown) rest.named;
   }
 
-  -- a search that stopped tells nothing of its position
-  pub then_stopped : (p q : Position) (count : ℕ) (stop : SearchStop) → Solves root q side reach (known ++ first.shown) mid new count (Err stop) → Solves root p side reach known old new count (Err stop)
-  then_stopped p q count stop rest = record { wrote = (then_solves q count (Err stop) rest).wrote; named = tt }
+  -- a search that stopped behind a move shows nothing of the position
+  pub then_stopped : (p q : Position) (count : ℕ) (stop : SearchStop) → empty_count q + 1 ≡ empty_count p → AreBelow (empty_count p) first.shown → Solves root q side reach (known ++ first.shown) mid new count (Err stop)
+      → Solves root p side reach known old new count (Err stop)
+  then_stopped p q count stop fewer below rest = record {
+    wrote = then_wrote (is_whole (Err stop)) (count + uncounted (Err stop)) (count + uncounted (Err stop)) refl rest.wrote;
+    below = below_raised (empty_count p) (limit_of p (Err stop)) (first.shown ++ rest.wrote.shown) (limit_least p (Err stop))
+        (below_both (empty_count p) first.shown rest.wrote.shown below (below_raised (limit_of q (Err stop)) (empty_count p) rest.wrote.shown (omega (arith, limit_most q (Err stop), fewer)) rest.below));
+    named = tt;
+  }
 
 -- ---- after some of the moves
 
 -- The moves before place i were searched, and none decided: each has a lemma, whose number stands at its column.
 pub record SoFar (root p : Position) (side : Side) (reach : ℕ) (own : Bool) (known : List Shown) (old new : Moment) (count : ℕ) (numbers order : List ℕ) (i : ℕ) : Type 0 where
   pub wrote : Wrote true root side reach known old new count
+  pub below : AreBelow (empty_count p) wrote.shown
   pub moves : (k c : ℕ) → k < i → get_or order k 0 ≡ c → has_room p c ≡ true → Shows (known ++ wrote.shown) (get_or numbers c 0) (after_move p c) (claim_for side (not own))
 
 module _ (root p : Position) (side : Side) (reach : ℕ) (own : Bool) (known : List Shown) where
@@ -196,6 +232,7 @@ module _ (root p : Position) (side : Side) (reach : ℕ) (own : Bool) (known : L
       → SoFar root p side reach own known (moment before bytes) (moment after bytes) count numbers order 0
   so_far_start bytes before after count numbers order same fits many = record {
     wrote = wrote_nothing root side reach known bytes before after count same fits many;
+    below = tt;
     moves = λ k c low _ _. absurd (omega arith);
   }
 
@@ -204,6 +241,7 @@ module _ (root p : Position) (side : Side) (reach : ℕ) (own : Bool) (known : L
     pub so_far_full : has_room p c ≡ false → SoFar root p side reach own known old mid count numbers order (i + 1)
     so_far_full full = record {
       wrote = so_far.wrote;
+      below = so_far.below;
       moves = λ k d low place room. elim (cases_eq k i) [
         | inl here ↦ absurd (both_ways (has_room p c) full (ap (has_room p) (sym at ∙ ap (λ k. get_or order k 0) (sym here) ∙ place) ∙ room))
         | inr before ↦ so_far.moves k d (omega arith) place room
@@ -211,10 +249,11 @@ module _ (root p : Position) (side : Side) (reach : ℕ) (own : Bool) (known : L
     }
 
     -- a move that doesn't decide
-    pub so_far_more : (new : Moment) (counted : ℕ) (answer : Answer) → c < length numbers → answer.yes ≡ not own
+    pub so_far_more : (new : Moment) (counted : ℕ) (answer : Answer) → has_room p c ≡ true → c < length numbers → answer.yes ≡ not own
         → Solves root (after_move p c) side reach (known ++ so_far.wrote.shown) mid new counted (Ok answer) → SoFar root p side reach own known old new counted (set numbers c answer.lemma) order (i + 1)
-    so_far_more new counted answer within other rest = record {
+    so_far_more new counted answer room within other rest = record {
       wrote = then_wrote root side reach known old mid new count so_far.wrote true (counted + 0) counted (omega arith) rest.wrote;
+      below = below_both (empty_count p) so_far.wrote.shown rest.wrote.shown so_far.below (below_raised (empty_count (after_move p c) + 1) (empty_count p) rest.wrote.shown (omega (arith, empty_count_moved p c room)) rest.below);
       moves = λ k d low place room. subst (λ all. Shows all (get_or (set numbers c answer.lemma) d 0) (after_move p d) (claim_for side (not own))) (append_assoc known so_far.wrote.shown rest.wrote.shown) (elim (cases_eq d c) [
         | inl same ↦ rw (same, get_or-set_same numbers c answer.lemma 0 within, ← other) rest.named
         | inr apart ↦ rw (get_or-set_other numbers c d answer.lemma 0 apart) (kept k d low place room apart)
@@ -349,11 +388,14 @@ module _ (root p : Position) (side : Side) (reach : ℕ) (own : Bool) (known : L
       → ((also : List Shown) → length also ≡ counted → FitsTable next.table also → HasReason also p (claim_for side own) (ByOne (record { column = c; lemma = found.lemma })) → Solves root p side reach also next new last result)
       → Solves root p side reach known old new last result
   closed_by_one next new counted last c found result room same child tell =
-      let all = then_solves root side reach known old mid next count so_far.wrote (after_move p c) counted (Ok found) child in
+      let fewer : empty_count (after_move p c) + 1 ≡ empty_count p = empty_count_moved p c room in
+      let all = then_solves root side reach known old mid next count so_far.wrote (after_move p c) counted (Ok found) (below_raised (empty_count p) (empty_count (after_move p c) + 1) so_far.wrote.shown (omega (arith, fewer)) so_far.below) child in
       let also = known ++ all.wrote.shown in
       let shown : Shows also found.lemma (after_move p c) (claim_for side own) = subst (λ won. Shows also found.lemma (after_move p c) (claim_for side won)) same all.named in
       let many : length also ≡ counted = omega (arith, all.wrote.counted) in
-      then_solves root side reach known old next new (counted + 0) all.wrote p last result (tell also many all.wrote.fits (one_reason p side own going is_own also c found.lemma room shown))
+      then_solves root side reach known old next new (counted + 0) all.wrote p last result
+      (below_raised (empty_count (after_move p c) + 1) (limit_of p result) all.wrote.shown (omega (arith, fewer, limit_least p result)) all.below)
+      (tell also many all.wrote.fits (one_reason p side own going is_own also c found.lemma room shown))
 
   pub closed_by_all : (new : Moment) (last : ℕ) (result : Result Answer SearchStop) → length order ≤ i → order ≡ centre_out (length p.columns)
       → ((also : List Shown) → length also ≡ count → FitsTable mid.table also → HasReason also p (claim_for side (not own)) (ByAll (cites_from numbers (open_columns p))) → Solves root p side reach also mid new last result)
@@ -361,6 +403,7 @@ module _ (root p : Position) (side : Side) (reach : ℕ) (own : Bool) (known : L
   closed_by_all new last result all is_order tell =
       let also = known ++ so_far.wrote.shown in
       then_solves root side reach known old mid new count so_far.wrote p last result
+      (below_raised (empty_count p) (limit_of p result) so_far.wrote.shown (limit_least p result) so_far.below)
       (tell also so_far.wrote.counted so_far.wrote.fits (all_reason p side own going is_own also numbers (all_moves root p side reach own known old mid count numbers order i so_far all is_order)))
 
 -- a column that was taken from the end of a path

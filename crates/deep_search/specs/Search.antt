@@ -1,8 +1,8 @@
 -- What a search with lemmas does, at any moment at which it may end.
-use Rattle.std.specs.Prelude.{◌≡◌, ℕ, ◌+◌, map, slice_index, Bool, true, false, List, ◌++◌, Option, None, Result, Ok, Err, IfOk, length, [], ◌∷◌, ⊤}
+use Rattle.std.specs.Prelude.{◌≡◌, ℕ, ◌+◌, ◌<◌, map, slice_index, Bool, true, false, List, ◌++◌, Option, None, Result, Ok, Err, IfOk, length, [], ◌∷◌, ⊤}
 use Rattle.std.specs.List.{AllByRecursion}
 use Rattle.device_rules.specs.Devices.{AppendsPrefix}
-use Rattle.game_rules.specs.Position.{Position}
+use Rattle.game_rules.specs.Position.{Position, empty_count}
 use Rattle.game_rules.specs.declared.Side.{Side}
 use Rattle.proof_text.specs.Lemma.{claim_for, Cite, Lemma}
 use Rattle.proof_text.specs.Right.{Shown, Shows, AreRight}
@@ -65,7 +65,19 @@ pub record Wrote (whole : Bool) (root : Position) (side : Side) (reach : ℕ) (k
   pub stays : StaysWhole old.table new.table
   pub new_ones : IsNew whole side shown old.table new.table
 
--- The lemmas that a search wrote; and its answer names one that shows at p whether the side wins.
+-- each is shown of a position with fewer empty squares than this
+abbrev pub AreBelow : ℕ → List Shown → Type 0
+AreBelow limit shown = AllByRecursion (λ s. empty_count s.0 < limit) shown
+
+-- what a search of p shows has fewer empty squares than this: where it is spent, none of it is shown of p itself
+abbrev pub limit_of : Position → Result Answer SearchStop → ℕ
+limit_of p (Ok answer) = empty_count p + 1
+limit_of p (Err Spent) = empty_count p
+limit_of p (Err WriteFault) = empty_count p + 1
+
+-- The lemmas that a search wrote, of p or of positions behind it; and its answer names one that shows at p whether the
+-- side wins. A search that is spent left no lemma of p.
 pub record Solves (root p : Position) (side : Side) (reach : ℕ) (known : List Shown) (old new : Moment) (count : ℕ) (result : Result Answer SearchStop) : Type 0 where
   pub wrote : Wrote (is_whole result) root side reach known old new (count + uncounted result)
+  pub below : AreBelow (limit_of p result) wrote.shown
   pub named : IfOk result (λ answer. Shows (known ++ wrote.shown) answer.lemma p (claim_for side answer.yes))

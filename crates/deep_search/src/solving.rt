@@ -58,8 +58,8 @@ struct Aim {
 /// one of the first `reach` sets of zones gives a plan of Black's, which the lemma then rests on; `reach` is from 0, which
 /// looks for no plan, and the chooser is lent for that alone.
 ///
-/// `Spent` comes only where the budget is below the count of the search, and `WriteFault` only where the sink's count of
-/// faults rose.
+/// `Spent` comes only where the budget is below the count of the search, and then no lemma stands at the position itself;
+/// `WriteFault` comes only where the sink's count of faults rose.
 pub fn search<O: Sink>(
     position: &Position,
     side: Side,

@@ -1,11 +1,11 @@
 -- The two questions of a proof, one behind the other.
 use mathlib.Core.Bool.{true≢false}
-use Rattle.std.proofs.Common.{◌≡◌, ◌≢◌, ℕ, ◌+◌, ◌<◌, ◌≤◌, Bool, true, false, List, [], ◌++◌, Option, None, Result, Ok, Err, IfOk, length, refl, sym, ap, ◌∙◌, subst, inl, inr, arith, append-nil, append_assoc}
+use Rattle.std.proofs.Common.{◌≡◌, ◌≢◌, ℕ, zero, suc, ◌+◌, ◌<◌, ◌≤◌, Bool, true, false, List, [], ◌∷◌, ◌++◌, Option, Some, None, Result, Ok, Err, IfOk, length, refl, sym, ap, ◌∙◌, subst, inl, inr, arith, append-nil, append_assoc}
 use Rattle.std.proofs.lemmas.Bool.{cases_Bool}
 use Rattle.device_rules.specs.Devices.{AppendsPrefix}
 use Rattle.device_rules.proofs.DeviceLaws.{AppendsPrefix_more}
 use Rattle.game_rules.specs.Cost.{count}
-use Rattle.game_rules.specs.Position.{Position, same_side, side_to_move, other}
+use Rattle.game_rules.specs.Position.{Position, empty_count, same_side, side_to_move, other}
 use Rattle.game_rules.specs.Value.{wins}
 use Rattle.game_rules.proofs.Moves.{same_side_is, other_side, other_other}
 use Rattle.game_rules.specs.declared.Side.{Side}
@@ -16,11 +16,13 @@ use Rattle.proof_text.specs.Spelling.{lines_of}
 use Rattle.proof_text.specs.Written.{IsAskedInTurn, remark_line}
 use Rattle.proof_text.proofs.Append.{Shows_more, AreRight_append}
 use Rattle.proof_text.proofs.Sound.{AreTrue_none, true_lemmas, true_verdict}
+use Rattle.proof_text.specs.declared.Claim.{Claim}
 use Rattle.proof_text.specs.declared.Verdict.{Verdict}
+use Rattle.proof_text.specs.declared.Claim.TheVariants.{WhiteFails}
 use Rattle.proof_text.specs.declared.Verdict.TheVariants.{Draw, Unknown}
 use Rattle.position_table.specs.Table.{Entries}
 use Rattle.deep_search.specs.Planned.{solved_within}
-use Rattle.deep_search.specs.Search.{is_whole, uncounted, moment, Solves}
+use Rattle.deep_search.specs.Search.{is_whole, uncounted, moment, AreBelow, limit_of, Solves}
 use Rattle.deep_search.specs.Tables.{FitsTable}
 use Rattle.victor_run.specs.SizedFronts.{LeavesRemark}
 use Rattle.victor_run.specs.Questions.{AsksSide, is_whole_verdict, won_by, IsRemarkedInTurn, HasBothRemarks, verdict_told, Asks}
@@ -80,6 +82,7 @@ module _ (root : Position) (side : Side) (reach : ℕ) (slots : Option ℕ) (kno
     few = omega (arith, solves.wrote.counted, few);
     counted = at result solves.wrote.counted;
     fits = solves.wrote.fits;
+    below = solves.below;
     named = solves.named;
   }
     where
@@ -103,22 +106,36 @@ module _ (root : Position) (side : Side) (reach : ℕ) (slots : Option ℕ) (kno
     few = omega (arith, few, ap length (append-nil known));
     counted = tt;
     fits = subst (FitsTable before) (sym (append-nil known)) fits;
+    below = tt;
     named = tt;
   }
 
 -- ---- which questions have remarks
 
+-- lemmas behind a position show nothing of it
+none_here : (root : Position) (claim : Claim) (shown : List Shown) (n : ℕ) → AreBelow (empty_count root) shown → Shows shown n root claim → ⊥
+none_here root claim shown zero below named = cc
+none_here root claim [] (suc i) below named = cc
+none_here root claim (s ∷ shown) (suc zero) below named =
+    let same : empty_count s.0 ≡ empty_count root = ap empty_count (position_is named) in
+    absurd (omega (arith, below.0, same))
+  where
+    position_is : Some s ≡ Some (root, claim) → s.0 ≡ root
+    position_is e = cc
+none_here root claim (s ∷ shown) (suc (suc i)) below named = none_here root claim shown (suc i) below.1 named
+
 module _ (root : Position) (nodes reach : ℕ) (slots : Option ℕ) where
   -- White's question was spent, so the budget doesn't suffice for it
-  unasked : (stop : SearchStop) (remark : Option (List ℕ)) → (stop ≡ Spent → nodes < count (solved_within reach) White root) → is_whole_verdict (Err stop) ≡ true
-      → HasBothRemarks slots nodes reach root remark (verdict_told (Err stop))
-  unasked Spent remark short whole fails (inl known) = absurd (known refl)
-  unasked Spent remark short whole fails (inr within) = absurd (omega (arith, short refl, within))
-  unasked WriteFault remark short whole fails known = absurd (true≢false (sym whole))
+  unasked : (stop : SearchStop) (mid : List Shown) (remark : Option (List ℕ)) → AreBelow (limit_of root (Err stop)) mid → (stop ≡ Spent → nodes < count (solved_within reach) White root) → is_whole_verdict (Err stop) ≡ true
+      → HasBothRemarks slots nodes reach root mid remark (verdict_told (Err stop))
+  unasked Spent mid remark below short whole fails (inl known) = absurd (known refl)
+  unasked Spent mid remark below short whole fails (inr (inl (n, shown))) = absurd (none_here root WhiteFails mid n below shown)
+  unasked Spent mid remark below short whole fails (inr (inr within)) = absurd (omega (arith, short refl, within))
+  unasked WriteFault mid remark below short whole fails known = absurd (true≢false (sym whole))
 
   -- White wins, so Black isn't asked about
-  unneeded : (remark : Option (List ℕ)) (v : Verdict) → wins White root ≡ true → HasBothRemarks slots nodes reach root remark v
-  unneeded remark v won fails known = absurd (true≢false (sym won ∙ fails))
+  unneeded : (mid : List Shown) (remark : Option (List ℕ)) (v : Verdict) → wins White root ≡ true → HasBothRemarks slots nodes reach root mid remark v
+  unneeded mid remark v won fails known = absurd (true≢false (sym won ∙ fails))
 
 -- lemmas of Black's question come in its turn
 pub in_turn : (slots : Option ℕ) (reach : ℕ) (root : Position) (mid : List Shown) (remark : Option (List ℕ)) (lemmas : List Lemma) → IsRemarkedInTurn slots reach root mid remark lemmas → IsAskedInTurn root mid lemmas
@@ -143,7 +160,7 @@ module _ (root : Position) (nodes reach : ℕ) (slots : Option ℕ) (before afte
     white_line = white.line;
     black_remarked = inr (refl, refl);
     black_line = tt;
-    both_remarked = unasked root nodes reach slots stop None short;
+    both_remarked = unasked root nodes reach slots stop white.shown None white.below short;
     white_right = white.right;
     black_right = refl;
     white_sided = white.sided;
@@ -169,7 +186,7 @@ module _ (root : Position) (nodes reach : ℕ) (slots : Option ℕ) (before afte
     white_line = white.line;
     black_remarked = inr (refl, refl);
     black_line = tt;
-    both_remarked = λ _. unneeded root nodes reach slots None v wins_root;
+    both_remarked = λ _. unneeded root nodes reach slots white.shown None v wins_root;
     white_right = white.right;
     black_right = refl;
     white_sided = white.sided;

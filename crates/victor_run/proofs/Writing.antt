@@ -99,7 +99,7 @@ module _ (nodes reach : ℕ) (slots : Option ℕ) (bytes : List ℕ) (p : Positi
         verdict = right;
       }
 
-      pub proof_of : HasBothRemarks slots nodes reach p asks.black_remark v → IsProofOf nodes reach slots bytes p proof_text v
+      pub proof_of : HasBothRemarks slots nodes reach p asks.mid asks.black_remark v → IsProofOf nodes reach slots bytes p proof_text v
       proof_of both = record {
         game = game;
         proof = is_proof;
@@ -111,7 +111,7 @@ module _ (nodes reach : ℕ) (slots : Option ℕ) (bytes : List ℕ) (p : Positi
         says = asked_truth p nodes reach slots mid held r asks v right;
       }
 
-      pub writes_verdict : (old new : Option (List ℕ)) (result : Result Verdict Failed) → HasBothRemarks slots nodes reach p asks.black_remark v → Appends old mid (head_for bytes) → Appends mid held middle
+      pub writes_verdict : (old new : Option (List ℕ)) (result : Result Verdict Failed) → HasBothRemarks slots nodes reach p asks.mid asks.black_remark v → Appends old mid (head_for bytes) → Appends mid held middle
           → IfOk result (λ told. told ≡ v) → AppendsPrefix (is_ok result) held new (verdict_line v) → Writes nodes reach slots bytes p old new result
       writes_verdict old new (Ok told) both head lemmas same stands = (
         proof_text,

@@ -38,7 +38,7 @@ pub record IsProofOf (nodes reach : ℕ) (slots : Option ℕ) (bytes : List ℕ)
   pub game : IsGameText bytes p
   pub proof : IsProof p (head_of game.board game.columns) text v
   pub remarked : AreRemarked slots reach p proof.written
-  pub both_remarked : HasBothRemarks slots nodes reach p proof.written.black_remark v
+  pub both_remarked : HasBothRemarks slots nodes reach p proof.written.mid proof.written.black_remark v
   pub planned : IsPlannedText reach p proof.written
   pub few : length proof.after ≤ nodes
   pub accepted : check_of text ≡ Accepted v (length proof.after)

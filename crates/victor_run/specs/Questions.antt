@@ -14,7 +14,7 @@ use Rattle.proof_text.specs.declared.Claim.TheVariants.{WhiteFails}
 use Rattle.proof_text.specs.declared.Verdict.{Verdict}
 use Rattle.proof_text.specs.declared.Verdict.TheVariants.{Win, Loss, Unknown}
 use Rattle.deep_search.specs.Planned.{solved_within, ArePlanned}
-use Rattle.deep_search.specs.Search.{is_whole, Moment}
+use Rattle.deep_search.specs.Search.{is_whole, Moment, AreBelow, limit_of}
 use Rattle.deep_search.specs.Tables.{FitsTable}
 use Rattle.deep_search.specs.declared.solving.Answer.{Answer}
 use Rattle.deep_search.specs.declared.solving.SearchStop.{SearchStop}
@@ -25,7 +25,8 @@ use Rattle.victor_run.specs.Remarks.{IsFrontRemark}
 
 -- What a question wrote behind what is known: its remark, and then right lemmas of the side, each on the plan that is
 -- chosen within the reach where one is. The entries of the table name lemmas among them and those that are known, which
--- are at most so many. The answer names one that shows at the root whether the side wins.
+-- are at most so many. The answer names one that shows at the root whether the side wins; where the question is spent, no
+-- lemma of it stands at the root.
 pub record AsksSide (root : Position) (side : Side) (reach : ℕ) (slots : Option ℕ) (known : List Shown) (most : ℕ) (old new : Moment) (total : ℕ) (result : Result Answer SearchStop) : Type 0 where
   pub remark : Option (List ℕ)
   pub lemmas : List Lemma
@@ -39,6 +40,7 @@ pub record AsksSide (root : Position) (side : Side) (reach : ℕ) (slots : Optio
   pub few : length (known ++ shown) ≤ most
   pub counted : IfOk result (λ answer. length (known ++ shown) ≡ total)
   pub fits : FitsTable new.table (known ++ shown)
+  pub below : AreBelow (limit_of root result) shown
   pub named : IfOk result (λ answer. Shows (known ++ shown) answer.lemma root (claim_for side answer.yes))
 
 -- ---- both
@@ -59,11 +61,12 @@ abbrev pub IsRemarkedInTurn : Option ℕ → ℕ → Position → List Shown →
 IsRemarkedInTurn slots reach root mid remark lemmas =
     (IsFrontRemark slots reach root Black remark × (n : ℕ) × Shows mid n root WhiteFails) ⊎ ((remark ≡ None) × (lemmas ≡ []))
 
--- where White doesn't win, and something is known of the value or the budget suffices for White's question, Black's has
--- its remark
-abbrev pub HasBothRemarks : (slots : Option ℕ) (nodes reach : ℕ) → Position → Option (List ℕ) → Verdict → Type 0
-HasBothRemarks slots nodes reach root remark v =
-    wins White root ≡ false → (v ≢ Unknown) ⊎ (count (solved_within reach) White root ≤ nodes) → IsFrontRemark slots reach root Black remark
+-- Where White doesn't win, Black's question has its remark as soon as one of these holds: something is known of the value,
+-- White's lemmas show at the root that White doesn't win, or the budget suffices for White's question.
+abbrev pub HasBothRemarks : (slots : Option ℕ) (nodes reach : ℕ) → Position → List Shown → Option (List ℕ) → Verdict → Type 0
+HasBothRemarks slots nodes reach root mid remark v =
+    wins White root ≡ false → (v ≢ Unknown) ⊎ (((n : ℕ) × Shows mid n root WhiteFails) ⊎ (count (solved_within reach) White root ≤ nodes))
+    → IsFrontRemark slots reach root Black remark
 
 -- the verdict that a proof gets, which is unknown where a question stopped
 abbrev pub verdict_told : Result Verdict SearchStop → Verdict
@@ -84,7 +87,7 @@ pub record Asks (root : Position) (nodes reach : ℕ) (slots : Option ℕ) (old 
   pub white_line : IsRemarkLine white_remark
   pub black_remarked : IsRemarkedInTurn slots reach root mid black_remark black
   pub black_line : IsRemarkLine black_remark
-  pub both_remarked : is_whole_verdict result ≡ true → HasBothRemarks slots nodes reach root black_remark (verdict_told result)
+  pub both_remarked : is_whole_verdict result ≡ true → HasBothRemarks slots nodes reach root mid black_remark (verdict_told result)
   pub white_right : AreRight root [] white mid
   pub black_right : AreRight root mid black after
   pub white_sided : AreSided White white

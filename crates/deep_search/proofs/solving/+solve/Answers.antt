@@ -26,6 +26,7 @@ returns-in_default-clause-spent g t c _ = omega (arith, c.in_default.ensures, co
 pub returns-in_default-clause-wrote : goal.returns-in_default-clause-wrote
 returns-in_default-clause-wrote g t c root known along many fits = record {
   wrote = wrote_nothing root c.args.aim.now.side c.args.aim.now.reach known _ c.args.table.now c.args.table.now (c.args.lemmas.now + 0) (same_itself c.args.table.now) fits (omega (arith, many));
+  below = tt;
   named = tt;
 }
 
@@ -152,7 +153,8 @@ returns-in_err-found-clause-wrote g t c root known along many fits =
     let child = c.solve-found.ensures.wrote root (known ++ so_far.wrote.shown) deeper so_far.wrote.counted so_far.wrote.fits in
     let stopped : Solves root c.after-next.result c.args.aim.now.side c.args.aim.now.reach (known ++ so_far.wrote.shown) (moment c.loop-column.table (g.O.Sink.written c.loop-column.out)) (moment c.solve-found.new.table (g.O.Sink.written c.solve-found.new.out)) c.solve-found.new.lemmas (Err c.in_err-found.field-0.0) =
     subst (λ r. Solves root c.after-next.result c.args.aim.now.side c.args.aim.now.reach (known ++ so_far.wrote.shown) (moment c.loop-column.table (g.O.Sink.written c.loop-column.out)) (moment c.solve-found.new.table (g.O.Sink.written c.solve-found.new.out)) c.solve-found.new.lemmas r) c.in_err-found.was child in
-    rw is_stop (then_stopped root c.args.aim.now.side c.args.aim.now.reach known _ _ _ _ so_far.wrote p c.after-next.result c.solve-found.new.lemmas c.in_err-found.field-0.0 stopped)
+    let fewer : empty_count c.after-next.result + 1 ≡ empty_count p = ap (λ p. empty_count p + 1) c.after-next.ensures ∙ empty_count_moved p c.column-item.result room in
+    rw is_stop (then_stopped root c.args.aim.now.side c.args.aim.now.reach known _ _ _ _ so_far.wrote p c.after-next.result c.solve-found.new.lemmas c.in_err-found.field-0.0 fewer so_far.below stopped)
 
 pub put_lemma-requires-then-found-own-clause-true_now : goal.put_lemma-requires-then-found-own-clause-true_now
 put_lemma-requires-then-found-own-clause-true_now g t c =
@@ -260,7 +262,7 @@ loop-column-preserved g t c =
                 let child = subst (λ q. Solves root q c.args.aim.now.side c.args.aim.now.reach (known ++ so_far.wrote.shown) (moment c.loop-column.table (g.O.Sink.written c.loop-column.out)) (moment w.solve-found.new.table (g.O.Sink.written w.solve-found.new.out)) w.solve-found.new.lemmas (Ok w.in_ok-found.found)) w.after-next.ensures
                 (subst (λ r. Solves root w.after-next.result c.args.aim.now.side c.args.aim.now.reach (known ++ so_far.wrote.shown) (moment c.loop-column.table (g.O.Sink.written c.loop-column.out)) (moment w.solve-found.new.table (g.O.Sink.written w.solve-found.new.out)) w.solve-found.new.lemmas r) w.in_ok-found.was (w.solve-found.ensures.wrote root (known ++ so_far.wrote.shown) deeper so_far.wrote.counted so_far.wrote.fits)) in
                 let within : d < length c.loop-column.numbers = omega (arith, w.index.ensures.value, w.index.ensures.within, c.loop-column.invariant.ten) in
-                rw w.index.ensures.value (so_far_more root p c.args.aim.now.side c.args.aim.now.reach c.eq-own.result known _ _ c.loop-column.lemmas c.loop-column.numbers order i d so_far place _ w.solve-found.new.lemmas w.in_ok-found.found within
+                rw w.index.ensures.value (so_far_more root p c.args.aim.now.side c.args.aim.now.reach c.eq-own.result known _ _ c.loop-column.lemmas c.loop-column.numbers order i d so_far place _ w.solve-found.new.lemmas w.in_ok-found.found here within
                 (other_from_apart w.in_ok-found.found.yes c.eq-own.result apart) child);
           })
       | else-has_room w ↦
