@@ -2,5 +2,6 @@ pub mod Plans
 pub mod Moves
 pub mod Tables
 pub mod News
+pub mod Below
 pub mod Proving
 pub mod Lists

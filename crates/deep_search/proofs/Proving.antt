@@ -23,7 +23,7 @@ use Rattle.proof_text.specs.declared.Claim.{Claim}
 use Rattle.proof_text.specs.Lemma.{claim_side, claim_for, claim_of_end, agrees, Reason, ByEnd, ByOne, ByAll, Lemma}
 use Rattle.proof_text.specs.Right.{Shown, Shows, IsCited, goes_by_one, HasReason, AreRight}
 use Rattle.proof_text.specs.Spelling.{lemma_line, lines_of, members_in, IsShort}
-use Rattle.plan_text.proofs.Spaced.{all_append, all_each}
+use Rattle.plan_text.proofs.Spaced.{all_append}
 use Rattle.proof_text.proofs.Append.{Shows_more, Shows_last, AreRight_append}
 use Rattle.deep_search.specs.Planned.{plan_in, plan_for, IsPlanned}
 use Rattle.position_table.specs.Table.{Entries}
@@ -32,6 +32,7 @@ use Rattle.deep_search.specs.Tables.{held, FitsTable, HasSame, StaysWhole, IsKep
 use Rattle.deep_search.specs.Search.{is_whole, uncounted, cites_from, Moment, moment, IsNew, Wrote, AreBelow, limit_of, Solves}
 use Rattle.deep_search.proofs.Tables.{fits_same, fits_kept, fits_more, stays_same, stays_then}
 use Rattle.deep_search.proofs.News.{new_nothing, new_then}
+use Rattle.deep_search.proofs.Below.{below_raised, below_both, limit_least, limit_most}
 use Rattle.deep_search.specs.declared.solving.Answer.{Answer}
 use Rattle.deep_search.specs.declared.solving.SearchStop.{SearchStop}
 use Rattle.deep_search.specs.declared.solving.SearchStop.TheVariants.{Spent, WriteFault}
@@ -85,24 +86,6 @@ new_after p side won count before after (Err stop) absent (cut, same) = record {
   once = λ now. (tt, tt);
   kept = λ whole now. absurd (both_ways (is_whole (Err stop)) cut whole);
 }
-
--- ---- where what is shown stands
-
-below_raised : (limit raised : ℕ) (shown : List Shown) → limit ≤ raised → AreBelow limit shown → AreBelow raised shown
-below_raised limit raised shown more below = all_each (λ s. empty_count s.0 < limit) (λ s. empty_count s.0 < raised) shown (λ s low. omega arith) below
-
-below_both : (limit : ℕ) (first rest : List Shown) → AreBelow limit first → AreBelow limit rest → AreBelow limit (first ++ rest)
-below_both limit first rest = all_append (λ s. empty_count s.0 < limit) first rest
-
-limit_least : (p : Position) (result : Result Answer SearchStop) → empty_count p ≤ limit_of p result
-limit_least p (Ok answer) = omega arith
-limit_least p (Err Spent) = omega arith
-limit_least p (Err WriteFault) = omega arith
-
-limit_most : (p : Position) (result : Result Answer SearchStop) → limit_of p result ≤ empty_count p + 1
-limit_most p (Ok answer) = omega arith
-limit_most p (Err Spent) = omega arith
-limit_most p (Err WriteFault) = omega arith
 
 -- a position's own lemma is begun only where the search isn't spent
 limit_after : (p : Position) (side : Side) (won : Bool) (count : ℕ) (before after : Entries) (result : Result Answer SearchStop) → IsAfter p side won count before after result → empty_count p < limit_of p result

@@ -69,14 +69,14 @@ pub record Wrote (whole : Bool) (root : Position) (side : Side) (reach : ℕ) (k
 abbrev pub AreBelow : ℕ → List Shown → Type 0
 AreBelow limit shown = AllByRecursion (λ s. empty_count s.0 < limit) shown
 
--- what a search of p shows has fewer empty squares than this: where it is spent, none of it is shown of p itself
+-- What a search of p shows has fewer empty squares than this. Where it is spent, that leaves p itself out.
 abbrev pub limit_of : Position → Result Answer SearchStop → ℕ
 limit_of p (Ok answer) = empty_count p + 1
 limit_of p (Err Spent) = empty_count p
 limit_of p (Err WriteFault) = empty_count p + 1
 
--- The lemmas that a search wrote, of p or of positions behind it; and its answer names one that shows at p whether the
--- side wins. A search that is spent left no lemma of p.
+-- The lemmas that a search wrote, of positions with at most as many empty squares as p; and its answer names one that
+-- shows at p whether the side wins. Where it is spent they have fewer, so none is of p.
 pub record Solves (root p : Position) (side : Side) (reach : ℕ) (known : List Shown) (old new : Moment) (count : ℕ) (result : Result Answer SearchStop) : Type 0 where
   pub wrote : Wrote (is_whole result) root side reach known old new (count + uncounted result)
   pub below : AreBelow (limit_of p result) wrote.shown

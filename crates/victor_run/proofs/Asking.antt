@@ -1,11 +1,11 @@
 -- The two questions of a proof, one behind the other.
 use mathlib.Core.Bool.{true≢false}
-use Rattle.std.proofs.Common.{◌≡◌, ◌≢◌, ℕ, zero, suc, ◌+◌, ◌<◌, ◌≤◌, Bool, true, false, List, [], ◌∷◌, ◌++◌, Option, Some, None, Result, Ok, Err, IfOk, length, refl, sym, ap, ◌∙◌, subst, inl, inr, arith, append-nil, append_assoc}
+use Rattle.std.proofs.Common.{◌≡◌, ◌≢◌, ℕ, ◌+◌, ◌<◌, ◌≤◌, Bool, true, false, List, [], ◌++◌, Option, None, Result, Ok, Err, IfOk, length, refl, sym, ap, ◌∙◌, subst, inl, inr, arith, append-nil, append_assoc}
 use Rattle.std.proofs.lemmas.Bool.{cases_Bool}
 use Rattle.device_rules.specs.Devices.{AppendsPrefix}
 use Rattle.device_rules.proofs.DeviceLaws.{AppendsPrefix_more}
 use Rattle.game_rules.specs.Cost.{count}
-use Rattle.game_rules.specs.Position.{Position, empty_count, same_side, side_to_move, other}
+use Rattle.game_rules.specs.Position.{Position, same_side, side_to_move, other}
 use Rattle.game_rules.specs.Value.{wins}
 use Rattle.game_rules.proofs.Moves.{same_side_is, other_side, other_other}
 use Rattle.game_rules.specs.declared.Side.{Side}
@@ -16,7 +16,6 @@ use Rattle.proof_text.specs.Spelling.{lines_of}
 use Rattle.proof_text.specs.Written.{IsAskedInTurn, remark_line}
 use Rattle.proof_text.proofs.Append.{Shows_more, AreRight_append}
 use Rattle.proof_text.proofs.Sound.{AreTrue_none, true_lemmas, true_verdict}
-use Rattle.proof_text.specs.declared.Claim.{Claim}
 use Rattle.proof_text.specs.declared.Verdict.{Verdict}
 use Rattle.proof_text.specs.declared.Claim.TheVariants.{WhiteFails}
 use Rattle.proof_text.specs.declared.Verdict.TheVariants.{Draw, Unknown}
@@ -24,6 +23,7 @@ use Rattle.position_table.specs.Table.{Entries}
 use Rattle.deep_search.specs.Planned.{solved_within}
 use Rattle.deep_search.specs.Search.{is_whole, uncounted, moment, AreBelow, limit_of, Solves}
 use Rattle.deep_search.specs.Tables.{FitsTable}
+use Rattle.deep_search.proofs.Below.{none_here}
 use Rattle.victor_run.specs.SizedFronts.{LeavesRemark}
 use Rattle.victor_run.specs.Questions.{AsksSide, is_whole_verdict, won_by, IsRemarkedInTurn, HasBothRemarks, verdict_told, Asks}
 use Rattle.deep_search.specs.declared.solving.Answer.{Answer}
@@ -111,18 +111,6 @@ module _ (root : Position) (side : Side) (reach : ℕ) (slots : Option ℕ) (kno
   }
 
 -- ---- which questions have remarks
-
--- lemmas behind a position show nothing of it
-none_here : (root : Position) (claim : Claim) (shown : List Shown) (n : ℕ) → AreBelow (empty_count root) shown → Shows shown n root claim → ⊥
-none_here root claim shown zero below named = cc
-none_here root claim [] (suc i) below named = cc
-none_here root claim (s ∷ shown) (suc zero) below named =
-    let same : empty_count s.0 ≡ empty_count root = ap empty_count (position_is named) in
-    absurd (omega (arith, below.0, same))
-  where
-    position_is : Some s ≡ Some (root, claim) → s.0 ≡ root
-    position_is e = cc
-none_here root claim (s ∷ shown) (suc (suc i)) below named = none_here root claim shown (suc i) below.1 named
 
 module _ (root : Position) (nodes reach : ℕ) (slots : Option ℕ) where
   -- White's question was spent, so the budget doesn't suffice for it
