@@ -8,6 +8,3 @@ mod baseinverse;
 
 pub use crate::baseclaim::{Baseclaim, list_baseclaim, push_baseclaims};
 pub use crate::baseinverse::{Baseinverse, list_baseinverse, push_baseinverses};
-
-#[cfg(test)]
-mod tests;

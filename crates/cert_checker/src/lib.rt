@@ -10,8 +10,6 @@ mod moves;
 mod reasons;
 mod shared_moves;
 mod stops;
-#[cfg(test)]
-mod tests;
 mod trail;
 
 pub use cert_format::{Line, LineView, Verdict};

@@ -12,12 +12,8 @@ mod named_moves;
 mod number;
 mod output;
 mod plan_line;
-#[cfg(test)]
-mod plan_tests;
 mod reading;
 mod room;
-#[cfg(test)]
-mod tests;
 
 pub use items::{Item, print_item, push_group, push_plan_fault, push_square, split_once};
 pub use line_text::{LineText, push_number, push_text};

@@ -5,6 +5,3 @@
 mod claimeven;
 
 pub use crate::claimeven::{Claimeven, list_claimeven, push_claimevens};
-
-#[cfg(test)]
-mod tests;

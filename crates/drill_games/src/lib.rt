@@ -6,8 +6,6 @@
 
 mod games;
 mod tally;
-#[cfg(test)]
-mod tests;
 
 pub use games::{next_game, the_generator_stays_in_its_range};
 pub use tally::Tally;

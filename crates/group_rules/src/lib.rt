@@ -12,6 +12,3 @@ pub use crate::aftereven::{Aftereven, list_aftereven, push_afterevens};
 pub use crate::before::{Before, list_before, push_befores};
 pub use crate::line::squares_below;
 pub use crate::specialbefore::{Specialbefore, list_specialbefore, push_specialbefores};
-
-#[cfg(test)]
-mod tests;

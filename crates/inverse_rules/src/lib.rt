@@ -12,6 +12,3 @@ mod vertical;
 pub use crate::highinverse::{Highinverse, list_highinverse, push_highinverses};
 pub use crate::lowinverse::{Lowinverse, list_lowinverse, push_lowinverses};
 pub use crate::vertical::{Vertical, list_vertical, push_verticals};
-
-#[cfg(test)]
-mod tests;

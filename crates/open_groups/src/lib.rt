@@ -8,6 +8,3 @@ mod group_set;
 pub use game_rules::Way;
 pub use group::{GroupId, group_anchor, group_at, group_length, group_mask, group_way, groups};
 pub use group_set::{GroupSet, free_for};
-
-#[cfg(test)]
-mod tests;

@@ -4,8 +4,6 @@
 
 mod key;
 mod table;
-#[cfg(test)]
-mod tests;
 mod word;
 
 pub use board_bits::Question;

@@ -12,8 +12,6 @@ mod growing;
 mod judging;
 mod node;
 mod rows;
-#[cfg(test)]
-mod tests;
 
 pub use front::{Front, Grown};
 pub use front_rules::Count;

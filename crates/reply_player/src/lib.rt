@@ -3,7 +3,5 @@
 #![tactic(auto)]
 
 mod session;
-#[cfg(test)]
-mod tests;
 
 pub use crate::session::{Reply, Session};

@@ -15,8 +15,6 @@ mod lines;
 mod special;
 mod standing;
 mod table;
-#[cfg(test)]
-mod tests;
 mod visit;
 mod zones;
 

@@ -11,8 +11,6 @@ mod members;
 mod plan;
 mod strategy;
 mod table;
-#[cfg(test)]
-mod tests;
 mod zone;
 
 pub use crate::columns::columns_of;

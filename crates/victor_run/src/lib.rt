@@ -7,21 +7,14 @@ mod command;
 mod drill;
 mod ending;
 mod explain;
-#[cfg(test)]
-mod front_tests;
 mod fronts;
 mod game_input;
 mod game_lines;
 mod input_lines;
 mod output;
-#[cfg(test)]
-mod plan_tests;
 mod play;
 mod prove;
 mod questions;
 
 pub use command::run;
 pub use ending::Ending;
-
-#[cfg(test)]
-mod tests;

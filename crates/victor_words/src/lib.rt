@@ -9,8 +9,6 @@ mod form;
 mod found;
 mod piece;
 mod read;
-#[cfg(test)]
-mod tests;
 
 pub use form::Form;
 pub use read::{a_list_of_words_is_at_most_one_form, read_words};

@@ -1,0 +1,43 @@
+//! The list of a small board as counted by hand, and an answer through the trait.
+use crate::squares::square_of;
+use board_bits::{Position, Size, read_game};
+use claimeven::{Claimeven, list_claimeven};
+use rule_law::answer_at_start;
+use std::test::Fail;
+
+#[test]
+fn claimevens_beside_one_man(rt: HostRuntime) -> Result<(), Fail> {
+    let position = read_game(b"board 4 4\nmoves a\n")?;
+    let list = list_claimeven(&position);
+    let want = [(0, 3), (1, 1), (1, 3), (2, 1), (2, 3), (3, 1), (3, 3)];
+    assert_eq!(rt; list.len(), want.len());
+    for ((index, row), found) in want.iter().zip(list.as_slice().iter()) {
+        let lower = square_of(position.size(), *index, *row).ok_or("off the board")?;
+        assert_eq!(rt; found.lower(), lower);
+    }
+    Ok(())
+}
+
+#[test]
+fn a_lower_square_is_answered_by_the_upper(rt: HostRuntime) -> Result<(), Fail> {
+    let position = Position::empty(Size::new(4, 4)?);
+    let lower = square_of(position.size(), 2, 1).ok_or("no c1")?;
+    let upper = square_of(position.size(), 2, 2).ok_or("no c2")?;
+    let claimeven = Claimeven::new(position.size(), lower).ok_or("no Claimeven")?;
+    if !position.is_playable(lower) {
+        return Err("c1 is not playable".into());
+    }
+    assert_eq!(rt; answer_at_start(&claimeven, &position, lower), Some(upper));
+    assert!(rt; Claimeven::new(position.size(), upper).is_none());
+    Ok(())
+}
+
+#[test]
+fn counts_on_larger_boards(rt: HostRuntime) -> Result<(), Fail> {
+    let midgame = read_game(b"board 7 6\nmoves dddcceba\n")?;
+    assert_eq!(rt; list_claimeven(&midgame).len(), 15);
+    let widest = Position::empty(Size::new(10, 10)?);
+    assert_eq!(rt; list_claimeven(&widest).len(), 50);
+    assert_eq!(rt; size_of::<Claimeven>(), 2);
+    Ok(())
+}

@@ -1,0 +1,107 @@
+//! The lists of small boards as counted by hand, calls through the trait, and the sizes of the types.
+use crate::squares::square_of;
+use arrayvec::ArrayVec;
+use board_bits::{Mask, Position, Size, read_game};
+use group_rules::{
+    Aftereven, Before, Specialbefore, list_aftereven, list_before, list_specialbefore,
+};
+use open_groups::{GroupId, Way, group_at, group_mask};
+use rule_law::{Kept, Kind, Rule};
+use std::test::Fail;
+
+fn group_of(size: Size, index: u8, row: u8, way: Way) -> Option<GroupId> {
+    group_at(size, square_of(size, index, row)?, way)
+}
+
+/// What a rule says of itself where nothing is kept: its kind, whether it fits, and whether it is supported.
+fn asked<R: Rule>(rule: &R, p: &Position) -> (Kind, bool, bool) {
+    let kept = Kept {
+        empty: p.empties(),
+        upper: Mask::empty(),
+        pair: Mask::empty(),
+        twin: ArrayVec::new(),
+    };
+    (rule.kind(), rule.fits(p), rule.is_supported(&kept))
+}
+
+#[test]
+fn lines_on_an_empty_board(rt: HostRuntime) -> Result<(), Fail> {
+    let small = Position::empty(Size::new(4, 4)?);
+    assert_eq!(rt; list_aftereven(&small).len(), 10);
+    assert_eq!(rt; list_specialbefore(&small).len(), 0);
+    let befores = list_before(&small);
+    assert_eq!(rt; befores.len(), 3);
+    for (row, before) in [1u8, 2, 3].iter().zip(befores.as_slice().iter()) {
+        let level = group_of(small.size(), 0, *row, Way::H).ok_or("no level group")?;
+        assert_eq!(rt; before.g(), level);
+    }
+    Ok(())
+}
+
+/// How many Afterevens, Befores and Specialbefores fit.
+fn counts(p: &Position) -> (usize, usize, usize) {
+    (
+        list_aftereven(p).len(),
+        list_before(p).len(),
+        list_specialbefore(p).len(),
+    )
+}
+
+#[test]
+fn counts_on_larger_boards(rt: HostRuntime) -> Result<(), Fail> {
+    let midgame = read_game(b"board 7 6\nmoves dddcceba\n")?;
+    assert_eq!(rt; counts(&midgame), (44, 28, 130));
+    let widest = Position::empty(Size::new(10, 10)?);
+    assert_eq!(rt; counts(&widest), (238, 207, 384));
+    let of_five = Position::empty(Size::with_line(10, 10, 5)?);
+    assert_eq!(rt; counts(&of_five), (192, 164, 348));
+    Ok(())
+}
+
+#[test]
+fn one_rising_line_is_left(rt: HostRuntime) -> Result<(), Fail> {
+    let position = read_game(b"board 5 4\nmoves abbaabbaddceedee\n")?;
+    let size = position.size();
+    let rising = group_of(size, 1, 1, Way::U).ok_or("no b1u")?;
+    let d4 = square_of(size, 3, 4).ok_or("no d4")?;
+    let c2 = square_of(size, 2, 2).ok_or("no c2")?;
+    assert!(rt; list_aftereven(&position).as_slice() == [Aftereven::new(rising)].as_slice());
+    assert!(rt; list_before(&position).as_slice() == [Before::new(rising)].as_slice());
+    let special = Specialbefore::new(size, rising, d4, c2).ok_or("no Specialbefore")?;
+    assert!(rt; list_specialbefore(&position).as_slice() == [special].as_slice());
+    assert!(rt; Specialbefore::new(size, rising, c2, d4).is_none());
+    Ok(())
+}
+
+#[test]
+fn each_rule_through_the_trait(rt: HostRuntime) -> Result<(), Fail> {
+    let position = read_game(b"board 5 4\nmoves abbaabbaddceedee\n")?;
+    let size = position.size();
+    let rising = group_of(size, 1, 1, Way::U).ok_or("no b1u")?;
+    let d4 = square_of(size, 3, 4).ok_or("no d4")?;
+    let c2 = square_of(size, 2, 2).ok_or("no c2")?;
+    let special = Specialbefore::new(size, rising, d4, c2).ok_or("no Specialbefore")?;
+    assert_eq!(rt;
+        asked(&Aftereven::new(rising), &position),
+        (Kind::Aftereven, true, false)
+    );
+    assert_eq!(rt;
+        asked(&Before::new(rising), &position),
+        (Kind::Before, true, false)
+    );
+    assert_eq!(rt;
+        asked(&special, &position),
+        (Kind::Specialbefore, true, false)
+    );
+    assert!(rt; group_mask(special.g()).has(special.e0()));
+    assert!(rt; !group_mask(special.g()).has(special.f()));
+    Ok(())
+}
+
+#[test]
+fn a_type_has_its_written_parts_alone(rt: HostRuntime) -> Result<(), Fail> {
+    assert_eq!(rt; size_of::<Aftereven>(), 4);
+    assert_eq!(rt; size_of::<Before>(), 4);
+    assert_eq!(rt; size_of::<Specialbefore>(), 8);
+    Ok(())
+}

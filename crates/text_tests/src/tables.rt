@@ -1,0 +1,79 @@
+//! Each call with ample memory, where it answers something else than want of memory; and a table of room 1.
+use board_bits::read_game;
+use position_table::{Found, Question, Table};
+use std::test::Fail;
+
+const FIRST: &[u8] = b"board 4 4\nmoves a\n";
+
+const SECOND: &[u8] = b"board 4 4\nmoves b\n";
+
+fn found(lemma: u32) -> Found {
+    Found {
+        lemma,
+        answer: true,
+    }
+}
+
+#[test]
+fn a_table_of_room_one_keeps_the_last_position(rt: HostRuntime) -> Result<(), Fail> {
+    let first = read_game(FIRST)?;
+    let second = read_game(SECOND)?;
+    let mut table = Table::new(rt.alloc(), 1)?;
+    assert!(rt; table.whole());
+    table.keep(&first, Question::WhiteWins, found(1))?;
+    assert!(rt; table.whole());
+    table.keep(&second, Question::WhiteWins, found(2))?;
+    assert_eq!(rt; table.find(&first, Question::WhiteWins), None);
+    assert_eq!(rt; table.find(&second, Question::WhiteWins), Some(found(2)));
+    assert!(rt; !table.whole());
+    Ok(())
+}
+
+#[test]
+fn an_entry_is_of_one_position_and_one_question(rt: HostRuntime) -> Result<(), Fail> {
+    let first = read_game(FIRST)?;
+    let second = read_game(SECOND)?;
+    let mut table = Table::new(rt.alloc(), 2)?;
+    table.keep(&first, Question::WhiteWins, found(1))?;
+    assert_eq!(rt; table.find(&first, Question::BlackWins), None);
+    table.keep(&first, Question::BlackWins, found(2))?;
+    table.keep(&first, Question::WhiteWins, found(3))?;
+    assert!(rt; table.whole());
+    assert_eq!(rt; table.find(&first, Question::BlackWins), Some(found(2)));
+    table.keep(&second, Question::WhiteWins, found(4))?;
+    assert_eq!(rt; table.find(&first, Question::WhiteWins), None);
+    assert_eq!(rt; table.find(&first, Question::BlackWins), Some(found(2)));
+    assert_eq!(rt; table.find(&second, Question::WhiteWins), Some(found(4)));
+    assert!(rt; !table.whole());
+    Ok(())
+}
+
+#[test]
+fn an_entry_is_of_one_board(rt: HostRuntime) -> Result<(), Fail> {
+    let low = read_game(b"board 4 4\nmoves a\n")?;
+    let high = read_game(b"board 4 6\nmoves a\n")?;
+    let mut table = Table::new(rt.alloc(), 2)?;
+    table.keep(&low, Question::WhiteWins, found(1))?;
+    assert_eq!(rt; table.find(&high, Question::WhiteWins), None);
+    table.keep(&high, Question::WhiteWins, found(2))?;
+    assert_eq!(rt; table.find(&low, Question::WhiteWins), Some(found(1)));
+    assert_eq!(rt; table.find(&high, Question::WhiteWins), Some(found(2)));
+    Ok(())
+}
+
+#[test]
+fn men_in_the_last_columns_tell_positions_apart(rt: HostRuntime) -> Result<(), Fail> {
+    let left = read_game(b"board 10 10\nmoves i\n")?;
+    let right = read_game(b"board 10 10\nmoves j\n")?;
+    let both = read_game(b"board 10 10\nmoves ij\n")?;
+    let mut table = Table::new(rt.alloc(), 3)?;
+    table.keep(&left, Question::WhiteWins, found(1))?;
+    assert_eq!(rt; table.find(&right, Question::WhiteWins), None);
+    table.keep(&right, Question::WhiteWins, found(2))?;
+    assert_eq!(rt; table.find(&both, Question::WhiteWins), None);
+    table.keep(&both, Question::WhiteWins, found(3))?;
+    assert_eq!(rt; table.find(&left, Question::WhiteWins), Some(found(1)));
+    assert_eq!(rt; table.find(&right, Question::WhiteWins), Some(found(2)));
+    assert_eq!(rt; table.find(&both, Question::WhiteWins), Some(found(3)));
+    Ok(())
+}

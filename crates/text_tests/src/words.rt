@@ -1,0 +1,262 @@
+//! Lists of words, and the form that each is.
+use board_bits::Size;
+use std::alloc::{AllocError, Global};
+use std::test::Fail;
+use victor_words::{Form, read_words};
+
+fn words_of(alloc: Global, words: &[&str]) -> Result<Vec<String>, AllocError> {
+    words
+        .iter()
+        .map(|word| String::from_str(alloc, word))
+        .try_collect(alloc)
+}
+
+/// The numbers of `--nodes`, `--reach`, `--front` and `--table` that `prove` has.
+const PROVE: [(&[&str], u32, u32, Option<u32>, u32); 12] = [
+    (&["prove"], 1_000_000, 1_000, None, 100_000),
+    (&["prove", "--nodes", "5"], 5, 1_000, None, 100_000),
+    (&["prove", "--nodes=6", "--reach=0"], 6, 0, None, 100_000),
+    (
+        &["prove", "--reach", "0", "--table=1", "--nodes", "6"],
+        6,
+        0,
+        None,
+        1,
+    ),
+    (
+        &["prove", "--nodes", "10000000"],
+        10_000_000,
+        1_000,
+        None,
+        100_000,
+    ),
+    (
+        &["prove", "--reach=1000000", "--nodes", "1"],
+        1,
+        1_000_000,
+        None,
+        100_000,
+    ),
+    (
+        &["prove", "--table", "1000000"],
+        1_000_000,
+        1_000,
+        None,
+        1_000_000,
+    ),
+    (
+        &["prove", "--front", "4"],
+        1_000_000,
+        1_000,
+        Some(4),
+        100_000,
+    ),
+    (&["prove", "--front=1"], 1_000_000, 1_000, Some(1), 100_000),
+    (
+        &["prove", "--front", "1000000", "--nodes=6"],
+        6,
+        1_000,
+        Some(1_000_000),
+        100_000,
+    ),
+    (
+        &[
+            "prove",
+            "--table=2",
+            "--front=3",
+            "--reach",
+            "0",
+            "--nodes",
+            "5",
+        ],
+        5,
+        0,
+        Some(3),
+        2,
+    ),
+    (
+        &["prove", "--nodes=5", "--front", "7", "--table", "8"],
+        5,
+        1_000,
+        Some(7),
+        8,
+    ),
+];
+
+#[test]
+fn prove_has_its_options_in_any_order_and_spelling(rt: HostRuntime) -> Result<(), Fail> {
+    for (words, nodes, reach, front, table) in PROVE {
+        let got = read_words(&words_of(rt.alloc(), words)?);
+        assert_eq!(rt;
+            got,
+            Some(Form::Prove {
+                nodes,
+                reach,
+                front,
+                table
+            }),
+            "{words:?}"
+        );
+    }
+    Ok(())
+}
+
+#[test]
+fn other_commands_have_their_own_words(rt: HostRuntime) -> Result<(), Fail> {
+    let rows: [(&[&str], Form); 5] = [
+        (&["check"], Form::Check),
+        (&["play"], Form::Play),
+        (&["explain"], Form::Explain { reach: 1_000 }),
+        (&["explain", "--reach=7"], Form::Explain { reach: 7 }),
+        (&["explain", "--reach", "0"], Form::Explain { reach: 0 }),
+    ];
+    for (words, form) in rows {
+        let got = read_words(&words_of(rt.alloc(), words)?);
+        assert_eq!(rt; got, Some(form), "{words:?}");
+    }
+    Ok(())
+}
+
+/// The columns, rows, moves, first number and games of `drill`, and its numbers of `--nodes` and `--reach`.
+type Numbers = (u8, u8, u32, u32, u32, u32, u32);
+
+const DRILL: [(&[&str], Numbers); 6] = [
+    (
+        &["drill", "4", "4", "12", "1", "1"],
+        (4, 4, 12, 1, 1, 1_000_000, 1_000),
+    ),
+    (
+        &[
+            "drill", "7", "6", "36", "7", "20", "--nodes", "20000", "--reach", "20",
+        ],
+        (7, 6, 36, 7, 20, 20_000, 20),
+    ),
+    (
+        &["drill", "--nodes=1", "4", "4", "12", "2", "--reach=0", "1"],
+        (4, 4, 12, 2, 1, 1, 0),
+    ),
+    (
+        &[
+            "drill",
+            "--reach",
+            "3",
+            "10",
+            "10",
+            "100",
+            "--nodes",
+            "40",
+            "2147483646",
+            "1000",
+        ],
+        (10, 10, 100, 2_147_483_646, 1_000, 40, 3),
+    ),
+    (
+        &[
+            "drill", "4", "--reach", "3", "4", "--nodes", "200", "12", "1", "1",
+        ],
+        (4, 4, 12, 1, 1, 200, 3),
+    ),
+    (
+        &["drill", "7", "4", "0", "1", "1"],
+        (7, 4, 0, 1, 1, 1_000_000, 1_000),
+    ),
+];
+
+#[test]
+fn options_stand_before_between_and_after_the_numbers(rt: HostRuntime) -> Result<(), Fail> {
+    for (words, (cols, rows, moves, seed, games, nodes, reach)) in DRILL {
+        let size = Size::new(cols, rows)?;
+        let got = read_words(&words_of(rt.alloc(), words)?);
+        let wanted = Form::Drill {
+            size,
+            moves,
+            seed,
+            games,
+            nodes,
+            reach,
+        };
+        assert_eq!(rt; got, Some(wanted), "{words:?}");
+    }
+    Ok(())
+}
+
+/// Lists of words that are no form.
+const NONE: [&[&str]; 68] = [
+    &[],
+    &[""],
+    &["", "prove"],
+    &["--help"],
+    &["help"],
+    &["Prove"],
+    &["threat"],
+    &["prove", "x"],
+    &["prove", "5"],
+    &["prove", "--"],
+    &["--", "prove"],
+    &["--nodes", "5", "prove"],
+    &["prove", "--nodes"],
+    &["prove", "--nodes", "0"],
+    &["prove", "--nodes=0"],
+    &["prove", "--nodes", "10000001"],
+    &["prove", "--nodes", "5", "--nodes", "5"],
+    &["prove", "--nodes", "5", "--nodes=5"],
+    &["prove", "--nodes=5", "--nodes=6"],
+    &["prove", "--nodes", "--reach"],
+    &["prove", "--nodes", "--reach", "3"],
+    &["prove", "--nodes="],
+    &["prove", "--nodes", ""],
+    &["prove", "--nodes=="],
+    &["prove", "--nodes==5"],
+    &["prove", "=5"],
+    &["prove", "--nodes", "05"],
+    &["prove", "--nodes=+5"],
+    &["prove", "--nodes", "-5"],
+    &["prove", "--nodes", "5 "],
+    &["prove", "--node=5"],
+    &["prove", "--reach", "1000001"],
+    &["prove", "--reach", "00"],
+    &["prove", "--reach", "18446744073709551616"],
+    &["prove", "--front"],
+    &["prove", "--front="],
+    &["prove", "--front", "0"],
+    &["prove", "--front=0"],
+    &["prove", "--front", "1000001"],
+    &["prove", "--front=4294967296"],
+    &["prove", "--front", "+3"],
+    &["prove", "--front=-3"],
+    &["prove", "--front=03"],
+    &["prove", "--front", "3", "--front", "3"],
+    &["prove", "--front=3", "--front", "4"],
+    &["check", "--front", "3"],
+    &["play", "--front=3"],
+    &["explain", "--front=3"],
+    &["drill", "4", "4", "12", "1", "1", "--front=3"],
+    &["drill", "--front", "3", "4", "4", "12", "1", "1"],
+    &["prove", "--table=0"],
+    &["prove", "--table", "1000001"],
+    &["prove", "--table=7", "--table", "7"],
+    &["explain", "--table=7"],
+    &["drill", "4", "4", "12", "1", "1", "--table=7"],
+    &["check", "--reach", "3"],
+    &["play", "--nodes", "3"],
+    &["explain", "--nodes", "3"],
+    &["drill", "5", "5", "3", "1", "1"],
+    &["drill", "11", "6", "12", "2", "2"],
+    &["drill", "4", "4", "12", "1"],
+    &["drill", "4", "4", "12", "1", "1", "1"],
+    &["drill", "4", "4", "101", "1", "1"],
+    &["drill", "4", "4", "12", "0", "1"],
+    &["drill", "4", "4", "12", "2147483647", "1"],
+    &["drill", "4", "4", "12", "1", "0"],
+    &["drill", "4", "4", "12", "1", "1001"],
+    &["drill", "4", "4", "--nodes", "12", "1", "1"],
+];
+
+#[test]
+fn other_words_are_no_form(rt: HostRuntime) -> Result<(), Fail> {
+    for words in NONE {
+        let got = read_words(&words_of(rt.alloc(), words)?);
+        assert_eq!(rt; got, None, "{words:?}");
+    }
+    Ok(())
+}
