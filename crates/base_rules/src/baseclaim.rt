@@ -16,7 +16,7 @@ const MOST_BASECLAIMS: usize = 720;
 
 /// Three squares of three columns, the first and the third on even rows and the second on an odd row. The rule is a part
 /// of this project's own profile "after Allis".
-#[derive(Clone, Copy, Debug, PartialEq, Eq, Hash)]
+#[derive(Clone, Copy, PartialEq, Eq)]
 pub struct Baseclaim {
     a: Square,
     b: Square,

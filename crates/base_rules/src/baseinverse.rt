@@ -15,7 +15,7 @@ const MOST_BASEINVERSES: usize = 45;
 
 /// Two squares, the column of the first left of that of the second. The rule is a part of this project's own profile
 /// "after Allis".
-#[derive(Clone, Copy, Debug, PartialEq, Eq, Hash)]
+#[derive(Clone, Copy, PartialEq, Eq)]
 pub struct Baseinverse {
     s: Square,
     t: Square,

@@ -21,7 +21,7 @@ const LOWEST_SQUARES: u128 = 0x8_0100_2004_0080_1002_0040_0801;
 const ODD_ROWS: u128 = 0xaa9_552a_a554_aa95_52aa_554a_a955;
 
 /// A set of squares.
-#[derive(Clone, Copy, Debug, PartialEq, Eq, Hash)]
+#[derive(Clone, Copy, Debug, PartialEq, Eq)]
 pub struct Mask {
     word: u128,
 }

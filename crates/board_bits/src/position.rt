@@ -19,7 +19,7 @@ use std::marker::Model;
 const COLUMN: u128 = 2047;
 
 /// Why a man can't be dropped into a column.
-#[derive(Clone, Copy, Debug, PartialEq, Eq, Hash)]
+#[derive(Clone, Copy, Debug, PartialEq, Eq)]
 pub enum MoveFault {
     /// The game has ended.
     GameOver,
@@ -28,7 +28,7 @@ pub enum MoveFault {
 }
 
 /// A position: the board's size, and the men of each column.
-#[derive(Clone, Copy, Debug, PartialEq, Eq, Hash)]
+#[derive(Clone, Copy, PartialEq, Eq, Hash)]
 pub struct Position {
     size: Size,
     white: u128,

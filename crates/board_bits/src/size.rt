@@ -20,7 +20,7 @@ pub const MOST_COLS: usize = 10;
 pub const MOST_SQUARES: usize = 100;
 
 /// Why numbers are no size of a board.
-#[derive(Clone, Copy, Debug, PartialEq, Eq, Hash)]
+#[derive(Clone, Copy, Debug, PartialEq, Eq)]
 pub enum SizeFault {
     /// The number of columns isn't from 4 to 10.
     BadCols,
@@ -218,7 +218,7 @@ impl Size {
 }
 
 /// A column, by its number from 0 to 9 from the left. A board has those below its number of columns.
-#[derive(Clone, Copy, Debug, PartialEq, Eq, PartialOrd, Ord, Hash)]
+#[derive(Clone, Copy, Debug, PartialEq, Eq)]
 pub struct Column {
     index: u8,
 }
@@ -256,7 +256,7 @@ impl Column {
 }
 
 /// A square, by its column and its row from 1 to 10 from the bottom.
-#[derive(Clone, Copy, Debug, PartialEq, Eq, PartialOrd, Ord, Hash)]
+#[derive(Clone, Copy, Debug, PartialEq, Eq)]
 pub struct Square {
     column: Column,
     row: u8,

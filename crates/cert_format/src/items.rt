@@ -24,7 +24,7 @@ use open_groups::{GroupId, group_anchor, group_at, group_way};
 use rule_compat::{Instance, PlanFault};
 
 /// What a report names: a square, a group, or an instance of a rule.
-#[derive(Clone, Copy, Debug, PartialEq, Eq, Hash)]
+#[derive(Clone, Copy)]
 pub enum Item {
     /// A square.
     OneSquare(Square),

@@ -22,14 +22,14 @@ pub(crate) const LONGEST_PATH: usize = 100;
 pub(crate) const MOST_CITES: usize = 10;
 
 /// A move, and the number of the lemma that stands at the position after it.
-#[derive(Clone, Copy, Debug, Default, PartialEq, Eq)]
+#[derive(Clone, Copy, Default)]
 pub struct Cite {
     pub column: Column,
     pub lemma: u32,
 }
 
 /// Why a lemma's claim holds.
-#[derive(Debug, PartialEq, Eq, Drop)]
+#[derive(Drop)]
 pub enum Reason {
     /// The game has ended, and the claim is true of its end.
     Ended,
@@ -56,7 +56,7 @@ impl Reason {
 }
 
 /// A reason whose cites and instances stay where they are, so that a reason is small to hand on.
-#[derive(Clone, Copy, Debug)]
+#[derive(Clone, Copy)]
 pub enum ReasonView<'a> {
     /// The game has ended, and the claim is true of its end.
     Ended,
@@ -69,7 +69,7 @@ pub enum ReasonView<'a> {
 }
 
 /// A lemma of a proof: its number, its position as the moves from the root, and what it claims there and why.
-#[derive(Debug, PartialEq, Eq, Drop)]
+#[derive(Drop)]
 pub struct Lemma {
     pub number: u32,
     pub path: ArrayVec<Column, LONGEST_PATH>,
@@ -92,7 +92,7 @@ impl Lemma {
 }
 
 /// A lemma whose path and reason stay where they are.
-#[derive(Clone, Copy, Debug)]
+#[derive(Clone, Copy)]
 pub struct LemmaView<'a> {
     pub number: u32,
     pub path: &'a ArrayVec<Column, LONGEST_PATH>,
@@ -101,7 +101,7 @@ pub struct LemmaView<'a> {
 }
 
 /// A line of a proof behind its game.
-#[derive(Debug, PartialEq, Eq, Drop)]
+#[derive(Drop)]
 pub enum Line {
     /// A lemma.
     Lemma(Lemma),
@@ -112,7 +112,7 @@ pub enum Line {
 }
 
 /// What a line says. The parts of a lemma stay in the room that it was read into.
-#[derive(Clone, Copy, Debug)]
+#[derive(Clone, Copy)]
 pub enum LineView<'a> {
     /// A lemma.
     Lemma(LemmaView<'a>),

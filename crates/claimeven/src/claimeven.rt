@@ -17,7 +17,7 @@ const MOST_CLAIMEVENS: usize = 50;
 
 /// A square on an odd row, which owns the square above it too. The rule is a part of this project's own profile "after
 /// Allis".
-#[derive(Clone, Copy, Debug, PartialEq, Eq, Hash)]
+#[derive(Clone, Copy, PartialEq, Eq)]
 pub struct Claimeven {
     lower: Square,
 }

@@ -27,7 +27,7 @@ use position_table::{Found, Table};
 use rule_chooser::Chooser;
 
 /// The answer to whether a side wins, and the number of the lemma that shows it.
-#[derive(Clone, Copy, Debug, PartialEq, Eq)]
+#[derive(Clone, Copy)]
 pub struct Answer {
     pub yes: bool,
     pub lemma: u32,

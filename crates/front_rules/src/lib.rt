@@ -68,7 +68,7 @@ impl Count {
 }
 
 /// How a leaf of the front stands: it isn't settled, or the side wins there, or it doesn't.
-#[derive(Clone, Copy, Debug, PartialEq, Eq)]
+#[derive(Clone, Copy)]
 pub enum Verdict {
     Unsettled,
     Yes,

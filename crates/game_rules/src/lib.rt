@@ -16,7 +16,7 @@ pub mod laws;
 pub mod text_laws;
 
 /// One of the two players. White moves first.
-#[derive(Clone, Copy, Debug, PartialEq, Eq, Hash)]
+#[derive(Clone, Copy, PartialEq, Eq)]
 pub enum Side {
     White,
     Black,
@@ -52,7 +52,7 @@ pub enum Length {
 }
 
 /// How a game ended: with a win of White, a win of Black, or a full board on which no side has a line.
-#[derive(Clone, Copy, Debug, PartialEq, Eq, Hash)]
+#[derive(Clone, Copy, Debug, PartialEq, Eq)]
 pub enum End {
     White,
     Black,
@@ -60,7 +60,7 @@ pub enum End {
 }
 
 /// The direction in which a line runs from its anchor, its leftmost square (its lowest for `V`).
-#[derive(Clone, Copy, Debug, PartialEq, Eq, Hash)]
+#[derive(Clone, Copy, Debug, PartialEq, Eq)]
 pub enum Way {
     /// To the right.
     H,
@@ -73,14 +73,14 @@ pub enum Way {
 }
 
 /// What is asked of a position: whether White wins under perfect play, or whether Black does.
-#[derive(Clone, Copy, Debug, PartialEq, Eq, Hash)]
+#[derive(Clone, Copy, PartialEq, Eq)]
 pub enum Question {
     WhiteWins,
     BlackWins,
 }
 
 /// Why a text is no game. [`InputFault`] says where.
-#[derive(Clone, Copy, Debug, PartialEq, Eq, Hash)]
+#[derive(Clone, Copy, Debug, PartialEq, Eq)]
 pub enum InputKind {
     /// A byte of the fixed parts is another byte or is missing.
     BadHeader,
@@ -114,14 +114,14 @@ impl InputKind {
 }
 
 /// The first fault of a text from the left: its kind and its byte place, counted from 0.
-#[derive(Clone, Copy, Debug, PartialEq, Eq, Hash)]
+#[derive(Clone, Copy, Debug, PartialEq, Eq)]
 pub struct InputFault {
     pub kind: InputKind,
     pub at: u32,
 }
 
 /// Where reading a text stops: the kind of the fault, and how many bytes there are from its place on.
-#[derive(Clone, Copy, Debug, PartialEq, Eq, Hash)]
+#[derive(Clone, Copy)]
 pub struct Stop {
     pub kind: InputKind,
     pub left: usize,

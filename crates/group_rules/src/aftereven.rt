@@ -16,7 +16,7 @@ const MOST_AFTEREVENS: usize = 238;
 
 /// A line of Black's whose empty squares are all upper squares of Claimevens. The rule is a part of this project's own
 /// profile "after Allis".
-#[derive(Clone, Copy, Debug, PartialEq, Eq, Hash)]
+#[derive(Clone, Copy, PartialEq, Eq)]
 pub struct Aftereven {
     g: GroupId,
 }

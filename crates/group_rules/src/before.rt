@@ -17,7 +17,7 @@ const MOST_BEFORES: usize = 238;
 /// A line of Black's whose empty squares lie below the top row, and are upper squares of Claimevens or such that White
 /// never owns them with the square above. The rule is a part of this project's own
 /// profile "after Allis".
-#[derive(Clone, Copy, Debug, PartialEq, Eq, Hash)]
+#[derive(Clone, Copy, PartialEq, Eq)]
 pub struct Before {
     g: GroupId,
 }

@@ -21,7 +21,7 @@ const MOST_SPECIALBEFORES: usize = 1800;
 /// A line of Black's as a Before has it, with one playable square `e0` of the line, and a playable square `f` of another
 /// column outside the line, of which White never owns both. The rule is a part of this project's own profile "after
 /// Allis".
-#[derive(Clone, Copy, Debug, PartialEq, Eq, Hash)]
+#[derive(Clone, Copy, PartialEq, Eq)]
 pub struct Specialbefore {
     g: GroupId,
     f: Square,

@@ -18,7 +18,7 @@ const MOST_HIGHINVERSES: usize = 45;
 
 /// The bottoms of two columns of three squares each, both on even rows, the first further left. The rule is a part of
 /// this project's own profile "after Allis".
-#[derive(Clone, Copy, Debug, PartialEq, Eq, Hash)]
+#[derive(Clone, Copy, PartialEq, Eq)]
 pub struct Highinverse {
     x: Square,
     y: Square,

@@ -25,7 +25,7 @@ const MOST_LOWINVERSES: usize = 720;
 
 /// The bottom and the top of two columns of squares, the first further left. All four stand on even rows, and a top at
 /// least two rows above its bottom. The rule is a part of this project's own profile "after Allis".
-#[derive(Clone, Copy, Debug, PartialEq, Eq, Hash)]
+#[derive(Clone, Copy, PartialEq, Eq)]
 pub struct Lowinverse {
     x: Square,
     x_top: Square,

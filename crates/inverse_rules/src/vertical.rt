@@ -15,7 +15,7 @@ use std::marker::Model;
 const MOST_VERTICALS: usize = 50;
 
 /// A square on an even row, with another above it, of which White never owns both. The rule is a part of this project's own profile "after Allis".
-#[derive(Clone, Copy, Debug, PartialEq, Eq, Hash)]
+#[derive(Clone, Copy, PartialEq, Eq)]
 pub struct Vertical {
     e: Square,
 }

@@ -14,7 +14,7 @@ use std::marker::Model;
 pub(crate) const MOST_GROUPS: usize = 238;
 
 /// A group of squares in a line, by its anchor, its direction and its length.
-#[derive(Clone, Copy, Debug, PartialEq, Eq, Hash)]
+#[derive(Clone, Copy, Debug, PartialEq, Eq)]
 pub struct GroupId {
     anchor: Square,
     way: Way,

@@ -22,7 +22,7 @@ const WORD: usize = 128;
 const WAYS: usize = 4;
 
 /// A set of groups of one board.
-#[derive(Clone, Copy, Debug, PartialEq, Eq, Hash)]
+#[derive(Clone, Copy)]
 pub struct GroupSet {
     size: Size,
     anchors: [Mask; WAYS],

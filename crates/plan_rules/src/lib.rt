@@ -14,7 +14,7 @@ pub mod plan_laws;
 
 /// The nine rules. The first five are zone rules, which own squares; the last four are standing rules, which own none
 /// and rest on the zone rules of the same plan.
-#[derive(Clone, Copy, Debug, PartialEq, Eq, Hash)]
+#[derive(Clone, Copy, Debug, PartialEq, Eq)]
 pub enum Kind {
     /// A square on an odd row and the square above it.
     Claimeven,

@@ -11,7 +11,7 @@ ghost use Rattle.play_text.specs.Words.{kind_word};
 pub mod laws;
 
 /// Why a line is no move of White's.
-#[derive(Clone, Copy, Debug, PartialEq, Eq, Hash)]
+#[derive(Clone, Copy, Debug, PartialEq, Eq)]
 pub enum PlayKind {
     /// The line isn't a single column letter of the board.
     BadMove,
@@ -36,7 +36,7 @@ impl PlayKind {
 }
 
 /// The first line that is no move of White's: why, and the number of the line in the whole input, counted from 1.
-#[derive(Clone, Copy, Debug, PartialEq, Eq, Hash)]
+#[derive(Clone, Copy, Debug, PartialEq, Eq)]
 pub struct PlayFault {
     pub kind: PlayKind,
     pub at: u64,

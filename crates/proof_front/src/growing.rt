@@ -23,7 +23,7 @@ use node_pool::{Pool, Slot};
 use rule_chooser::Chooser;
 
 /// What became of a node at an expansion below it.
-#[derive(Clone, Copy, Debug, PartialEq, Eq)]
+#[derive(Clone, Copy)]
 pub(crate) enum Step {
     /// There are fewer free slots than the leaf has moves: nothing was changed.
     Full,

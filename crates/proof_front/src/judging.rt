@@ -10,7 +10,7 @@ use node_pool::Slot;
 use rule_chooser::Chooser;
 
 /// What a front asks: whether the side wins, with plans from the first `reach` sets of zones.
-#[derive(Clone, Copy, Debug)]
+#[derive(Clone, Copy)]
 pub(crate) struct Asked {
     pub side: Side,
     pub reach: u32,

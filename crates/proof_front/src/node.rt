@@ -8,7 +8,7 @@ use front_rules::{Count, Verdict};
 use node_pool::Slot;
 
 /// A node's two numbers.
-#[derive(Clone, Copy, Debug, PartialEq, Eq)]
+#[derive(Clone, Copy, PartialEq, Eq)]
 pub(crate) struct Numbers {
     pub proof: Count,
     pub disproof: Count,

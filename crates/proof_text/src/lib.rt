@@ -14,7 +14,7 @@ pub mod laws;
 use game_rules::{End, Side};
 
 /// What a lemma says of its position: that a side wins under perfect play, or that it doesn't.
-#[derive(Clone, Copy, Debug, PartialEq, Eq, Hash)]
+#[derive(Clone, Copy, PartialEq, Eq)]
 pub enum Claim {
     /// White wins, written `W+`.
     WhiteWins,
@@ -54,7 +54,7 @@ impl Claim {
 
 /// What a proof says of its root, for the side to move there, with the numbers of the lemmas that show it. Lemmas are
 /// numbered from 1.
-#[derive(Clone, Copy, Debug, PartialEq, Eq, Hash)]
+#[derive(Clone, Copy, Debug, PartialEq, Eq)]
 pub enum Verdict {
     /// The side to move wins, by this lemma.
     Win(u32),
@@ -82,7 +82,7 @@ impl Verdict {
 }
 
 /// Why a line of a proof is refused. `F` says why a list of instances is no plan.
-#[derive(Clone, Copy, Debug, PartialEq, Eq, Hash)]
+#[derive(Clone, Copy, Debug, PartialEq, Eq)]
 pub enum Why<F> {
     /// The line is in no form of a proof's lines or longer than 8,192 bytes, stands behind the verdict or behind line
     /// 20,000,000, or is a lemma with another number than the next; or the first line doesn't name the format.

@@ -9,7 +9,7 @@ use rule_compat::Plan;
 use std::marker::Model;
 
 /// Black's answer to a move of White's: the column of Black's man, and whether that man ended the game.
-#[derive(Clone, Copy, Debug, PartialEq, Eq)]
+#[derive(Clone, Copy)]
 pub enum Reply {
     /// Black made a line.
     BlackWon(Column),
@@ -34,7 +34,7 @@ impl Reply {
 
 /// A game played by a plan: the plan, and the position that the game has come to, from the plan's own by moves of
 /// White's with the plan's answers. White is to move there, or the game has ended.
-#[derive(Debug, Drop)]
+#[derive(Drop)]
 pub struct Session {
     plan: Plan,
     stands: Position,

@@ -16,7 +16,7 @@ use rule_compat::{Instance, Plan};
 use std::marker::Model;
 
 /// What is chosen at a position, among the first so many sets of its walk.
-#[derive(Debug, Drop)]
+#[derive(Drop)]
 pub enum Choice {
     /// The plan of the first set that gives one.
     Gave(Plan),
@@ -28,7 +28,7 @@ pub enum Choice {
 
 /// What a search for a plan works with, made once and lent to each. A contract sees the list of instances that was given
 /// last.
-#[derive(Debug, Drop)]
+#[derive(Drop)]
 pub struct Chooser {
     ground: Ground,
     set: ArrayVec<Zone, MOST_ZONES>,

@@ -8,7 +8,7 @@ use arrayvec::ArrayVec;
 use board_bits::{Mask, Position, Size};
 
 /// The zones that fit, the lines that each side can still fill, and the playable squares.
-#[derive(Debug, Drop)]
+#[derive(Drop)]
 pub(crate) struct Ground {
     table: LineTable,
     pub(crate) zones: Zones,

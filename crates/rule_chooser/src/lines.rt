@@ -10,7 +10,7 @@ use board_bits::{Mask, Position};
 use open_groups::GroupId;
 
 /// A line, and its squares that are empty.
-#[derive(Clone, Copy, Debug)]
+#[derive(Clone, Copy)]
 pub(crate) struct Line {
     pub(crate) group: GroupId,
     pub(crate) empty: Mask,

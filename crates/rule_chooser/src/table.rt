@@ -13,7 +13,7 @@ use std::marker::Model;
 pub(crate) const MOST_LINES: usize = 238;
 
 /// A line of a board, with the set of its squares.
-#[derive(Debug, Drop)]
+#[derive(Drop)]
 pub(crate) struct BoardLine {
     group: GroupId,
     squares: Mask,
@@ -65,7 +65,7 @@ impl BoardLine {
 }
 
 /// The lines of a board in group order. A contract sees the board.
-#[derive(Debug, Drop)]
+#[derive(Drop)]
 pub(crate) struct LineTable {
     size: Size,
     lines: ArrayVec<BoardLine, MOST_LINES>,

@@ -22,7 +22,7 @@ use rule_compat::Instance;
 pub(crate) const MOST_ZONES: usize = 50;
 
 /// What a walk has found.
-#[derive(Clone, Copy, Debug, PartialEq, Eq)]
+#[derive(Clone, Copy)]
 pub(crate) enum Found {
     /// A set that gives a plan.
     Plan,

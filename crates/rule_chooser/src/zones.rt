@@ -34,7 +34,7 @@ const MOST: u8 = 10;
 const PLACES: usize = 110;
 
 /// An instance of a zone rule.
-#[derive(Clone, Copy, Debug)]
+#[derive(Clone, Copy)]
 pub(crate) struct Zone {
     instance: Instance,
     mask: Mask,
@@ -198,7 +198,7 @@ pub(crate) fn place_of(s: Square) -> usize
 
 /// A list of zones, which takes them from the lists of the rules. Those with the same first square are linked, so that a
 /// search goes through them alone.
-#[derive(Debug, Drop)]
+#[derive(Drop)]
 pub(crate) struct Zones {
     pub(crate) list: ArrayVec<Zone, MOST_FITTING>,
     /// Which is the first with its first square at each place; where there is none, the length of the list.

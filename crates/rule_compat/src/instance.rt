@@ -9,7 +9,7 @@ use rule_law::{Kept, Kind, Rule};
 
 /// An instance of one of the nine rules. The first five kinds own squares; the last four own none and rest on the others
 /// of the same plan.
-#[derive(Clone, Copy, Debug, PartialEq, Eq, Hash)]
+#[derive(Clone, Copy, PartialEq, Eq)]
 pub enum Instance {
     Claimeven(Claimeven),
     Baseinverse(Baseinverse),

@@ -29,7 +29,7 @@ use std::marker::Model;
 pub(crate) const MOST_MEMBERS: usize = 300;
 
 /// A plan of Black's at a position. Every value of the type is one: it is only made of a list that passed each test.
-#[derive(Debug, Drop)]
+#[derive(Drop)]
 pub struct Plan {
     at: Position,
     list: ArrayVec<Instance, MOST_MEMBERS>,

@@ -16,7 +16,7 @@ use rule_law::Rule;
 use std::marker::Model;
 
 /// A member that owns a zone.
-#[derive(Debug, Drop)]
+#[derive(Drop)]
 pub(crate) struct Zone {
     place: u32,
     instance: Instance,

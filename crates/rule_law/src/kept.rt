@@ -7,7 +7,7 @@ const MOST_TWINS: usize = 5;
 
 /// What the zone rules of a plan promise to its standing rules. The division into these four facts is this project's
 /// own profile "after Allis".
-#[derive(Debug, Drop)]
+#[derive(Drop)]
 pub struct Kept {
     /// The squares that are empty at the plan's position.
     pub empty: Mask,

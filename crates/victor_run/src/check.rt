@@ -33,7 +33,7 @@ const FIRST_NUMBER: u64 = 4;
 const MOST_LINES: u64 = 20_000_000;
 
 /// What stops the reading of a proof.
-#[derive(Clone, Copy, Debug, PartialEq, Eq)]
+#[derive(Clone, Copy)]
 enum Stop {
     Input(InputFault),
     Refused(Refusal),

@@ -8,7 +8,7 @@ use play_text::PlayFault;
 
 /// How a run ends: what decides its exit status and its text on the error stream. The clauses of [`crate::run`] have, for
 /// each form and each ending, what was written and why it ended so.
-#[derive(Clone, Copy, Debug, PartialEq, Eq)]
+#[derive(Clone, Copy)]
 pub enum Ending {
     /// All was done: status 0.
     Done,

@@ -19,7 +19,7 @@ pub(crate) struct GameInput {
 }
 
 /// Why no game was read.
-#[derive(Clone, Copy, Debug, PartialEq, Eq)]
+#[derive(Clone, Copy)]
 pub(crate) enum InputStop {
     /// The input isn't the text of a game.
     NoGame(InputFault),

@@ -22,7 +22,7 @@ const GAME_PREFIX: usize = 256;
 const MOST_KEPT: usize = 2 * (GAME_PREFIX + 1);
 
 /// What stops the reading of a game.
-#[derive(Clone, Copy, Debug, PartialEq, Eq)]
+#[derive(Clone, Copy)]
 pub(crate) enum GameStop {
     Input(InputFault),
     Read,

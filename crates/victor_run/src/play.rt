@@ -37,7 +37,7 @@ const PLAN_LINE: u64 = 3;
 const FIRST_MOVE: u64 = 4;
 
 /// What stops play before the end of the input.
-#[derive(Clone, Copy, Debug, PartialEq, Eq)]
+#[derive(Clone, Copy)]
 enum PlayStop {
     Input(InputFault),
     NoPlanLine,

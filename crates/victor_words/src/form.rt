@@ -46,7 +46,7 @@ pub enum Form {
 }
 
 /// The first word of a form.
-#[derive(Clone, Copy, Debug, PartialEq, Eq)]
+#[derive(Clone, Copy)]
 pub(crate) enum Command {
     Prove,
     Check,

@@ -7,7 +7,7 @@ ghost use Rattle.victor_words.specs.Reading.{option_named, number_of, joined, ap
 use cert_format::{number_between, split_once};
 
 /// What an option is called.
-#[derive(Clone, Copy, Debug, PartialEq, Eq)]
+#[derive(Clone, Copy)]
 pub(crate) enum Name {
     /// `--nodes`
     Nodes,
@@ -20,7 +20,7 @@ pub(crate) enum Name {
 }
 
 /// One or two words behind the command that belong together.
-#[derive(Clone, Copy, Debug, PartialEq, Eq)]
+#[derive(Clone, Copy)]
 pub(crate) enum Piece {
     /// An option and its number in two words.
     Apart(Name, u32),
