@@ -8,7 +8,8 @@ use Rattle.game_rules.specs.declared.Length.{Length}
 use Rattle.game_rules.specs.declared.Side.TheVariants.{White, Black}
 use Rattle.game_rules.proofs.Moves.{same_position_Decides}
 use Rattle.game_rules.proofs.Squares.{agree}
-use Rattle.board_bits.specs.PositionFields.{men_of, side_word}
+use Rattle.board_bits.specs.MenWords.{side_word}
+use Rattle.board_bits.specs.PositionFields.{men_of}
 use Rattle.board_bits.proofs.Positions.{read_back}
 
 module _ {L : Length → Length → Bool} (lengths : (a b : Length) → Decides (L a b) (a ≡ b)) where

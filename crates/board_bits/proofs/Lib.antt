@@ -14,3 +14,5 @@ pub mod Digits
 pub mod Words
 pub mod Rows
 pub mod Takes
+pub mod WholeColumns
+pub mod ReadMen

@@ -20,7 +20,8 @@ use Rattle.game_rules.proofs.Groups.{board_most}
 use Rattle.game_rules.proofs.Moves.{man_past, man_within}
 use Rattle.game_rules.proofs.Squares.{agree, man_on_board}
 use Rattle.board_bits.specs.Words.{has_bit, squares_of, board_word}
-use Rattle.board_bits.specs.PositionFields.{height_in, side_in, column_in, men_of, side_word, fields_of, IsSound}
+use Rattle.board_bits.specs.MenWords.{height_in, side_in, column_in, side_word}
+use Rattle.board_bits.specs.PositionFields.{men_of, fields_of, IsSound}
 use Rattle.board_bits.specs.declared.position.Position.TheInside.{Inside}
 use Rattle.board_bits.proofs.Digits.{ones_of_zero}
 use Rattle.board_bits.proofs.Words.{IsWord, word_is_word, word_bit, word_has, column_of}

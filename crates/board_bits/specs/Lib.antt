@@ -1,7 +1,10 @@
 pub mod Size
 pub mod Order
+pub mod Halves
+pub mod MenWords
 pub mod PositionFields
 pub mod Move
 pub mod Reading
 pub mod Words
 pub mod Runs
+pub mod WholeColumns

@@ -6,15 +6,18 @@
 mod game_text;
 mod line;
 mod mask;
+mod men_words;
 mod order;
 mod position;
 mod run;
 mod size;
+mod word;
 
 pub use game_rules::{End, InputFault, InputKind, Length, Question, Side, Way};
 pub use game_text::read_game;
 pub use line::MOST_IN_LINE;
-pub use mask::{Mask, bits_determine_a_mask};
+pub use mask::{Mask, bits_determine_a_mask, place_of};
+pub use men_words::MenWords;
 pub use order::centre_out;
 pub use position::{MoveFault, Position};
 pub use size::{Column, MOST_COLS, MOST_SQUARES, Size, SizeFault, Square};

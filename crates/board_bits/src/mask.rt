@@ -1,16 +1,17 @@
 //! Sets of squares, each kept as one word: eleven bits for each column, of which the highest stands above every board and
 //! is never set. A contract sees the list of the squares in square order, and says of each square whether the set has it.
 //! Each answer is found in the word as a whole; only `of` and `squares` go from square to square.
-ghost use Rattle.std.specs.Prelude.{◌≡◌, ◌⊎◌, ◌+◌, ◌-◌, ◌*◌, ◌%◌, ◌^◌, ◌<◌, ◌&&◌, ◌||◌, ◌==◌, true, false, not, nat_le, length, slice_get, sum_by};
+ghost use Rattle.std.specs.Prelude.{◌≡◌, ◌⊎◌, ◌+◌, ◌-◌, ◌*◌, ◌%◌, ◌^◌, ◌<◌, ◌≤◌, ◌&&◌, ◌||◌, ◌==◌, true, false, not, nat_le, length, slice_get, sum_by};
 ghost use Rattle.std.specs.List.{list_any, list_all};
 ghost use Rattle.game_rules.specs.Board.{on_board, line_at};
 ghost use Rattle.game_rules.specs.Squares.{same_square, has_square, widest, IsSetOf};
+ghost use Rattle.board_bits.specs.WholeColumns.{in_columns_of};
 ghost use Rattle.board_bits.specs.Words.{place_of, squares_of, word_of, board_word};
 ghost use Rattle.board_bits.specs.Runs.{has_run};
 
 use crate::line::squares_in;
 use crate::run::{has_run, starts};
-use crate::{Length, MOST_SQUARES, Size, Square, Way};
+use crate::{Column, Length, MOST_SQUARES, Size, Square, Way};
 use arrayvec::ArrayVec;
 use std::marker::Model;
 
@@ -138,10 +139,47 @@ impl Mask {
     pub fn column_part(bottom: Square, top: Square) -> Mask
         ensures { IsSetOf (λ u. (u.0 == bottom.0) && (nat_le bottom.1 u.1 && nat_le u.1 top.1)) result }
     {
-        let rows = ((1u128 << top.row()) - 1) >> (bottom.row() - 1);
+        Mask::rows_from(bottom, top.row())
+    }
+
+    /// The squares of the square's column from its row up, on the board with ten columns and ten rows.
+    pub fn upwards(bottom: Square) -> Mask
+        ensures { IsSetOf (λ u. (u.0 == bottom.0) && (nat_le bottom.1 u.1 && nat_le u.1 10)) result }
+    {
+        Mask::rows_from(bottom, 10)
+    }
+
+    /// The squares of a column, on the board with ten columns and ten rows.
+    pub fn column(column: Column) -> Mask
+        ensures { IsSetOf (λ u. on_board widest u && (column == u.0)) result }
+    {
+        Mask::upwards(column.lowest())
+    }
+
+    /// The squares of the square's column from its row up to this row.
+    fn rows_from(bottom: Square, top: u8) -> Mask
+        requires { top ≤ 10 }
+        ensures { IsSetOf (λ u. (u.0 == bottom.0) && (nat_le bottom.1 u.1 && nat_le u.1 top)) result }
+    {
+        let rows = ((1u128 << top) - 1) >> (bottom.row() - 1);
         Mask {
             word: rows << place_of(bottom),
         }
+    }
+
+    /// All squares of the columns in which the set has some, on the board with ten columns and ten rows. The cost is that of
+    /// these columns alone.
+    pub fn columns(&self) -> Mask
+        ensures { IsSetOf (in_columns_of self.now) result }
+    {
+        let mut columns = Mask::empty();
+        let mut rest = Mask { word: self.word };
+        while let Some(square) = rest.first() {
+            let column = Mask::column(square.column());
+            columns = columns.union(column);
+            rest = rest.without(column);
+        }
+        columns
     }
 
     /// The squares of odd rows, on the board with ten columns and ten rows.
@@ -214,8 +252,8 @@ impl Mask {
     }
 }
 
-/// Which bit is a square's.
-pub(crate) fn place_of(s: Square) -> u32
+/// Which bit of a set's number is a square's: below 110, column by column from the left, with a gap above each column.
+pub fn place_of(s: Square) -> u32
     ensures value { result ≡ place_of s }
     ensures on { on_board widest s ≡ true }
     ensures within { result < 110 }

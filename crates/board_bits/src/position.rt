@@ -6,7 +6,7 @@ ghost use Rattle.game_rules.specs.Position.{board_of, empty_position, height, ha
 ghost use Rattle.game_rules.specs.Squares.{IsSetOf, squares_of_board, is_empty, is_playable};
 ghost use Rattle.game_rules.specs.declared.Side.TheVariants as sides;
 ghost use Rattle.board_bits.specs.Move.{moved_into};
-ghost use Rattle.board_bits.specs.PositionFields.{side_word};
+ghost use Rattle.board_bits.specs.MenWords.{side_word};
 
 use crate::mask::{board_word, place_of};
 use crate::run::has_run;
@@ -253,7 +253,7 @@ impl Position {
     }
 
     /// The word of a side's men.
-    fn word(&self, side: Side) -> u128
+    pub(crate) fn word(&self, side: Side) -> u128
         ensures value { result ≡ side_word self.now side }
         ensures board { is_board (board_of self.now) ≡ true }
         ensures stacked { IsStacked self.now }

@@ -253,6 +253,16 @@ impl Column {
     {
         self.index
     }
+
+    /// The column's square in row 1.
+    pub(crate) fn lowest(&self) -> Square
+        ensures { result ≡ (self.now, 1) }
+    {
+        Square {
+            column: *self,
+            row: 1,
+        }
+    }
 }
 
 /// A square, by its column and its row from 1 to 10 from the bottom.

@@ -4,27 +4,27 @@ ghost use Rattle.game_rules.specs.Position.{board_of, same_position};
 ghost use Rattle.proof_text.specs.Right.{lemma_at};
 ghost use Rattle.proof_text.specs.Checked.{shown_refusal, is_shown};
 ghost use Rattle.cert_checker.specs.Checking.{Finds};
-ghost use Rattle.cert_checker.specs.Shown.{words_of, position_in, AreWords};
+ghost use Rattle.board_bits.specs.MenWords.{position_in, AreWords};
 
 use crate::stops::Why;
-use board_bits::{Position, Size};
+use board_bits::{MenWords, Position, Size};
 use proof_text::Claim;
 use std::alloc::{AllocError, Global};
 use std::marker::Model;
 
-/// What a lemma shows: a claim at a position, by the numbers of White's men and of Black's.
+/// What a lemma shows: a claim at a position with these men.
 #[derive(Clone, Copy)]
 struct Shown {
-    words: (u128, u128),
+    men: MenWords,
     claim: Claim,
 }
 
-/// What each lemma shows, at positions of one board. Their paths are forgotten. The words of the positions stand apart
-/// from the claims, so that a lemma takes 33 bytes.
+/// What each lemma shows, at positions of one board. Their paths are forgotten. The men of the positions stand apart from
+/// the claims, so that a lemma takes 33 bytes.
 #[derive(Drop)]
 pub(crate) struct Known {
     size: Size,
-    words: Vec<(u128, u128)>,
+    men: Vec<MenWords>,
     claims: Vec<Claim>,
 }
 
@@ -47,7 +47,7 @@ impl Known {
     {
         Known {
             size,
-            words: Vec::new(alloc),
+            men: Vec::new(alloc),
             claims: Vec::new(alloc),
         }
     }
@@ -66,9 +66,9 @@ impl Known {
         ensures kept { OnOk result (self.new ≡ record self.old { shown = self.old.shown ++ (position.now, claim) ∷ [] }) }
         ensures none { OnErr result (self.new ≡ self.old) }
     {
-        self.words.push(words_of(position))?;
+        self.men.push(MenWords::of(position))?;
         if let Err(error) = self.claims.push(claim) {
-            self.words.pop();
+            self.men.pop();
             return Err(error.into());
         }
         Ok(())
@@ -76,13 +76,13 @@ impl Known {
 
     /// What the lemma with this number, counted from 1, shows.
     fn get(&self, lemma: u32) -> Option<Shown>
-        ensures found { option_map (λ shown. (position_in self.now.board shown.words, shown.claim)) result ≡ lemma_at self.now.shown lemma }
-        ensures words { IfSome result (λ shown. AreWords self.now.board shown.words) }
+        ensures found { option_map (λ shown. (position_in self.now.board shown.men, shown.claim)) result ≡ lemma_at self.now.shown lemma }
+        ensures words { IfSome result (λ shown. AreWords self.now.board shown.men) }
     {
         let index = lemma.checked_sub(1)? as usize;
-        if index < self.words.len() {
+        if index < self.men.len() {
             Some(Shown {
-                words: self.words[index],
+                men: self.men[index],
                 claim: self.claims[index],
             })
         } else {
@@ -104,7 +104,7 @@ pub(crate) fn check_cited(
     let Some(shown) = known.get(lemma) else {
         return Err(Why::NoSuchLemma);
     };
-    if !stands_at(shown.words, position) {
+    if !stands_at(&shown.men, position) {
         return Err(Why::WrongPosition);
     }
     if shown.claim != claim {
@@ -119,26 +119,15 @@ pub(crate) fn is_shown(known: &Known, position: &Position, claim: Claim, lemma: 
     ensures { result ≡ is_shown position.now claim (lemma_at known.now.shown lemma) }
 {
     match known.get(lemma) {
-        Some(shown) => stands_at(shown.words, position) && shown.claim == claim,
+        Some(shown) => stands_at(&shown.men, position) && shown.claim == claim,
         None => false,
     }
 }
 
-/// Whether these words of a position on the same board are those of the position.
-fn stands_at(words: (u128, u128), position: &Position) -> bool
-    requires { AreWords (board_of position.now) words }
-    ensures { result ≡ same_position (position_in (board_of position.now) words) position.now }
+/// Whether these are the position's men, on its own board.
+fn stands_at(men: &MenWords, position: &Position) -> bool
+    requires { AreWords (board_of position.now) men.now }
+    ensures { result ≡ same_position (position_in (board_of position.now) men.now) position.now }
 {
-    let own = words_of(position);
-    words.0 == own.0 && words.1 == own.1
-}
-
-/// The numbers of White's men and of Black's.
-fn words_of(position: &Position) -> (u128, u128)
-    ensures value { result ≡ words_of position.now }
-    ensures read { position_in (board_of position.now) result ≡ position.now }
-{
-    // its contract says that no column is higher than the board
-    let _size = position.size();
-    (position.white().bits(), position.black().bits())
+    men.same(&MenWords::of(position))
 }

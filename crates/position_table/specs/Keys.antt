@@ -11,7 +11,7 @@ use Rattle.game_rules.specs.declared.Question.{Question}
 use Rattle.game_rules.specs.declared.Question.TheVariants.{WhiteWins, BlackWins}
 use Rattle.game_rules.specs.declared.Side.TheVariants.{White, Black}
 use Rattle.game_rules.proofs.Moves.{same_position_Decides}
-use Rattle.board_bits.specs.PositionFields.{side_word}
+use Rattle.board_bits.specs.MenWords.{side_word}
 
 pub record Key : Type 0 where
   pub position : Position

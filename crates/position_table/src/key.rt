@@ -4,16 +4,14 @@
 ghost use Rattle.std.specs.Prelude.{◌≡◌};
 ghost use Rattle.position_table.specs.Keys.{same_key, hashed, alike_keys, same_key_equiv, same_key_partial};
 
-use crate::word::Word;
-use board_bits::{Position, Question, Size};
+use board_bits::{MenWords, Position, Question, Size};
 use std::hash::{Hash, Hasher};
 use std::marker::Model;
 
 /// A position and what is asked of it. Two are equal where the positions are the same and the question is one.
 #[derive(Drop)]
 pub(crate) struct Key {
-    white: Word,
-    black: Word,
+    men: MenWords,
     size: Size,
     question: Question,
 }
@@ -36,8 +34,7 @@ impl Key {
         ensures { result ≡ record { position = position.now; question = question } }
     {
         Key {
-            white: Word::of(position.white().bits()),
-            black: Word::of(position.black().bits()),
+            men: MenWords::of(position),
             size: position.size(),
             question,
         }
@@ -50,9 +47,7 @@ impl PartialEq for Key {
     ghost laws = { same_key_partial };
 
     fn eq(&self, other: &Key) -> bool {
-        let own = (self.white.number(), self.black.number(), self.question);
-        let others = (other.white.number(), other.black.number(), other.question);
-        own == others && self.size.same(&other.size)
+        self.size.same(&other.size) && self.men.same(&other.men) && self.question == other.question
     }
 }
 
@@ -66,8 +61,9 @@ impl Hash for Key {
     ghost respects_eq = { alike_keys };
 
     fn hash<H: Hasher>(&self, state: &mut H) {
-        state.write_u128(self.white.number());
-        state.write_u128(self.black.number());
+        let (white, black) = self.men.numbers();
+        state.write_u128(white);
+        state.write_u128(black);
         state.write_u8(match self.question {
             Question::WhiteWins => 0,
             Question::BlackWins => 1,

@@ -4,7 +4,6 @@
 
 mod key;
 mod table;
-mod word;
 
 pub use board_bits::Question;
 pub use table::{Found, Table};

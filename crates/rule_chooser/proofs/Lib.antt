@@ -1,5 +1,4 @@
 mod FreeLines
-mod FirstColumns
 mod ZoneBars
 mod Twins
 mod SameInstance

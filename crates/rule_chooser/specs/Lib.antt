@@ -1,5 +1,4 @@
 pub mod Shown
-pub mod ZoneFields
 pub mod Lines
 pub mod Ground
 pub mod Standing

@@ -9,10 +9,9 @@ ghost use Rattle.rule_chooser.specs.Walked.{choice_shown};
 use crate::full::{MOST_MEMBERS, add_answers};
 use crate::ground::Ground;
 use crate::visit::{Found, MOST_ZONES, walk};
-use crate::zones::Zone;
 use arrayvec::ArrayVec;
 use board_bits::Position;
-use rule_compat::{Instance, Plan};
+use rule_compat::{Instance, Plan, Zone};
 use std::marker::Model;
 
 /// What is chosen at a position, among the first so many sets of its walk.

@@ -15,10 +15,9 @@ ghost use Rattle.rule_chooser.specs.Standing.{first_standing, some_bars, is_answ
 
 use crate::ground::Ground;
 use crate::standing::first_answer;
-use crate::zones::Zone;
 use arrayvec::ArrayVec;
 use board_bits::{Mask, Position};
-use rule_compat::{Instance, facts_kept};
+use rule_compat::{Instance, Zone, facts_kept};
 use rule_law::{Kept, Rule};
 
 /// The most members of a list that is given, and more.

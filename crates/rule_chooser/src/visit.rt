@@ -13,10 +13,9 @@ ghost use Rattle.rule_chooser.specs.declared.visit.Found.TheVariants as founds;
 
 use crate::full::{MOST_MEMBERS, is_answered};
 use crate::ground::Ground;
-use crate::zones::Zone;
 use arrayvec::ArrayVec;
 use board_bits::{Mask, Position, Side, Square};
-use rule_compat::Instance;
+use rule_compat::{Instance, Zone};
 
 /// The most zones of a set.
 pub(crate) const MOST_ZONES: usize = 50;

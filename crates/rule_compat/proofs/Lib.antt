@@ -5,4 +5,4 @@ pub mod BarredSets
 pub mod UnansweredLines
 pub mod Checked
 pub mod Played
-pub mod WholeColumns
+pub mod ZoneBars

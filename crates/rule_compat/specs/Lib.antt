@@ -1,4 +1,4 @@
 pub mod Written
 pub mod Faults
 pub mod Planned
-pub mod WholeColumns
+pub mod ZoneFields

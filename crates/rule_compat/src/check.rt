@@ -14,7 +14,7 @@ ghost use Rattle.rule_compat.specs.Faults.{position_refusal, refusal_of};
 use crate::facts::facts_kept;
 use crate::lines::first_unanswered;
 use crate::members::{MOST_ZONES, first_misfit, gather};
-use crate::zone::Zone;
+use crate::placed::PlacedZone;
 use crate::{Instance, Plan, PlanFault};
 use arrayvec::ArrayVec;
 use board_bits::{Mask, Position, Side, Square};
@@ -58,7 +58,7 @@ fn position_accepted(p: &Position) -> Result<(), PlanFault>
 fn members_accepted(
     p: &Position,
     list: &[Instance],
-    zones: &mut ArrayVec<Zone, MOST_ZONES>,
+    zones: &mut ArrayVec<PlacedZone, MOST_ZONES>,
 ) -> Result<(), PlanFault>
     requires few { length list.now ≤ 300 }
     requires none { zones.old.items ≡ [] }
@@ -76,7 +76,7 @@ fn members_accepted(
 
 /// What such members keep, where each empty square has a zone, each member is supported, and each group without a Black
 /// man is barred.
-fn cover_accepted(p: &Position, list: &[Instance], zones: &[Zone]) -> Result<Kept, PlanFault>
+fn cover_accepted(p: &Position, list: &[Instance], zones: &[PlacedZone]) -> Result<Kept, PlanFault>
     requires few { length list.now ≤ 300 }
     requires members { StandTogether p.now (written_list list.now) }
     requires zones { zones.now ≡ zones_from (λ x. owns_zone (written x)) 1 list.now }
@@ -97,7 +97,7 @@ fn cover_accepted(p: &Position, list: &[Instance], zones: &[Zone]) -> Result<Kep
 }
 
 /// The first empty square, in square order, that stands in none of the zones.
-fn first_uncovered(p: &Position, zones: &[Zone]) -> Option<Square>
+fn first_uncovered(p: &Position, zones: &[PlacedZone]) -> Option<Square>
     ensures { result ≡ find (λ u. is_empty p.now u && not (list_any (λ zone. has_square (zone_of (written zone.1)) u) zones.now)) (squares_of_board (board_of p.now)) }
 {
     // its contract says that the board is one with a size
@@ -110,7 +110,7 @@ fn first_uncovered(p: &Position, zones: &[Zone]) -> Option<Square>
 }
 
 /// The squares of all the zones.
-fn owned(zones: &[Zone]) -> Mask
+fn owned(zones: &[PlacedZone]) -> Mask
     ensures { IsSetOf (λ u. list_any (λ zone. has_square (zone_of (written zone.1)) u) zones.now) result }
 {
     let mut owned = Mask::empty();

@@ -2,21 +2,21 @@
 #![tactic(auto)]
 
 mod check;
-mod columns;
 mod facts;
 mod fault;
 mod instance;
 mod lines;
 mod members;
+mod placed;
 mod plan;
 mod strategy;
 mod table;
 mod zone;
 
-pub use crate::columns::columns_of;
 pub use crate::facts::facts_kept;
 pub use crate::fault::PlanFault;
 pub use crate::instance::Instance;
 pub use crate::plan::Plan;
 pub use crate::strategy::a_plan_keeps_white_from_a_line;
-pub use crate::table::{may_stand, zones_may_stand};
+pub use crate::table::may_stand;
+pub use crate::zone::Zone;

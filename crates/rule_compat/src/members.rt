@@ -8,7 +8,7 @@ ghost use Rattle.plan_rules.specs.Zones.{first_two_from, lesser_two, owns_zone, 
 ghost use Rattle.rule_compat.specs.Written.{written, written_list};
 
 use crate::Instance;
-use crate::zone::{Zone, first_clash};
+use crate::placed::{PlacedZone, first_clash};
 use arrayvec::ArrayVec;
 use board_bits::Position;
 use rule_law::Rule;
@@ -34,7 +34,7 @@ pub(crate) fn first_misfit(p: &Position, list: &[Instance]) -> Option<u32>
 pub(crate) fn gather(
     p: &Position,
     list: &[Instance],
-    zones: &mut ArrayVec<Zone, MOST_ZONES>,
+    zones: &mut ArrayVec<PlacedZone, MOST_ZONES>,
 ) -> Option<(u32, u32)>
     requires few { length list.now ≤ 300 }
     requires fitting { list_all (λ w. fits w p.now) (written_list list.now) ≡ true }
@@ -46,7 +46,7 @@ pub(crate) fn gather(
     let _board = p.size();
     for (index, instance) in list.iter().enumerate() {
         if instance.owns_zone() {
-            let zone = Zone::of(index as u32 + 1, instance);
+            let zone = PlacedZone::of(index as u32 + 1, instance);
             if let Some(first) = first_clash(zones.as_slice(), &zone) {
                 return Some(least_two(list, zones.as_slice(), first, index as u32 + 1));
             }
@@ -58,7 +58,7 @@ pub(crate) fn gather(
 
 /// The least two members that may not stand together, from the first two that were found, by the second one. Only
 /// members before the first one of these can make less, so their zones are enough.
-fn least_two(list: &[Instance], zones: &[Zone], first: u32, second: u32) -> (u32, u32)
+fn least_two(list: &[Instance], zones: &[PlacedZone], first: u32, second: u32) -> (u32, u32)
     requires few { length list.now ≤ 300 }
     requires within { second ≤ length list.now }
     requires order { first < second }
@@ -68,7 +68,7 @@ fn least_two(list: &[Instance], zones: &[Zone], first: u32, second: u32) -> (u32
 {
     let mut least = (first, second);
     for index in second as usize..list.len() {
-        let zone = Zone::of(index as u32 + 1, &list[index]);
+        let zone = PlacedZone::of(index as u32 + 1, &list[index]);
         least = lesser(least, first_clash(zones, &zone), index as u32 + 1);
     }
     least

@@ -18,7 +18,7 @@ ghost use Rattle.rule_compat.specs.Planned.{members, IsReached, HasMoved};
 use crate::Instance;
 use crate::lines::first_barring;
 use crate::members::MOST_ZONES;
-use crate::zone::Zone;
+use crate::placed::PlacedZone;
 use arrayvec::ArrayVec;
 use board_bits::{Position, Square};
 use open_groups::{GroupId, group_mask};
@@ -33,7 +33,7 @@ pub(crate) const MOST_MEMBERS: usize = 300;
 pub struct Plan {
     at: Position,
     list: ArrayVec<Instance, MOST_MEMBERS>,
-    zones: ArrayVec<Zone, MOST_ZONES>,
+    zones: ArrayVec<PlacedZone, MOST_ZONES>,
     kept: Kept,
 }
 
@@ -53,7 +53,7 @@ impl Plan {
     pub(crate) fn of(
         p: &Position,
         list: &[Instance],
-        zones: ArrayVec<Zone, MOST_ZONES>,
+        zones: ArrayVec<PlacedZone, MOST_ZONES>,
         kept: Kept,
     ) -> Plan
         requires few { length list.now ≤ 300 }
@@ -118,7 +118,7 @@ impl Plan {
 
 /// What the first of the zones that has the square answers to White's move there; None where none has it, or where
 /// that one names no square.
-fn zone_reply(zones: &[Zone], now: &Position, last: Square) -> Option<Square>
+fn zone_reply(zones: &[PlacedZone], now: &Position, last: Square) -> Option<Square>
     ensures { result ≡ option_and_then (λ zone. reply_to (written zone.1) now.now last) (find (λ zone. has_square (zone_of (written zone.1)) last) zones.now) }
 {
     for zone in zones {

@@ -5,10 +5,9 @@ ghost use Rattle.game_rules.specs.Squares.{same_square, has_square, IsSetOf};
 ghost use Rattle.plan_rules.specs.Squares.{above};
 ghost use Rattle.plan_rules.specs.Rules.{zone_of, rests_on, stands_over, together};
 ghost use Rattle.rule_compat.specs.Written.{written};
-ghost use Rattle.rule_compat.specs.WholeColumns.{in_columns_of};
+ghost use Rattle.board_bits.specs.WholeColumns.{in_columns_of};
 
 use crate::Instance;
-use crate::columns::{columns_of, from_up};
 use board_bits::{Mask, Square};
 use rule_law::Rule;
 
@@ -19,11 +18,11 @@ pub fn may_stand(a: &Instance, b: &Instance) -> bool
     ensures { result ≡ together (written a.now) (written b.now) }
 {
     let a_zone = a.zone();
-    zones_may_stand(a, &a_zone, &columns_of(&a_zone), b, &b.zone())
+    zones_may_stand(a, &a_zone, &a_zone.columns(), b, &b.zone())
 }
 
 /// The same, of instances with the sets of squares that they own, and the whole columns of the first one.
-pub fn zones_may_stand(
+pub(crate) fn zones_may_stand(
     a: &Instance,
     a_zone: &Mask,
     a_columns: &Mask,
@@ -50,7 +49,7 @@ fn stands_over(upper: &Instance, lower: &Instance, zone: &Mask) -> bool
     ensures { result ≡ stands_over (written upper.now) (written lower.now) }
 {
     match upper {
-        Instance::Claimeven(rule) => !from_up(rule.lower()).meets(*zone),
+        Instance::Claimeven(rule) => !Mask::upwards(rule.lower()).meets(*zone),
         Instance::Lowinverse(rule) => rests_on(rule.x(), rule.y(), lower),
         Instance::Highinverse(rule) => rests_on(rule.x(), rule.y(), lower),
         _ => false,

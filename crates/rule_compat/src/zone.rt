@@ -1,126 +1,122 @@
-//! A member that owns a zone, with its place in the list. Its squares are computed once, so that comparing it with
-//! another one computes no zone again.
-ghost use Rattle.std.specs.Prelude.{◌≡◌, not};
-ghost use Rattle.std.specs.List.{find};
-ghost use Rattle.std.specs.Option.{option_map};
+//! An instance of a zone rule with the set of its squares and that of their columns, so that two zones are compared
+//! without computing them again: most share no column, which one look at two sets tells.
+ghost use Rattle.std.specs.Prelude.{◌≡◌, ◌&&◌, true};
+ghost use Rattle.std.specs.List.{list_all};
+ghost use Rattle.game_rules.specs.Position.{Position as Men};
 ghost use Rattle.game_rules.specs.Squares.{has_square, IsSetOf};
-ghost use Rattle.plan_rules.specs.Rules.{zone_of, reply_to, together};
-ghost use Rattle.rule_compat.specs.Written.{written};
+ghost use Rattle.plan_rules.specs.Rules.{zone_of, fits, barred, together};
+ghost use Rattle.plan_rules.specs.Zones.{owns_zone};
+ghost use Rattle.rule_law.specs.KeptFacts.{facts_in};
+ghost use Rattle.rule_compat.specs.Written.{written, written_list};
 
 use crate::Instance;
-use crate::columns::columns_of;
 use crate::table::zones_may_stand;
-use board_bits::{Mask, Position, Square};
+use board_bits::Mask;
 use inverse_rules::Vertical;
-use rule_law::Rule;
+use rule_law::{Kept, Rule};
 use std::marker::Model;
 
-/// A member that owns a zone.
-#[derive(Drop)]
-pub(crate) struct Zone {
-    place: u32,
+/// An instance of a zone rule. A contract sees the instance.
+#[derive(Clone, Copy, Drop)]
+pub struct Zone {
     instance: Instance,
-    mask: Mask,
+    squares: Mask,
     columns: Mask,
 }
 
 impl Model for Zone {
-    ghost use Rattle.std.specs.Prelude.{ℕ};
-    ghost use Rattle.game_rules.specs.Squares.{has_square, IsSetOf};
-    ghost use Rattle.plan_rules.specs.Rules.{zone_of};
     ghost use Rattle.rule_compat.specs.declared.instance.Instance.{Instance};
-    ghost use Rattle.rule_compat.specs.Written.{written};
-    ghost use Rattle.rule_compat.specs.WholeColumns.{in_columns_of};
+    ghost use Rattle.rule_compat.specs.ZoneFields.{IsSound, fields_of, fields_told};
 
-    ghost Value = { ℕ × Instance };
+    ghost Value = { Instance };
 
-    ghost view = { λ zone. (zone.place, zone.instance) };
+    ghost view = { λ zone. zone.instance };
 
-    ghost invariant = { λ zone. IsSetOf (has_square (zone_of (written zone.instance))) zone.mask × IsSetOf (in_columns_of zone.mask) zone.columns };
+    ghost invariant = { IsSound };
+
+    ghost inverse = { fields_of };
+
+    ghost inverse_ok = { fields_told };
 }
 
 impl Default for Zone {
     ghost use Rattle.std.specs.Prelude.{◌≡◌};
     ghost use Rattle.rule_compat.specs.declared.instance.Instance.TheVariants as instances;
 
-    ghost is_default = { λ zone. zone ≡ (0, instances.Vertical (0, 2)) };
+    ghost is_default = { λ zone. zone ≡ instances.Vertical (0, 2) };
 
-    /// One without squares, at no member's place.
+    /// One without squares. A list has it where nothing stands, so it costs next to nothing.
     fn default() -> Self {
         let none = Mask::empty();
         Zone {
-            place: 0,
             instance: Instance::Vertical(Vertical::default()),
-            mask: none,
+            squares: none,
             columns: none,
         }
     }
 }
 
 impl Zone {
-    /// The zone of the member at this place of the list.
-    pub(crate) fn of(place: u32, instance: &Instance) -> Zone
-        ensures { result ≡ (place, instance.now) }
+    /// The zone of an instance that owns these squares.
+    pub fn of(instance: Instance, squares: Mask) -> Zone
+        requires { IsSetOf (has_square (zone_of (written instance))) squares }
+        ensures { result ≡ instance }
     {
-        let mask = instance.zone();
         Zone {
-            place,
-            instance: *instance,
-            mask,
-            columns: columns_of(&mask),
+            instance,
+            squares,
+            columns: squares.columns(),
         }
     }
 
-    /// Its place in the list.
-    pub(crate) fn place(&self) -> u32
-        ensures { result ≡ self.now.0 }
+    /// The instance.
+    pub fn instance(&self) -> Instance
+        ensures { result ≡ self.now }
     {
-        self.place
+        self.instance
     }
 
-    /// Its squares.
-    pub(crate) fn squares(&self) -> Mask
-        ensures { IsSetOf (has_square (zone_of (written self.now.1))) result }
+    /// The squares that it owns.
+    pub fn squares(&self) -> Mask
+        ensures { IsSetOf (has_square (zone_of (written self.now))) result }
     {
-        self.mask
+        self.squares
     }
 
-    /// Whether the square is one of the zone.
-    pub(crate) fn has(&self, s: Square) -> bool
-        ensures { result ≡ has_square (zone_of (written self.now.1)) s }
+    /// Whether it promises that White never owns the whole set. Where the set has none of its squares nothing more is
+    /// asked.
+    pub fn bars(&self, kept: &Kept, set: Mask) -> bool
+        requires { (p : Men) × ((owns_zone (written self.now) && fits (written self.now) p) ≡ true) }
+        ensures { result ≡ barred (written self.now) (facts_in kept.now) (has_square set) }
     {
-        self.mask.has(s)
+        if !self.squares.meets(set) {
+            return false;
+        }
+        self.instance.bars(kept, set)
     }
 
-    /// What the member answers to White's move to the square, at the position after it.
-    pub(crate) fn reply(&self, now: &Position, last: Square) -> Option<Square>
-        ensures { result ≡ reply_to (written self.now.1) now.now last }
+    /// Whether it may stand together with each of a set of zones.
+    pub fn may_join(&self, set: &[Zone]) -> bool
+        ensures { result ≡ list_all (λ v. together v (written self.now)) (written_list set.now) }
     {
-        self.instance.reply(now, last)
+        for member in set {
+            if !member.may_stand(self) {
+                return false;
+            }
+        }
+        true
     }
 
-    /// Whether the two members may stand together.
-    pub(crate) fn may_stand(&self, other: &Zone) -> bool
-        ensures { result ≡ together (written self.now.1) (written other.now.1) }
+    /// Whether it may stand together with another one.
+    pub fn may_stand(&self, other: &Zone) -> bool
+        ensures { result ≡ together (written self.now) (written other.now) }
     {
         zones_may_stand(
             &self.instance,
-            &self.mask,
+            &self.squares,
             &self.columns,
             &other.instance,
-            &other.mask,
+            &other.squares,
         )
     }
-}
-
-/// The place of the first of the zones that may not stand together with another one.
-pub(crate) fn first_clash(zones: &[Zone], zone: &Zone) -> Option<u32>
-    ensures { result ≡ option_map (λ earlier. earlier.0) (find (λ earlier. not (together (written earlier.1) (written zone.now.1))) zones.now) }
-{
-    for earlier in zones {
-        if !earlier.may_stand(zone) {
-            return Some(earlier.place());
-        }
-    }
-    None
 }

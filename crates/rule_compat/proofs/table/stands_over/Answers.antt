@@ -8,6 +8,6 @@ pub returns-in-Claimeven : goal.returns-in-Claimeven
 returns-in-Claimeven c =
     let us = zone_of (written c.args.lower.now) in
     ap not c.meets.ensures
-    ∙ sym (over_by_sets c.lower.result us c.args.zone.now c.from_up.result (0, 10) c.requires c.from_up.ensures (omega arith))
+    ∙ sym (over_by_sets c.lower.result us c.args.zone.now c.upwards.result (0, 10) c.requires c.upwards.ensures (omega arith))
     ∙ ap (λ x. is_over x us) c.lower.ensures.value
     ∙ ap (λ upper. stands_over (written upper) (written c.args.lower.now)) (sym c.in-Claimeven.is)

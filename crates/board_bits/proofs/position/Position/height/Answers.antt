@@ -1,6 +1,6 @@
 use Rattle.std.proofs.Common.{◌≡◌, ◌<◌, ◌≤◌, sym, ap, ◌∙◌, subst}
 use Rattle.game_rules.specs.Position.{height}
-use Rattle.board_bits.specs.PositionFields.{height_in}
+use Rattle.board_bits.specs.MenWords.{height_in}
 use Rattle.board_bits.proofs.Positions.{height_bits, height_most}
 use Rattle.board_bits.proofs.position.Position.height.Goals as goal
 use Rattle.board_bits.proofs.position.Position.height.Goals.{After-from}

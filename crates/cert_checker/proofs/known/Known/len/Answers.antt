@@ -7,5 +7,5 @@ pub returns : goal.returns
 returns c =
     let a = c.self.inside in
     let count : length c.args.self.now.shown ≡ length a.claims.items =
-    ap (λ (s : AllShown). length s.shown) (sym c.self.view_is) ∙ shown_count a.size a.words.items a.claims.items c.self.invariant.same_length in
+    ap (λ (s : AllShown). length s.shown) (sym c.self.view_is) ∙ shown_count a.size a.men.items a.claims.items c.self.invariant.same_length in
     omega (arith, c.len.ensures)

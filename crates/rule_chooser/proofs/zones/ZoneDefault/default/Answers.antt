@@ -1,8 +1,0 @@
-use Rattle.rule_compat.proofs.WholeColumns.{no_columns}
-use Rattle.rule_chooser.proofs.zones.ZoneDefault.default.Goals as goal
-
-pub invariant_of-result : goal.invariant_of-result
-invariant_of-result c = record {
-  squares = c.empty-none.ensures;
-  columns = no_columns c.empty-none.result c.empty-none.ensures;
-}
