@@ -1,5 +1,3 @@
-pub mod Digits
-pub mod Marks
 pub mod Members
 pub mod Rows
 pub mod Names

@@ -17,10 +17,6 @@ use Rattle.cert_format.specs.declared.lines.LineView.{LineView}
 use Rattle.cert_format.specs.declared.lines.LineView.TheVariants as views
 use Rattle.cert_format.specs.declared.lines.LineFault.{LineFault}
 
--- how many bytes a line that is made has room for, with its line feed
-abbrev pub line_room : ℕ
-line_room = 256
-
 abbrev pub cite_of : Cite → PlainCite
 cite_of cite = record { column = cite.column; lemma = cite.lemma }
 

@@ -3,14 +3,16 @@
 ghost use Rattle.std.specs.Prelude.{◌≡◌, ◌+◌, ◌≤◌, [], ◌∷◌, ◌++◌, map, length, codes, decimal};
 ghost use Rattle.game_rules.specs.Grammar.{letter_of, move_list};
 ghost use Rattle.proof_text.specs.Spelling.{cite_word, reason_words, lemma_line, longest_path, most_cites};
-ghost use Rattle.cert_format.specs.Shape.{cite_of, reason_viewed, cite_words, behind_spaces, behind_word, line_room};
+ghost use Rattle.cert_format.specs.Shape.{cite_of, reason_viewed, cite_words, behind_spaces, behind_word};
+ghost use Rattle.text_words.specs.Lines.{line_room};
 
-use crate::line_text::{LINE_ROOM, claim_word, letter_of};
 use crate::lines::{Cite, ReasonView};
+use crate::verdict_line::claim_word;
 use board_bits::Column;
 use itoa::Buffer;
 use proof_text::Claim;
 use std::marker::Model;
+use text_words::{LINE_ROOM, letter_of};
 
 /// The bytes of a line, at the end of a buffer.
 #[derive(Drop)]
@@ -21,7 +23,7 @@ pub(crate) struct BackLine {
 
 impl Model for BackLine {
     ghost use Rattle.std.specs.Prelude.{ℕ, List, drop, ◌≤◌};
-    ghost use Rattle.cert_format.specs.Shape.{line_room};
+    ghost use Rattle.text_words.specs.Lines.{line_room};
 
     ghost Value = { List ℕ };
 

@@ -1,27 +1,23 @@
 //! Squares, groups and instances as texts, each in one spelling, and the reading of squares and groups. What each text
 //! is and how it is read is defined in `plan_text`.
-ghost use Rattle.std.specs.Prelude.{◌≡◌, ◌+◌, ◌≤◌, ◌++◌, decimal, is_ok, option_map};
+ghost use Rattle.std.specs.Prelude.{◌≡◌, ◌+◌, ◌≤◌, ◌++◌, decimal, is_ok};
 ghost use Rattle.arrayvec.specs.ArrayVec.{array_vec_len};
 ghost use Rattle.device_rules.specs.Devices.{HasCause, AppendsPrefix};
-ghost use Rattle.plan_text.specs.Words.{split_once};
 ghost use Rattle.plan_text.specs.Items.{square_text, way_letter, group_text, square_of, way_of, group_of};
 ghost use Rattle.plan_text.specs.Faults.{plan_fault_text};
 ghost use Rattle.rule_compat.specs.Faults.{fault_of};
 ghost use Rattle.cert_format.specs.Items.{item_text};
-ghost use Rattle.cert_format.specs.Shape.{line_room};
+ghost use Rattle.text_words.specs.Lines.{line_room};
 
 use crate::instance_text::push_instance;
-use crate::line_text::{LineText, letter_of, push_number, push_text};
-use crate::number::number_between;
-use crate::reading::column_of;
 use arrayvec::ArrayVec;
 use board_bits::{Size, Square};
-use bstr::ByteSlice;
 use game_rules::Way;
 use io_ports::{Failed, Sink, put_all};
 use itoa::Buffer;
 use open_groups::{GroupId, group_anchor, group_at, group_way};
 use rule_compat::{Instance, PlanFault};
+use text_words::{LineText, column_named, letter_of, number_between, push_number, push_text};
 
 /// What a report names: a square, a group, or an instance of a rule.
 #[derive(Clone, Copy)]
@@ -132,7 +128,7 @@ pub(crate) fn square_of(bytes: &[u8], size: Size) -> Option<Square>
     ensures { result ≡ square_of size bytes.now }
 {
     let (letter, digits) = bytes.split_first()?;
-    let column = column_of(*letter, size)?;
+    let column = column_named(*letter, size)?;
     let row = number_between(1, u32::from(size.rows()), digits)?;
     size.square(column, row as u8)
 }
@@ -156,12 +152,4 @@ fn way_of(letter: u8) -> Option<Way>
         b'd' => Some(Way::D),
         _ => None,
     }
-}
-
-/// What stands before the first such mark, and what behind it.
-pub fn split_once(bytes: &[u8], mark: u8) -> Option<(&[u8], &[u8])>
-    ensures { option_map (λ parts. (parts.0.now, parts.1.now)) result ≡ split_once mark bytes.now }
-{
-    let end = bytes.find_byte(mark)?;
-    Some((&bytes[..end], &bytes[end + 1..]))
 }

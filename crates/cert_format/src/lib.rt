@@ -6,21 +6,18 @@
 mod back_line;
 mod instance_text;
 mod items;
-mod line_text;
 mod lines;
 mod named_moves;
-mod number;
 mod output;
 mod plan_line;
 mod reading;
 mod room;
+mod verdict_line;
 
-pub use items::{Item, print_item, push_group, push_plan_fault, push_square, split_once};
-pub use line_text::{LineText, push_number, push_text};
+pub use items::{Item, print_item, push_group, push_plan_fault, push_square};
 pub use lines::{
     Cite, FIRST_LINE, Lemma, LemmaView, Line, LineFault, LineView, Reason, ReasonView,
 };
-pub use number::number_between;
 pub use output::{LemmaOut, print_line};
 pub use plan_line::{print_plan, read_plan};
 pub use proof_text::{Claim, Verdict};

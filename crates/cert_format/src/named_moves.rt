@@ -4,8 +4,8 @@
 ghost use Rattle.std.specs.Prelude.{◌≡◌, ◌≤◌, true, length, take};
 ghost use Rattle.cert_format.specs.Names.{AreNamed};
 
-use crate::line_text::letter_of;
 use board_bits::Column;
+use text_words::letter_of;
 
 /// How many letters are compared at a time.
 const BLOCK: usize = 16;

@@ -6,9 +6,9 @@ ghost use Rattle.proof_text.specs.Spelling.{lemma_line, greatest_number, longest
 ghost use Rattle.cert_format.specs.Shape.{reason_of, reason_viewed, line_of, printed};
 
 use crate::back_line::BackLine;
-use crate::line_text::verdict_line;
 use crate::lines::{Line, Reason, ReasonView};
 use crate::plan_line::put_plan_end;
+use crate::verdict_line::verdict_line;
 use board_bits::Column;
 use io_ports::{Failed, Sink, put_all};
 use proof_text::Claim;

@@ -1,12 +1,12 @@
 //! The reading of a line, word by word. Each reader gives what the definition of the same name gives of its words. A word
 //! that only a few can be is compared where it stands, with the space behind it; of any other the end is looked for.
-ghost use Rattle.std.specs.Prelude.{◌≡◌, ◌≢◌, ℕ, ◌<◌, List, ◌∷◌, ◌++◌, [], Some, None, if◌then◌else◌, IfSome, MatchOption, length, map, option_map, position, ◌==◌};
+ghost use Rattle.std.specs.Prelude.{◌≡◌, ◌≢◌, ℕ, ◌<◌, List, ◌∷◌, ◌++◌, [], Some, None, IfSome, MatchOption, length, map, option_map, position, ◌==◌};
 ghost use Rattle.std.specs.Str.{bytes_eq};
 ghost use Rattle.std.specs.List.{list_all};
 ghost use Rattle.proof_text.specs.Lemma.{ByOne, ByAll};
 ghost use Rattle.proof_text.specs.Spelling.{is_printable, is_remark, claim_word};
 ghost use Rattle.proof_text.specs.declared.Verdict.TheVariants.{Draw};
-ghost use Rattle.proof_text.specs.Reading.{words_of, number_of, is_letter, column_of, path_of, letter_word, cite_of, one_of, all_of, reason_of, lemma_of, with_two, verdict_of, read_line};
+ghost use Rattle.proof_text.specs.Reading.{words_of, number_of, path_of, letter_word, cite_of, one_of, all_of, reason_of, lemma_of, with_two, verdict_of, read_line};
 ghost use Rattle.cert_format.specs.Shape as shape;
 ghost use Rattle.cert_format.specs.Shape.{Reads};
 ghost use Rattle.cert_format.specs.Rooms.{reason_in, lemma_in, ReadsInto};
@@ -14,13 +14,13 @@ ghost use Rattle.cert_format.specs.Words.{HasNoClaim};
 
 use crate::lines::{Cite, LONGEST_LINE, LONGEST_PATH, Line, LineFault, MOST_CITES};
 use crate::named_moves::named_moves;
-use crate::number::number_between;
 use crate::plan_line::members_of;
 use crate::room::{Kind, LemmaRoom, ReasonKind, ReasonRoom};
 use arrayvec::ArrayVec;
 use board_bits::{Column, Size};
 use bstr::ByteSlice;
 use proof_text::{Claim, Verdict};
+use text_words::{column_named, number_between};
 
 /// No number of a proof is greater.
 const GREATEST_NUMBER: u32 = 10_000_000;
@@ -99,7 +99,7 @@ fn read_path(path: &mut ArrayVec<Column, LONGEST_PATH>, word: &[u8], size: Size)
     let kept = named_moves(path.as_slice(), word, size.cols());
     path.truncate(kept);
     for letter in &word[kept..] {
-        path.push(column_of(*letter, size)?);
+        path.push(column_named(*letter, size)?);
     }
     Some(())
 }
@@ -109,16 +109,9 @@ fn letter_word(word: &[u8], size: Size) -> Option<Column>
     ensures { result ≡ letter_word size.cols word.now }
 {
     match word {
-        [letter] => column_of(*letter, size),
+        [letter] => column_named(*letter, size),
         _ => None,
     }
-}
-
-/// The column that the letter names, if it is one of the board's.
-pub(crate) fn column_of(letter: u8, size: Size) -> Option<Column>
-    ensures { result ≡ (if is_letter size.cols letter then Some (column_of letter) else None) }
-{
-    size.column(letter.checked_sub(b'a')?)
 }
 
 /// The claim that the first word makes, and what stands behind the space after it; None where the first word makes no
@@ -207,7 +200,7 @@ fn cite_of(word: &[u8], size: Size) -> Option<Cite>
         return None;
     };
     Some(Cite {
-        column: column_of(*letter, size)?,
+        column: column_named(*letter, size)?,
         lemma: number_of(number)?,
     })
 }

@@ -3,13 +3,14 @@
 //! spelled.
 use board_bits::{Size, Square};
 use cert_format::{
-    Item, LineText, print_item, print_plan, push_group, push_plan_fault, push_square, read_plan,
+    Item, print_item, print_plan, push_group, push_plan_fault, push_square, read_plan,
 };
 use io_ports::MemSink;
 use open_groups::{GroupId, Way, group_at};
 use rule_compat::PlanFault;
 use std::alloc::{AllocError, Global};
 use std::test::Fail;
+use text_words::LineText;
 
 /// Room for all that a test writes: the longest line has 5,104 bytes and a line feed.
 const ROOM: usize = 5200;

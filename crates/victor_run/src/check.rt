@@ -22,9 +22,10 @@ use crate::input_lines::InputLines;
 use crate::output::put_line;
 use board_bits::{InputFault, Position, Size};
 use cert_checker::{Accepted, AddStop, Checker, Refusal, Why};
-use cert_format::{FIRST_LINE, LineBuffer, LineText, push_number, push_text};
+use cert_format::{FIRST_LINE, LineBuffer};
 use io_ports::{Failed, LineGot, Sink, Source};
 use std::alloc::Global;
+use text_words::{LineText, push_number, push_text};
 
 /// The number of the first line behind the game.
 const FIRST_NUMBER: u64 = 4;

@@ -15,12 +15,13 @@ use crate::ending::Ending;
 use crate::output::put_line;
 use crate::questions::ask;
 use board_bits::{Position, Size};
-use cert_format::{LineText, Verdict, push_number, push_text};
+use cert_format::Verdict;
 use drill_games::{Tally, next_game};
 use io_ports::{Failed, NullSink, Sink};
 use position_table::Table;
 use rule_chooser::Chooser;
 use std::alloc::{AllocError, Global};
+use text_words::{LineText, push_number, push_text};
 
 /// How many settled positions the table of each game keeps.
 const GAME_TABLE: u32 = 100_000;

@@ -8,16 +8,16 @@ ghost use Rattle.game_rules.specs.declared.Side.{Side};
 ghost use Rattle.game_rules.specs.declared.Side.TheVariants as sides;
 ghost use Rattle.proof_front.specs.Fronts.{capacity, IsFrontOf};
 ghost use Rattle.proof_text.specs.Spelling.{as_line, is_remark};
-ghost use Rattle.cert_format.specs.Shape.{line_room};
+ghost use Rattle.text_words.specs.Lines.{line_room};
 ghost use Rattle.victor_run.specs.Remarks.{side_word, count_word, remark_of, IsRemarkWord, EndsAfter};
 ghost use Rattle.victor_run.specs.SizedFronts.{slots_of, IsAfter, IsAfterSome, LeavesRemark};
 
 use board_bits::{Position, Question, Side};
-use cert_format::{LineText, push_number, push_text};
 use io_ports::{Failed, Sink, put_all};
 use proof_front::{Count, Front, Grown};
 use rule_chooser::Chooser;
 use std::alloc::{AllocError, Global};
+use text_words::{LineText, push_number, push_text};
 
 /// A front with its number of slots, from 1 to 1,000,000, which is also how often it may be expanded for a question.
 #[derive(Drop)]

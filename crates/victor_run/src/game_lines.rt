@@ -12,8 +12,8 @@ ghost use Rattle.victor_run.specs.declared.game_lines.GameStop.TheVariants as st
 use crate::input_lines::InputLines;
 use arrayvec::ArrayVec;
 use board_bits::{InputFault, Position, read_game};
-use cert_format::push_text;
 use io_ports::{LineGot, Source};
+use text_words::push_text;
 
 /// How much of a line of the game is kept. The lines of a game are shorter.
 const GAME_PREFIX: usize = 256;

@@ -9,10 +9,11 @@ ghost use Rattle.victor_run.specs.Outcome.{Reports};
 use crate::ending::Ending;
 use board_bits::InputFault;
 use cert_checker::{PlanFault, Refusal, Why};
-use cert_format::{LineText, push_number, push_plan_fault, push_text};
+use cert_format::push_plan_fault;
 use io_ports::{Failed, Sink, put_all};
 use itoa::Buffer;
 use play_text::PlayFault;
+use text_words::{LineText, push_number, push_text};
 
 const USAGE: &[u8] =
     b"usage: victor prove [--nodes N] [--reach K] [--front F] [--table T] | check | play | explain [--reach K] | drill COLS ROWS MOVES SEED GAMES [--nodes N] [--reach K]\n";

@@ -8,7 +8,7 @@ ghost use Rattle.io_ports.specs.Lines.{most_held, longest_line};
 ghost use Rattle.game_rules.specs.Board.{on_board};
 ghost use Rattle.game_rules.specs.Position.{board_of, height, empty_count};
 ghost use Rattle.plan_text.specs.Items.{square_text};
-ghost use Rattle.cert_format.specs.Shape.{line_room};
+ghost use Rattle.text_words.specs.Lines.{line_room};
 ghost use Rattle.rule_compat.specs.Planned.{members};
 ghost use Rattle.play_text.specs.Play.{behind, column_in, play_from, play_lines, play_of, first_move};
 ghost use Rattle.victor_run.specs.Reading.{pending, Reads, PassesLines};
@@ -24,11 +24,12 @@ use crate::input_lines::InputLines;
 use crate::output::put_line;
 use board_bits::{Column, InputFault, MoveFault, Position, Size};
 use cert_checker::{PlanFault, Refusal, Why};
-use cert_format::{LineText, push_square, push_text, read_plan};
+use cert_format::{push_square, read_plan};
 use io_ports::{Failed, LineGot, Sink, Source};
 use play_text::{PlayFault, PlayKind};
 use reply_player::{Reply, Session};
 use rule_compat::Plan;
+use text_words::{LineText, push_text};
 
 /// The number of the plan's line.
 const PLAN_LINE: u64 = 3;

@@ -20,12 +20,13 @@ use crate::fronts::{SizedFront, front_for};
 use crate::game_input::{MOST_INPUT, read_game_input};
 use crate::questions::ask;
 use board_bits::Position;
-use cert_format::{FIRST_LINE, Line, LineText, Verdict, print_line, push_text};
+use cert_format::{FIRST_LINE, Line, Verdict, print_line};
 use deep_search::SearchStop;
 use io_ports::{Failed, Sink, Source, put_all};
 use position_table::Table;
 use rule_chooser::Chooser;
 use std::alloc::Global;
+use text_words::{LineText, push_text};
 
 /// Reads a game and writes a proof of its position's value, from a search that may enter `nodes` positions, with plans from
 /// the first `reach` sets of zones. Where a number of slots is given, a front with so many grows before each question.

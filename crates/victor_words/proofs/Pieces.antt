@@ -10,7 +10,7 @@ use Rattle.game_rules.proofs.Lists.{chosen}
 use Rattle.game_rules.proofs.Numbers.{number_gives, number_spelled}
 use Rattle.plan_text.specs.Words.{split_once}
 use Rattle.plan_text.proofs.Spaced.{bind_some, map_some, all_each, is_text, IsDigits, digits_decimal, split_once_gives}
-use Rattle.cert_format.proofs.Marks.{uncut}
+use Rattle.text_words.proofs.Cuts.{uncut}
 use Rattle.victor_words.specs.Words.{command_word, name_word, words_of}
 use Rattle.victor_words.specs.Reading.{command_named, option_named, number_of, joined, apart, apart_or_own, piece_from, first_piece, IsSmall, AreWordsOf}
 use Rattle.victor_words.specs.declared.form.Command.{Command}

@@ -4,7 +4,7 @@ ghost use Rattle.std.specs.Str.{bytes_eq};
 ghost use Rattle.victor_words.specs.Words.{words_of};
 ghost use Rattle.victor_words.specs.Reading.{option_named, number_of, joined, apart, first_piece};
 
-use cert_format::{number_between, split_once};
+use text_words::{number_between, split_once};
 
 /// What an option is called.
 #[derive(Clone, Copy)]

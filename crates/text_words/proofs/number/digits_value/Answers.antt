@@ -3,8 +3,8 @@ use Rattle.std.proofs.lemmas.List.{take_all}
 use Rattle.std.specs.Int.{IsInRange}
 use Rattle.std.specs.Str.Parse.{digits_value}
 use Rattle.std.proofs.lemmas.Str.Parse.{digit_at}
-use Rattle.cert_format.proofs.Digits.{digit_read, power_more, digits_more, all_digits}
-use Rattle.cert_format.proofs.number.digits_value.Goals as goal
+use Rattle.text_words.proofs.Digits.{digit_read, power_more, digits_more, all_digits}
+use Rattle.text_words.proofs.number.digits_value.Goals as goal
 
 pub returns-in_default : goal.returns-in_default
 returns-in_default c = λ digits. let range = digit_at c.args.bytes.now c.loop-byte.byte-index digits c.loop-byte-test.true in omega (arith, range)

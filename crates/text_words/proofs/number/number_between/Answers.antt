@@ -1,8 +1,8 @@
 use Rattle.std.proofs.Common.{◌∙◌, decimal, sym, ap, refl, arith}
 use Rattle.std.specs.Bool.{IsTrue}
 use Rattle.game_rules.proofs.Numbers.{number_spelled}
-use Rattle.cert_format.proofs.Digits.{digits_spell, spells_none}
-use Rattle.cert_format.proofs.number.number_between.Goals as goal
+use Rattle.text_words.proofs.Digits.{digits_spell, spells_none}
+use Rattle.text_words.proofs.number.number_between.Goals as goal
 
 pub returns-then-not-has_shape : goal.returns-then-not-has_shape
 returns-then-not-has_shape c =
