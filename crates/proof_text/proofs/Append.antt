@@ -2,7 +2,7 @@
 use Rattle.std.proofs.Common.{◌≡◌, ◌⊎◌, ℕ, zero, suc, ◌+◌, ◌≤◌, List, [], ◌∷◌, ◌++◌, length, Some, refl, sym, ap, ◌∙◌, subst, append_assoc, append-nil, inl, inr, arith, add-one}
 use Rattle.std.proofs.lemmas.List.{length-append}
 use Rattle.std.proofs.lemmas.Option.{some_pair_parts}
-use Rattle.std.specs.List.{slice_get, AllByRecursion}
+use Rattle.std.specs.List.{slice_get}
 use Rattle.game_rules.specs.Position.{Position}
 use Rattle.plan_text.proofs.Spaced.{all_each}
 use Rattle.proof_text.specs.Lemma.{Reason, ByEnd, ByOne, ByAll, ByPlan, Lemma}
@@ -10,16 +10,6 @@ use Rattle.proof_text.specs.Right.{Shown, Shows, IsCited, HasReason, IsRight, Ar
 use Rattle.proof_text.specs.declared.Claim.{Claim}
 use Rattle.proof_text.specs.declared.Verdict.{Verdict}
 use Rattle.proof_text.specs.declared.Verdict.TheVariants.{Win, Loss, Draw, Unknown}
-
--- ---- all elements
-
-pub all_left : {X : Type 0} (P : X → Type 0) (xs ys : List X) → AllByRecursion P (xs ++ ys) → AllByRecursion P xs
-all_left P [] ys h = tt
-all_left P (x ∷ xs) ys h = (h.0, all_left P xs ys h.1)
-
-pub all_right : {X : Type 0} (P : X → Type 0) (xs ys : List X) → AllByRecursion P (xs ++ ys) → AllByRecursion P ys
-all_right P [] ys h = h
-all_right P (x ∷ xs) ys h = all_right P xs ys h.1
 
 -- ---- what is shown
 

@@ -16,8 +16,8 @@ use Rattle.proof_text.specs.Written.{IsAskedInTurn, IsRemarkLine, remark_line, A
 use Rattle.game_rules.specs.Grammar.{is_spelled, board_line, moves_line, game_text, IsGameText}
 use Rattle.game_rules.specs.declared.Side.{Side}
 use Rattle.game_rules.specs.declared.Side.TheVariants.{White, Black}
-use Rattle.plan_text.proofs.Spaced.{all_append, all_each}
-use Rattle.proof_text.proofs.Append.{AreRight_append, all_left, all_right}
+use Rattle.plan_text.proofs.Spaced.{all_append, all_each, all_left, all_right}
+use Rattle.proof_text.proofs.Append.{AreRight_append}
 use Rattle.proof_text.proofs.Fitting.{right_all_fit, right_verdict_fits}
 use Rattle.proof_text.proofs.Whole.{board_of_root, shown_count, right_accepted}
 use Rattle.proof_text.specs.declared.Verdict.{Verdict}

@@ -6,7 +6,7 @@ use Rattle.std.proofs.lemmas.List.{take_rest}
 use Rattle.game_rules.proofs.Groups.{board_most}
 use Rattle.game_rules.specs.Board.{is_board, same_length}
 use Rattle.game_rules.specs.declared.Length.TheVariants.{Four}
-use Rattle.proof_text.proofs.Append.{all_left, all_right}
+use Rattle.plan_text.proofs.Spaced.{all_left, all_right}
 use Rattle.victor_words.specs.Words.{command_word, words_of, given_by, own_by, given, own, command_of, numbers_of, number_in, usual, HasRanges, IsGiven, IsWritten, IsReadAs}
 use Rattle.victor_words.specs.Reading.{command_named, form_with, number_found, IsSmall, AreWordsOf, AreFew, AreFound}
 use Rattle.victor_words.specs.declared.form.Command.{Command}
