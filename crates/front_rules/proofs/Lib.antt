@@ -1,3 +1,4 @@
 mod Vectors
 pub mod Numbers
 pub mod Updated
+pub mod Settled

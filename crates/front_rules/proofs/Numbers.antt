@@ -28,12 +28,12 @@ zero_infinite a h = ap is_infinite (zero_is a h)
 
 -- ---- two numbers
 
-zero_least : (a b : Count) → is_zero (least a b) ≡ (is_zero a || is_zero b)
+pub zero_least : (a b : Count) → is_zero (least a b) ≡ (is_zero a || is_zero b)
 zero_least (Finite m) (Finite n) = grind (arith, nat_tests)
 zero_least (Finite m) Infinite = grind (arith, nat_tests)
 zero_least Infinite b = refl
 
-zero_plus : (a b : Count) → is_zero (plus a b) ≡ (is_zero a && is_zero b)
+pub zero_plus : (a b : Count) → is_zero (plus a b) ≡ (is_zero a && is_zero b)
 zero_plus (Finite m) (Finite n) = grind (arith, nat_tests)
 zero_plus (Finite m) Infinite = grind (arith, nat_tests)
 zero_plus Infinite b = refl

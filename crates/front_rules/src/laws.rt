@@ -1,9 +1,10 @@
 //! Laws of the front, each the contract of a function with an empty body.
-ghost use Rattle.std.specs.Prelude.{◌≡◌, ℕ, suc, ◌+◌, ◌≤◌, Bool, true, false, not};
+ghost use Rattle.std.specs.Prelude.{◌≡◌, ℕ, suc, ◌+◌, ◌<◌, ◌≤◌, Bool, true, false, not};
 ghost use Rattle.game_rules.specs.Position.{Position};
+ghost use Rattle.game_rules.specs.Value.{wins};
 ghost use Rattle.game_rules.specs.declared.Side.{Side};
 ghost use Rattle.front_rules.specs.Counts.{is_zero, is_infinite, finite_part};
-ghost use Rattle.front_rules.specs.Front.{Row, inner, node_count, number_of, node_number, root_number, grown, front_within};
+ghost use Rattle.front_rules.specs.Front.{Row, inner, node_count, number_of, node_number, root_number, grown, front_within, is_settled, front, IsGrowing};
 ghost use Rattle.front_rules.specs.Path.{IsClean, updated};
 
 /// One expansion changes the nodes on one path alone: where no inner node was settled, the tree whose numbers are computed
@@ -30,4 +31,15 @@ pub fn one_number_is_zero_where_the_other_is_infinite()
 /// No finite number is greater than the number of nodes.
 pub fn a_finite_number_is_at_most_the_number_of_nodes()
     ensures { (side : Side) (row : Row) (proof smallest : Bool) → finite_part (number_of side proof smallest row) ≤ node_count row }
+{}
+
+/// A root that is settled tells the answer, where it wasn't settled before an expansion: with a proof number 0 the side
+/// wins, and with a disproof number 0 it doesn't. So it is for every set of closed positions at which the side doesn't win,
+/// and so for the front with a reach.
+pub fn a_settled_root_tells_whether_the_side_wins()
+    ensures closed { (side : Side) (closed : Side → Position → Bool) → ((q : Position) → closed side q ≡ true → wins side q ≡ false)
+        → (p : Position) (n : ℕ) → ((m : ℕ) → m < n → is_settled side (front_within side closed p m) ≡ false)
+        → (proof : Bool) → is_zero (root_number side proof (front_within side closed p n)) ≡ true → wins side p ≡ proof }
+    ensures front { (p : Position) (side : Side) (reach n : ℕ) → IsGrowing p side reach n
+        → (proof : Bool) → is_zero (root_number side proof (front p side reach n)) ≡ true → wins side p ≡ proof }
 {}

@@ -2,8 +2,9 @@
 //! that say how much is left to be shown; which leaf is looked at next; and what becomes of the tree.
 //!
 //! The definitions stand in `specs/`, with the numbers computed from scratch over the whole tree. That they may be
-//! changed along one path in place of that is a law here. The method is the proof-number search of Allis. Each function of
-//! `laws` is a theorem: its contract is the theorem, and its body is empty.
+//! changed along one path in place of that is a law here, and so is that a settled root tells whether the side wins. The
+//! method is the proof-number search of Allis. Each function of `laws` is a theorem: its contract is the theorem, and its
+//! body is empty.
 #![tactic(auto)]
 
 ghost use Rattle.std.specs.Prelude.{◌≡◌, ◌+◌, ◌<◌, ◌^◌};
