@@ -1,3 +1,4 @@
 pub mod Columns
 pub mod Played
 pub mod Vectors
+pub mod Legal

@@ -1,8 +1,8 @@
 -- The games that are made from a number. The generator is the minimal standard one with the multiplier 48271; that a move
 -- takes the state's remainder by the number of open columns is this project's own choice.
-use Rattle.std.specs.Prelude.{ℕ, zero, suc, ◌*◌, ◌%◌, if◌then◌else◌, List, [], ◌∷◌, length, Option, Some, None, is_some, slice_index}
+use Rattle.std.specs.Prelude.{◌≡◌, ◌≢◌, ◌<◌, ◌≤◌, ℕ, zero, suc, ◌*◌, ◌%◌, if◌then◌else◌, List, [], ◌∷◌, length, Option, Some, None, is_some, slice_index}
 use Rattle.game_rules.specs.Board.{Board}
-use Rattle.game_rules.specs.Position.{Position, empty_position, end_of, open_columns, after_move}
+use Rattle.game_rules.specs.Position.{Position, empty_position, end_of, open_columns, after_move, played}
 
 -- the state before the next move
 abbrev pub next_state : ℕ → ℕ
@@ -26,3 +26,10 @@ game_from (suc n) p x = if is_some (end_of p) then (p, x) else game_from n (afte
 unfoldable pub games_from : ℕ → Board → ℕ → ℕ → List Position
 games_from zero board moves x = []
 games_from (suc n) board moves x = (game_from moves (empty_position board) x).0 ∷ games_from n board moves (game_from moves (empty_position board) x).1
+
+-- Legal moves lead from a position to another, at most so many; and fewer only where the game has ended there.
+pub record Leads (moves : ℕ) (start p : Position) : Type 0 where
+  pub columns : List ℕ
+  pub along : played start columns ≡ Some p
+  pub few : length columns ≤ moves
+  pub ended : length columns < moves → end_of p ≢ None

@@ -1,7 +1,9 @@
 //! Games made from a number: the state of a generator chooses each move.
 ghost use Rattle.std.specs.Prelude.{◌≡◌, ℕ, suc, ◌+◌, ◌*◌, ◌%◌, ◌^◌, ◌<◌, ◌∷◌, true, None, length, slice_index};
+ghost use Rattle.std.specs.List.{AllByRecursion};
+ghost use Rattle.game_rules.specs.Board.{Board};
 ghost use Rattle.game_rules.specs.Position.{empty_position, end_of, has_room, open_columns};
-ghost use Rattle.drill_games.specs.Games.{next_state, chosen, next_move, game_from, games_from};
+ghost use Rattle.drill_games.specs.Games.{next_state, chosen, next_move, game_from, games_from, Leads};
 
 use arrayvec::ArrayVec;
 use board_bits::{Column, MOST_COLS, Position, Size};
@@ -28,6 +30,13 @@ pub fn next_game(size: Size, moves: u32, state: &mut u32) -> Position
 pub fn the_generator_stays_in_its_range()
     ensures below { (x : ℕ) → next_state x < 2147483647 }
     ensures product { (x : ℕ) → x < 2147483647 → 48271 * x < 2 ^ 47 }
+{}
+
+/// There are as many games as were asked for, and each comes by legal moves from the empty board: by at most so many, and
+/// by fewer only where it has ended.
+pub fn each_game_comes_by_legal_moves()
+    ensures count { (games : ℕ) (board : Board) (moves x : ℕ) → length (games_from games board moves x) ≡ games }
+    ensures legal { (games : ℕ) (board : Board) (moves x : ℕ) → AllByRecursion (Leads moves (empty_position board)) (games_from games board moves x) }
 {}
 
 /// The position after at most so many moves more, and the state then.

@@ -7,5 +7,5 @@
 mod games;
 mod tally;
 
-pub use games::{next_game, the_generator_stays_in_its_range};
+pub use games::{each_game_comes_by_legal_moves, next_game, the_generator_stays_in_its_range};
 pub use tally::Tally;
