@@ -73,6 +73,7 @@ pub fn search<O: Sink>(
     requires room { lemmas.old + budget.old ≤ greatest_number }
     requires entries { IsTrueTable table.old lemmas.old }
     ensures answer { IfOk result (λ answer. answer.yes ≡ wins side position.now) }
+    ensures fell { OnOk result (budget.new < budget.old) }
     ensures left { OnOk result (budget.old ≤ budget.new + count (solved_within reach) side position.now) }
     ensures spent { result ≡ Err stops.Spent → budget.old < count (solved_within reach) side position.now }
     ensures few { lemmas.new + uncounted result + budget.new ≤ lemmas.old + budget.old }
@@ -112,6 +113,7 @@ fn solve<O: Sink>(
     requires room { lemmas.old + budget.old ≤ greatest_number }
     requires entries { IsTrueTable table.old lemmas.old }
     ensures answer { IfOk result (λ answer. answer.yes ≡ wins aim.now.side position.now) }
+    ensures fell { OnOk result (budget.new < budget.old) }
     ensures left { OnOk result (budget.old ≤ budget.new + count (solved_within aim.now.reach) aim.now.side position.now) }
     ensures spent { result ≡ Err stops.Spent → budget.old < count (solved_within aim.now.reach) aim.now.side position.now }
     ensures path { path.new.items ≡ path.old.items }

@@ -102,6 +102,7 @@ loop-column-init g t c =
     record {
       answer = ap (λ order. list_any (decides c.args.aim.now.side p) (moves order)) (c.as_slice-order.ensures.value ∙ c.requires.order);
       spent = omega (arith, c.in-Some.ensures, ap (λ order. count_until (decides c.args.aim.now.side p) (count (solved_within c.args.aim.now.reach) c.args.aim.now.side) (moves order)) (c.as_slice-order.ensures.value ∙ c.requires.order));
+      fell = omega (arith, c.in-Some.ensures);
       few = omega (arith, c.in-Some.ensures);
       more = omega arith;
       entries = true_same c.args.table.now c.look_up.new.table c.look_up.ensures.same c.args.lemmas.now c.requires.entries;
@@ -249,6 +250,7 @@ loop-column-preserved g t c =
           rw (w.path-is, w.budget-is, w.table-is, w.lemmas-is, w.out-is, w.numbers-is) (record {
             answer = any_after (decides c.args.aim.now.side p) _ _ _ _ (moves_left_room p order i d low room) no' c.loop-column.invariant.answer;
             spent = spent_after (solved_within c.args.aim.now.reach) c.args.aim.now.side p going (sym c.is_planned.ensures.solved ∙ c.if-is_planned.false) order i d low room c.args.budget.now c.loop-column.budget c.loop-column.invariant.spent w.solve-found.new.budget no' (rw (← at) w.in_ok-found.ensures.left);
+            fell = omega (arith, w.in_ok-found.ensures.fell, c.loop-column.invariant.fell);
             few = omega (arith, w.solve-found.ensures.few, c.loop-column.invariant.few);
             more = omega (arith, w.solve-found.ensures.more, c.loop-column.invariant.more);
             entries = w.solve-found.ensures.entries;
@@ -272,6 +274,7 @@ loop-column-preserved g t c =
           rw (w.path-is, w.budget-is, w.table-is, w.lemmas-is, w.out-is, w.numbers-is) (record {
             answer = ap (list_any (decides c.args.aim.now.side p)) same ∙ c.loop-column.invariant.answer;
             spent = omega (arith, ap (count_until (decides c.args.aim.now.side p) (count (solved_within c.args.aim.now.reach) c.args.aim.now.side)) same, c.loop-column.invariant.spent);
+            fell = c.loop-column.invariant.fell;
             few = c.loop-column.invariant.few;
             more = c.loop-column.invariant.more;
             entries = c.loop-column.invariant.entries;

@@ -1,4 +1,4 @@
-use Rattle.std.proofs.Common.{◌≡◌, ◌+◌, ◌≤◌, List, Some, length}
+use Rattle.std.proofs.Common.{◌≡◌, ◌+◌, ◌<◌, ◌≤◌, List, Some, length}
 use Rattle.std.specs.List.{list_any}
 use Rattle.game_rules.specs.Position.{Position, empty_count, played}
 use Rattle.game_rules.specs.Cost.{moved_out, decides, count_until, count}
@@ -25,6 +25,7 @@ invariant-loop-column g l =
     record {
       answer : list_any decides_here left ≡ list_any decides_here (moved_out l.position);
       spent : l.fn.budget + count_until decides_here costs left ≤ 1 + (l.budget + count_until decides_here costs (moved_out l.position));
+      fell : l.budget < l.fn.budget;
       few : l.lemmas + l.budget + 1 ≤ l.fn.lemmas + l.fn.budget;
       more : l.fn.lemmas ≤ l.lemmas;
       entries : IsTrueTable l.table l.lemmas;
