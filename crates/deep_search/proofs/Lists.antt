@@ -2,7 +2,6 @@
 use Rattle.std.proofs.Common.{◌≡◌, ℕ, map, List, [], ◌∷◌, ◌++◌, Option, Some, None, Result, IfSome, refl, sym, ap, ◌∙◌, subst, append_assoc}
 use Rattle.std.proofs.lemmas.List.Concat.{flat_map-append}
 use Rattle.std.specs.Io.KnownBytes.{Appends}
-use Rattle.device_rules.specs.Devices.{AppendsPrefix}
 use Rattle.game_rules.specs.Position.{Position}
 use Rattle.game_rules.specs.declared.Side.{Side}
 use Rattle.proof_text.specs.Lemma.{Lemma}
@@ -10,7 +9,7 @@ use Rattle.proof_text.specs.Right.{Shown, AreRight}
 use Rattle.proof_text.specs.Texts.{Entry, LemmaEntry, RemarkEntry, entry_text, entry_lines, lemmas_among}
 use Rattle.proof_text.specs.Spelling.{as_line, lemma_line, lines_of}
 use Rattle.proof_text.proofs.Append.{AreRight_append}
-use Rattle.deep_search.specs.Search.{Moment, Solves}
+use Rattle.deep_search.specs.Search.{Moment, AppendsLemmas, Solves}
 use Rattle.deep_search.specs.Lists.{EndsIn, FitsMoment, Continues}
 use Rattle.deep_search.specs.declared.solving.Answer.{Answer}
 use Rattle.deep_search.specs.declared.solving.SearchStop.{SearchStop}
@@ -42,7 +41,8 @@ continues root p side reach list shown old new before count result ends fits sol
   now_shown = solves.wrote.shown;
   text = solves.wrote.text;
   right = solves.wrote.right;
-  ends = λ whole. ends_behind list solves.wrote.more old.bytes new.bytes (subst (λ whole. AppendsPrefix whole old.bytes new.bytes (lines_of solves.wrote.more)) whole solves.wrote.text) ends;
+  ends = λ whole. ends_behind list solves.wrote.more old.bytes new.bytes
+      (subst (λ whole. AppendsLemmas whole solves.wrote.more old.bytes new.bytes) whole solves.wrote.text) ends;
   fits = record {
     right = subst (λ ls. AreRight root [] ls (shown ++ solves.wrote.shown)) (sym (lemmas_behind list solves.wrote.more)) (AreRight_append root [] shown (shown ++ solves.wrote.shown) (lemmas_among list) solves.wrote.more fits.right solves.wrote.right);
     counted = solves.wrote.counted;

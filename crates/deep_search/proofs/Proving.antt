@@ -6,9 +6,7 @@ use Rattle.std.proofs.lemmas.Bool.{cases_eq, both_ways}
 use Rattle.std.proofs.lemmas.List.{get_or-set_same, get_or-set_other, map-id, map-append, length_push, take_at}
 use Rattle.std.proofs.lemmas.List.Elements.{filter-append}
 use Rattle.std.proofs.lemmas.List.FromFn.{map-range_with_len_more}
-use Rattle.std.proofs.lemmas.List.Concat.{flat_map-append}
 use Rattle.device_rules.specs.Devices.{AppendsPrefix}
-use Rattle.device_rules.proofs.DeviceLaws.{AppendsPrefix_more}
 use Rattle.game_rules.specs.Board.{below}
 use Rattle.game_rules.specs.Position.{Position, has_room, after_move, empty_count, played, is_legal, end_of, same_side, side_to_move, open_columns}
 use Rattle.game_rules.specs.Value.{same_end, win_of}
@@ -22,7 +20,7 @@ use Rattle.game_rules.specs.declared.Side.TheVariants.{White, Black}
 use Rattle.proof_text.specs.declared.Claim.{Claim}
 use Rattle.proof_text.specs.Lemma.{claim_side, claim_for, claim_of_end, agrees, Reason, ByEnd, ByOne, ByAll, Lemma}
 use Rattle.proof_text.specs.Right.{Shown, Shows, IsCited, goes_by_one, HasReason, AreRight}
-use Rattle.proof_text.specs.Spelling.{lemma_line, lines_of, members_in, IsShort}
+use Rattle.proof_text.specs.Spelling.{lemma_line, members_in, IsShort}
 use Rattle.plan_text.proofs.Spaced.{all_append}
 use Rattle.proof_text.proofs.Append.{Shows_more, Shows_last, AreRight_append}
 use Rattle.deep_search.specs.Planned.{plan_in, plan_for, IsPlanned}
@@ -32,14 +30,12 @@ use Rattle.deep_search.specs.Tables.{held, FitsTable, HasSame, StaysWhole, IsKep
 use Rattle.deep_search.specs.Search.{is_whole, uncounted, cites_from, Moment, moment, IsNew, Wrote, AreBelow, limit_of, Solves}
 use Rattle.deep_search.proofs.Tables.{fits_same, fits_kept, fits_more, stays_same, stays_then}
 use Rattle.deep_search.proofs.News.{new_nothing, new_then}
+use Rattle.deep_search.proofs.Cut.{one_lemma, lemmas_then}
 use Rattle.deep_search.proofs.Below.{below_raised, below_both, limit_least, limit_most}
 use Rattle.deep_search.specs.declared.solving.Answer.{Answer}
 use Rattle.deep_search.specs.declared.solving.SearchStop.{SearchStop}
 use Rattle.deep_search.specs.declared.solving.SearchStop.TheVariants.{Spent, WriteFault}
 use Rattle.plan_text.specs.PlanLine.{most_members}
-
-pub lines_append : (ls more : List Lemma) → lines_of (ls ++ more) ≡ lines_of ls ++ lines_of more
-lines_append ls more = flat_map-append lemma_line ls more
 
 -- ---- the lemma of a position, and what stands before it
 
@@ -103,8 +99,9 @@ told root p side reach won said known path reason old new count counted result i
   wrote = record {
     more = lemma_next count path side won reason ∷ [];
     shown = (p, claim_for side won) ∷ [];
-    text = subst (AppendsPrefix (is_whole result) old.bytes new.bytes)
-        (ap (λ claim. lemma_line (record { number = count + 1; path = path; claim = claim; reason = reason })) is_said ∙ sym (append-nil (lemma_line (lemma_next count path side won reason)))) stands;
+    text = one_lemma (is_whole result) old.bytes new.bytes (lemma_next count path side won reason)
+        (subst (AppendsPrefix (is_whole result) old.bytes new.bytes)
+        (ap (λ claim. lemma_line (record { number = count + 1; path = path; claim = claim; reason = reason })) is_said) stands);
     right = (p, record { next = ap (λ n. n + 1) (sym many); along = along; reason = right }, refl);
     counted = omega (arith, length-append known ((p, claim_for side won) ∷ []), number, many);
     sided = ((side_claimed side won, short), tt);
@@ -175,7 +172,7 @@ module _ (root : Position) (side : Side) (reach : ℕ) (known : List Shown) (old
   then_wrote whole count total same rest = record {
     more = first.more ++ rest.more;
     shown = first.shown ++ rest.shown;
-    text = subst (AppendsPrefix whole old.bytes new.bytes) (sym (lines_append first.more rest.more)) (AppendsPrefix_more whole old.bytes mid.bytes new.bytes (lines_of first.more) (lines_of rest.more) first.text rest.text);
+    text = lemmas_then whole old.bytes mid.bytes new.bytes first.more rest.more first.text rest.text;
     right = subst (AreRight root known (first.more ++ rest.more)) (append_assoc known first.shown rest.shown) (AreRight_append root known (known ++ first.shown) ((known ++ first.shown) ++ rest.shown) first.more rest.more first.right rest.right);
     counted = ap length (sym (append_assoc known first.shown rest.shown)) ∙ rest.counted ∙ same;
     sided = all_append (λ l. (claim_side l.claim ≡ side) × IsShort l) first.more rest.more first.sided rest.sided;

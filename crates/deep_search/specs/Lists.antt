@@ -1,16 +1,14 @@
 -- Lists of lemmas and remarks that stand before a search, and after it.
 use Rattle.std.specs.Prelude.{◌≡◌, ℕ, ◌+◌, true, map, List, [], ◌++◌, Option, Result, IfOk, IfSome, length}
-use Rattle.device_rules.specs.Devices.{AppendsPrefix}
 use Rattle.game_rules.specs.Position.{Position}
 use Rattle.game_rules.specs.declared.Side.{Side}
 use Rattle.proof_text.specs.Lemma.{claim_for, Lemma}
 use Rattle.proof_text.specs.Right.{Shown, Shows, AreRight}
-use Rattle.proof_text.specs.Spelling.{lines_of}
 use Rattle.proof_text.specs.Texts.{Entry, LemmaEntry, entry_lines, lemmas_among}
 use Rattle.proof_text.specs.Written.{AreSided}
 use Rattle.deep_search.specs.Planned.{ArePlanned}
 use Rattle.deep_search.specs.Tables.{FitsTable}
-use Rattle.deep_search.specs.Search.{is_whole, uncounted, Moment, AreApart}
+use Rattle.deep_search.specs.Search.{is_whole, uncounted, Moment, AppendsLemmas, AreApart}
 use Rattle.deep_search.specs.declared.solving.Answer.{Answer}
 use Rattle.deep_search.specs.declared.solving.SearchStop.{SearchStop}
 
@@ -26,13 +24,14 @@ pub record FitsMoment (root : Position) (count : ℕ) (list : List Entry) (shown
   pub counted : length shown ≡ count
   pub table : FitsTable now.table shown
 
--- Behind a list that fits the entry a search wrote further lemmas, of which the last may be cut where they don't stand
--- whole; the list with these fits the exit, and where they stand whole the bytes end in a text of it. They are of the side, and rest on plans where one is chosen. While the table
--- is whole no two of them stand at one position. The answer names a lemma that shows it at p.
+-- Behind a list that fits the entry a search wrote further lemmas, of which only the last is cut where they don't stand
+-- whole; the list with these fits the exit, and where they stand whole the bytes end in a text of it. They are of the side,
+-- and rest on plans where one is chosen. While the table is whole no two of them stand at one position. The answer names a
+-- lemma that shows it at p.
 pub record Continues (root p : Position) (side : Side) (reach : ℕ) (list : List Entry) (shown : List Shown) (old new : Moment) (count : ℕ) (result : Result Answer SearchStop) : Type 0 where
   pub more : List Lemma
   pub now_shown : List Shown
-  pub text : AppendsPrefix (is_whole result) old.bytes new.bytes (lines_of more)
+  pub text : AppendsLemmas (is_whole result) more old.bytes new.bytes
   pub right : AreRight root shown more (shown ++ now_shown)
   pub ends : is_whole result ≡ true → IfSome old.bytes (λ was. EndsIn (list ++ map LemmaEntry more) new.bytes)
   pub fits : FitsMoment root (count + uncounted result) (list ++ map LemmaEntry more) (shown ++ now_shown) new

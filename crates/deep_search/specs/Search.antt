@@ -1,12 +1,12 @@
 -- What a search with lemmas does, at any moment at which it may end.
-use Rattle.std.specs.Prelude.{◌≡◌, ℕ, ◌+◌, ◌<◌, map, slice_index, Bool, true, false, List, ◌++◌, Option, None, Result, Ok, Err, IfOk, length, [], ◌∷◌, ⊤}
+use Rattle.std.specs.Prelude.{◌≡◌, ℕ, ◌+◌, ◌<◌, map, slice_index, Bool, true, false, List, ◌++◌, Option, None, Result, Ok, Err, IfOk, length, take, [], ◌∷◌, ⊤}
 use Rattle.std.specs.List.{AllByRecursion}
-use Rattle.device_rules.specs.Devices.{AppendsPrefix}
+use Rattle.std.specs.Io.KnownBytes.{Appends}
 use Rattle.game_rules.specs.Position.{Position, empty_count}
 use Rattle.game_rules.specs.declared.Side.{Side}
 use Rattle.proof_text.specs.Lemma.{claim_for, Cite, Lemma}
 use Rattle.proof_text.specs.Right.{Shown, Shows, AreRight}
-use Rattle.proof_text.specs.Spelling.{lines_of}
+use Rattle.proof_text.specs.Spelling.{lemma_line, lines_of}
 use Rattle.proof_text.specs.Written.{AreSided}
 use Rattle.position_table.specs.Table.{Entries}
 use Rattle.deep_search.specs.Planned.{ArePlanned}
@@ -39,6 +39,19 @@ pub record Moment : Type 0 where
 abbrev pub moment : Entries → Option (List ℕ) → Moment
 moment table bytes = record { table = table; bytes = bytes }
 
+-- The lines of the lemmas before the last were put behind the bytes, and of the last one's line a prefix.
+pub record LastIsCut (lemmas : List Lemma) (old new : Option (List ℕ)) : Type 0 where
+  pub whole : List Lemma
+  pub last : Lemma
+  pub are : lemmas ≡ whole ++ last ∷ []
+  pub n : ℕ
+  pub bytes : Appends old new (lines_of whole ++ take n (lemma_line last))
+
+-- The lines of the lemmas were put behind the bytes; where they don't stand whole, only the last one was cut.
+abbrev pub AppendsLemmas : Bool → List Lemma → Option (List ℕ) → Option (List ℕ) → Type 0
+AppendsLemmas true lemmas old new = Appends old new (lines_of lemmas)
+AppendsLemmas false lemmas old new = LastIsCut lemmas old new
+
 -- no two stand at one position
 abbrev pub AreApart : List Shown → Type 0
 AreApart [] = ⊤
@@ -51,12 +64,12 @@ pub record IsNew (done : Bool) (side : Side) (shown : List Shown) (before after 
   pub once : after.whole ≡ true → AreApart shown
   pub kept : done ≡ true → after.whole ≡ true → AllByRecursion (λ s. held after s.0 side ≡ None → ⊥) shown
 
--- Behind what is known, right lemmas of the side were written, of which the last may be cut where they don't stand whole:
+-- Behind what is known, right lemmas of the side were written, of which only the last is cut where they don't stand whole:
 -- what they show, and how many lemmas there are with them. The entries of the table name lemmas among them.
 pub record Wrote (whole : Bool) (root : Position) (side : Side) (reach : ℕ) (known : List Shown) (old new : Moment) (total : ℕ) : Type 0 where
   pub more : List Lemma
   pub shown : List Shown
-  pub text : AppendsPrefix whole old.bytes new.bytes (lines_of more)
+  pub text : AppendsLemmas whole more old.bytes new.bytes
   pub right : AreRight root known more (known ++ shown)
   pub counted : length (known ++ shown) ≡ total
   pub sided : AreSided side more

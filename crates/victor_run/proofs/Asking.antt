@@ -24,6 +24,7 @@ use Rattle.deep_search.specs.Planned.{solved_within}
 use Rattle.deep_search.specs.Search.{is_whole, uncounted, moment, AreBelow, limit_of, Solves}
 use Rattle.deep_search.specs.Tables.{FitsTable}
 use Rattle.deep_search.proofs.Below.{none_here}
+use Rattle.deep_search.proofs.Cut.{lemmas_prefix}
 use Rattle.victor_run.specs.SizedFronts.{LeavesRemark}
 use Rattle.victor_run.specs.Questions.{AsksSide, is_whole_verdict, won_by, IsRemarkedInTurn, HasBothRemarks, verdict_told, Asks}
 use Rattle.deep_search.specs.declared.solving.Answer.{Answer}
@@ -75,7 +76,8 @@ module _ (root : Position) (side : Side) (reach : ℕ) (slots : Option ℕ) (kno
     shown = solves.wrote.shown;
     remarked = remarks.right;
     line = remarks.line;
-    text = AppendsPrefix_more (is_whole result) old mid new (remark_line remarks.remark) (lines_of solves.wrote.more) remarks.text solves.wrote.text;
+    text = AppendsPrefix_more (is_whole result) old mid new (remark_line remarks.remark) (lines_of solves.wrote.more) remarks.text
+        (lemmas_prefix (is_whole result) mid new solves.wrote.more solves.wrote.text);
     right = solves.wrote.right;
     sided = solves.wrote.sided;
     planned = solves.wrote.planned;
