@@ -59,7 +59,9 @@ bytes_of_none s at bytes h =
     said None e h bounds = cc
     said (Some line) e h bounds = (line, e, h, bounds)
 
-state_after_push : (root : Position) (before : List (List ℕ)) (at : ℕ) (bytes : List ℕ) → bytes_refusal (state_after root before) at bytes ≡ None → state_after root (before ++ bytes ∷ []) ≡ with_bytes (state_after root before) bytes
+-- what stands after one more line that isn't refused
+pub state_after_push : (root : Position) (before : List (List ℕ)) (at : ℕ) (bytes : List ℕ) → bytes_refusal (state_after root before) at bytes ≡ None
+    → state_after root (before ++ bytes ∷ []) ≡ with_bytes (state_after root before) bytes
 state_after_push root before at bytes h =
     let found = bytes_of_none (state_after root before) at bytes h in
     let board = board_of root in
@@ -74,7 +76,7 @@ state_after_push root before at bytes h =
 
 -- ---- the first line that fails
 
-index_seam : (before : List (List ℕ)) (line : List ℕ) (rest : List (List ℕ)) → slice_index_or (before ++ line ∷ rest) (length before) [] ≡ line
+pub index_seam : (before : List (List ℕ)) (line : List ℕ) (rest : List (List ℕ)) → slice_index_or (before ++ line ∷ rest) (length before) [] ≡ line
 index_seam [] line rest = refl
 index_seam (first ∷ before) line rest = index_seam before line rest
 

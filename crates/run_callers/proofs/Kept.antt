@@ -26,7 +26,7 @@ still_held (Some (Prove nodes reach front table)) input left old new taken (endi
 still_held (Some (Prove nodes reach front table)) input left old new taken endings.Read h = same old new h
 still_held (Some (Prove nodes reach front table)) input left old new taken endings.Usage h = absurd h
 still_held (Some (Prove nodes reach front table)) input left old new taken (endings.Refused refusal) h = absurd h
-still_held (Some (Prove nodes reach front table)) input left old new taken endings.Memory h = same old new h
+still_held (Some (Prove nodes reach front table)) input left old new taken endings.Memory h = same old new h.2
 still_held (Some (Prove nodes reach front table)) input left old new taken (endings.NoMove fault) h = absurd h
 still_held (Some (Prove nodes reach front table)) input left old new taken (endings.NoPlan fault) h = absurd h
 still_held (Some Check) input left old new taken endings.Done h = (_, h.0.3)
@@ -34,7 +34,7 @@ still_held (Some Check) input left old new taken endings.Write h = (_, h.0.3.1)
 still_held (Some Check) input left old new taken (endings.Input fault) h = same old new h.0.1
 still_held (Some Check) input left old new taken (endings.Refused refusal) h = same old new h.0.1
 still_held (Some Check) input left old new taken endings.Read h = same old new h.0
-still_held (Some Check) input left old new taken endings.Memory h = same old new h.0
+still_held (Some Check) input left old new taken endings.Memory h = same old new h.0.2
 still_held (Some Check) input left old new taken endings.Usage h = absurd h.0
 still_held (Some Check) input left old new taken endings.Unknown h = absurd h.0
 still_held (Some Check) input left old new taken (endings.NoMove fault) h = absurd h.0

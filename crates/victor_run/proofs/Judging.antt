@@ -1,5 +1,5 @@
 -- All that was read of a proof: from the first step on, what was taken, and how `check` answers it.
-use Rattle.std.proofs.Common.{◌≡◌, ℕ, ◌+◌, ◌-◌, ◌≤◌, true, false, List, length, Option, Some, Ok, Err, sym, ap, ◌∙◌, arith}
+use Rattle.std.proofs.Common.{◌≡◌, ℕ, ◌+◌, ◌-◌, ◌≤◌, true, false, List, length, Option, Some, Ok, Err, sym, ap, ◌∙◌, subst, arith}
 use Rattle.std.specs.Io.KnownBytes.{Keeps, Appends}
 use Rattle.device_rules.specs.Devices.{AppendsPrefix}
 use Rattle.io_ports.specs.Lines.{most_held}
@@ -13,7 +13,7 @@ use Rattle.victor_run.specs.Streams.{Streams}
 use Rattle.victor_run.specs.Outcome.{Outcome}
 use Rattle.victor_words.specs.declared.form.Form.TheVariants.{Check}
 use Rattle.victor_run.specs.declared.ending.Ending.TheVariants as endings
-use Rattle.victor_run.specs.CheckSteps.{StopsBy, Judges, game_from, lines_from, lines_read_until, ending_of}
+use Rattle.victor_run.specs.CheckSteps.{StopsBy, Judges, Place, AtHead, AtGame, AtLine, GoesOn, lines_from, lines_read_until, ending_of}
 use Rattle.victor_run.specs.Reading.{Pending, Reads, PassesLines}
 use Rattle.victor_run.specs.declared.check.Stop.{Stop}
 use Rattle.victor_run.specs.declared.check.Stop.TheVariants as stops
@@ -22,34 +22,45 @@ use Rattle.victor_run.proofs.Passing.{takes_bytes}
 use Rattle.victor_run.proofs.Reading.{Reads_then, passes_then, passes_most}
 use Rattle.victor_run.proofs.Taken.{fresh, of_taken, of_input, of_lines}
 
--- a fault of a later step is one of all steps
-pub stops_earlier : (answer other : CheckAnswer) (a b c : ℕ) (stop : Stop) → other ≡ answer → a ≤ b → StopsBy answer b c stop → StopsBy other a c stop
-stops_earlier answer other a b c (stops.Input fault) same later h = same ∙ h
-stops_earlier answer other a b c (stops.Refused r) same later h = same ∙ h
-stops_earlier answer other a b c stops.Read same later h = omega (arith, later, h)
-stops_earlier answer other a b c stops.Memory same later h = tt
+-- from one place to the next but one
+pub goes_then : (one two three : Place) (bytes mid rest : List ℕ) → GoesOn one bytes two mid → GoesOn two mid three rest → GoesOn one bytes three rest
+goes_then one two three bytes mid rest first next = record { answer = first.answer ∙ next.answer; reaches = λ reach. first.reaches (next.reaches reach) }
+
+-- what stops a later step stops all steps
+pub stops_earlier : (one two : Place) (bytes mid : List ℕ) (a b c : ℕ) (stop : Stop) → GoesOn one bytes two mid → a ≤ b
+    → StopsBy two mid b c stop → StopsBy one bytes a c stop
+stops_earlier one two bytes mid a b c (stops.Input fault) goes later h = goes.answer ∙ h
+stops_earlier one two bytes mid a b c (stops.Refused r) goes later h = goes.answer ∙ h
+stops_earlier one two bytes mid a b c stops.Read goes later h = omega (arith, later, h)
+stops_earlier one two bytes mid a b c stops.Memory goes later h = goes.reaches h
 
 -- the head and the game
-module _ (a b c : Pending) (head : Reads a b (λ bytes rest. PassesLines 1 bytes rest × (check_of bytes ≡ game_from rest))) where
-  pub game_known : (root : Position) → Reads b c (λ bytes rest. PassesLines 2 bytes rest × (game_from bytes ≡ lines_from (start root) first_number rest))
-      → Reads a c (λ bytes rest. PassesLines 3 bytes rest × (check_of bytes ≡ lines_from (start root) first_number rest))
-  game_known root game = Reads_then a b c _ _ _ head game (λ bytes mid rest p q. (passes_then 1 2 bytes mid rest p.0 q.0, p.1 ∙ q.1))
+module _ (a b c : Pending) (head : Reads a b (λ bytes rest. PassesLines 1 bytes rest × GoesOn AtHead bytes AtGame rest)) where
+  pub game_known : (root : Position) → Reads b c (λ bytes rest. PassesLines 2 bytes rest × GoesOn AtGame bytes (AtLine (start root) first_number) rest)
+      → Reads a c (λ bytes rest. PassesLines 3 bytes rest × GoesOn AtHead bytes (AtLine (start root) first_number) rest)
+  game_known root game =
+      Reads_then a b c _ _ _ head game (λ bytes mid rest p q. (passes_then 1 2 bytes mid rest p.0 q.0, goes_then AtHead AtGame _ bytes mid rest p.1 q.1))
 
-  pub game_stops : (before mid after : ℕ) (stop : Stop) → before ≤ mid → Reads b c (λ bytes rest. PassesLines 2 bytes rest × StopsBy (game_from bytes) mid after stop)
-      → Reads a c (λ bytes rest. PassesLines 3 bytes rest × StopsBy (check_of bytes) before after stop)
+  pub game_stops : (before mid after : ℕ) (stop : Stop) → before ≤ mid
+      → Reads b c (λ bytes rest. PassesLines 2 bytes rest × StopsBy AtGame bytes mid after stop)
+      → Reads a c (λ bytes rest. PassesLines 3 bytes rest × StopsBy AtHead bytes before after stop)
   game_stops before mid after stop later game =
-      Reads_then a b c _ _ _ head game (λ bytes m rest p q. (passes_then 1 2 bytes m rest p.0 q.0, stops_earlier _ _ before mid after stop p.1 later q.1))
+      Reads_then a b c _ _ _ head game (λ bytes m rest p q. (
+        passes_then 1 2 bytes m rest p.0 q.0,
+        stops_earlier AtHead AtGame bytes m before mid after stop p.1 later q.1,
+      ))
 
 -- and the lines behind them
 module _ (a b c : Pending) (root : Position) (s t : CheckerState) (began : s ≡ start root)
-    (game : Reads a b (λ bytes rest. PassesLines 3 bytes rest × (check_of bytes ≡ lines_from (start root) first_number rest))) where
+    (game : Reads a b (λ bytes rest. PassesLines 3 bytes rest × GoesOn AtHead bytes (AtLine (start root) first_number) rest)) where
   pub lines_stop : (n before mid after : ℕ) (stop : Stop) → before ≤ mid → 3 ≤ n
-      → Reads b c (λ bytes rest. PassesLines (n - 3) bytes rest × StopsBy (lines_from s first_number bytes) mid after stop)
-      → Reads a c (λ bytes rest. PassesLines n bytes rest × StopsBy (check_of bytes) before after stop)
+      → Reads b c (λ bytes rest. PassesLines (n - 3) bytes rest × StopsBy (AtLine s first_number) bytes mid after stop)
+      → Reads a c (λ bytes rest. PassesLines n bytes rest × StopsBy AtHead bytes before after stop)
   lines_stop n before mid after stop later from lines =
       Reads_then a b c _ _ _ game lines (λ bytes m rest p q. (
         passes_most (3 + (n - 3)) n bytes rest (omega (arith, from)) (passes_then 3 (n - 3) bytes m rest p.0 q.0),
-        stops_earlier _ _ before mid after stop (p.1 ∙ ap (λ s. lines_from s first_number m) (sym began)) later q.1,
+        stops_earlier AtHead (AtLine s first_number) bytes m before mid after stop
+            (subst (λ s. GoesOn AtHead bytes (AtLine s first_number) m) (sym began) p.1) later q.1,
       ))
 
   pub lines_known : (end : ℕ) → 3 ≤ end → Reads b c (λ bytes rest. PassesLines (end - 3) bytes rest × (lines_from s first_number bytes ≡ verdict_answer end (length t.known) t.verdict))
@@ -57,15 +68,16 @@ module _ (a b c : Pending) (root : Position) (s t : CheckerState) (began : s ≡
   lines_known end from lines answer is =
       Reads_then a b c _ _ _ game lines (λ bytes m rest p q. (
         passes_most (3 + (end - 3)) end bytes rest (omega (arith, from)) (passes_then 3 (end - 3) bytes m rest p.0 q.0),
-        p.1 ∙ ap (λ s. lines_from s first_number m) (sym began) ∙ q.1 ∙ is,
+        p.1.answer ∙ ap (λ s. lines_from s first_number m) (sym began) ∙ q.1 ∙ is,
       ))
 
 -- ---- how it was judged
 
-pub judged_stop : (old : Option (List ℕ)) (last : Pending) (n before after : ℕ) (stop : Stop) → Reads (fresh old) last (λ bytes rest. PassesLines n bytes rest × StopsBy (check_of bytes) before after stop)
+pub judged_stop : (old : Option (List ℕ)) (last : Pending) (n before after : ℕ) (stop : Stop)
+    → Reads (fresh old) last (λ bytes rest. PassesLines n bytes rest × StopsBy AtHead bytes before after stop)
     → length last.ahead ≤ most_held → n ≤ lines_read_until stop → n ≤ most_lines_read → Judges old last.left before after (Err stop)
 judged_stop old last n before after stop reads held few all =
-    let Stopped : List ℕ → Type 0 = λ bytes. StopsBy (check_of bytes) before after stop in
+    let Stopped : List ℕ → Type 0 = λ bytes. StopsBy AtHead bytes before after stop in
     record {
       taken = reads.taken;
       gave = reads.gave;
@@ -118,4 +130,9 @@ module _ (s : Streams) (before after : ℕ) where
     holds = (((judged.answer.0, judged.answer.1), kept, judged.answer.2), judged.lines);
   }
   checks_stop stops.Read judged kept = record { taken = judged.taken; gave = judged.gave; few = takes_bytes most_lines_read judged.taken judged.lines; holds = (kept, judged.lines) }
-  checks_stop stops.Memory judged kept = record { taken = judged.taken; gave = judged.gave; few = takes_bytes most_lines_read judged.taken judged.lines; holds = (kept, judged.lines) }
+  checks_stop stops.Memory judged kept = record {
+    taken = judged.taken;
+    gave = judged.gave;
+    few = takes_bytes most_lines_read judged.taken judged.lines;
+    holds = ((judged.answer.0, judged.answer.1, kept), judged.lines);
+  }

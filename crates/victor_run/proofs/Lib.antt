@@ -5,6 +5,7 @@ pub mod Writing
 pub mod Drilling
 pub mod Completed
 pub mod Cuts
+pub mod Begun
 pub mod CheckLines
 pub mod GameRead
 pub mod PlayRead

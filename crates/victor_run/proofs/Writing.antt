@@ -1,10 +1,11 @@
 -- The text of a proof as it is put together: its head, the lemmas of both questions, and its last line.
-use Rattle.std.proofs.Common.{◌≡◌, ◌≢◌, ℕ, ◌+◌, ◌-◌, ◌≤◌, Bool, true, false, List, [], ◌∷◌, ◌++◌, map, Option, Result, Ok, Err, IfOk, is_ok, length, get_or, refl, sym, ap, ◌∙◌, subst, inl, inr, arith, append-nil, append_assoc, length-append, codes}
+use Rattle.std.proofs.Common.{◌≡◌, ◌≢◌, ℕ, ◌+◌, ◌-◌, ◌<◌, ◌≤◌, Bool, true, false, List, [], ◌∷◌, ◌++◌, map, Option, Result, Ok, Err, IfOk, is_ok, length, get_or, refl, sym, ap, ◌∙◌, subst, inl, inr, arith, append-nil, append_assoc, length-append, codes}
 use Rattle.std.specs.Io.KnownBytes.{Appends}
 use Rattle.std.proofs.lemmas.Bool.{eq-eqb, ne_eqb}
 use Rattle.std.proofs.lemmas.List.{get_or-append_right, get_or-map, length-map}
 use Rattle.device_rules.specs.Devices.{AppendsPrefix}
 use Rattle.device_rules.proofs.DeviceLaws.{AppendsPrefix_more}
+use Rattle.game_rules.specs.Cost.{cost}
 use Rattle.game_rules.specs.Position.{Position}
 use Rattle.game_rules.specs.Grammar.{IsGameText, game_text, board_line, moves_line, move_list, letter_of}
 use Rattle.proof_text.specs.Right.{IsVerdict}
@@ -13,6 +14,8 @@ use Rattle.proof_text.specs.Texts.{first_line, head_of}
 use Rattle.proof_text.specs.Written.{IsProof, remark_line}
 use Rattle.proof_text.proofs.Written.{both_written, lemmas_stand, head_stands, proof_stands, proof_accepted, head_of_fed, head_of_bare}
 use Rattle.proof_text.specs.declared.Verdict.{Verdict}
+use Rattle.proof_text.specs.declared.Verdict.TheVariants.{Win, Loss, Draw, Unknown}
+use Rattle.deep_search.specs.Planned.{solved_within}
 use Rattle.victor_run.specs.Proof.{head_for, IsProofOf, Writes}
 use Rattle.victor_run.specs.Questions.{HasBothRemarks, Asks}
 use Rattle.victor_run.proofs.Asking.{asked_truth, in_turn}
@@ -63,6 +66,18 @@ head_is bytes p game = at game.ended refl
         ap (λ xs. as_line first_line ++ xs) (rw (ne_eqb (last_byte bytes) 10 unfed) refl)
         ∙ append_assoc first_line (10 ∷ []) (as_line bytes) ∙ sym (head_of_bare bytes p game bare)
 
+-- ---- the last line
+
+-- only the unknown verdict has its line
+unknown_line : (v : Verdict) → verdict_line v ≡ verdict_line Unknown → v ≡ Unknown
+unknown_line Unknown same = refl
+unknown_line (Win lemma) same = absurd (omega (arith, ap (λ line. get_or line 6 0) same))
+unknown_line (Loss lemma) same = absurd (omega (arith, ap (λ line. get_or line 6 0) same))
+unknown_line (Draw white black) same = absurd (omega (arith, ap (λ line. get_or line 6 0) same))
+
+some_line : [] ≡ verdict_line Unknown → ⊥
+some_line none = omega (arith, ap (λ (line : List ℕ). length line) none)
+
 -- ---- the whole
 
 -- the head, the remarks and the lemmas of both questions, and the last line, of which a prefix may be missing
@@ -111,17 +126,25 @@ module _ (nodes reach : ℕ) (slots : Option ℕ) (bytes : List ℕ) (p : Positi
         says = asked_truth p nodes reach slots mid held r asks v right;
       }
 
-      pub writes_verdict : (old new : Option (List ℕ)) (result : Result Verdict Failed) → HasBothRemarks slots nodes reach p asks.mid asks.black_remark v → Appends old mid (head_for bytes) → Appends mid held middle
+      pub writes_verdict : (old new : Option (List ℕ)) (result : Result Verdict Failed) → HasBothRemarks slots nodes reach p asks.mid asks.black_remark v
+          → (v ≡ Unknown → nodes < cost (solved_within reach) p) → Appends old mid (head_for bytes) → Appends mid held middle
           → IfOk result (λ told. told ≡ v) → AppendsPrefix (is_ok result) held new (verdict_line v) → Writes nodes reach slots bytes p old new result
-      writes_verdict old new (Ok told) both head lemmas same stands = (
+      writes_verdict old new (Ok told) both short head lemmas same stands = (
         proof_text,
         subst (IsProofOf nodes reach slots bytes p proof_text) (sym same) (proof_of both),
         stands_all true old mid held new the_head (remark_line asks.white_remark) (lines_of asks.white) (remark_line asks.black_remark) (lines_of asks.black) (verdict_line v)
             (subst (Appends old mid) (head_is bytes p game) head) lemmas stands,
       )
-      writes_verdict old new (Err failed) both head lemmas same stands = (
+      writes_verdict old new (Err failed) both short head lemmas same stands = (
         proof_text,
-        record { game = game; stands = proof_stands p the_head proof_text v is_proof; remarked = inr (asks.white_remarked, asks.black_remarked); planned = (asks.white_planned, asks.black_planned); few = asks.few },
+        record {
+          game = game;
+          stands = proof_stands p the_head proof_text v is_proof;
+          remarked = inr (asks.white_remarked, asks.black_remarked);
+          planned = (asks.white_planned, asks.black_planned);
+          few = asks.few;
+          short = λ unknown. short (unknown_line v unknown);
+        },
         stands_all false old mid held new the_head (remark_line asks.white_remark) (lines_of asks.white) (remark_line asks.black_remark) (lines_of asks.black) (verdict_line v)
             (subst (Appends old mid) (head_is bytes p game) head) lemmas stands,
       )
@@ -130,7 +153,14 @@ module _ (nodes reach : ℕ) (slots : Option ℕ) (bytes : List ℕ) (p : Positi
   pub writes_head : (old new : Option (List ℕ)) (failed : Failed) → AppendsPrefix false old new (head_for bytes) → Writes nodes reach slots bytes p old new (Err failed)
   writes_head old new failed stands = (
     the_head,
-    record { game = game; stands = head_stands p the_head; remarked = inl refl; planned = (tt, tt); few = omega arith },
+    record {
+      game = game;
+      stands = head_stands p the_head;
+      remarked = inl refl;
+      planned = (tt, tt);
+      few = omega arith;
+      short = λ none. absurd (some_line none);
+    },
     subst (AppendsPrefix false old new) (head_is bytes p game) stands,
   )
 
@@ -146,6 +176,7 @@ module _ (nodes reach : ℕ) (slots : Option ℕ) (bytes : List ℕ) (p : Positi
           remarked = inr (asks.white_remarked, asks.black_remarked);
           planned = (asks.white_planned, asks.black_planned);
           few = asks.few;
+          short = λ none. absurd (some_line none);
         },
         AppendsPrefix_more false old mid new the_head (middle mid new (Err WriteFault) asks) (subst (Appends old mid) (head_is bytes p game) head) asks.text,
       )

@@ -44,6 +44,9 @@ ending_of (Ok (verdicts.Draw white black)) = Done
 ending_of (Ok verdicts.Unknown) = Unknown
 ending_of (Err failed) = Write
 
+abbrev pub IsGame : List ℕ → Type 0
+IsGame bytes = (p : Position) × (game_at bytes ≡ Ok p)
+
 -- The bytes are a game, and a proof of its position was written whose verdict is a win, a loss or a draw.
 pub record HasProved (nodes reach : ℕ) (slots : Option ℕ) (bytes : List ℕ) (old new : Option (List ℕ)) : Type 0 where
   pub position : Position
@@ -72,8 +75,8 @@ pub record WasCut (nodes reach : ℕ) (slots : Option ℕ) (bytes : List ℕ) (o
   pub written : AppendsPrefix false old new text
 
 -- `prove` with so many nodes, this reach and a front of so many slots, if any, from the bytes that it took, by its ending.
--- A proof is of the game that they are, and all of the input was read then; a fault is theirs, and that of all of the
--- input, where the source tells it.
+-- A proof is of the game that they are, and all of the input was read then, as it was where memory runs out; a fault is
+-- theirs, and that of all of the input, where the source tells it.
 abbrev pub Proves : (nodes reach : ℕ) (slots : Option ℕ) → List ℕ → Streams → Ending → Type 0
 Proves nodes reach slots taken s Done = HasProved nodes reach slots taken s.old s.new × IsAtEnd s.left
 Proves nodes reach slots taken s Unknown = LeavesUnknown nodes reach slots taken s.old s.new × IsAtEnd s.left
@@ -84,7 +87,7 @@ Proves nodes reach slots taken s Usage = ⊥
 Proves nodes reach slots taken s (Refused refusal) = ⊥
 Proves nodes reach slots taken s (NoMove fault) = ⊥
 Proves nodes reach slots taken s (NoPlan fault) = ⊥
-Proves nodes reach slots taken s Memory = Keeps s.old s.new
+Proves nodes reach slots taken s Memory = IsGame taken × IsAtEnd s.left × Keeps s.old s.new
 
 -- How many bytes a run of the words that have this form takes at most: `check` and `play` take lines with their line feeds,
 -- and what comes with the last of them.

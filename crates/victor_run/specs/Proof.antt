@@ -1,16 +1,18 @@
 -- What `prove` writes: the text of a proof, whole, or a prefix of one.
-use Rattle.std.specs.Prelude.{◌≡◌, ◌⊎◌, ◌≤◌, ◌-◌, ℕ, false, ◌==◌, if◌then◌else◌, List, ◌++◌, Option, Result, Ok, Err, length, slice_index}
+use Rattle.std.specs.Prelude.{◌≡◌, ◌⊎◌, ◌<◌, ◌≤◌, ◌-◌, ℕ, false, ◌==◌, if◌then◌else◌, List, ◌++◌, Option, Result, Ok, Err, length, slice_index}
 use Rattle.std.specs.Io.KnownBytes.{Appends}
 use Rattle.device_rules.specs.Devices.{AppendsPrefix}
+use Rattle.game_rules.specs.Cost.{cost}
 use Rattle.game_rules.specs.Position.{Position}
 use Rattle.game_rules.specs.declared.Side.TheVariants.{White}
 use Rattle.game_rules.specs.Grammar.{IsGameText}
 use Rattle.proof_text.specs.Right.{Shown, IsTrueVerdict}
 use Rattle.proof_text.specs.Texts.{first_line, head_of, check_of, Accepted}
-use Rattle.proof_text.specs.Spelling.{as_line}
+use Rattle.proof_text.specs.Spelling.{as_line, verdict_line}
 use Rattle.proof_text.specs.Written.{HasWritten, MayStand, IsProof}
 use Rattle.proof_text.specs.declared.Verdict.{Verdict}
-use Rattle.deep_search.specs.Planned.{ArePlanned}
+use Rattle.proof_text.specs.declared.Verdict.TheVariants.{Unknown}
+use Rattle.deep_search.specs.Planned.{solved_within, ArePlanned}
 use Rattle.io_ports.specs.declared.ports.Failed.{Failed}
 use Rattle.victor_run.specs.Questions.{IsRemarkedInTurn, HasBothRemarks}
 use Rattle.victor_run.specs.Remarks.{IsFrontRemark}
@@ -44,13 +46,15 @@ pub record IsProofOf (nodes reach : ℕ) (slots : Option ℕ) (bytes : List ℕ)
   pub accepted : check_of text ≡ Accepted v (length proof.after)
   pub says : IsTrueVerdict p v
 
--- a text that may stand while such a proof is written: its head alone, or more
+-- A text that may stand while such a proof is written: its head alone, or more. Its verdict, if it has one, is unknown only
+-- where the number of nodes is below the position's cost.
 pub record MayStandFor (nodes reach : ℕ) (slots : Option ℕ) (bytes : List ℕ) (p : Position) (text : List ℕ) : Type 0 where
   pub game : IsGameText bytes p
   pub stands : MayStand p (head_of game.board game.columns) text
   pub remarked : (text ≡ head_of game.board game.columns) ⊎ AreRemarked slots reach p stands.written
   pub planned : IsPlannedText reach p stands.written
   pub few : length stands.after ≤ nodes
+  pub short : stands.last ≡ verdict_line Unknown → nodes < cost (solved_within reach) p
 
 -- Behind the bytes that were there stands a proof with the verdict; after a failure, a prefix of what may stand.
 abbrev pub Writes : (nodes reach : ℕ) (slots : Option ℕ) → List ℕ → Position → Option (List ℕ) → Option (List ℕ) → Result Verdict Failed → Type 0

@@ -5,10 +5,10 @@ ghost use Rattle.std.specs.Prelude.{◌≡◌, ◌+◌, ◌-◌, ◌≤◌, true
 ghost use Rattle.device_rules.specs.Devices.{Rose, HasCause, AppendsPrefix};
 ghost use Rattle.arrayvec.specs.ArrayVec.{array_vec_len};
 ghost use Rattle.game_rules.specs.Position.{board_of};
-ghost use Rattle.proof_text.specs.Texts.{first_number, bytes_refusal, with_bytes, start, verdict_answer, check_of};
+ghost use Rattle.proof_text.specs.Texts.{first_number, bytes_refusal, with_bytes, start, verdict_answer};
 ghost use Rattle.io_ports.specs.Lines.{most_held};
 ghost use Rattle.victor_run.specs.Check.{accepted_line, most_lines_read};
-ghost use Rattle.victor_run.specs.CheckSteps.{game_from, lines_from, Adds, StopsBy, IsRefused, lines_read_until, ending_of, Judges};
+ghost use Rattle.victor_run.specs.CheckSteps.{lines_from, AtHead, AtGame, AtLine, GoesOn, Adds, StopsBy, StopsAtLine, lines_read_until, ending_of, Judges};
 ghost use Rattle.victor_run.specs.Reading.{pending, Reads, PassesLines, KeepsLine};
 ghost use Rattle.victor_run.specs.Outcome.{Outcome};
 ghost use Rattle.victor_words.specs.declared.form.Form.TheVariants as forms;
@@ -92,8 +92,8 @@ fn judge<S: Source>(alloc: Global, source: &mut S) -> Result<Accepted, Stop>
 /// Reads the line that names the format.
 fn read_head<S: Source>(lines: &mut InputLines, source: &mut S) -> Result<(), Stop>
     ensures answer { Reads (pending lines.old (S.left source.old)) (pending lines.new (S.left source.new))
-        (λ bytes rest. PassesLines 1 bytes rest × MatchResult result (λ _. check_of bytes ≡ game_from rest)
-        (StopsBy (check_of bytes) (S.faults source.old) (S.faults source.new))) }
+        (λ bytes rest. PassesLines 1 bytes rest × MatchResult result (λ _. GoesOn AtHead bytes AtGame rest)
+        (StopsBy AtHead bytes (S.faults source.old) (S.faults source.new))) }
     ensures held { length lines.new.ahead ≤ most_held }
     ensures stops { IfErr result (λ stop. 1 ≤ lines_read_until stop) }
     ensures later { S.faults source.old ≤ S.faults source.new }
@@ -111,8 +111,8 @@ fn read_head<S: Source>(lines: &mut InputLines, source: &mut S) -> Result<(), St
 /// Reads the two lines of the game, and answers its position.
 fn read_root<S: Source>(lines: &mut InputLines, source: &mut S) -> Result<Position, Stop>
     ensures answer { Reads (pending lines.old (S.left source.old)) (pending lines.new (S.left source.new))
-        (λ bytes rest. PassesLines 2 bytes rest × MatchResult result (λ root. game_from bytes ≡ lines_from (start root) first_number rest)
-        (StopsBy (game_from bytes) (S.faults source.old) (S.faults source.new))) }
+        (λ bytes rest. PassesLines 2 bytes rest × MatchResult result (λ root. GoesOn AtGame bytes (AtLine (start root) first_number) rest)
+        (StopsBy AtGame bytes (S.faults source.old) (S.faults source.new))) }
     ensures held { length lines.new.ahead ≤ most_held }
     ensures stops { IfErr result (λ stop. 3 ≤ lines_read_until stop) }
     ensures later { S.faults source.old ≤ S.faults source.new }
@@ -135,7 +135,8 @@ fn add_lines<S: Source>(
     ensures answer { Reads (pending lines.old (S.left source.old)) (pending lines.new (S.left source.new))
         (λ bytes rest. MatchResult result
         (λ end. PassesLines (end - 3) bytes rest × (lines_from checker.old first_number bytes ≡ verdict_answer end (length checker.new.known) checker.new.verdict))
-        (λ stop. PassesLines (lines_read_until stop - 3) bytes rest × StopsBy (lines_from checker.old first_number bytes) (S.faults source.old) (S.faults source.new) stop)) }
+        (λ stop. PassesLines (lines_read_until stop - 3) bytes rest
+        × StopsBy (AtLine checker.old first_number) bytes (S.faults source.old) (S.faults source.new) stop)) }
     ensures few { MatchResult result (λ end. (FIRST_NUMBER ≤ end) × (end ≤ most_lines_read)) (λ stop. (3 ≤ lines_read_until stop) × (lines_read_until stop ≤ most_lines_read)) }
     ensures ended { OnOk result (lines.new.ended ≡ true) }
     ensures held { length lines.new.ahead ≤ most_held }
@@ -161,7 +162,7 @@ fn add_next<S: Source>(
     requires { board_of checker.old.root ≡ size }
     ensures answer { Reads (pending lines.old (S.left source.old)) (pending lines.new (S.left source.new))
         (λ bytes rest. PassesLines 1 bytes rest × MatchResult result (λ more. Adds checker.old checker.new at more bytes rest)
-        (StopsBy (lines_from checker.old at bytes) (S.faults source.old) (S.faults source.new))) }
+        (StopsBy (AtLine checker.old at) bytes (S.faults source.old) (S.faults source.new))) }
     ensures few { result ≡ Ok true → at ≤ MOST_LINES }
     ensures root { OnOk result (checker.new.root ≡ checker.old.root) }
     ensures ended { result ≡ Ok false → lines.new.ended ≡ true }
@@ -191,7 +192,7 @@ fn add_line(
     requires { board_of checker.old.root ≡ size }
     ensures answer { MatchResult result
         (λ _. (bytes_refusal checker.old at bytes.now ≡ None) × (checker.new ≡ with_bytes checker.old bytes.now))
-        (IsRefused at (bytes_refusal checker.old at bytes.now)) }
+        (StopsAtLine checker.old at bytes.now) }
     ensures few { OnOk result (at ≤ MOST_LINES) }
 {
     if at > MOST_LINES {

@@ -3,7 +3,7 @@ use Rattle.game_rules.specs.Position.{board_of}
 use Rattle.std.proofs.lemmas.Result.{err_from_is_err_and}
 use Rattle.victor_run.specs.CheckSteps.{Adds, lines_read_until}
 use Rattle.victor_run.specs.Reading.{pending, Reads, PassesLines}
-use Rattle.victor_run.proofs.Judging.{stops_earlier}
+use Rattle.victor_run.proofs.Judging.{goes_then, stops_earlier}
 use Rattle.victor_run.proofs.Reading.{Reads_start, Reads_then, passes_none, passes_then, passes_most}
 use Rattle.victor_run.proofs.check.add_lines.Goals as goal
 
@@ -15,7 +15,7 @@ returns-in_err-add_next-clause-answer g c =
     let stops = c.in_err-add_next.ensures.stops before.few in
     rw (same.1, same.2) (Reads_then _ _ _ _ _ _ before.goes c.in_err-add_next.ensures.answer (λ bytes mid rest p q. (
       passes_most (c.loop-at.at - 4 + 1) (lines_read_until stop - 3) bytes rest (omega (arith, stops.0, before.from)) (passes_then (c.loop-at.at - 4) 1 bytes mid rest p.0 q.0),
-      stops_earlier _ _ _ _ _ stop p.1 before.later q.1,
+      stops_earlier _ _ bytes mid _ _ _ stop p.1 before.later q.1,
     )))
 
 pub returns-clause-answer : goal.returns-clause-answer
@@ -25,12 +25,12 @@ returns-clause-answer g c =
     (λ bytes rest. PassesLines 1 bytes rest × Adds c.loop-at.checker c.add_next.new.checker c.loop-at.at more bytes rest) in
     Reads_then _ _ _ _ _ _ before.goes (subst P c.if-branch.false c.in_ok-add_next.ensures.answer) (λ bytes mid rest p q. (
       passes_most (c.loop-at.at - 4 + 1) (c.loop-at.at - 3) bytes rest (omega (arith, before.from)) (passes_then (c.loop-at.at - 4) 1 bytes mid rest p.0 q.0),
-      p.1 ∙ q.1,
+      p.1.answer ∙ q.1,
     ))
 
 pub loop-at-init : goal.loop-at-init
 loop-at-init g c = record {
-  goes = Reads_start _ _ (λ bytes. (passes_none bytes, refl));
+  goes = Reads_start _ _ (λ bytes. (passes_none bytes, record { answer = refl; reaches = λ reach. reach }));
   board = c.requires;
   from = omega arith;
   later = omega arith;
@@ -45,7 +45,7 @@ loop-at-preserved g c =
     record {
       goes = Reads_then _ _ _ _ _ _ before.goes (subst P c.if-branch.true c.in_ok-add_next.ensures.answer) (λ bytes mid rest p q. (
         passes_most (c.loop-at.at - 4 + 1) (c.loop-at.at + 1 - 4) bytes rest (omega (arith, before.from)) (passes_then (c.loop-at.at - 4) 1 bytes mid rest p.0 q.0),
-        p.1 ∙ q.1,
+        goes_then _ _ _ bytes mid rest p.1 q.1,
       ));
       board = ap board_of c.in_ok-add_next.ensures.root ∙ before.board;
       from = omega (arith, before.from);

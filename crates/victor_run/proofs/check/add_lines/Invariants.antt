@@ -2,15 +2,15 @@ use Rattle.std.proofs.Common.{◌≡◌, ◌-◌, ◌≤◌}
 use Rattle.game_rules.specs.Position.{board_of}
 use Rattle.proof_text.specs.Texts.{first_number}
 use Rattle.victor_run.specs.Check.{most_lines_read}
-use Rattle.victor_run.specs.CheckSteps.{lines_from}
+use Rattle.victor_run.specs.CheckSteps.{AtLine, GoesOn}
 use Rattle.victor_run.specs.Reading.{pending, Reads, PassesLines}
 use Rattle.victor_run.proofs.check.add_lines.Given as goal
 
--- the answer to all lines is that to those that are left; before the first nothing was read
+-- what holds of the lines that are left holds of all; before the first nothing was read
 abbrev pub invariant-loop-at : goal.invariant-loop-at
 invariant-loop-at g l = record {
   goes : Reads (pending l.fn.lines (g.S.Source.left l.fn.source)) (pending l.lines (g.S.Source.left l.source))
-      (λ bytes rest. PassesLines (l.at - 4) bytes rest × (lines_from l.fn.checker first_number bytes ≡ lines_from l.checker l.at rest));
+      (λ bytes rest. PassesLines (l.at - 4) bytes rest × GoesOn (AtLine l.fn.checker first_number) bytes (AtLine l.checker l.at) rest);
   board : board_of l.checker.root ≡ l.size;
   from : 4 ≤ l.at;
   later : g.S.Source.faults l.fn.source ≤ g.S.Source.faults l.source;

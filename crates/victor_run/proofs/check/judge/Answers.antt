@@ -1,9 +1,9 @@
 use Rattle.std.proofs.Common.{◌≡◌, length, sym, ap, ◌∙◌, subst, arith}
 use Rattle.std.proofs.lemmas.Result.{err_from_is_err_and}
-use Rattle.proof_text.specs.Texts.{check_of, verdict_answer, Accepted, Refused}
+use Rattle.proof_text.specs.Texts.{verdict_answer, Accepted, Refused}
 use Rattle.cert_checker.specs.Checking.{why_of}
 use Rattle.victor_run.specs.InputState.{InputState}
-use Rattle.victor_run.specs.CheckSteps.{StopsBy, game_from, lines_read_until}
+use Rattle.victor_run.specs.CheckSteps.{StopsBy, AtHead, AtGame, GoesOn, lines_read_until}
 use Rattle.victor_run.specs.Reading.{pending, Reads, PassesLines}
 use Rattle.victor_run.specs.declared.check.Stop.TheVariants as stops
 use Rattle.victor_run.proofs.Judging.{game_known, game_stops, lines_stop, lines_known, judged_stop, judged_right}
@@ -15,7 +15,7 @@ returns-in_err-read_head g c =
     let last = pending c.read_head.new.lines (g.S.Source.left c.read_head.new.source) in
     let same = err_from_is_err_and c.from_residual.result c.from_residual.ensures.1 in
     let stop = c.in_err-read_head.field-0.0 in
-    let P : InputState → Type 0 = λ lines. Reads (pending lines left) last (λ bytes rest. PassesLines 1 bytes rest × StopsBy (check_of bytes) (g.S.Source.faults c.args.source.now) (g.S.Source.faults c.read_head.new.source) stop) in
+    let P : InputState → Type 0 = λ lines. Reads (pending lines left) last (λ bytes rest. PassesLines 1 bytes rest × StopsBy AtHead bytes (g.S.Source.faults c.args.source.now) (g.S.Source.faults c.read_head.new.source) stop) in
     rw (same.1, same.2) (judged_stop left last 1 _ _ stop (subst P c.new-lines.ensures c.in_err-read_head.ensures.answer) c.in_err-read_head.ensures.held c.in_err-read_head.ensures.stops (omega arith))
 
 pub returns-in_err-root : goal.returns-in_err-root
@@ -25,7 +25,7 @@ returns-in_err-root g c =
     let last = pending c.read_root.new.lines (g.S.Source.left c.read_root.new.source) in
     let same = err_from_is_err_and c.from_residual-in_err-root.result c.from_residual-in_err-root.ensures.1 in
     let stop = c.in_err-root.field-0.0 in
-    let P : InputState → Type 0 = λ lines. Reads (pending lines left) mid (λ bytes rest. PassesLines 1 bytes rest × (check_of bytes ≡ game_from rest)) in
+    let P : InputState → Type 0 = λ lines. Reads (pending lines left) mid (λ bytes rest. PassesLines 1 bytes rest × GoesOn AtHead bytes AtGame rest) in
     rw (same.1, same.2) (judged_stop left last 3 _ _ stop (game_stops _ mid last (subst P c.new-lines.ensures c.in_ok-read_head.ensures.answer) _ _ _ stop c.in_ok-read_head.ensures.later c.in_err-root.ensures.answer)
     c.in_err-root.ensures.held c.in_err-root.ensures.stops (omega arith))
 
@@ -38,7 +38,7 @@ returns-in_err-end g c =
     let same = err_from_is_err_and c.from_residual-in_err-end.result c.from_residual-in_err-end.ensures.1 in
     let stop = c.in_err-end.field-0.0 in
     let few = c.in_err-end.ensures.few in
-    let P : InputState → Type 0 = λ lines. Reads (pending lines left) mid (λ bytes rest. PassesLines 1 bytes rest × (check_of bytes ≡ game_from rest)) in
+    let P : InputState → Type 0 = λ lines. Reads (pending lines left) mid (λ bytes rest. PassesLines 1 bytes rest × GoesOn AtHead bytes AtGame rest) in
     let game = game_known _ mid next (subst P c.new-lines.ensures c.in_ok-read_head.ensures.answer) c.in_ok-root.root c.in_ok-root.ensures.answer in
     rw (same.1, same.2) (judged_stop left last (lines_read_until stop) _ _ stop
     (lines_stop _ next last c.in_ok-root.root c.new-checker.result c.add_lines.new.checker c.new-checker.ensures game (lines_read_until stop) _ _ _ stop
@@ -50,7 +50,7 @@ returns-in-Ok g c =
     let mid = pending c.read_head.new.lines (g.S.Source.left c.read_head.new.source) in
     let next = pending c.read_root.new.lines (g.S.Source.left c.read_root.new.source) in
     let last = pending c.add_lines.new.lines (g.S.Source.left c.add_lines.new.source) in
-    let P : InputState → Type 0 = λ lines. Reads (pending lines left) mid (λ bytes rest. PassesLines 1 bytes rest × (check_of bytes ≡ game_from rest)) in
+    let P : InputState → Type 0 = λ lines. Reads (pending lines left) mid (λ bytes rest. PassesLines 1 bytes rest × GoesOn AtHead bytes AtGame rest) in
     let game = game_known _ mid next (subst P c.new-lines.ensures c.in_ok-read_head.ensures.answer) c.in_ok-root.root c.in_ok-root.ensures.answer in
     let end = c.in_ok-end.end in
     let few = c.in_ok-end.ensures.few in
@@ -67,7 +67,7 @@ returns g c =
     let mid = pending c.read_head.new.lines (g.S.Source.left c.read_head.new.source) in
     let next = pending c.read_root.new.lines (g.S.Source.left c.read_root.new.source) in
     let last = pending c.add_lines.new.lines (g.S.Source.left c.add_lines.new.source) in
-    let P : InputState → Type 0 = λ lines. Reads (pending lines left) mid (λ bytes rest. PassesLines 1 bytes rest × (check_of bytes ≡ game_from rest)) in
+    let P : InputState → Type 0 = λ lines. Reads (pending lines left) mid (λ bytes rest. PassesLines 1 bytes rest × GoesOn AtHead bytes AtGame rest) in
     let game = game_known _ mid next (subst P c.new-lines.ensures c.in_ok-read_head.ensures.answer) c.in_ok-root.root c.in_ok-root.ensures.answer in
     let end = c.in_ok-end.end in
     let few = c.in_ok-end.ensures.few in

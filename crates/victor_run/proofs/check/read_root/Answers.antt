@@ -3,12 +3,15 @@ use Rattle.game_rules.specs.Text.{game_at}
 use Rattle.proof_text.specs.Texts.{pieces, game_of}
 use Rattle.victor_run.specs.Reading.{pending, Reads, PassesLines, StopsGame}
 use Rattle.victor_run.specs.declared.game_lines.GameStop.{GameStop}
-use Rattle.victor_run.proofs.CheckLines.{game_read, game_fault}
+use Rattle.victor_run.proofs.CheckLines.{game_read, game_reaches, game_fault}
 use Rattle.victor_run.proofs.Reading.{Reads_more}
 use Rattle.victor_run.proofs.check.read_root.Goals as goal
 
 pub returns-in-Ok-clause-answer : goal.returns-in-Ok-clause-answer
-returns-in-Ok-clause-answer g c = Reads_more _ _ _ _ c.in-Ok.ensures.answer (λ bytes rest h. (h.0, game_read bytes rest c.in-Ok.root h.1.0 h.1.1))
+returns-in-Ok-clause-answer g c = Reads_more _ _ _ _ c.in-Ok.ensures.answer (λ bytes rest h. (
+  h.0,
+  record { answer = game_read bytes rest c.in-Ok.root h.1.0 h.1.1; reaches = game_reaches bytes rest c.in-Ok.root h.1.0 h.1.1 },
+))
 
 pub returns-in-Err-Input-clause-answer : goal.returns-in-Err-Input-clause-answer
 returns-in-Err-Input-clause-answer g c =

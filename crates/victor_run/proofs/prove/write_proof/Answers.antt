@@ -1,4 +1,4 @@
-use Rattle.std.proofs.Common.{◌≡◌, false, Ok, Err, refl, ◌∙◌, subst}
+use Rattle.std.proofs.Common.{◌≡◌, false, Ok, Err, refl, ap, ◌∙◌, subst}
 use Rattle.std.specs.Io.KnownBytes.{Appends}
 use Rattle.std.proofs.lemmas.Result.{err_from_is_err_and}
 use Rattle.device_rules.specs.Devices.{AppendsPrefix}
@@ -26,7 +26,7 @@ pub returns-in-Ok-clause-written : goal.returns-in-Ok-clause-written
 returns-in-Ok-clause-written g c =
     let head : c.as_slice.result.now ≡ head_for c.args.text.now = c.as_slice.ensures.value ∙ c.head_for.ensures in
     let asks = c.in-Ok.ensures.asked in
-    writes_verdict c.args.nodes c.args.reach (slots_of c.args.front.now) c.args.text.now c.args.position.now (read_in_grammar c.args.text.now c.args.position.now c.requires.game) c.requires.nodes _ _ (Ok c.in-Ok.verdict) asks c.in-Ok.verdict asks.verdict.0 _ _ c.write_verdict.result (asks.both_remarked refl)
+    writes_verdict c.args.nodes c.args.reach (slots_of c.args.front.now) c.args.text.now c.args.position.now (read_in_grammar c.args.text.now c.args.position.now c.requires.game) c.requires.nodes _ _ (Ok c.in-Ok.verdict) asks c.in-Ok.verdict asks.verdict.0 _ _ c.write_verdict.result (asks.both_remarked refl) (λ unknown. absurd (asks.verdict.1 unknown))
     (subst (Appends (g.O.Sink.written c.args.out.now) (g.O.Sink.written c.put_all.new.out)) head c.in_ok-put_all.ensures.bytes) asks.text c.write_verdict.ensures.verdict c.write_verdict.ensures.written
 
 pub returns-in-Err-Spent-clause-written : goal.returns-in-Err-Spent-clause-written
@@ -34,7 +34,7 @@ returns-in-Err-Spent-clause-written g c =
     let p = c.args.position.now in
     let head : c.as_slice.result.now ≡ head_for c.args.text.now = c.as_slice.ensures.value ∙ c.head_for.ensures in
     let asks = subst (λ stop. Asks p c.args.nodes c.args.reach (slots_of c.args.front.now) (g.O.Sink.written c.put_all.new.out) (g.O.Sink.written c.ask.new.out) (Err stop)) c.in-Err-Spent.field-0-is c.in-Err-Spent.ensures.asked in
-    writes_verdict c.args.nodes c.args.reach (slots_of c.args.front.now) c.args.text.now p (read_in_grammar c.args.text.now p c.requires.game) c.requires.nodes _ _ (Err Spent) asks Unknown tt _ _ c.write_verdict-in-Err-Spent.result (asks.both_remarked refl)
+    writes_verdict c.args.nodes c.args.reach (slots_of c.args.front.now) c.args.text.now p (read_in_grammar c.args.text.now p c.requires.game) c.requires.nodes _ _ (Err Spent) asks Unknown tt _ _ c.write_verdict-in-Err-Spent.result (asks.both_remarked refl) (λ unknown. c.in-Err-Spent.ensures.spent (ap Err c.in-Err-Spent.field-0-is))
     (subst (Appends (g.O.Sink.written c.args.out.now) (g.O.Sink.written c.put_all.new.out)) head c.in_ok-put_all.ensures.bytes) asks.text c.write_verdict-in-Err-Spent.ensures.verdict c.write_verdict-in-Err-Spent.ensures.written
 
 pub returns-in-Err-WriteFault-clause-written : goal.returns-in-Err-WriteFault-clause-written
