@@ -12,7 +12,9 @@ unfolding game_from
 leads zero p x = record { columns = []; along = refl; few = omega arith; ended = λ never. absurd (omega (arith, never)) }
 leads (suc n) p x = by_end (end_of p) refl (leads n (after_move p (chosen p (next_state x))) (next_state x))
   where
-    by_end : (end : Option End) → end_of p ≡ end → Leads n (after_move p (chosen p (next_state x))) (game_from n (after_move p (chosen p (next_state x))) (next_state x)).0 → Leads (suc n) p (game_from (suc n) p x).0
+    by_end : (end : Option End) → end_of p ≡ end
+        → Leads n (after_move p (chosen p (next_state x))) (game_from n (after_move p (chosen p (next_state x))) (next_state x)).0
+        → Leads (suc n) p (game_from (suc n) p x).0
     by_end (Some end) ended later = rw ended (record { columns = []; along = refl; few = omega arith; ended = λ fewer none. cc (ended, none) })
     by_end None going later = rw going (record {
       columns = chosen p (next_state x) ∷ later.columns;

@@ -77,7 +77,8 @@ module _ (side : Side) where
   none_as_any : (ps : List Position) → list_all (λ q. not (wins side q)) ps ≡ not (list_any (wins side) ps)
   none_as_any ps = all_any (λ q. not (wins side q)) ps ∙ ap not (any_same (λ q. not (not (wins side q))) (wins side) ps (λ q among. not_not (wins side q)))
 
-  any_decides : (p : Position) (own : Bool) → is_own side p ≡ own → (ps : List Position) → list_any (decides side p) ps ≡ list_any (λ q. if own then wins side q else not (wins side q)) ps
+  any_decides : (p : Position) (own : Bool) → is_own side p ≡ own → (ps : List Position)
+      → list_any (decides side p) ps ≡ list_any (λ q. if own then wins side q else not (wins side q)) ps
   any_decides p own e ps = ap (λ b. list_any (λ q. if b then wins side q else not (wins side q)) ps) e
 
   node_step : (p : Position) → end_of p ≡ None → (proof : Bool) → answered proof (takes_least side proof p) (moved_out p) ≡ true → answers proof p ≡ true
@@ -89,37 +90,46 @@ module _ (side : Side) where
           let here : wins side p ≡ list_any (wins side) (moved_out p) = wins_step side p going ∙ rw own (any_decides p true own (moved_out p)) in
           ap not here ∙ sym (none_as_any (moved_out p)) ∙ (rw own at h)
       by_turn false own true h =
-          let here : wins side p ≡ not (list_any (λ q. not (wins side q)) (moved_out p)) = wins_step side p going ∙ rw own (ap not (any_decides p false own (moved_out p))) in
+          let here : wins side p ≡ not (list_any (λ q. not (wins side q)) (moved_out p)) =
+          wins_step side p going ∙ rw own (ap not (any_decides p false own (moved_out p))) in
           here ∙ sym (all_any (wins side) (moved_out p)) ∙ (rw own at h)
       by_turn false own false h =
-          let here : wins side p ≡ not (list_any (λ q. not (wins side q)) (moved_out p)) = wins_step side p going ∙ rw own (ap not (any_decides p false own (moved_out p))) in
+          let here : wins side p ≡ not (list_any (λ q. not (wins side q)) (moved_out p)) =
+          wins_step side p going ∙ rw own (ap not (any_decides p false own (moved_out p))) in
           ap not here ∙ not_not (list_any (λ q. not (wins side q)) (moved_out p)) ∙ (rw own at h)
 
-  moves_tell : (p : Position) (kids : Row) → end_of p ≡ None → positions kids ≡ moves_out p → (proof : Bool) → answered proof (takes_least side proof p) (positions kids) ≡ true → answers proof p ≡ true
-  moves_tell p kids going moves proof told = node_step p going proof (ap (answered proof (takes_least side proof p)) (sym (moves_same p going) ∙ sym moves) ∙ told)
+  moves_tell : (p : Position) (kids : Row) → end_of p ≡ None → positions kids ≡ moves_out p → (proof : Bool)
+      → answered proof (takes_least side proof p) (positions kids) ≡ true → answers proof p ≡ true
+  moves_tell p kids going moves proof told =
+      node_step p going proof (ap (answered proof (takes_least side proof p)) (sym (moves_same p going) ∙ sym moves) ∙ told)
 
   -- ---- what a number that is 0 tells
 
   first_tells : (proof smallest : Bool) (p : Position) (rest : Row) (n : Count) → (is_zero n ≡ true → answers proof p ≡ true)
       → (is_zero (number_of side proof smallest rest) ≡ true → answered proof smallest (positions rest) ≡ true)
       → is_zero (joined smallest n (number_of side proof smallest rest)) ≡ true → answered proof smallest (p ∷ positions rest) ≡ true
-  first_tells proof true p rest n here later none = elim (or_cases (is_zero n) (is_zero (number_of side proof true rest)) (sym (zero_least n (number_of side proof true rest)) ∙ none)) [
-    | inl first ↦ rw (here first) refl
-    | inr others ↦ or_right (answers proof p) (list_any (answers proof) (positions rest)) (later others)
-  ]
+  first_tells proof true p rest n here later none =
+      let some : (is_zero n || is_zero (number_of side proof true rest)) ≡ true = sym (zero_least n (number_of side proof true rest)) ∙ none in
+      elim (or_cases (is_zero n) (is_zero (number_of side proof true rest)) some) [
+        | inl first ↦ rw (here first) refl
+        | inr others ↦ or_right (answers proof p) (list_any (answers proof) (positions rest)) (later others)
+      ]
   first_tells proof false p rest n here later none =
       let both = and_parts (is_zero n) (is_zero (number_of side proof false rest)) (sym (zero_plus n (number_of side proof false rest)) ∙ none) in
       rw (here both.0) (later both.1)
 
-  row_tells : (row : Row) → IsTrue row → (proof smallest : Bool) → is_zero (number_of side proof smallest row) ≡ true → answered proof smallest (positions row) ≡ true
+  row_tells : (row : Row) → IsTrue row → (proof smallest : Bool) → is_zero (number_of side proof smallest row) ≡ true
+      → answered proof smallest (positions row) ≡ true
   row_tells nothing h proof true none = absurd (true≢false (sym none))
   row_tells nothing h proof false none = refl
-  row_tells (leaf p v rest) h proof smallest none = first_tells proof smallest p rest (leaf_number proof v) (leaf_tells proof p v h.0) (row_tells rest h.1 proof smallest) none
+  row_tells (leaf p v rest) h proof smallest none =
+      first_tells proof smallest p rest (leaf_number proof v) (leaf_tells proof p v h.0) (row_tells rest h.1 proof smallest) none
   row_tells (inner p kids rest) h proof smallest none =
       first_tells proof smallest p rest (node_number side proof p kids)
       (λ zero. moves_tell p kids h.0 h.1 proof (row_tells kids h.2 proof (takes_least side proof p) zero)) (row_tells rest h.3 proof smallest) none
 
-  node_tells : (p : Position) (kids : Row) → end_of p ≡ None → positions kids ≡ moves_out p → IsTrue kids → (proof : Bool) → is_zero (node_number side proof p kids) ≡ true → answers proof p ≡ true
+  node_tells : (p : Position) (kids : Row) → end_of p ≡ None → positions kids ≡ moves_out p → IsTrue kids → (proof : Bool)
+      → is_zero (node_number side proof p kids) ≡ true → answers proof p ≡ true
   node_tells p kids going moves h proof none =
       moves_tell p kids going moves proof (row_tells kids h proof (takes_least side proof p) none)
 
@@ -128,7 +138,8 @@ module _ (side : Side) where
   positions_collapsed : (row : Row) → positions (collapsed side row) ≡ positions row
   positions_collapsed nothing = refl
   positions_collapsed (leaf p v rest) = ap (λ ps. p ∷ ps) (positions_collapsed rest)
-  positions_collapsed (inner p kids rest) = positions_as (verdict_on side p kids) p (collapsed side kids) (collapsed side rest) ∙ ap (λ ps. p ∷ ps) (positions_collapsed rest)
+  positions_collapsed (inner p kids rest) =
+      positions_as (verdict_on side p kids) p (collapsed side kids) (collapsed side rest) ∙ ap (λ ps. p ∷ ps) (positions_collapsed rest)
 
   yes_zero : (a b : Count) → verdict_of a b ≡ Yes → is_zero a ≡ true
   yes_zero a b h = elim (cases_Bool (is_zero a)) [
@@ -157,10 +168,13 @@ module _ (side : Side) where
   true_collapsed (leaf p v rest) h = (h.0, true_collapsed rest h.1)
   true_collapsed (inner p kids rest) h = by_verdict (verdict_on side p kids) refl (true_collapsed kids h.2) (true_collapsed rest h.3)
     where
-      by_verdict : (v : Verdict) → verdict_on side p kids ≡ v → IsTrue (collapsed side kids) → IsTrue (collapsed side rest) → IsTrue (node_as v p (collapsed side kids) (collapsed side rest))
+      by_verdict : (v : Verdict) → verdict_on side p kids ≡ v → IsTrue (collapsed side kids) → IsTrue (collapsed side rest)
+          → IsTrue (node_as v p (collapsed side kids) (collapsed side rest))
       by_verdict Unsettled e below after = (h.0, positions_collapsed kids ∙ h.1, below, after)
       by_verdict Yes e below after = (node_tells p kids h.0 h.1 h.2 true (yes_zero (node_number side true p kids) (node_number side false p kids) e), after)
-      by_verdict No e below after = (not_true (wins side p) (node_tells p kids h.0 h.1 h.2 false (no_zero (node_number side true p kids) (node_number side false p kids) e)), after)
+      by_verdict No e below after =
+          let fails = node_tells p kids h.0 h.1 h.2 false (no_zero (node_number side true p kids) (node_number side false p kids) e) in
+          (not_true (wins side p) fails, after)
 
   -- ---- the path to the most-proving leaf
 
@@ -255,7 +269,8 @@ module _ (side : Side) where
     -- ---- the front
 
     -- of one node the least number is the sum
-    one_node : (p : Position) (tree : Row) → positions tree ≡ p ∷ [] → (proof : Bool) → is_infinite (number_of side proof true tree) ≡ is_infinite (number_of side proof false tree)
+    one_node : (p : Position) (tree : Row) → positions tree ≡ p ∷ [] → (proof : Bool)
+        → is_infinite (number_of side proof true tree) ≡ is_infinite (number_of side proof false tree)
     one_node p nothing e proof = cc
     one_node p (leaf q v nothing) e proof = alone (leaf_number proof v)
       where
@@ -275,7 +290,8 @@ module _ (side : Side) where
     open_root : (p : Position) (tree : Row) → positions tree ≡ p ∷ [] → is_settled side tree ≡ false → IsOpen (root_number side true tree)
     open_root p tree one going = (
       first (is_zero (root_number side true tree)) (is_zero (root_number side false tree)) going,
-      one_node p tree one true ∙ sym (row_dual side tree false true) ∙ second (is_zero (root_number side true tree)) (is_zero (root_number side false tree)) going,
+      one_node p tree one true ∙ sym (row_dual side tree false true)
+      ∙ second (is_zero (root_number side true tree)) (is_zero (root_number side false tree)) going,
     )
       where
         first : (a b : Bool) → (a || b) ≡ false → a ≡ false
@@ -286,18 +302,21 @@ module _ (side : Side) where
         second true b h = absurd (true≢false h)
         second false b h = h
 
-    front_true : (p : Position) (n : ℕ) → ((m : ℕ) → m < n → is_settled side (front_within side closed p m) ≡ false) → IsTrue (front_within side closed p n) × (positions (front_within side closed p n) ≡ p ∷ [])
+    front_true : (p : Position) (n : ℕ) → ((m : ℕ) → m < n → is_settled side (front_within side closed p m) ≡ false)
+        → IsTrue (front_within side closed p n) × (positions (front_within side closed p n) ≡ p ∷ [])
     unfolding front_within
     front_true p zero growing = ((told_at p, tt), refl)
     front_true p (suc n) growing =
         let tree = front_within side closed p n in
         let before = front_true p n (λ m low. growing m (omega arith)) in
-        let number = root_number side true tree in (
-          true_collapsed (expanded side closed true number tree) (true_expanded true number tree (open_root p tree before.1 (growing n (omega arith))) before.0),
+        let number = root_number side true tree in
+        let open_now = open_root p tree before.1 (growing n (omega arith)) in (
+          true_collapsed (expanded side closed true number tree) (true_expanded true number tree open_now before.0),
           positions_collapsed (expanded side closed true number tree) ∙ positions_expanded true number tree ∙ before.1,
         )
 
-    pub root_tells : (p : Position) (n : ℕ) → ((m : ℕ) → m < n → is_settled side (front_within side closed p m) ≡ false) → (proof : Bool) → is_zero (root_number side proof (front_within side closed p n)) ≡ true → wins side p ≡ proof
+    pub root_tells : (p : Position) (n : ℕ) → ((m : ℕ) → m < n → is_settled side (front_within side closed p m) ≡ false) → (proof : Bool)
+        → is_zero (root_number side proof (front_within side closed p n)) ≡ true → wins side p ≡ proof
     root_tells p n growing proof none =
         let tree = front_within side closed p n in
         let is = front_true p n growing in
@@ -317,6 +336,7 @@ planned_fails : (k : ℕ) (side : Side) (q : Position) → planned k side q ≡ 
 planned_fails k White q h = solved_not_won q k h
 planned_fails k Black q h = absurd (true≢false (sym h))
 
-pub front_tells : (p : Position) (side : Side) (k n : ℕ) → IsGrowing p side k n → (proof : Bool) → is_zero (root_number side proof (front p side k n)) ≡ true → wins side p ≡ proof
+pub front_tells : (p : Position) (side : Side) (k n : ℕ) → IsGrowing p side k n → (proof : Bool)
+    → is_zero (root_number side proof (front p side k n)) ≡ true → wins side p ≡ proof
 unfolding front
 front_tells p side k n growing proof none = root_tells side (planned k) (planned_fails k side) p n growing proof none
