@@ -12,3 +12,5 @@ mod front_remarks;
 mod play;
 #[cfg(test)]
 mod running;
+#[cfg(test)]
+mod table_room;

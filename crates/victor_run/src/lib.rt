@@ -15,8 +15,6 @@ mod output;
 mod play;
 mod prove;
 mod questions;
-#[cfg(test)]
-mod table_tests;
 
 pub use command::run;
 pub use ending::Ending;

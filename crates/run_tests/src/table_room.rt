@@ -1,35 +1,8 @@
 //! What a table of positions saves of a budget: a drill has one with room for many, and `prove` has the room that is named.
 //! The least budgets that decide the games here were counted by a program of another language, from the definitions of the
 //! games, of the search without plans and of the table.
-use crate::run;
-use io_ports::{MemSink, MemSource};
-use std::alloc::{AllocError, Global};
+use crate::running::{SOUND, run_over};
 use std::test::Fail;
-
-/// Room for all that a run of a test writes.
-const ROOM: usize = 1 << 12;
-
-/// What a run wrote, and its status.
-#[derive(Drop)]
-struct Ran {
-    status: u8,
-    out: Vec<u8>,
-}
-
-fn run_on(alloc: Global, words: &[&str], input: &str) -> Result<Ran, AllocError> {
-    let words: Vec<String> = words
-        .iter()
-        .map(|word| String::from_str(alloc, word))
-        .try_collect(alloc)?;
-    let mut source = MemSource::new(alloc, input.as_bytes(), 256, &[])?;
-    let mut out = MemSink::new(alloc, ROOM, &[])?;
-    let mut err = MemSink::new(alloc, ROOM, &[])?;
-    let status = run(alloc, &words, &mut source, &mut out, &mut err);
-    Ok(Ran {
-        status,
-        out: out.bytes().to_vec(alloc)?,
-    })
-}
 
 /// The words of a drill, and the line that it writes.
 type Drilled = (&'static [&'static str], &'static str);
@@ -46,11 +19,29 @@ const DRILLS: [Drilled; 4] = [
         "drill win 0 draw 0 loss 0 unknown 1\n",
     ),
     (
-        &["drill", "4", "4", "4", "21", "1", "--reach=0", "--nodes=2965"],
+        &[
+            "drill",
+            "4",
+            "4",
+            "4",
+            "21",
+            "1",
+            "--reach=0",
+            "--nodes=2965",
+        ],
         "drill win 0 draw 1 loss 0 unknown 0\n",
     ),
     (
-        &["drill", "4", "4", "4", "21", "1", "--reach=0", "--nodes=2964"],
+        &[
+            "drill",
+            "4",
+            "4",
+            "4",
+            "21",
+            "1",
+            "--reach=0",
+            "--nodes=2964",
+        ],
         "drill win 0 draw 0 loss 0 unknown 1\n",
     ),
 ];
@@ -58,7 +49,7 @@ const DRILLS: [Drilled; 4] = [
 #[test]
 fn a_drill_has_a_table_with_room_for_many(rt: HostRuntime) -> Result<(), Fail> {
     for (words, line) in DRILLS {
-        let got = run_on(rt.alloc(), words, "")?;
+        let got = run_over(rt.alloc(), words, b"", SOUND)?;
         assert_eq!(rt; got.status, 0, "{words:?}");
         assert_eq!(rt; got.out.as_slice(), line.as_bytes(), "{words:?}");
     }
@@ -78,7 +69,7 @@ const PROOFS: [(&'static [&'static str], u8); 5] = [
 fn a_table_of_one_place_takes_a_greater_budget(rt: HostRuntime) -> Result<(), Fail> {
     let loss = b"\nvalue loss ".as_slice();
     for (words, status) in PROOFS {
-        let got = run_on(rt.alloc(), words, "board 4 4\nmoves cbcabdcba\n")?;
+        let got = run_over(rt.alloc(), words, b"board 4 4\nmoves cbcabdcba\n", SOUND)?;
         assert_eq!(rt; got.status, status, "{words:?}");
         let lost = got.out.windows(loss.len()).any(|piece| piece == loss);
         assert_eq!(rt; lost, status == 0, "{words:?}");
