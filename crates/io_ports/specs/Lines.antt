@@ -85,6 +85,11 @@ abbrev pub behind_lines : ℕ → List ℕ → List ℕ
 behind_lines zero bytes = bytes
 behind_lines (suc n) bytes = behind_lines n (next_line bytes).rest
 
+-- The bytes don't decide what the next line is: no line feed stands in them, and a line may have more. While these are held
+-- the source is asked.
+abbrev pub IsUndecided : List ℕ → Type 0
+IsUndecided bytes = (line_len bytes ≡ length bytes) × (length bytes ≤ longest_line)
+
 -- bytes went from the source behind those that are held
 pub record Moves (old new : Option (List ℕ)) (held longer : List ℕ) : Type 0 where
   pub taken : List ℕ

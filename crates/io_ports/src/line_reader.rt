@@ -1,10 +1,10 @@
 //! The lines of a source, one at a time, in buffers of fixed size: an input of any length is read in the memory that
 //! the reader itself has. What the next line is depends on the bytes alone and not on how the source cuts them, and a
 //! fault of the source loses none of them.
-ghost use Rattle.std.specs.Prelude.{◌≡◌, ◌≢◌, ◌≤◌, [], ◌++◌, false, length, All, IfOk};
+ghost use Rattle.std.specs.Prelude.{◌≡◌, ◌≢◌, ◌≤◌, [], ◌++◌, false, length, All, IfOk, OnErr};
 ghost use Rattle.std.specs.Io.KnownBytes.{IsAtEnd};
 ghost use Rattle.device_rules.specs.Devices.{HasCause, Rose};
-ghost use Rattle.io_ports.specs.Lines.{EachTextIsCut, Gives, Takes, Moves, is_end, line_len, longest_line, most_held};
+ghost use Rattle.io_ports.specs.Lines.{EachTextIsCut, Gives, Takes, Moves, IsUndecided, is_end, line_len, longest_line, most_held};
 
 use crate::ahead::{Ahead, LONGEST};
 use crate::{Failed, Source};
@@ -62,13 +62,15 @@ impl Lines {
     }
 
     /// Gets the next line of the source: `text` lends it, and `fed` says whether a line feed ended it. After `Done` and
-    /// after `Failed`, which comes only where the source's count of faults rose, `text` lends no byte.
+    /// after `Failed`, which comes only where the source's count of faults rose, `text` lends no byte. The source is asked
+    /// only while what is held doesn't decide the next line: no whole line waits for more of the input.
     pub fn next<S: Source>(&mut self, source: &mut S) -> LineGot
         ensures gives { Takes (is_end result self.new.fed) (S.left source.old) (S.left source.new)
             (λ bytes rest. Gives (self.old.ahead ++ bytes) (self.new.ahead ++ rest) result self.new.text self.new.fed) }
         ensures held { length self.new.ahead ≤ most_held }
         ensures done { result ≡ LineGot.Done → self.new.text ≡ [] }
         ensures kept { result ≡ LineGot.Failed → (self.new.text ≡ []) × (self.new.fed ≡ false) }
+        ensures waiting { result ≡ LineGot.Failed → IsUndecided self.new.ahead }
         ensures short { length self.new.text ≤ longest_line }
         ensures no_feed { All (λ b. b ≢ 10) self.new.text }
         ensures later { S.faults source.old ≤ S.faults source.new }
@@ -117,6 +119,7 @@ fn gather<S: Source>(ahead: &mut Ahead, source: &mut S) -> Result<usize, Failed>
     ensures len { IfOk result (λ n. n ≡ line_len ahead.new) }
     ensures whole { IfOk result (λ n. n ≡ length ahead.new → n ≤ LONGEST → IsAtEnd (S.left source.new)) }
     ensures moves { Moves (S.left source.old) (S.left source.new) ahead.old ahead.new }
+    ensures waiting { OnErr result (IsUndecided ahead.new) }
     ensures held { length ahead.new ≤ most_held }
     ensures cause { HasCause (S.faults source.old) (S.faults source.new) result }
 {

@@ -1,13 +1,13 @@
 -- Steps of play, one after another; and what `play` promises of all that was played.
-use Rattle.std.proofs.Common.{◌≡◌, ℕ, ◌+◌, ◌*◌, ◌≤◌, Bool, true, false, List, [], ◌∷◌, ◌++◌, length, Option, Some, None, Result, Ok, Err, IfSome, refl, sym, ap, ◌∙◌, subst, arith, append-nil, length-append}
+use Rattle.std.proofs.Common.{◌≡◌, ℕ, ◌+◌, ◌-◌, ◌*◌, ◌≤◌, Bool, true, false, List, [], ◌∷◌, ◌++◌, length, Option, Some, None, Result, Ok, Err, IfSome, refl, sym, ap, ◌∙◌, subst, arith, append-nil, length-append}
 use Rattle.std.specs.Bool.{⊤}
-use Rattle.std.specs.Result.{OnOk}
+use Rattle.std.specs.Result.{OnOk, IfErr}
 use Rattle.std.specs.Io.KnownBytes.{Keeps, Appends}
 use Rattle.std.proofs.KnownBytes.{Appends-nil}
 use Rattle.std.proofs.lemmas.Grind.{flat_map-append}
 use Rattle.device_rules.specs.Devices.{AppendsPrefix}
 use Rattle.device_rules.proofs.DeviceLaws.{AppendsPrefix_all, AppendsPrefix_more}
-use Rattle.io_ports.specs.Lines.{Gives, most_held}
+use Rattle.io_ports.specs.Lines.{Gives, IsUndecided, most_held}
 use Rattle.io_ports.specs.declared.line_reader.LineGot.TheVariants.{Line}
 use Rattle.game_rules.specs.Position.{Position}
 use Rattle.proof_text.specs.Texts.{pieces, lines_in}
@@ -18,10 +18,10 @@ use Rattle.play_text.specs.Play as ends
 use Rattle.play_text.specs.Play.{PlayEnd, Played, behind, play_from, play_of, text_of, first_move}
 use Rattle.play_text.specs.Told.{IsTold}
 use Rattle.play_text.proofs.Steps.{behind_more, told}
-use Rattle.victor_run.specs.Streams.{Streams, TakesLines}
+use Rattle.victor_run.specs.Streams.{Streams, TakesLines, WaitsBehind}
 use Rattle.victor_run.specs.Reading.{Pending, Reads, PassesLines}
 use Rattle.victor_run.specs.PlayPromise.{IsPlayed, BeginsPlay}
-use Rattle.victor_run.specs.PlaySteps.{played_at, played_from, end_by, EndsSo, StopsPlay, lines_until, IsNoMove, IsCaused, HasPlayCause, is_whole, PlayStep, PlaysNext, PlaysMoves, PlaysInput, play_ending}
+use Rattle.victor_run.specs.PlaySteps.{played_at, played_from, end_by, EndsSo, StopsPlay, lines_besides, PassesMoves, IsWaiting, TakesUntil, IsNoMove, IsCaused, HasPlayCause, is_whole, PlayStep, PlaysNext, PlaysMoves, PlaysInput, play_ending}
 use Rattle.victor_run.specs.Outcome.{Outcome}
 use Rattle.victor_words.specs.declared.form.Form.TheVariants.{Play}
 use Rattle.victor_run.specs.declared.ending.Ending.TheVariants as endings
@@ -30,7 +30,7 @@ use Rattle.victor_run.specs.declared.play.PlayStop.TheVariants as stops
 use Rattle.victor_run.proofs.Passing.{takes_bytes}
 use Rattle.victor_run.proofs.PlayRead.{moves_got}
 use Rattle.victor_run.proofs.Reading.{Reads_more, Reads_start, Reads_then, passes_none, passes_then, passes_most}
-use Rattle.victor_run.proofs.Taken.{fresh, of_taken, of_input, of_lines}
+use Rattle.victor_run.proofs.Taken.{fresh, of_taken, of_input, of_lines, of_waiting}
 
 -- ---- one line
 
@@ -66,20 +66,30 @@ module _ (a b : Pending) (text : List ℕ) (fed : Bool) (s t : Playing) (at : �
   -- the line wasn't written whole
   pub next_cut : (line : List ℕ) → ((more : List (List ℕ)) → play_from (members s.plan) s.stands at (text ∷ more) ≡ behind (line ∷ []) (play_from (members t.plan) t.stands (at + 1) more))
       → Reads a b (PlaysNext s t at (Err stops.Write) (line ∷ []))
-  next_cut line answer = Reads_more a b _ _ (next_played line answer) (λ bytes rest h. (passes_most 1 2 bytes rest (omega arith) h.0, (played_from t (at + 1) rest, h.1), refl))
+  next_cut line answer = Reads_more a b _ _ (next_played line answer) (λ bytes rest h. ((omega arith, h.0), (played_from t (at + 1) rest, h.1)))
 
   pub next_stopped : (stop : PlayStop) → ((more : List (List ℕ)) → StopsPlay (play_from (members s.plan) s.stands at (text ∷ more)) [] stop) → IsNoMove stop
       → Reads a b (PlaysNext s t at (Err stop) [])
   next_stopped stop answer line =
-      Reads_more a b _ _ (moves_got a b text fed s at (λ played rest. StopsPlay played [] stop) gives (λ rest. answer (lines_in (pieces rest)))) (λ bytes rest h. (h.0, h.1, of_stop stop line))
+      Reads_more a b _ _ (moves_got a b text fed s at (λ played rest. StopsPlay played [] stop) gives (λ rest. answer (lines_in (pieces rest))))
+      (λ bytes rest h. (of_stop stop line bytes rest h.0, h.1))
     where
-      of_stop : (stop : PlayStop) → IsNoMove stop → lines_until stop 0 ≡ 4
-      of_stop (stops.NoMove fault) line = refl
+      of_stop : (stop : PlayStop) → IsNoMove stop → (bytes rest : List ℕ) → PassesLines 1 bytes rest → PassesMoves stop 0 bytes rest
+      of_stop (stops.NoMove fault) line = λ bytes rest passed. (omega arith, passed)
       of_stop (stops.Input fault) line = absurd line
       of_stop stops.NoPlanLine line = absurd line
       of_stop (stops.NoPlan fault) line = absurd line
       of_stop stops.Read line = absurd line
       of_stop stops.Write line = absurd line
+
+-- where a line is no move, the source didn't fail
+pub no_move_waits : (ahead : List ℕ) (stop : PlayStop) → IsNoMove stop → IsWaiting ahead stop
+no_move_waits ahead (stops.NoMove fault) line = tt
+no_move_waits ahead (stops.Input fault) line = absurd line
+no_move_waits ahead stops.NoPlanLine line = absurd line
+no_move_waits ahead (stops.NoPlan fault) line = absurd line
+no_move_waits ahead stops.Read line = absurd line
+no_move_waits ahead stops.Write line = absurd line
 
 -- for what a line says no stream is at fault
 pub line_cause : {X : Type 0} (read_before read_after write : ℕ) (stop : PlayStop) → IsNoMove stop → read_before ≤ read_after → HasPlayCause {X = X} read_before read_after write write (Err stop)
@@ -102,14 +112,6 @@ stops_behind played later lines more stop goes stops = of_end (end_by stop) stop
     of_end : (end : Option PlayEnd) → EndsSo later more end → EndsSo played (lines ++ more) end
     of_end (Some end) is = goes ∙ ap (behind lines) is
     of_end None (rest, is) = (rest, goes ∙ ap (behind lines) is ∙ behind_more lines more rest)
-
-until_more : (stop : PlayStop) (m n : ℕ) → lines_until stop m ≡ 4 + m → lines_until stop n ≡ 4 + n
-until_more (stops.Input fault) m n h = absurd (omega arith)
-until_more stops.NoPlanLine m n h = absurd (omega arith)
-until_more (stops.NoPlan fault) m n h = absurd (omega arith)
-until_more (stops.NoMove fault) m n h = refl
-until_more stops.Read m n h = refl
-until_more stops.Write m n h = refl
 
 pub step_then : (a b c : Pending) (o p q : Option (List ℕ)) (whole : Bool) (i j k : ℕ) (F G H : List (List ℕ) → List ℕ → List ℕ → Type 0)
     → PlayStep a b o p true i j F → PlayStep b c p q whole j k G
@@ -145,7 +147,7 @@ goes_all s t u at xs ys bytes mid rest p q = (passes_lines xs ys 1 bytes mid res
 pub goes_stop : (s t u : Playing) (at : ℕ) (stop : PlayStop) (xs ys : List (List ℕ)) (bytes mid rest : List ℕ) → Goes s t at xs bytes mid → PlaysNext t u at (Err stop) ys mid rest
     → PlaysMoves {X = ⊤} s first_move (Err stop) (xs ++ ys) bytes rest
 goes_stop s t u at stop xs ys bytes mid rest p q =
-    (passes_lines xs ys 1 bytes mid rest p.0 q.0, stops_behind _ _ xs ys stop p.1 q.1, until_more stop (length ys) (length (xs ++ ys)) q.2)
+    ((q.0.0, passes_lines xs ys (lines_besides stop - 3) bytes mid rest p.0 q.0.1), stops_behind _ _ xs ys stop p.1 q.1)
 
 -- ---- the game, the plan, and then White's lines
 
@@ -162,33 +164,44 @@ module _ (a b c : Pending) (s : Playing) (lines : List (List ℕ)) (start : Read
   passes_all : (bytes mid rest : List ℕ) → PassesLines 3 bytes mid → PassesLines (length lines + 1) mid rest → PassesLines (4 + length lines) bytes rest
   passes_all bytes mid rest p q = passes_most (3 + (length lines + 1)) (4 + length lines) bytes rest (omega arith) (passes_then 3 (length lines + 1) bytes mid rest p q)
 
-  pub moves_stop : (stop : PlayStop) → Reads b c (PlaysMoves {X = ⊤} s first_move (Err stop) lines) → Reads a c (λ bytes rest. PassesLines (4 + length lines) bytes rest × StopsPlay (play_of bytes) lines stop)
+  pub moves_stop : (stop : PlayStop) → Reads b c (PlaysMoves {X = ⊤} s first_move (Err stop) lines)
+      → Reads a c (λ bytes rest. PassesLines (lines_besides stop + length lines) bytes rest × StopsPlay (play_of bytes) lines stop)
   moves_stop stop moves =
-      Reads_then a b c _ _ _ start moves (λ bytes mid rest p q. (passes_all bytes mid rest p.0 q.0, stops_behind (play_of bytes) (played_from s first_move mid) [] lines stop p.1 q.1))
+      Reads_then a b c _ _ _ start moves (λ bytes mid rest p q. let n = length lines + (lines_besides stop - 3) in (
+        passes_most (3 + n) (lines_besides stop + length lines) bytes rest (omega (arith, q.0.0)) (passes_then 3 n bytes mid rest p.0 q.0.1),
+        stops_behind (play_of bytes) (played_from s first_move mid) [] lines stop p.1 q.1,
+      ))
 
   pub moves_played : Reads b c (PlaysMoves {X = ⊤} s first_move (Ok tt) lines) → Reads a c (λ bytes rest. PassesLines (4 + length lines) bytes rest × (play_of bytes ≡ record { lines = lines; end = ends.AllPlayed }))
   moves_played moves = Reads_then a b c _ _ _ start moves (λ bytes mid rest p q. (passes_all bytes mid rest p.0 q.0, p.1 ∙ q.1))
 
--- when White's lines stop play, so many lines were read
-pub until_moves : (a b : Pending) (s : Playing) (lines : List (List ℕ)) (stop : PlayStop) → Reads a b (PlaysMoves {X = ⊤} s first_move (Err stop) lines) → lines_until stop (length lines) ≡ 4 + length lines
-until_moves a b s lines stop moves = (moves.fact [] (λ _. refl)).2
-
 -- ---- all of an input
 
 module _ {X : Type 0} (old : Option (List ℕ)) (last : Pending) (o n : Option (List ℕ)) (lines : List (List ℕ)) (few : length lines ≤ 50) (held : length last.ahead ≤ most_held) where
-  pub input_stops : (stop : PlayStop) (m : ℕ) → m ≤ lines_until stop (length lines) → AppendsPrefix (is_whole {X = X} (Err stop)) o n (text_of lines)
+  pub input_stops : (stop : PlayStop) (m : ℕ) → m ≤ lines_besides stop + length lines → IsWaiting last.ahead stop
+      → AppendsPrefix (is_whole {X = X} (Err stop)) o n (text_of lines)
       → Reads (fresh old) last (λ bytes rest. PassesLines m bytes rest × StopsPlay (play_of bytes) lines stop) → PlaysInput {X = X} old last.left o n (Err stop)
-  input_stops stop m until put reads =
+  input_stops stop m until waits put reads =
       let Stopped : List ℕ → Type 0 = λ bytes. StopsPlay (play_of bytes) lines stop in
+      let most = lines_besides stop + length lines in
       record {
         taken = reads.taken;
         gave = reads.gave;
         lines = lines;
         few = few;
         written = put;
-        played = (of_taken old last m (lines_until stop (length lines)) Stopped reads, of_input old last m (lines_until stop (length lines)) Stopped reads);
-        passed = of_lines old last m (lines_until stop (length lines)) Stopped reads held until;
+        played = (of_taken old last m most Stopped reads, of_input old last m most Stopped reads);
+        passed = takes_until stop (λ waits. of_waiting old last m most Stopped reads waits until) (of_lines old last m most Stopped reads held until) waits;
       }
+    where
+      takes_until : (stop : PlayStop) → (IsUndecided last.ahead → WaitsBehind (lines_besides stop + length lines) reads.taken)
+          → TakesLines (lines_besides stop + length lines) reads.taken → IsWaiting last.ahead stop → TakesUntil stop (length lines) reads.taken
+      takes_until stops.Read undecided takes waits = undecided waits
+      takes_until stops.Write undecided takes waits = takes
+      takes_until (stops.Input fault) undecided takes waits = takes
+      takes_until stops.NoPlanLine undecided takes waits = takes
+      takes_until (stops.NoPlan fault) undecided takes waits = takes
+      takes_until (stops.NoMove fault) undecided takes waits = takes
 
   pub input_played : (x : X) → Appends o n (text_of lines) → last.ended ≡ true
       → Reads (fresh old) last (λ bytes rest. PassesLines (4 + length lines) bytes rest × (play_of bytes ≡ record { lines = lines; end = ends.AllPlayed })) → PlaysInput {X = X} old last.left o n (Ok x)
@@ -207,12 +220,13 @@ module _ {X : Type 0} (old : Option (List ℕ)) (last : Pending) (o n : Option (
 -- what was played of all lines behind the plan
 pub input_moves : {X : Type 0} (old : Option (List ℕ)) (mid last : Pending) (o n : Option (List ℕ)) (s : Playing) (before after : ℕ) (result : Result X PlayStop)
     → Reads (fresh old) mid (λ bytes rest. PassesLines 3 bytes rest × (play_of bytes ≡ played_from s first_move rest))
-    → PlayStep mid last o n (is_whole result) before after (PlaysMoves s first_move result) → before ≤ 100 → (OnOk result (last.ended ≡ true)) → length last.ahead ≤ most_held
+    → PlayStep mid last o n (is_whole result) before after (PlaysMoves s first_move result) → before ≤ 100
+    → (OnOk result (last.ended ≡ true)) → IfErr result (IsWaiting last.ahead) → length last.ahead ≤ most_held
     → PlaysInput old last.left o n result
-input_moves old mid last o n s before after (Ok x) start step men end held =
+input_moves old mid last o n s before after (Ok x) start step men end waits held =
     input_played old last o n step.lines (omega (arith, step.few)) held x step.written end (moves_played (fresh old) mid last s step.lines start step.reads)
-input_moves {X} old mid last o n s before after (Err stop) start step men end held =
-    input_stops old last o n step.lines (omega (arith, step.few)) held stop (4 + length step.lines) (omega (arith, until_moves mid last s step.lines stop step.reads)) step.written
+input_moves {X} old mid last o n s before after (Err stop) start step men end waits held =
+    input_stops old last o n step.lines (omega (arith, step.few)) held stop (lines_besides stop + length step.lines) (omega arith) waits step.written
     (moves_stop (fresh old) mid last s step.lines start stop step.reads)
 
 -- ---- what `play` promises then
@@ -234,15 +248,20 @@ IfSome_each : (input : Option (List ℕ)) (P Q : List ℕ → Type 0) → ((byte
 IfSome_each None P Q more h = tt
 IfSome_each (Some bytes) P Q more h = more bytes h
 
-takes_few : (lines : List (List ℕ)) (taken : List ℕ) → length lines ≤ 50 → TakesLines (4 + length lines) taken → length taken ≤ 54 * 8193 + 16384
-takes_few lines taken few takes = takes_bytes 54 taken (takes.0, omega (arith, takes.1), takes.2)
+takes_few : (most : ℕ) (lines : List (List ℕ)) (taken : List ℕ) → most ≤ 4 → length lines ≤ 50 → TakesLines (most + length lines) taken
+    → length taken ≤ 54 * 8193 + 16384
+takes_few most lines taken few begun takes = takes_bytes 54 taken (takes.0, omega (arith, takes.1, few, begun), takes.2)
+
+-- no line was begun
+takes_first : (most : ℕ) (lines : List (List ℕ)) (taken : List ℕ) → lines ≡ [] → TakesLines (most + length lines) taken → TakesLines most taken
+takes_first most lines taken none takes = (takes.0, omega (arith, takes.1, ap length none), takes.2)
 
 module _ {X : Type 0} (s : Streams) where
   pub plays_all : (x : X) → PlaysInput s.input s.left s.old s.new (Ok x) → Outcome (Some Play) s endings.Done
   plays_all x input = record {
     taken = input.taken;
     gave = input.gave;
-    few = takes_few input.lines input.taken input.few input.passed;
+    few = takes_few 4 input.lines input.taken (omega arith) input.few input.passed;
     holds = (input.lines, (input.played.0, input.played.1), told_by input.taken input.lines ends.AllPlayed input.played.0, input.written, input.played.2, input.passed);
   }
 
@@ -252,40 +271,40 @@ module _ {X : Type 0} (s : Streams) where
       record {
         taken = input.taken;
         gave = input.gave;
-        few = takes_bytes 54 input.taken (input.passed.0, omega (arith, input.passed.1), input.passed.2);
-        holds = (subst (λ lines. IsPlayed input.taken s.input lines (ends.NoGame fault)) none (input.played.0, input.played.1), kept_from s.old s.new input.lines none input.written, input.passed);
+        few = takes_few 2 input.lines input.taken (omega arith) input.few input.passed;
+        holds = (subst (λ lines. IsPlayed input.taken s.input lines (ends.NoGame fault)) none (input.played.0, input.played.1), kept_from s.old s.new input.lines none input.written, takes_first 2 input.lines input.taken none input.passed);
       }
   plays_stop stops.NoPlanLine input =
       let none = told_by input.taken input.lines ends.NoPlanLine input.played.0 in
       record {
         taken = input.taken;
         gave = input.gave;
-        few = takes_bytes 54 input.taken (input.passed.0, omega (arith, input.passed.1), input.passed.2);
-        holds = (refl, refl, subst (λ lines. IsPlayed input.taken s.input lines ends.NoPlanLine) none (input.played.0, input.played.1), kept_from s.old s.new input.lines none input.written, input.passed);
+        few = takes_few 3 input.lines input.taken (omega arith) input.few input.passed;
+        holds = (refl, refl, subst (λ lines. IsPlayed input.taken s.input lines ends.NoPlanLine) none (input.played.0, input.played.1), kept_from s.old s.new input.lines none input.written, takes_first 3 input.lines input.taken none input.passed);
       }
   plays_stop (stops.NoPlan fault) input =
       let none = told_by input.taken input.lines (ends.NoPlan (fault_of fault)) input.played.0 in
       record {
         taken = input.taken;
         gave = input.gave;
-        few = takes_bytes 54 input.taken (input.passed.0, omega (arith, input.passed.1), input.passed.2);
-        holds = (subst (λ lines. IsPlayed input.taken s.input lines (ends.NoPlan (fault_of fault))) none (input.played.0, input.played.1), kept_from s.old s.new input.lines none input.written, input.passed);
+        few = takes_few 3 input.lines input.taken (omega arith) input.few input.passed;
+        holds = (subst (λ lines. IsPlayed input.taken s.input lines (ends.NoPlan (fault_of fault))) none (input.played.0, input.played.1), kept_from s.old s.new input.lines none input.written, takes_first 3 input.lines input.taken none input.passed);
       }
   plays_stop (stops.NoMove fault) input = record {
     taken = input.taken;
     gave = input.gave;
-    few = takes_few input.lines input.taken input.few input.passed;
+    few = takes_few 4 input.lines input.taken (omega arith) input.few input.passed;
     holds = (input.lines, (input.played.0, input.played.1), told_by input.taken input.lines (ends.NoMove fault) input.played.0, input.written, input.passed);
   }
   plays_stop stops.Read input = record {
     taken = input.taken;
     gave = input.gave;
-    few = takes_few input.lines input.taken input.few input.passed;
+    few = takes_few 3 input.lines input.taken (omega arith) input.few (input.passed.0, input.passed.1, omega (arith, input.passed.2.1));
     holds = (input.lines, (begun input.taken input.lines input.played.0, IfSome_each s.input _ (BeginsPlay input.lines) (λ bytes. begun bytes input.lines) input.played.1), input.written, input.passed);
   }
   plays_stop stops.Write input = record {
     taken = input.taken;
     gave = input.gave;
-    few = takes_few input.lines input.taken input.few input.passed;
+    few = takes_few 3 input.lines input.taken (omega arith) input.few input.passed;
     holds = (input.lines, (begun input.taken input.lines input.played.0, IfSome_each s.input _ (BeginsPlay input.lines) (λ bytes. begun bytes input.lines) input.played.1), input.written, input.passed);
   }

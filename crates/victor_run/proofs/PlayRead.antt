@@ -27,6 +27,7 @@ use Rattle.victor_run.specs.PlaySteps.{reply_column, reply_end, answered_line, p
 use Rattle.victor_run.specs.declared.play.PlayStop.{PlayStop}
 use Rattle.victor_run.proofs.Cuts.{line_first, long_first, none_left}
 use Rattle.victor_run.proofs.GameRead.{by_line}
+use Rattle.victor_run.proofs.Reading.{Reads_more}
 
 -- ---- the game
 
@@ -152,5 +153,7 @@ module _ (a b : Pending) (text : List ℕ) (fed : Bool) (s : Playing) (at : ℕ)
   moves_none gives =
       by_line a b Done text fed gives _ (λ bytes rest is. ap (play_from (members s.plan) s.stands at) (none_left bytes (record { got = Done; text = text; fed = fed; rest = rest }) is refl).0)
 
-  pub moves_unread : Reads a b (λ bytes rest. Gives bytes rest Failed text fed) → Reads a b (λ bytes rest. PassesLines 1 bytes rest × ((later : Played) × (played_from s at bytes ≡ behind [] later)))
-  moves_unread gives = by_line a b Failed text fed gives _ (λ bytes rest is. (played_from s at bytes, refl))
+  -- the source failed, and no line was passed
+  pub moves_unread : Reads a b (λ bytes rest. Gives bytes rest Failed text fed)
+      → Reads a b (λ bytes rest. PassesLines 0 bytes rest × ((later : Played) × (played_from s at bytes ≡ behind [] later)))
+  moves_unread gives = Reads_more a b _ _ gives (λ bytes rest is. ((0, omega arith, is), (played_from s at bytes, refl)))

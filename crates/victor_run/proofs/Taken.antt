@@ -2,8 +2,8 @@
 use Rattle.std.proofs.Common.{◌≡◌, ℕ, ◌≤◌, true, false, List, [], ◌++◌, length, Option, Some, None, IfSome, refl, sym, ap, ◌∙◌, subst, arith}
 use Rattle.std.specs.Io.KnownBytes.{Consumes, IsAtEnd}
 use Rattle.std.proofs.lemmas.List.{append-nil}
-use Rattle.io_ports.specs.Lines.{behind_lines, most_held}
-use Rattle.victor_run.specs.Streams.{TakesLines}
+use Rattle.io_ports.specs.Lines.{IsUndecided, behind_lines, most_held}
+use Rattle.victor_run.specs.Streams.{TakesLines, WaitsBehind}
 use Rattle.victor_run.specs.Reading.{Pending, Reads, PassesLines}
 
 -- nothing was read yet
@@ -24,8 +24,14 @@ module _ (old : Option (List ℕ)) (last : Pending) (n most : ℕ) (Holds : List
       by (Some bytes) None gave ended fact = absurd gave
       by (Some bytes) (Some rest) gave ended fact = subst Holds (sym gave) (fact rest ended).1
 
-  pub of_lines : length last.ahead ≤ most_held → n ≤ most → TakesLines most reads.taken
-  of_lines held few =
+  -- the bytes that were taken and not given stand behind the lines that were passed
+  of_passed : (m : ℕ) × (m ≤ n) × (last.ahead ≡ behind_lines m reads.taken)
+  of_passed =
       let passed = (reads.fact [] (λ _. refl)).0 in
-      let behind : behind_lines passed.0 reads.taken ≡ last.ahead = ap (behind_lines passed.0) (sym (append-nil reads.taken)) ∙ sym passed.2 ∙ append-nil last.ahead in
-      (passed.0, omega (arith, passed.1, few), omega (arith, ap length behind, held))
+      (passed.0, passed.1, sym (append-nil last.ahead) ∙ passed.2 ∙ ap (behind_lines passed.0) (append-nil reads.taken))
+
+  pub of_lines : length last.ahead ≤ most_held → n ≤ most → TakesLines most reads.taken
+  of_lines held few = (of_passed.0, omega (arith, of_passed.1, few), omega (arith, ap length of_passed.2, held))
+
+  pub of_waiting : IsUndecided last.ahead → n ≤ most → WaitsBehind most reads.taken
+  of_waiting waits few = (of_passed.0, omega (arith, of_passed.1, few), subst IsUndecided of_passed.2 waits)

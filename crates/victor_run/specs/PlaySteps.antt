@@ -1,8 +1,9 @@
 -- How `play` goes through an input: at each step what is played by the bytes that were not given yet is what the step wrote
 -- and then what is played by those that are not given after it, or the step ends play.
-use Rattle.std.specs.Prelude.{◌≡◌, ◌≤◌, ℕ, ◌+◌, ◌*◌, Bool, true, false, List, [], ◌∷◌, ◌++◌, length, Option, Some, None, IfSome, IfErr, MatchResult, ⊤, codes, Result, Ok, Err}
+use Rattle.std.specs.Prelude.{◌≡◌, ◌≤◌, ℕ, ◌+◌, ◌-◌, ◌*◌, Bool, true, false, List, [], ◌∷◌, ◌++◌, length, Option, Some, None, IfSome, IfErr, MatchResult, ⊤, codes, Result, Ok, Err}
 use Rattle.std.specs.Io.KnownBytes.{Consumes, IsAtEnd}
 use Rattle.device_rules.specs.Devices.{Rose, AppendsPrefix}
+use Rattle.io_ports.specs.Lines.{IsUndecided}
 use Rattle.game_rules.specs.Position.{Position, height}
 use Rattle.plan_text.specs.Items.{square_text}
 use Rattle.proof_text.specs.Spelling.{as_line}
@@ -16,7 +17,7 @@ use Rattle.reply_player.specs.declared.session.Reply.TheVariants.{BlackWon, Fill
 use Rattle.play_text.specs.Play as ends
 use Rattle.play_text.specs.Play.{PlayEnd, Played, behind, play_from, play_lines, play_of, text_of}
 use Rattle.victor_run.specs.Reading.{Pending, Reads, PassesLines}
-use Rattle.victor_run.specs.Streams.{TakesLines}
+use Rattle.victor_run.specs.Streams.{TakesLines, WaitsBehind}
 use Rattle.victor_run.specs.declared.ending.Ending.{Ending}
 use Rattle.victor_run.specs.declared.ending.Ending.TheVariants as endings
 use Rattle.victor_run.specs.declared.play.PlayStop.{PlayStop}
@@ -65,14 +66,36 @@ EndsSo played lines None = (later : Played) × (played ≡ behind lines later)
 abbrev pub StopsPlay : Played → List (List ℕ) → PlayStop → Type 0
 StopsPlay played lines stop = EndsSo played lines (end_by stop)
 
--- how many lines were read at most, by what stops play, and how many lines were begun
-abbrev pub lines_until : PlayStop → ℕ → ℕ
-lines_until (Input fault) written = 2
-lines_until NoPlanLine written = 3
-lines_until (NoPlan fault) written = 3
-lines_until (NoMove fault) written = 4 + written
-lines_until Read written = 4 + written
-lines_until Write written = 4 + written
+-- how many lines are read at most besides one for each that is begun, by what stops play: the line that is no move is one
+abbrev pub lines_besides : PlayStop → ℕ
+lines_besides (Input fault) = 2
+lines_besides NoPlanLine = 3
+lines_besides (NoPlan fault) = 3
+lines_besides (NoMove fault) = 4
+lines_besides Read = 3
+lines_besides Write = 3
+
+-- the lines behind the plan that were passed when play stopped there, where so many lines were begun
+abbrev pub PassesMoves : PlayStop → ℕ → List ℕ → List ℕ → Type 0
+PassesMoves stop begun bytes rest = (3 ≤ lines_besides stop) × PassesLines (begun + (lines_besides stop - 3)) bytes rest
+
+-- where the source failed, the bytes that were taken and not given are no whole line
+abbrev pub IsWaiting : List ℕ → PlayStop → Type 0
+IsWaiting ahead Read = IsUndecided ahead
+IsWaiting ahead Write = ⊤
+IsWaiting ahead (Input fault) = ⊤
+IsWaiting ahead NoPlanLine = ⊤
+IsWaiting ahead (NoPlan fault) = ⊤
+IsWaiting ahead (NoMove fault) = ⊤
+
+-- what was taken in all, where so many lines were begun
+abbrev pub TakesUntil : PlayStop → ℕ → List ℕ → Type 0
+TakesUntil Read begun taken = WaitsBehind (3 + begun) taken
+TakesUntil Write begun taken = TakesLines (3 + begun) taken
+TakesUntil (Input fault) begun taken = TakesLines (2 + begun) taken
+TakesUntil NoPlanLine begun taken = TakesLines (3 + begun) taken
+TakesUntil (NoPlan fault) begun taken = TakesLines (3 + begun) taken
+TakesUntil (NoMove fault) begun taken = TakesLines (4 + begun) taken
 
 -- ---- steps
 
@@ -98,12 +121,12 @@ pub record PlayStep (a b : Pending) (old new : Option (List ℕ)) (whole : Bool)
 abbrev pub PlaysNext : Playing → Playing → ℕ → Result Bool PlayStop → List (List ℕ) → List ℕ → List ℕ → Type 0
 PlaysNext s t at (Ok true) lines bytes rest = PassesLines (length lines) bytes rest × (played_from s at bytes ≡ behind lines (played_from t (at + 1) rest))
 PlaysNext s t at (Ok false) lines bytes rest = PassesLines (length lines + 1) bytes rest × (played_from s at bytes ≡ record { lines = lines; end = ends.AllPlayed })
-PlaysNext s t at (Err stop) lines bytes rest = PassesLines (length lines + 1) bytes rest × StopsPlay (played_from s at bytes) lines stop × (lines_until stop (length lines) ≡ 4 + length lines)
+PlaysNext s t at (Err stop) lines bytes rest = PassesMoves stop (length lines) bytes rest × StopsPlay (played_from s at bytes) lines stop
 
 -- All lines were played, or play stopped.
 abbrev pub PlaysMoves : {X : Type 0} → Playing → ℕ → Result X PlayStop → List (List ℕ) → List ℕ → List ℕ → Type 0
 PlaysMoves s at (Ok x) lines bytes rest = PassesLines (length lines + 1) bytes rest × (played_from s at bytes ≡ record { lines = lines; end = ends.AllPlayed })
-PlaysMoves s at (Err stop) lines bytes rest = PassesLines (length lines + 1) bytes rest × StopsPlay (played_from s at bytes) lines stop × (lines_until stop (length lines) ≡ 4 + length lines)
+PlaysMoves s at (Err stop) lines bytes rest = PassesMoves stop (length lines) bytes rest × StopsPlay (played_from s at bytes) lines stop
 
 -- a stream is said to have failed only where its count rose
 abbrev pub IsCaused : ℕ → ℕ → ℕ → ℕ → PlayStop → Type 0
@@ -127,6 +150,15 @@ IsNoMove NoPlanLine = ⊥
 IsNoMove (NoPlan fault) = ⊥
 IsNoMove Read = ⊥
 IsNoMove Write = ⊥
+
+-- a line names no plan
+abbrev pub IsNoPlan : PlayStop → Type 0
+IsNoPlan NoPlanLine = ⊤
+IsNoPlan (NoPlan fault) = ⊤
+IsNoPlan (Input fault) = ⊥
+IsNoPlan (NoMove fault) = ⊥
+IsNoPlan Read = ⊥
+IsNoPlan Write = ⊥
 
 -- what stops play while nothing is written yet
 abbrev pub StopsReading : ℕ → ℕ → PlayStop → Type 0
@@ -157,4 +189,4 @@ pub record PlaysInput {X : Type 0} (input left old new : Option (List ℕ)) (res
   pub written : AppendsPrefix (is_whole result) old new (text_of lines)
   pub played : MatchResult result (λ x. (play_of taken ≡ record { lines = lines; end = ends.AllPlayed }) × IfSome input (λ bytes. play_of bytes ≡ record { lines = lines; end = ends.AllPlayed }) × IsAtEnd left)
       (λ stop. StopsPlay (play_of taken) lines stop × IfSome input (λ bytes. StopsPlay (play_of bytes) lines stop))
-  pub passed : MatchResult result (λ x. TakesLines (4 + length lines) taken) (λ stop. TakesLines (lines_until stop (length lines)) taken)
+  pub passed : MatchResult result (λ x. TakesLines (4 + length lines) taken) (λ stop. TakesUntil stop (length lines) taken)

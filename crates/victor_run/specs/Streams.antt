@@ -1,7 +1,7 @@
 -- What the source has left and what the sink held, before and after a run, and the bytes that a run took.
 use Rattle.std.specs.Prelude.{ℕ, ◌≤◌, List, Option, length}
 use Rattle.std.specs.Io.KnownBytes.{Consumes}
-use Rattle.io_ports.specs.Lines.{behind_lines}
+use Rattle.io_ports.specs.Lines.{IsUndecided, behind_lines}
 
 pub record Streams : Type 0 where
   pub input : Option (List ℕ)
@@ -24,3 +24,7 @@ most_ahead = 16384
 -- behind at most so many lines of the bytes that were taken, there are no more than those
 abbrev pub TakesLines : ℕ → List ℕ → Type 0
 TakesLines most taken = (n : ℕ) × (n ≤ most) × (length (behind_lines n taken) ≤ most_ahead)
+
+-- Behind at most so many lines of the bytes that were taken there is no whole line: what stands there, if anything, begins one.
+abbrev pub WaitsBehind : ℕ → List ℕ → Type 0
+WaitsBehind most taken = (n : ℕ) × (n ≤ most) × IsUndecided (behind_lines n taken)

@@ -1,11 +1,11 @@
 //! The two lines of a game at the head of an input of lines, or behind its first. Of each a prefix is kept that is longer
 //! than any line of a game, so that a line of any length is read in little room.
-ghost use Rattle.std.specs.Prelude.{◌≡◌, ◌+◌, ◌≤◌, length, Ok, IfOk, IfErr, MatchResult};
+ghost use Rattle.std.specs.Prelude.{◌≡◌, ◌+◌, ◌≤◌, length, Ok, Err, IfOk, IfErr, MatchResult};
 ghost use Rattle.device_rules.specs.Devices.{Rose};
 ghost use Rattle.arrayvec.specs.ArrayVec.{array_vec_len};
 ghost use Rattle.game_rules.specs.Text.{game_at};
 ghost use Rattle.proof_text.specs.Texts.{pieces, lines_in, game_of, behind_game};
-ghost use Rattle.io_ports.specs.Lines.{most_held};
+ghost use Rattle.io_ports.specs.Lines.{IsUndecided, most_held};
 ghost use Rattle.victor_run.specs.Reading.{pending, Reads, PassesLines, KeepsLine, StopsGame};
 ghost use Rattle.victor_run.specs.declared.game_lines.GameStop.TheVariants as stops;
 
@@ -37,6 +37,7 @@ pub(crate) fn read_game_lines<S: Source>(
         (λ bytes rest. PassesLines 2 bytes rest × MatchResult result
         (λ root. (game_at (game_of (pieces bytes)) ≡ Ok root) × (behind_game (pieces bytes) ≡ lines_in (pieces rest)))
         (StopsGame (game_at (game_of (pieces bytes))) (S.faults source.old) (S.faults source.new))) }
+    ensures waiting { result ≡ Err stops.Read → IsUndecided lines.new.ahead }
     ensures held { length lines.new.ahead ≤ most_held }
     ensures later { S.faults source.old ≤ S.faults source.new }
 {
@@ -58,6 +59,7 @@ fn keep_line<S: Source>(
     requires { array_vec_len text.old + GAME_PREFIX + 1 ≤ MOST_KEPT }
     ensures kept { Reads (pending lines.old (S.left source.old)) (pending lines.new (S.left source.new))
         (λ bytes rest. PassesLines 1 bytes rest × IfOk result (λ _. KeepsLine text.old.items text.new.items bytes rest)) }
+    ensures waiting { IfErr result (λ _. IsUndecided lines.new.ahead) }
     ensures failed { IfErr result (λ stop. (stop ≡ stops.Read) × Rose (S.faults source.old) (S.faults source.new)) }
     ensures bound { array_vec_len text.new ≤ array_vec_len text.old + GAME_PREFIX + 1 }
     ensures held { length lines.new.ahead ≤ most_held }

@@ -2,7 +2,7 @@
 //! decides, so nothing is read behind it.
 ghost use Rattle.std.specs.Prelude.{◌≡◌, ◌≤◌, [], true, false, length};
 ghost use Rattle.device_rules.specs.Devices.{Rose};
-ghost use Rattle.io_ports.specs.Lines.{Gives, is_end, longest_line, most_held};
+ghost use Rattle.io_ports.specs.Lines.{Gives, IsUndecided, is_end, longest_line, most_held};
 ghost use Rattle.victor_run.specs.Reading.{Reads, pending};
 
 use io_ports::{LineGot, Lines, Source};
@@ -43,6 +43,7 @@ impl InputLines {
             (λ bytes rest. Gives bytes rest result self.new.text self.new.fed) }
         ensures done { result ≡ LineGot.Done → self.new.ended ≡ true }
         ensures held { length self.new.ahead ≤ most_held }
+        ensures waiting { result ≡ LineGot.Failed → IsUndecided self.new.ahead }
         ensures short { length self.new.text ≤ longest_line }
         ensures later { S.faults source.old ≤ S.faults source.new }
         ensures failed { result ≡ LineGot.Failed → Rose (S.faults source.old) (S.faults source.new) }

@@ -1,6 +1,6 @@
 //! The command `play`: a game, a plan at its position, and then White's columns, a line for each. Each of White's moves is
-//! answered by the plan as it comes, and a line with both squares is written and flushed before the next line is read, so
-//! that a player can read the answer before they move. It takes no memory.
+//! answered by the plan as it comes, and a line with both squares is written and flushed before more of the input is read,
+//! so that a player can read the answer before they move. It takes no memory.
 ghost use Rattle.std.specs.Prelude.{◌≡◌, ◌+◌, ◌*◌, ◌≤◌, ◌<◌, ℕ, List, [], ◌∷◌, ◌++◌, true, false, length, Ok, Err, Some, MatchResult, IfOk, IfErr, OnOk};
 ghost use Rattle.arrayvec.specs.ArrayVec.{array_vec_len};
 ghost use Rattle.device_rules.specs.Devices.{Rose};
@@ -12,7 +12,7 @@ ghost use Rattle.text_words.specs.Lines.{line_room};
 ghost use Rattle.rule_compat.specs.Planned.{members};
 ghost use Rattle.play_text.specs.Play.{behind, column_in, play_from, play_lines, play_of, first_move};
 ghost use Rattle.victor_run.specs.Reading.{pending, Reads, PassesLines};
-ghost use Rattle.victor_run.specs.PlaySteps.{reply_column, reply_end, answered_line, played_at, played_from, StopsPlay, lines_until, IsNoMove, is_whole, PlayStep, PlaysNext, PlaysMoves, PlaysInput, StopsReading, HasPlayCause, play_ending};
+ghost use Rattle.victor_run.specs.PlaySteps.{reply_column, reply_end, answered_line, played_at, played_from, StopsPlay, lines_besides, IsWaiting, IsNoMove, IsNoPlan, is_whole, PlayStep, PlaysNext, PlaysMoves, PlaysInput, StopsReading, HasPlayCause, play_ending};
 ghost use Rattle.victor_run.specs.Outcome.{Outcome};
 ghost use Rattle.victor_words.specs.declared.form.Form.TheVariants as forms;
 ghost use Rattle.victor_run.specs.declared.ending.Ending.TheVariants as endings;
@@ -96,8 +96,9 @@ fn play_all<S: Source, O: Sink>(source: &mut S, out: &mut O) -> Result<(), PlayS
 fn read_root<S: Source>(lines: &mut InputLines, source: &mut S) -> Result<Position, PlayStop>
     ensures answer { Reads (pending lines.old (S.left source.old)) (pending lines.new (S.left source.new))
         (λ bytes rest. PassesLines 2 bytes rest × MatchResult result (λ root. play_of bytes ≡ played_at root rest) (StopsPlay (play_of bytes) [])) }
+    ensures waiting { IfErr result (IsWaiting lines.new.ahead) }
     ensures held { length lines.new.ahead ≤ most_held }
-    ensures stops { IfErr result (λ stop. 2 ≤ lines_until stop 0) }
+    ensures stops { IfErr result (λ stop. 2 ≤ lines_besides stop) }
     ensures later { S.faults source.old ≤ S.faults source.new }
     ensures caused { IfErr result (λ stop. StopsReading (S.faults source.old) (S.faults source.new) stop) }
 {
@@ -119,8 +120,9 @@ fn read_plan_line<S: Source>(
         (λ plan. played_at root.now bytes ≡ played_from (record { plan = plan; stands = root.now }) first_move rest)
         (StopsPlay (played_at root.now bytes) [])) }
     ensures at { IfOk result (λ plan. (plan.at ≡ root.now) × (empty_count root.now ≤ 100)) }
+    ensures waiting { IfErr result (IsWaiting lines.new.ahead) }
     ensures held { length lines.new.ahead ≤ most_held }
-    ensures stops { IfErr result (λ stop. 3 ≤ lines_until stop 0) }
+    ensures stops { IfErr result (λ stop. 3 ≤ lines_besides stop) }
     ensures later { S.faults source.old ≤ S.faults source.new }
     ensures caused { IfErr result (λ stop. StopsReading (S.faults source.old) (S.faults source.new) stop) }
 {
@@ -138,7 +140,7 @@ fn plan_of(root: &Position, bytes: &[u8]) -> Result<Plan, PlayStop>
         (λ plan. play_lines root.now (bytes.now ∷ more) ≡ play_from (members plan) root.now first_move more)
         (StopsPlay (play_lines root.now (bytes.now ∷ more)) []) }
     ensures at { IfOk result (λ plan. (plan.at ≡ root.now) × (empty_count root.now ≤ 100)) }
-    ensures stops { IfErr result (λ stop. lines_until stop 0 ≡ 3) }
+    ensures stops { IfErr result IsNoPlan }
 {
     let Ok(list) = read_plan(bytes, root.size()) else {
         return Err(PlayStop::NoPlanLine);
@@ -160,6 +162,7 @@ fn play_moves<S: Source, O: Sink>(
     ensures plays { PlayStep (pending lines.old (S.left source.old)) (pending lines.new (S.left source.new)) (O.written out.old) (O.written out.new) (is_whole result)
         (empty_count session.old.stands) (empty_count session.new.stands) (PlaysMoves session.old first_move result) }
     ensures ended { OnOk result (lines.new.ended ≡ true) }
+    ensures waiting { IfErr result (IsWaiting lines.new.ahead) }
     ensures held { length lines.new.ahead ≤ most_held }
     ensures cause { HasPlayCause (S.faults source.old) (S.faults source.new) (O.faults out.old) (O.faults out.new) result }
 {
@@ -182,6 +185,7 @@ fn play_next<S: Source, O: Sink>(
         (empty_count session.old.stands) (empty_count session.new.stands) (PlaysNext session.old session.new at result) }
     ensures fewer { result ≡ Ok true → empty_count session.new.stands < empty_count session.old.stands }
     ensures ended { result ≡ Ok false → lines.new.ended ≡ true }
+    ensures waiting { IfErr result (IsWaiting lines.new.ahead) }
     ensures held { length lines.new.ahead ≤ most_held }
     ensures cause { HasPlayCause (S.faults source.old) (S.faults source.new) (O.faults out.old) (O.faults out.new) result }
 {

@@ -1,7 +1,7 @@
-use Rattle.std.proofs.Common.{◌≡◌, sym, ap, ◌∙◌, length, take, arith}
-use Rattle.io_ports.proofs.Windows.{Moves-prefix, Moves-then}
+use Rattle.std.proofs.Common.{◌≡◌, ◌≤◌, sym, ap, ◌∙◌, subst, length, take, arith}
+use Rattle.io_ports.proofs.Windows.{Moves-prefix, Moves-then, OnErr-from}
 use Rattle.std.proofs.lemmas.List.{take_all}
-use Rattle.io_ports.specs.Lines.{line_len}
+use Rattle.io_ports.specs.Lines.{line_len, IsUndecided}
 use Rattle.io_ports.proofs.LineLemmas.{search-found, search-none}
 use Rattle.io_ports.proofs.line_reader.gather.Goals as goal
 
@@ -25,6 +25,15 @@ returns-then-branch-eq0-clause-len g c =
     let same : old ≡ c.fill.new.self =
     sym (Moves-prefix _ _ _ _ c.fill.ensures.moves) ∙ take_all (length old) c.fill.new.self (omega (arith, c.in_ok-fill.ensures.count)) in
     ap length c.bytes-held.ensures.bytes ∙ sym none ∙ ap line_len same
+
+-- nothing was taken then
+pub returns-in_err-fill-clause-waiting : goal.returns-in_err-fill-clause-waiting
+returns-in_err-fill-clause-waiting g c =
+    let before = c.loop-at.invariant in
+    let none = search-none c.bytes-held.result.now c.loop-at.ahead c.loop-at.searched c.bytes-held.ensures.bytes before.0 before.1 c.in_default.ensures in
+    let short : length c.loop-at.ahead ≤ 8192 = omega (arith, c.if-searched-gt-LONGEST.false, ap length c.bytes-held.ensures.bytes) in
+    let same : c.loop-at.ahead ≡ c.fill.new.self = sym c.in_err-fill.ensures.refused in
+    OnErr-from c.from_residual.result (IsUndecided c.fill.new.self) (subst IsUndecided same (none, short))
 
 pub loop-at-preserved : goal.loop-at-preserved
 loop-at-preserved g c =

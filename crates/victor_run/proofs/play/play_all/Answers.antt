@@ -21,7 +21,7 @@ returns-in_err-root-clause-plays g c =
     let same = err_from_is_err_and c.from_residual.result c.from_residual.ensures.1 in
     let stop = c.in_err-root.field-0.0 in
     let P : InputState → Type 0 = λ lines. Reads (pending lines left) last (λ bytes rest. PassesLines 2 bytes rest × StopsPlay (play_of bytes) [] stop) in
-    rw (same.1, same.2) (input_stops left last out out [] (omega arith) c.in_err-root.ensures.held stop 2 c.in_err-root.ensures.stops
+    rw (same.1, same.2) (input_stops left last out out [] (omega arith) c.in_err-root.ensures.held stop 2 (omega (arith, c.in_err-root.ensures.stops)) c.in_err-root.ensures.waiting
     (AppendsPrefix_all (is_whole {X = ⊤} (Err stop)) out out [] (Appends-nil out)) (subst P c.new-lines.ensures c.in_err-root.ensures.answer))
 
 pub returns-in_err-plan-clause-plays : goal.returns-in_err-plan-clause-plays
@@ -34,7 +34,7 @@ returns-in_err-plan-clause-plays g c =
     let stop = c.in_err-plan.field-0.0 in
     let root = c.in_ok-root.root in
     let P : InputState → Type 0 = λ lines. Reads (pending lines left) mid (λ bytes rest. PassesLines 2 bytes rest × (play_of bytes ≡ played_at root rest)) in
-    rw (same.1, same.2) (input_stops left last out out [] (omega arith) c.in_err-plan.ensures.held stop 3 c.in_err-plan.ensures.stops
+    rw (same.1, same.2) (input_stops left last out out [] (omega arith) c.in_err-plan.ensures.held stop 3 (omega (arith, c.in_err-plan.ensures.stops)) c.in_err-plan.ensures.waiting
     (AppendsPrefix_all (is_whole {X = ⊤} (Err stop)) out out [] (Appends-nil out)) (plan_stops _ mid last root (subst P c.new-lines.ensures c.in_ok-root.ensures.answer) stop c.in_err-plan.ensures.answer))
 
 pub returns-clause-plays : goal.returns-clause-plays
@@ -51,4 +51,4 @@ returns-clause-plays g c =
     let Q : Playing → Type 0 = λ s. Reads (fresh left) next (λ bytes rest. PassesLines 3 bytes rest × (play_of bytes ≡ played_from s first_move rest)) in
     let start = plan_goes _ mid next root (subst P c.new-lines.ensures c.in_ok-root.ensures.answer) begins c.in_ok-plan.ensures.answer in
     let few : empty_count c.new.result.stands ≤ 100 = omega (arith, ap (λ (s : Playing). empty_count s.stands) same, c.in_ok-plan.ensures.at.1) in
-    input_moves left next last _ _ c.new.result _ _ c.play_moves.result (subst Q (sym same) start) c.play_moves.ensures.plays few c.play_moves.ensures.ended c.play_moves.ensures.held
+    input_moves left next last _ _ c.new.result _ _ c.play_moves.result (subst Q (sym same) start) c.play_moves.ensures.plays few c.play_moves.ensures.ended c.play_moves.ensures.waiting c.play_moves.ensures.held

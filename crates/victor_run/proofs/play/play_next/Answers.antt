@@ -1,4 +1,4 @@
-use Rattle.std.proofs.Common.{Bool, true, false, Err, List, ℕ, refl, sym, ap, subst, arith}
+use Rattle.std.proofs.Common.{Bool, true, false, Err, List, ℕ, sym, ap, subst, arith}
 use Rattle.std.proofs.lemmas.Result.{err_from_is_err_and}
 use Rattle.device_rules.specs.Devices.{AppendsPrefix}
 use Rattle.game_rules.specs.Position.{empty_count}
@@ -8,7 +8,7 @@ use Rattle.reply_player.specs.Playing.{Playing}
 use Rattle.victor_run.specs.Reading.{pending, Reads}
 use Rattle.victor_run.specs.PlaySteps.{is_whole}
 use Rattle.victor_run.proofs.PlayRead.{moves_long, moves_none, moves_unread}
-use Rattle.victor_run.proofs.PlayJudged.{step_line, step_none, next_played, next_cut, next_stopped, line_cause}
+use Rattle.victor_run.proofs.PlayJudged.{step_line, step_none, next_played, next_cut, next_stopped, line_cause, no_move_waits}
 use Rattle.victor_run.proofs.Reading.{Reads_more}
 use Rattle.victor_run.proofs.play.play_next.Goals as goal
 
@@ -23,6 +23,11 @@ returns-in_err-line-in-Line-clause-plays g c =
     let men = ap (λ (s : Playing). empty_count s.stands) stopped.men in
     rw (same.1, same.2) (step_none a b _ (is_whole {X = Bool} (Err stop)) _ _ _ (omega (arith, men))
     (next_stopped a b c.text.result.now c.next.new.self.fed c.args.session.now c.play_line.new.session c.args.at (subst P (sym c.text.ensures) c.in-Line.ensures.gives) stop stopped.answer stopped.stops))
+
+pub returns-in_err-line-in-Line-clause-waiting : goal.returns-in_err-line-in-Line-clause-waiting
+returns-in_err-line-in-Line-clause-waiting g c =
+    let same = err_from_is_err_and c.from_residual.result c.from_residual.ensures.1 in
+    rw (same.1, same.2) (no_move_waits c.next.new.self.ahead c.in_err-line-in-Line.field-0.0 c.in_err-line-in-Line.ensures.stops)
 
 pub returns-in_err-line-in-Line-clause-cause : goal.returns-in_err-line-in-Line-clause-cause
 returns-in_err-line-in-Line-clause-cause g c =
@@ -54,7 +59,7 @@ returns-in-Err-clause-plays g c =
 pub returns-in-Long-clause-plays : goal.returns-in-Long-clause-plays
 returns-in-Long-clause-plays g c =
     rw c.no_move.ensures (step_none _ _ _ _ _ _ _ (omega arith)
-    (Reads_more _ _ _ _ (moves_long _ _ c.next.new.self.text c.next.new.self.fed c.args.session.now c.args.at c.in-Long.ensures.gives) (λ bytes rest h. (h.0, h.1, refl))))
+    (Reads_more _ _ _ _ (moves_long _ _ c.next.new.self.text c.next.new.self.fed c.args.session.now c.args.at c.in-Long.ensures.gives) (λ bytes rest h. ((omega arith, h.0), h.1))))
 
 pub returns-in-Done-clause-plays : goal.returns-in-Done-clause-plays
 returns-in-Done-clause-plays g c = step_none _ _ _ _ _ _ _ (omega arith) (moves_none _ _ c.next.new.self.text c.next.new.self.fed c.args.session.now c.args.at c.in-Done.ensures.gives)
@@ -62,4 +67,4 @@ returns-in-Done-clause-plays g c = step_none _ _ _ _ _ _ _ (omega arith) (moves_
 pub returns-in-Failed-clause-plays : goal.returns-in-Failed-clause-plays
 returns-in-Failed-clause-plays g c =
     step_none _ _ _ _ _ _ _ (omega arith)
-    (Reads_more _ _ _ _ (moves_unread _ _ c.next.new.self.text c.next.new.self.fed c.args.session.now c.args.at c.in-Failed.ensures.gives) (λ bytes rest h. (h.0, h.1, refl)))
+    (Reads_more _ _ _ _ (moves_unread _ _ c.next.new.self.text c.next.new.self.fed c.args.session.now c.args.at c.in-Failed.ensures.gives) (λ bytes rest h. ((omega arith, h.0), h.1)))
