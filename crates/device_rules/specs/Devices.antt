@@ -20,3 +20,9 @@ pub record HasCause {X E : Type 0} (before after : ℕ) (result : Result X E) : 
 abbrev pub AppendsPrefix : Bool → Option (List ℕ) → Option (List ℕ) → List ℕ → Type 0
 AppendsPrefix true old new text = Appends old new text
 AppendsPrefix false old new text = (n : ℕ) × Appends old new (take n text)
+
+-- A text was put into a sink, all of it unless the sink's count rose.
+pub record Reports (before after : ℕ) (old new : Option (List ℕ)) (text : List ℕ) : Type 0 where
+  pub whole : Bool
+  pub written : AppendsPrefix whole old new text
+  pub cut : whole ≡ false → Rose before after

@@ -1,12 +1,13 @@
 //! Std's readers and writers as a source and a sink: the edge that a proof can't look behind. Each keeps a count of the
 //! errors that the inner object gave, and tells of its bytes what that object tells.
-ghost use Rattle.std.specs.Prelude.{◌≡◌, length, ◌<◌, ◌≤◌, IfOk};
+ghost use Rattle.std.specs.Prelude.{◌≡◌, [], length, ◌<◌, ◌≤◌, IfOk, OnOk};
 ghost use Rattle.std.specs.Io.KnownBytes.{ReadConsumes, WriteAppends, Keeps};
-ghost use Rattle.device_rules.specs.Devices.{HasCause};
-ghost use Rattle.io_ports.specs.Counts.{CountsErr};
+ghost use Rattle.std.specs.Io.Buffered.{writer_buffer, writer_contents};
+ghost use Rattle.device_rules.specs.Devices.{HasCause, Rose};
+ghost use Rattle.io_ports.specs.Counts.{CountsErr, one_more};
 
 use crate::{Failed, Sink, Source};
-use std::io::{Read, Write};
+use std::io::{BufWriter, Read, Write};
 
 /// A source over a reader. Each error of the reader is a fault.
 #[derive(Drop)]
@@ -70,6 +71,30 @@ impl<W: Write> StdSink<W> {
     {
         self.inner
     }
+
+    // Counts an error of the writer.
+    fn fault(&mut self) -> Failed
+        ensures counted { self.new ≡ record self.old { faults = one_more self.old.faults } }
+        ensures later { self.old.faults ≤ self.new.faults }
+        ensures rose { Rose self.old.faults self.new.faults }
+    {
+        self.faults = self.faults.saturating_add(1);
+        Failed
+    }
+}
+
+impl<W: Write + Drop> StdSink<BufWriter<W>> {
+    /// Sends what the writer holds back, as `flush` does. Where that goes well, it holds nothing back any more.
+    pub(crate) fn send(&mut self) -> Result<(), Failed>
+        ensures sent { OnOk result (writer_buffer self.new.inner ≡ []) }
+        ensures bytes { Keeps (writer_contents W.contents self.old.inner) (writer_contents W.contents self.new.inner) }
+        ensures cause { HasCause self.old.faults self.new.faults result }
+    {
+        match self.inner.flush() {
+            Ok(()) => Ok(()),
+            Err(_) => Err(self.fault()),
+        }
+    }
 }
 
 impl<W: Write> Sink for StdSink<W> {
@@ -87,10 +112,7 @@ impl<W: Write> Sink for StdSink<W> {
     {
         match self.inner.write(piece) {
             Ok(count) if count > 0 => Ok(count),
-            _ => {
-                self.faults = self.faults.saturating_add(1);
-                Err(Failed)
-            }
+            _ => Err(self.fault()),
         }
     }
 
@@ -101,10 +123,7 @@ impl<W: Write> Sink for StdSink<W> {
     {
         match self.inner.flush() {
             Ok(()) => Ok(()),
-            Err(_) => {
-                self.faults = self.faults.saturating_add(1);
-                Err(Failed)
-            }
+            Err(_) => Err(self.fault()),
         }
     }
 }

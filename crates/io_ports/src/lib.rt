@@ -7,6 +7,7 @@
 mod adapters;
 mod ahead;
 mod calls;
+mod ending;
 mod line_reader;
 mod memory;
 mod null;
@@ -14,6 +15,7 @@ mod ports;
 mod transfers;
 
 pub use adapters::{StdSink, StdSource};
+pub use ending::{WRITE_FAULT, WRITE_FAULT_TEXT, finish};
 pub use line_reader::{LineGot, Lines, each_text_is_cut};
 pub use memory::{MemSink, MemSource};
 pub use null::NullSink;

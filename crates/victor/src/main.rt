@@ -1,18 +1,12 @@
 //! The program: it makes the allocator and the three standard streams, and hands all that is to be done to `run`.
 #![tactic(auto)]
 
-ghost use Rattle.std.specs.Prelude.{◌≡◌, ◌≢◌, ◌⊎◌, codes};
-ghost use Rattle.victor_run.specs.Outcome.{Reports};
-
-use io_ports::{Sink, StdSink, StdSource, put_all};
+use io_ports::{StdSink, StdSource, finish};
 use std::env::Env;
-use std::io::{BufWriter, Stdout, Write};
+use std::io::{BufWriter, Stdout};
 use std::process::ExitCode;
 use std::{env, io};
 use victor_run::run;
-
-/// The status where writing failed.
-const WRITE_FAULT: u8 = 7;
 
 /// The status where memory for the arguments runs out.
 const OUT_OF_MEMORY: u8 = 8;
@@ -22,9 +16,6 @@ const NO_WORDS: u8 = 9;
 
 /// How many bytes of output are held back, so that a line isn't one call of the system.
 const HELD_OUTPUT: usize = 65536;
-
-/// What the error stream is given where the last flush fails: the same as for any other write fault.
-const WRITE_FAULT_TEXT: &[u8] = b"write fault\n";
 
 /// The arguments after the program's name.
 fn words<R: Env + Alloc>(rt: &R) -> io::Result<Vec<String<R::A>, R::A>> {
@@ -42,29 +33,6 @@ fn output(rt: &HostRuntime) -> BufWriter<Stdout> {
     writer
 }
 
-/// Reports a write fault, as `run` reports one. Where that fails too, no more is tried.
-fn report_fault<E: Sink>(err: &mut E)
-    ensures { Reports (E.faults err.old) (E.faults err.new) (E.written err.old) (E.written err.new) (codes "write fault\n") }
-{
-    let _ = put_all(err, WRITE_FAULT_TEXT);
-}
-
-/// Ends the output of a run with this status, and gives the status of the program. What is still held back is sent,
-/// unless a write has failed already; where that fails, it is a write fault as any other. Afterwards nothing is held
-/// that a drop could write.
-fn finish<W: Write + Drop, E: Sink>(status: u8, mut out: StdSink<BufWriter<W>>, err: &mut E) -> u8
-    ensures { ((result ≡ status) × (err.new ≡ err.old)) ⊎ ((status ≢ 7) × (result ≡ 7)
-        × Reports (E.faults err.old) (E.faults err.new) (E.written err.old) (E.written err.new) (codes "write fault\n")) }
-{
-    let is_whole = status == WRITE_FAULT || out.flush().is_ok();
-    let (_writer, _unsent) = out.into_inner().into_parts();
-    if is_whole {
-        return status;
-    }
-    report_fault(err);
-    WRITE_FAULT
-}
-
 fn main(rt: HostRuntime) -> ExitCode {
     let words = match words(&rt) {
         Ok(words) => words,
@@ -77,8 +45,8 @@ fn main(rt: HostRuntime) -> ExitCode {
     let mut out = StdSink::new(output(&rt));
     let mut err = StdSink::new(rt.stderr());
     let status = run(rt.alloc(), &words, &mut source, &mut out, &mut err);
-    ExitCode::from(finish(status, out, &mut err))
+    let status = finish(status, &mut out, &mut err);
+    // Taken apart, so that no drop writes what a failed write left.
+    let (_writer, _unsent) = out.into_inner().into_parts();
+    ExitCode::from(status)
 }
-
-#[cfg(test)]
-mod tests;

@@ -1,8 +1,8 @@
 -- What a run promises of the bytes that it took and of its sinks, by the way it ended. What is said of what a sink holds is
 -- said of a sink that tells it.
-use Rattle.std.specs.Prelude.{◌≡◌, ◌≢◌, ℕ, ◌+◌, ◌*◌, ◌<◌, Bool, false, List, Option, Some, None, Result, Ok, Err, IfSome}
+use Rattle.std.specs.Prelude.{◌≡◌, ◌≢◌, ℕ, ◌+◌, ◌*◌, ◌<◌, false, List, Option, Some, None, Result, Ok, Err, IfSome}
 use Rattle.std.specs.Io.KnownBytes.{Keeps, Appends, IsAtEnd}
-use Rattle.device_rules.specs.Devices.{Rose, AppendsPrefix}
+use Rattle.device_rules.specs.Devices.{AppendsPrefix}
 use Rattle.game_rules.specs.Position.{Position}
 use Rattle.game_rules.specs.Cost.{cost}
 use Rattle.game_rules.specs.Text.{game_at}
@@ -111,9 +111,3 @@ Promise (Some (Drill size moves seed games nodes reach)) s ending taken = Drills
 -- a run of the words that have this form: it took some bytes of its source, and keeps its promise of them
 abbrev pub Outcome : Option Form → Streams → Ending → Type 0
 Outcome form s ending = Took s (most_taken form) (Promise form s ending)
-
--- a text was written to the error stream, all of it unless that stream's count rose
-pub record Reports (before after : ℕ) (old new : Option (List ℕ)) (text : List ℕ) : Type 0 where
-  pub whole : Bool
-  pub written : AppendsPrefix whole old new text
-  pub cut : whole ≡ false → Rose before after

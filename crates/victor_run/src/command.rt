@@ -1,6 +1,6 @@
 //! The commands, over any source and any sinks.
 ghost use Rattle.std.specs.Prelude.{◌≡◌, ◌⊎◌, ℕ, Option, ◌≤◌, Ok, Some, IfSome, map, string_bytes, true, false};
-ghost use Rattle.device_rules.specs.Devices.{Rose};
+ghost use Rattle.device_rules.specs.Devices.{Reports, Rose};
 ghost use Rattle.game_rules.specs.Board.{Board};
 ghost use Rattle.game_rules.specs.Position.{Position};
 ghost use Rattle.game_rules.specs.Cost.{cost};
@@ -13,7 +13,7 @@ ghost use Rattle.deep_search.specs.Planned.{solved_within};
 ghost use Rattle.victor_words.specs.Words.{IsReadAs, IsWritten, HasRanges};
 ghost use Rattle.victor_words.specs.declared.form.Form.{Form};
 ghost use Rattle.victor_run.specs.Output.{fault_text};
-ghost use Rattle.victor_run.specs.Outcome.{status_of, Outcome, Reports};
+ghost use Rattle.victor_run.specs.Outcome.{status_of, Outcome};
 ghost use Rattle.victor_words.specs.declared.form.Form.TheVariants as forms;
 ghost use Rattle.victor_run.specs.declared.ending.Ending.{Ending};
 ghost use Rattle.victor_run.specs.declared.ending.Ending.TheVariants as endings;
@@ -37,11 +37,12 @@ use victor_words::{Form, read_words};
 /// and how many settled positions it keeps in a table. With `--front` a tree of at most so many positions grows before each
 /// question, and a remark says how often it was expanded and how much is left to be shown by its numbers.
 /// `check` reads a proof and writes a line where it is right. `play` reads a game, a plan at its position and then White's
-/// moves, and answers each by the plan, in a line that is written before the next move is read. `explain` reads a game and
-/// writes the plan of Black's that is chosen at its position, with what each instance owns and answers. `drill` reads
-/// nothing: it makes games from a number, searches each as `prove` does, and writes how many are won, drawn and lost for the
-/// side to move, and of how many the budget left the value unknown. `prove` and `drill` take memory for tables of settled
-/// positions, `prove` for the tree too, and `check` for lemmas.
+/// moves, and answers each by the plan, in a line that is written before it reads on: where the source fails, each whole
+/// line of White's that was taken has its answer. `explain` reads a game and writes the plan of Black's that is chosen
+/// at its position, with what each instance owns and answers. `drill` reads nothing: it makes games from a number,
+/// searches each as `prove` does, and writes how many are won, drawn and lost for the side to move, and of how many the
+/// budget left the value unknown. `prove` and `drill` take memory for tables of settled positions, `prove` for the tree
+/// too, and `check` for lemmas.
 ///
 /// The status is 0 where that was done, 2 where the words are no written form, 3 where the game is none or a line of `play`
 /// no move, 4 where the proof is refused or the plan is none, 5 where the budget of `prove` was below the cost (the proof

@@ -4,6 +4,7 @@ ghost use Rattle.victor_run.specs.Outcome.{status_of};
 
 use board_bits::InputFault;
 use cert_checker::{PlanFault, Refusal};
+use io_ports::WRITE_FAULT;
 use play_text::PlayFault;
 
 /// How a run ends: what decides its exit status and its text on the error stream. The clauses of [`crate::run`] have, for
@@ -46,7 +47,7 @@ impl Ending {
             Ending::Refused(_) | Ending::NoPlan(_) => 4,
             Ending::Unknown => 5,
             Ending::Read => 6,
-            Ending::Write => 7,
+            Ending::Write => WRITE_FAULT,
             Ending::Memory => 8,
         }
     }

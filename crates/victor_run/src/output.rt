@@ -1,16 +1,15 @@
 //! The texts for the error stream.
 ghost use Rattle.std.specs.Prelude.{◌≡◌, ◌≤◌, ◌++◌, codes, decimal, length, is_ok};
 ghost use Rattle.arrayvec.specs.ArrayVec.{array_vec_len};
-ghost use Rattle.device_rules.specs.Devices.{HasCause, AppendsPrefix};
+ghost use Rattle.device_rules.specs.Devices.{HasCause, AppendsPrefix, Reports};
 ghost use Rattle.proof_text.specs.Spelling.{as_line};
 ghost use Rattle.victor_run.specs.Output.{fault_text, fault_line, play_fault_line, no_plan_line, refusal_line};
-ghost use Rattle.victor_run.specs.Outcome.{Reports};
 
 use crate::ending::Ending;
 use board_bits::InputFault;
 use cert_checker::{PlanFault, Refusal, Why};
 use cert_format::push_plan_fault;
-use io_ports::{Failed, Sink, put_all};
+use io_ports::{Failed, Sink, WRITE_FAULT_TEXT, put_all};
 use itoa::Buffer;
 use play_text::PlayFault;
 use text_words::{LineText, push_number, push_text};
@@ -41,7 +40,7 @@ fn fault_text(ending: &Ending) -> LineText
         Ending::Refused(refusal) => push_refusal(&mut text, refusal),
         Ending::NoPlan(fault) => push_no_plan(&mut text, fault),
         Ending::Read => push_text(&mut text, b"read fault\n"),
-        Ending::Write => push_text(&mut text, b"write fault\n"),
+        Ending::Write => push_text(&mut text, WRITE_FAULT_TEXT),
         Ending::Memory => push_text(&mut text, b"out of memory\n"),
     }
     text

@@ -1,6 +1,5 @@
 //! The end of the output: what is held back then is sent once, and a fault is reported once.
-use crate::finish;
-use io_ports::{MemSink, StdSink, put_all};
+use crate::{MemSink, StdSink, finish, put_all};
 use std::alloc::Global;
 use std::io::BufWriter;
 use std::test::Fail;
@@ -12,7 +11,8 @@ fn end(alloc: Global, status: u8, held: &[u8]) -> Result<(u8, [u8; 4], Vec<u8>),
     let mut out = StdSink::new(BufWriter::with_capacity(alloc, 64, &mut room[..])?);
     let mut err = MemSink::new(alloc, 64, &[])?;
     let _ = put_all(&mut out, held);
-    let ended = finish(status, out, &mut err);
+    let ended = finish(status, &mut out, &mut err);
+    let (_writer, _unsent) = out.into_inner().into_parts();
     Ok((ended, room, err.bytes().to_vec(alloc)?))
 }
 
