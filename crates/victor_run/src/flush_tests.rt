@@ -1,0 +1,102 @@
+//! What a player at a terminal sees: a device that shows what was handed on, and one that is asked for a line at a time.
+ghost use Rattle.std.specs.Prelude.{None};
+
+use crate::run;
+use crate::tests::words_of;
+use io_ports::{Failed, NullSink, Sink, Source};
+use std::cell::Cell;
+use std::test::Fail;
+
+/// How many bytes of an output are held back, and how many are shown.
+#[derive(Drop)]
+struct Screen {
+    held: Cell<usize>,
+    shown: Cell<usize>,
+}
+
+/// Holds back what is written, and shows it at a flush.
+#[derive(Drop)]
+struct Printer<'a> {
+    screen: &'a Screen,
+}
+
+impl Sink for Printer<'_> {
+    ghost written = { λ _. None };
+
+    ghost faults = { λ _. 0 };
+
+    fn write(&mut self, piece: &[u8]) -> Result<usize, Failed> {
+        let held = self.screen.held.get();
+        self.screen.held.set(held.saturating_add(piece.len()));
+        Ok(piece.len())
+    }
+
+    fn flush(&mut self) -> Result<(), Failed> {
+        let held = self.screen.held.replace(0);
+        let shown = self.screen.shown.get();
+        self.screen.shown.set(shown.saturating_add(held));
+        Ok(())
+    }
+}
+
+/// Gives a line at each call, and notes how many bytes were shown by then.
+#[derive(Drop)]
+struct Player<'a> {
+    screen: &'a Screen,
+    lines: [&'static [u8]; 5],
+    seen: [usize; 6],
+    asked: usize,
+}
+
+impl Source for Player<'_> {
+    ghost left = { λ _. None };
+
+    ghost faults = { λ _. 0 };
+
+    fn read(&mut self, buf: &mut [u8]) -> Result<usize, Failed> {
+        if let Some(seen) = self.seen.get_mut(self.asked) {
+            *seen = self.screen.shown.get();
+        }
+        let line = self.lines.get(self.asked).copied().unwrap_or_default();
+        self.asked = self.asked.saturating_add(1);
+        let count = line.len().min(buf.len());
+        buf[..count].copy_from_slice(&line[..count]);
+        Ok(count)
+    }
+}
+
+#[test]
+fn each_answer_of_play_is_flushed_before_the_next_line_is_read(
+    rt: HostRuntime,
+) -> Result<(), Fail> {
+    let screen = Screen {
+        held: Cell::new(0),
+        shown: Cell::new(0),
+    };
+    let mut source = Player {
+        screen: &screen,
+        lines: [
+            b"board 4 4\n",
+            b"moves cccdcd\n",
+            b"plan CE:a1 CE:a3 CE:b1 CE:b3 CE:d3 AE:a2h\n",
+            b"a\n",
+            b"b\n",
+        ],
+        seen: [0; 6],
+        asked: 0,
+    };
+    let mut out = Printer { screen: &screen };
+    let words = words_of(rt.alloc(), &["play"])?;
+    let status = run(
+        rt.alloc(),
+        &words,
+        &mut source,
+        &mut out,
+        &mut NullSink::new(),
+    );
+    assert_eq!(rt; status, 0);
+    // The answers are `a1 a2` and `b1 b2 won`, each with its line feed; the last call finds the end of the input.
+    assert_eq!(rt; source.seen, [0, 0, 0, 0, 6, 16]);
+    assert_eq!(rt; source.asked, 6);
+    Ok(())
+}
