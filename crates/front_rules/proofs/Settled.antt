@@ -291,7 +291,7 @@ module _ (side : Side) where
     open_root p tree one going = (
       first (is_zero (root_number side true tree)) (is_zero (root_number side false tree)) going,
       one_node p tree one true ∙ sym (row_dual side tree false true)
-      ∙ second (is_zero (root_number side true tree)) (is_zero (root_number side false tree)) going,
+          ∙ second (is_zero (root_number side true tree)) (is_zero (root_number side false tree)) going,
     )
       where
         first : (a b : Bool) → (a || b) ≡ false → a ≡ false

@@ -14,3 +14,5 @@ mod play;
 mod running;
 #[cfg(test)]
 mod table_room;
+#[cfg(test)]
+mod terminal;

@@ -5,6 +5,8 @@
 #[cfg(test)]
 mod checked_lines;
 #[cfg(test)]
+mod endings;
+#[cfg(test)]
 mod games;
 #[cfg(test)]
 mod plan_lines;

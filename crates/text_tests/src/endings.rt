@@ -1,5 +1,5 @@
 //! The end of the output: what is held back then is sent once, and a fault is reported once.
-use crate::{MemSink, StdSink, finish, put_all};
+use io_ports::{MemSink, StdSink, finish, put_all};
 use std::alloc::Global;
 use std::io::BufWriter;
 use std::test::Fail;

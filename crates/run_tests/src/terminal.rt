@@ -1,11 +1,11 @@
 //! What a player at a terminal sees: a device that shows what was handed on, and one that is asked for a line at a time.
 ghost use Rattle.std.specs.Prelude.{None};
 
-use crate::run;
-use crate::tests::words_of;
+use crate::running::words_of;
 use io_ports::{Failed, NullSink, Sink, Source};
 use std::cell::Cell;
 use std::test::Fail;
+use victor_run::run;
 
 /// How many bytes of an output are held back, and how many are shown.
 #[derive(Drop)]
