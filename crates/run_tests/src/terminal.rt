@@ -54,11 +54,13 @@ impl Source for Player<'_> {
     ghost faults = { λ _. 0 };
 
     fn read(&mut self, buf: &mut [u8]) -> Result<usize, Failed> {
-        if let Some(seen) = self.seen.get_mut(self.asked) {
-            *seen = self.screen.shown.get();
+        let call = self.asked;
+        let shown = self.screen.shown.get();
+        if let Some(seen) = self.seen.get_mut(call) {
+            *seen = shown;
         }
-        let line = self.lines.get(self.asked).copied().unwrap_or_default();
-        self.asked = self.asked.saturating_add(1);
+        self.asked = call.saturating_add(1);
+        let line = self.lines.get(call).copied().unwrap_or_default();
         let count = line.len().min(buf.len());
         buf[..count].copy_from_slice(&line[..count]);
         Ok(count)
