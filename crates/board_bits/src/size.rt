@@ -254,7 +254,7 @@ impl Column {
         self.index
     }
 
-    /// The column's square in row 1.
+    /// The column's lowest square.
     pub(crate) fn lowest(&self) -> Square
         ensures { result ≡ (self.now, 1) }
     {

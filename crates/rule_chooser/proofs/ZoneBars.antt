@@ -1,16 +1,11 @@
 -- Each of a set's zones is one that fits.
-use Rattle.std.proofs.Common.{◌≡◌, ℕ, ◌+◌, ◌<◌, length, get_or, subst, Bool, true, false, ◌&&◌, ◌==◌, nat_le, nat_lt, List, ◌++◌, refl, sym, inl, inr, arith}
-use Rattle.std.specs.List.{list_all, list_any}
-use Rattle.std.proofs.lemmas.Bool.{and_parts, both_ways, false_from_ne_true, leb-true, eqb-true}
-use Rattle.game_rules.specs.Board.{Square, on_board}
-use Rattle.game_rules.specs.Position.{Position, board_of}
-use Rattle.game_rules.specs.Squares.{is_empty}
-use Rattle.game_rules.proofs.Lists.{Among, Among-at, Among-map, all_gives, any_gives, any_from, Among-append_left}
-use Rattle.game_rules.proofs.Squares.{has_gives}
-use Rattle.plan_rules.specs.Squares.{above, is_even, is_odd, span}
-use Rattle.plan_rules.specs.Rules.{RuleInstance, claimeven, baseinverse, lowinverse, highinverse, baseclaim, Facts, zone_of, barred, fits, is_shaped, is_low_column}
+use Rattle.std.proofs.Common.{◌≡◌, ℕ, ◌<◌, length, get_or, subst, true, ◌&&◌, List, sym}
+use Rattle.std.specs.List.{list_all}
+use Rattle.std.proofs.lemmas.Bool.{and_parts}
+use Rattle.game_rules.specs.Position.{Position}
+use Rattle.game_rules.proofs.Lists.{Among, Among-at, Among-map, all_gives}
+use Rattle.plan_rules.specs.Rules.{fits}
 use Rattle.plan_rules.specs.Zones.{owns_zone}
-use Rattle.plan_rules.proofs.Spans.{span_from}
 use Rattle.walk_rules.specs.Steps.{is_zone_set}
 use Rattle.rule_compat.specs.declared.instance.Instance.{Instance}
 use Rattle.rule_compat.specs.Written.{written, written_list}
