@@ -5,6 +5,7 @@ pub mod Counts
 pub mod Equals
 pub mod BoardWord
 pub mod MoveWords
+pub mod MovesMade
 pub mod Columns
 pub mod OrderTable
 pub mod Searches

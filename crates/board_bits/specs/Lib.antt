@@ -4,6 +4,7 @@ pub mod Halves
 pub mod MenWords
 pub mod PositionFields
 pub mod Move
+pub mod Played
 pub mod Reading
 pub mod Words
 pub mod Runs

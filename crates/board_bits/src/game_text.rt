@@ -1,21 +1,24 @@
 //! The reading of a game text from the left, one small reader for each part of it. Each gives what the definition of
 //! the same name gives, so that the text's position, or its first fault, is that of the definitions.
-ghost use Rattle.std.specs.Prelude.{◌≡◌, ◌+◌, ◌<◌, ◌≤◌, true, IfSome, IfOk, length, drop, take_while};
+ghost use Rattle.std.specs.Prelude.{◌≡◌, ◌+◌, ◌-◌, ◌<◌, ◌≤◌, true, [], ◌∷◌, ◌++◌, IfSome, IfOk, OnOk, length, drop, take_while};
+ghost use Rattle.game_rules.specs.Position.{Position as Men, empty_position};
+ghost use Rattle.game_rules.specs.Game.{IsTextOf, letters_in, moves_in, moves_of};
 ghost use Rattle.game_rules.specs.Board.{is_cols, is_rows};
 ghost use Rattle.game_rules.specs.Text.{after_text, is_digit, cols_of, rows_of, size_at, board_at, column_named, letter_read, at_end, letters_from, after_dash, moves_at, read_game, game_at};
 ghost use Rattle.board_bits.specs.Reading.{Gives};
 
-use crate::{Column, InputFault, InputKind, MoveFault, Position, Size};
+use crate::{Column, Game, InputFault, InputKind, MoveFault, Position, Size};
 use game_rules::Stop;
 
 /// Reads the text of a game: the line `board COLS ROWS`, and the line `moves` with a letter for each move, or `-` for
 /// none; the last line feed may be missing. A text that isn't a game gets its first fault from the left, with its byte
 /// place counted from 0.
-pub fn read_game(bytes: &[u8]) -> Result<Position, InputFault>
-    ensures { result ≡ game_at bytes.now }
+pub fn read_game_moves(bytes: &[u8]) -> Result<Game, InputFault>
+    ensures position { Gives (λ game. game.position) result (game_at bytes.now) }
+    ensures text { IfOk result (λ game. IsTextOf bytes.now game) }
 {
-    match position_at(bytes) {
-        Ok(position) => Ok(position),
+    match game_in(bytes) {
+        Ok(game) => Ok(game),
         Err(stop) => Err(InputFault {
             kind: stop.kind,
             at: bytes.len().saturating_sub(stop.left) as u32,
@@ -23,12 +26,20 @@ pub fn read_game(bytes: &[u8]) -> Result<Position, InputFault>
     }
 }
 
+/// The position of the game that [`read_game_moves`] reads, or the same fault.
+pub fn read_game(bytes: &[u8]) -> Result<Position, InputFault>
+    ensures { result ≡ game_at bytes.now }
+{
+    Ok(*read_game_moves(bytes)?.position())
+}
+
 #[tactic(auto, unfolding(game_rules::specs::Text::read_game))]
-fn position_at(bytes: &[u8]) -> Result<Position, Stop>
-    ensures { result ≡ read_game bytes.now }
+fn game_in(bytes: &[u8]) -> Result<Game, Stop>
+    ensures position { Gives (λ game. game.position) result (read_game bytes.now) }
+    ensures moves { IfOk result (λ game. game.moves ≡ moves_of bytes.now) }
 {
     match board_at(bytes) {
-        Ok((size, rest)) => moves_at(&Position::empty(size), rest),
+        Ok((size, rest)) => moves_from(size, rest),
         Err(stop) => Err(stop),
     }
 }
@@ -137,64 +148,79 @@ fn rows_of(run: &[u8]) -> Option<u8>
     }
 }
 
+/// The game of a list of moves on a board.
+fn moves_from(size: Size, bytes: &[u8]) -> Result<Game, Stop>
+    ensures position { Gives (λ game. game.position) result (moves_at (empty_position size) bytes.now) }
+    ensures moves { IfOk result (λ game. game.moves ≡ moves_in bytes.now) }
+{
+    let mut game = Game::new(size);
+    moves_at(&mut game, bytes)?;
+    Ok(game)
+}
+
 /// The list of moves: `-`, or letters.
-fn moves_at(position: &Position, bytes: &[u8]) -> Result<Position, Stop>
-    ensures { result ≡ moves_at position.now bytes.now }
+fn moves_at(game: &mut Game, bytes: &[u8]) -> Result<(), Stop>
+    ensures position { Gives (λ _. game.new.position) result (moves_at game.old.position bytes.now) }
+    ensures moves { OnOk result (game.new.moves ≡ game.old.moves ++ moves_in bytes.now) }
 {
     match bytes {
         [] => Err(stop(InputKind::BadColumn, bytes)),
-        [b'-', rest @ ..] => after_dash(position, rest),
-        [letter, rest @ ..] => letters_from(&letter_read(position, *letter, bytes)?, rest),
+        [b'-', rest @ ..] => after_dash(rest),
+        [letter, rest @ ..] => {
+            letter_read(game, *letter, bytes)?;
+            letters_from(game, rest)
+        }
     }
 }
 
 /// Behind `-` there may be one line feed.
-fn after_dash(position: &Position, bytes: &[u8]) -> Result<Position, Stop>
-    ensures { result ≡ after_dash position.now bytes.now }
+fn after_dash(bytes: &[u8]) -> Result<(), Stop>
+    ensures { (p : Men) → Gives (λ _. p) result (after_dash p bytes.now) }
 {
     match bytes {
-        [] => Ok(*position),
-        [b'\n', rest @ ..] => at_end(position, rest),
+        [] => Ok(()),
+        [b'\n', rest @ ..] => at_end(rest),
         _ => Err(stop(InputKind::Trailing, bytes)),
     }
 }
 
 /// Nothing may follow.
-fn at_end(position: &Position, bytes: &[u8]) -> Result<Position, Stop>
-    ensures { result ≡ at_end position.now bytes.now }
+fn at_end(bytes: &[u8]) -> Result<(), Stop>
+    ensures { (p : Men) → Gives (λ _. p) result (at_end p bytes.now) }
 {
     if bytes.is_empty() {
-        Ok(*position)
+        Ok(())
     } else {
         Err(stop(InputKind::Trailing, bytes))
     }
 }
 
 /// Further letters, up to the line feed or the end.
-fn letters_from(position: &Position, bytes: &[u8]) -> Result<Position, Stop>
-    ensures { result ≡ letters_from position.now bytes.now }
+fn letters_from(game: &mut Game, bytes: &[u8]) -> Result<(), Stop>
+    ensures position { Gives (λ _. game.new.position) result (letters_from game.old.position bytes.now) }
+    ensures moves { OnOk result (game.new.moves ≡ game.old.moves ++ letters_in bytes.now) }
 {
-    let mut now = *position;
     let mut rest = bytes;
     while let [letter, tail @ ..] = rest {
         if *letter == b'\n' {
-            return at_end(&now, tail);
+            return at_end(tail);
         }
-        now = letter_read(&now, *letter, rest)?;
+        letter_read(game, *letter, rest)?;
         rest = tail;
     }
-    Ok(now)
+    Ok(())
 }
 
-/// The position after the move of one letter, the first of the bytes.
-fn letter_read(position: &Position, letter: u8, bytes: &[u8]) -> Result<Position, Stop>
-    ensures { result ≡ letter_read position.now letter (length bytes.now) }
+/// The move of one letter, the first of the bytes.
+fn letter_read(game: &mut Game, letter: u8, bytes: &[u8]) -> Result<(), Stop>
+    ensures position { Gives (λ _. game.new.position) result (letter_read game.old.position letter (length bytes.now)) }
+    ensures moves { OnOk result (game.new.moves ≡ game.old.moves ++ (letter - 97) ∷ []) }
 {
-    let Some(column) = column_named(position, letter) else {
+    let Some(column) = column_named(game.position(), letter) else {
         return Err(stop(InputKind::BadColumn, bytes));
     };
-    match position.play(column) {
-        Ok(next) => Ok(next),
+    match game.play(column) {
+        Ok(()) => Ok(()),
         Err(MoveFault::GameOver) => Err(stop(InputKind::GameOver, bytes)),
         Err(MoveFault::ColumnFull) => Err(stop(InputKind::ColumnFull, bytes)),
     }

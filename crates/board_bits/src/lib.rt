@@ -3,6 +3,7 @@
 //! kept is known to this crate alone.
 #![tactic(auto)]
 
+mod game;
 mod game_text;
 mod line;
 mod mask;
@@ -14,7 +15,8 @@ mod size;
 mod word;
 
 pub use game_rules::{End, InputFault, InputKind, Length, Question, Side, Way};
-pub use game_text::read_game;
+pub use game::Game;
+pub use game_text::{read_game, read_game_moves};
 pub use line::MOST_IN_LINE;
 pub use mask::{Mask, bits_determine_a_mask, place_of};
 pub use men_words::MenWords;

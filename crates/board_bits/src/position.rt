@@ -65,6 +65,15 @@ impl Position {
         }
     }
 
+    /// A fact of every position: its board is one with a size, and no column is higher than it.
+    pub fn has_a_board(&self)
+        ensures board { is_board (board_of self.now) ≡ true }
+        ensures stacked { IsStacked self.now }
+    {
+        // each look at a field says that the position is sound
+        let _size = self.size;
+    }
+
     /// The board's size.
     pub fn size(&self) -> Size
         ensures value { result ≡ board_of self.now }

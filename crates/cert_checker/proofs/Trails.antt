@@ -8,25 +8,7 @@ use Rattle.std.proofs.lemmas.Option.{slice_get-get_or}
 use Rattle.game_rules.specs.Position.{Position, board_of, after_move, is_legal, played}
 use Rattle.game_rules.proofs.Lists.{chosen}
 use Rattle.game_rules.proofs.Moves.{board_moved}
-
--- a path with a move that isn't legal leads nowhere, whatever follows
-pub barred_more : (p : Position) (xs ys : List ℕ) → played p xs ≡ None → played p (xs ++ ys) ≡ None
-barred_more p [] ys h = absurd (cc h)
-barred_more p (x ∷ xs) ys h = elim (chosen (is_legal p x) (played (after_move p x) xs) None None h) [
-  | inl legal ↦ ap (λ b. cond b (played (after_move p x) (xs ++ ys)) None) legal.0 ∙ barred_more (after_move p x) xs ys legal.1
-  | inr barred ↦ ap (λ b. cond b (played (after_move p x) (xs ++ ys)) None) barred.0
-]
-
--- the position after one more move
-pub played_more : (p q : Position) (xs : List ℕ) (column : ℕ) → played p xs ≡ Some q → played p (xs ++ column ∷ []) ≡ cond (is_legal q column) (Some (after_move q column)) None
-played_more p q [] column h = ap (λ p. cond (is_legal p column) (Some (after_move p column)) None) (some_same h)
-  where
-    some_same : Some p ≡ Some q → p ≡ q
-    some_same h = cc
-played_more p q (x ∷ xs) column h = elim (chosen (is_legal p x) (played (after_move p x) xs) None (Some q) h) [
-  | inl legal ↦ ap (λ b. cond b (played (after_move p x) (xs ++ column ∷ [])) None) legal.0 ∙ played_more (after_move p x) q xs column legal.1
-  | inr barred ↦ absurd (cc barred.1)
-]
+use Rattle.game_rules.proofs.Played.{barred_more, played_more}
 
 -- one more move from the position kept after the path
 pub one_more : (root last : Position) (columns : List ℕ) (positions : List Position) (moves column : ℕ) (r : Option Position) → moves < length positions

@@ -6,10 +6,12 @@ pub mod Moves
 pub mod Values
 pub mod Costs
 pub mod Ends
+pub mod Played
 pub mod Readers
 pub mod BoardLine
 pub mod Prefix
 pub mod Grammar
+pub mod Games
 pub mod Passing
 pub mod FaultReaders
 pub mod Faults

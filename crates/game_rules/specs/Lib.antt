@@ -4,6 +4,7 @@ pub mod Value
 pub mod Cost
 pub mod Text
 pub mod Grammar
+pub mod Game
 pub mod Faults
 pub mod Words
 pub mod Laws

@@ -1,5 +1,5 @@
 -- What may stand while a proof is written, and that a proof that stands whole is a right text.
-use Rattle.std.proofs.Common.{false, inl, inr, append-nil, ◌≡◌, ℕ, ◌+◌, ◌≤◌, true, List, [], ◌∷◌, ◌++◌, map, length, Option, Some, None, refl, sym, ap, ◌∙◌, subst, append_assoc, arith}
+use Rattle.std.proofs.Common.{inl, inr, append-nil, ◌≡◌, ℕ, ◌+◌, ◌≤◌, true, List, [], ◌∷◌, ◌++◌, map, length, Option, Some, None, refl, sym, ap, ◌∙◌, subst, append_assoc, arith}
 use Rattle.std.specs.List.{AllByRecursion}
 use Rattle.std.proofs.lemmas.List.{length-append, length-map}
 use Rattle.std.proofs.lemmas.Grind.{flat_map-append}
@@ -11,9 +11,9 @@ use Rattle.game_rules.proofs.BoardLine.{spelled_parts}
 use Rattle.proof_text.specs.Lemma.{claim_side, Lemma}
 use Rattle.proof_text.specs.Right.{Shown, AreRight}
 use Rattle.proof_text.specs.Spelling.{verdict_line, as_line, lines_of, is_remark, greatest_number, Fits, IsShort}
-use Rattle.proof_text.specs.Texts.{first_line, Accepted, check_of, Entry, LemmaEntry, RemarkEntry, entry_text, entry_lines, lemmas_among, EntryFits, head_of, IsRightText}
+use Rattle.proof_text.specs.Texts.{Accepted, check_of, Entry, LemmaEntry, RemarkEntry, entry_text, entry_lines, lemmas_among, EntryFits, head_of, IsRightText}
 use Rattle.proof_text.specs.Written.{IsAskedInTurn, IsRemarkLine, remark_line, AreSided, HasWritten, MayStand, IsProof}
-use Rattle.game_rules.specs.Grammar.{is_spelled, board_line, moves_line, game_text, IsGameText}
+use Rattle.game_rules.specs.Grammar.{is_spelled}
 use Rattle.game_rules.specs.declared.Side.{Side}
 use Rattle.game_rules.specs.declared.Side.TheVariants.{White, Black}
 use Rattle.plan_text.proofs.Spaced.{all_append, all_each, all_left, all_right}
@@ -196,15 +196,3 @@ head_stands root head = lemmas_stand root head head None [] [] None [] [] refl r
 -- a whole proof may stand
 abbrev pub proof_stands : (root : Position) (head text : List ℕ) (v : Verdict) → IsProof root head text v → MayStand root head text
 proof_stands root head text v proof = record { after = proof.after; last = verdict_line v; written = proof.written; ends = inr (v, proof.verdict, refl) }
-
--- ---- the head
-
--- the head of a proof for a game whose text is given, with its last line feed or without
-pub head_of_fed : (bytes : List ℕ) (root : Position) (text : IsGameText bytes root) → text.ended ≡ true → head_of text.board text.columns ≡ first_line ++ 10 ∷ bytes
-head_of_fed bytes root text fed = ap (λ game. first_line ++ 10 ∷ game) (sym (text.spelled ∙ ap (game_text text.board text.columns) fed))
-
-pub head_of_bare : (bytes : List ℕ) (root : Position) (text : IsGameText bytes root) → text.ended ≡ false → head_of text.board text.columns ≡ first_line ++ 10 ∷ as_line bytes
-head_of_bare bytes root text bare = ap (λ game. first_line ++ 10 ∷ game) (sym (ap as_line (text.spelled ∙ ap (game_text text.board text.columns) bare) ∙ feed (board_line text.board) (moves_line text.columns)))
-  where
-    feed : (board moves : List ℕ) → (board ++ (10 ∷ (moves ++ []))) ++ 10 ∷ [] ≡ board ++ (10 ∷ (moves ++ 10 ∷ []))
-    feed board moves = append_assoc board (10 ∷ (moves ++ [])) (10 ∷ []) ∙ ap (λ moves. board ++ 10 ∷ (moves ++ 10 ∷ [])) (append-nil moves)

@@ -100,15 +100,6 @@ answer_made plan q column reply under legal is_reply =
 
 -- ---- what a move into a column says
 
-pub move_made : (q r : Position) (column : ℕ) → moved_into q column ≡ Ok r → (is_legal q column ≡ true) × (r ≡ after_move q column)
-move_made q r column made = of_parts (end_of q) (has_room q column) made
-  where
-    of_parts : (end : Option End) (room : Bool) → cond (is_some end) (Err GameOver) (cond room (Ok (after_move q column)) (Err ColumnFull)) ≡ Ok r
-        → ((is_none end && room) ≡ true) × (r ≡ after_move q column)
-    of_parts None true h = (refl, cc)
-    of_parts None false h = cc
-    of_parts (Some end) room h = cc
-
 -- the square of a legal move
 legal_square : (q : Position) (column : ℕ) (last : Square) → is_legal q column ≡ true → lowest_empty q column ≡ Some last → (column, height q column + 1) ≡ last
 legal_square q column last legal lowest = same_Some (column, height q column + 1) last (sym (rw (legal_parts q column legal).1 refl) ∙ lowest)

@@ -1,13 +1,15 @@
 //! What texts are made of, whatever they say: numbers in decimal, the letters of columns, what stands on both sides of a
-//! mark, and short lines as they are being made. Each has one spelling, which the definitions of the texts say, and is
+//! mark, the two lines of a game, and short lines as they are being made. Each has one spelling, which the definitions of the texts say, and is
 //! read here alone. No call takes memory.
 #![tactic(auto)]
 
+mod game_text;
 mod letters;
 mod line;
 mod marks;
 mod number;
 
+pub use game_text::push_game;
 pub use letters::{column_named, letter_of};
 pub use line::{LINE_ROOM, LineText, push_number, push_text};
 pub use marks::split_once;

@@ -16,55 +16,12 @@ use Rattle.proof_text.proofs.Written.{both_written, lemmas_stand, head_stands, p
 use Rattle.proof_text.specs.declared.Verdict.{Verdict}
 use Rattle.proof_text.specs.declared.Verdict.TheVariants.{Win, Loss, Draw, Unknown}
 use Rattle.deep_search.specs.Planned.{solved_within}
-use Rattle.victor_run.specs.Proof.{head_for, IsProofOf, Writes}
+use Rattle.victor_run.specs.Proof.{IsProofOf, Writes}
 use Rattle.victor_run.specs.Questions.{HasBothRemarks, Asks}
 use Rattle.victor_run.proofs.Asking.{asked_truth, in_turn}
 use Rattle.deep_search.specs.declared.solving.SearchStop.{SearchStop}
 use Rattle.deep_search.specs.declared.solving.SearchStop.TheVariants.{WriteFault}
 use Rattle.io_ports.specs.declared.ports.Failed.{Failed}
-
--- ---- the head
-
-abbrev last_byte : List ℕ → ℕ
-last_byte xs = get_or xs (length xs - 1) 0
-
-last_append : (xs : List ℕ) (y : ℕ) (ys : List ℕ) → last_byte (xs ++ y ∷ ys) ≡ last_byte (y ∷ ys)
-last_append xs y ys =
-    let long : length (xs ++ y ∷ ys) ≡ length xs + length (y ∷ ys) = length-append xs (y ∷ ys) in
-    get_or-append_right xs (y ∷ ys) (length xs) (length (xs ++ y ∷ ys) - 1) 0 refl (omega arith)
-    ∙ ap (λ i. get_or (y ∷ ys) i 0) (let same : length (xs ++ y ∷ ys) - 1 - length xs ≡ length (y ∷ ys) - 1 = omega arith in same)
-
--- a list of moves ends in no line feed
-moves_last : (columns : List ℕ) → last_byte (move_list columns) ≢ 10
-moves_last [] h = absurd (omega (arith, h))
-moves_last (column ∷ columns) h =
-    let letters : last_byte (map letter_of (column ∷ columns)) ≡ 97 + get_or (column ∷ columns) (length (map letter_of (column ∷ columns)) - 1) 0 =
-    get_or-map letter_of (column ∷ columns) (length (map letter_of (column ∷ columns)) - 1) 0 0 (omega (arith, length-map {A = ℕ} {B = ℕ} (column ∷ columns) letter_of)) in
-    omega (arith, letters, h)
-
-move_list_some : (columns : List ℕ) → (y : ℕ) × (ys : List ℕ) × (move_list columns ≡ y ∷ ys)
-move_list_some [] = (45, [], refl)
-move_list_some (column ∷ columns) = (letter_of column, map letter_of columns, refl)
-
-pub head_is : (bytes : List ℕ) (p : Position) (game : IsGameText bytes p) → head_for bytes ≡ head_of game.board game.columns
-head_is bytes p game = at game.ended refl
-  where
-    at : (b : Bool) → game.ended ≡ b → head_for bytes ≡ head_of game.board game.columns
-    at true ended =
-        let spelled : bytes ≡ (board_line game.board ++ (10 ∷ moves_line game.columns)) ++ 10 ∷ [] =
-        game.spelled ∙ ap (game_text game.board game.columns) ended ∙ sym (append_assoc (board_line game.board) (10 ∷ moves_line game.columns) (10 ∷ [])) in
-        let fed : last_byte bytes ≡ 10 = ap last_byte spelled ∙ last_append (board_line game.board ++ (10 ∷ moves_line game.columns)) 10 [] in
-        ap (λ xs. as_line first_line ++ xs) (rw (eq-eqb (last_byte bytes) 10 fed) refl)
-        ∙ append_assoc first_line (10 ∷ []) bytes ∙ sym (head_of_fed bytes p game ended)
-    at false bare =
-        let some = move_list_some game.columns in
-        let prefix = board_line game.board ++ (10 ∷ codes "moves ") in
-        let spelled : bytes ≡ prefix ++ (some.0 ∷ some.1) =
-        game.spelled ∙ ap (game_text game.board game.columns) bare ∙ ap (λ xs. board_line game.board ++ (10 ∷ xs)) (append-nil (moves_line game.columns))
-        ∙ sym (append_assoc (board_line game.board) (10 ∷ codes "moves ") (move_list game.columns)) ∙ ap (λ xs. prefix ++ xs) some.2 in
-        let unfed : last_byte bytes ≢ 10 = λ h. moves_last game.columns (ap last_byte some.2 ∙ sym (ap last_byte spelled ∙ last_append prefix some.0 some.1) ∙ h) in
-        ap (λ xs. as_line first_line ++ xs) (rw (ne_eqb (last_byte bytes) 10 unfed) refl)
-        ∙ append_assoc first_line (10 ∷ []) (as_line bytes) ∙ sym (head_of_bare bytes p game bare)
 
 -- ---- the last line
 
@@ -127,13 +84,13 @@ module _ (nodes reach : ℕ) (slots : Option ℕ) (bytes : List ℕ) (p : Positi
       }
 
       pub writes_verdict : (old new : Option (List ℕ)) (result : Result Verdict Failed) → HasBothRemarks slots nodes reach p asks.mid asks.black_remark v
-          → (v ≡ Unknown → nodes < cost (solved_within reach) p) → Appends old mid (head_for bytes) → Appends mid held middle
+          → (v ≡ Unknown → nodes < cost (solved_within reach) p) → Appends old mid the_head → Appends mid held middle
           → IfOk result (λ told. told ≡ v) → AppendsPrefix (is_ok result) held new (verdict_line v) → Writes nodes reach slots bytes p old new result
       writes_verdict old new (Ok told) both short head lemmas same stands = (
         proof_text,
         subst (IsProofOf nodes reach slots bytes p proof_text) (sym same) (proof_of both),
         stands_all true old mid held new the_head (remark_line asks.white_remark) (lines_of asks.white) (remark_line asks.black_remark) (lines_of asks.black) (verdict_line v)
-            (subst (Appends old mid) (head_is bytes p game) head) lemmas stands,
+            head lemmas stands,
       )
       writes_verdict old new (Err failed) both short head lemmas same stands = (
         proof_text,
@@ -146,11 +103,11 @@ module _ (nodes reach : ℕ) (slots : Option ℕ) (bytes : List ℕ) (p : Positi
           short = λ unknown. short (unknown_line v unknown);
         },
         stands_all false old mid held new the_head (remark_line asks.white_remark) (lines_of asks.white) (remark_line asks.black_remark) (lines_of asks.black) (verdict_line v)
-            (subst (Appends old mid) (head_is bytes p game) head) lemmas stands,
+            head lemmas stands,
       )
 
   -- the head was cut
-  pub writes_head : (old new : Option (List ℕ)) (failed : Failed) → AppendsPrefix false old new (head_for bytes) → Writes nodes reach slots bytes p old new (Err failed)
+  pub writes_head : (old new : Option (List ℕ)) (failed : Failed) → AppendsPrefix false old new the_head → Writes nodes reach slots bytes p old new (Err failed)
   writes_head old new failed stands = (
     the_head,
     record {
@@ -161,11 +118,11 @@ module _ (nodes reach : ℕ) (slots : Option ℕ) (bytes : List ℕ) (p : Positi
       few = omega arith;
       short = λ none. absurd (some_line none);
     },
-    subst (AppendsPrefix false old new) (head_is bytes p game) stands,
+    stands,
   )
 
   -- a remark or a lemma was cut
-  pub writes_lemmas : (old mid new : Option (List ℕ)) (failed : Failed) (asks : Asks p nodes reach slots mid new (Err WriteFault)) → Appends old mid (head_for bytes) → Writes nodes reach slots bytes p old new (Err failed)
+  pub writes_lemmas : (old mid new : Option (List ℕ)) (failed : Failed) (asks : Asks p nodes reach slots mid new (Err WriteFault)) → Appends old mid the_head → Writes nodes reach slots bytes p old new (Err failed)
   writes_lemmas old mid new failed asks head =
       let text = the_head ++ middle mid new (Err WriteFault) asks in (
         text,
@@ -178,5 +135,5 @@ module _ (nodes reach : ℕ) (slots : Option ℕ) (bytes : List ℕ) (p : Positi
           few = asks.few;
           short = λ none. absurd (some_line none);
         },
-        AppendsPrefix_more false old mid new the_head (middle mid new (Err WriteFault) asks) (subst (Appends old mid) (head_is bytes p game) head) asks.text,
+        AppendsPrefix_more false old mid new the_head (middle mid new (Err WriteFault) asks) head asks.text,
       )

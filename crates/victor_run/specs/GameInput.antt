@@ -1,8 +1,8 @@
 -- What is taken of an input that is to be the text of a game.
-use Rattle.std.specs.Prelude.{◌≡◌, ◌≤◌, ℕ, List, Option, Result, Ok, Err, IfSome, length, take}
+use Rattle.std.specs.Prelude.{◌≡◌, ◌≤◌, ℕ, List, Option, Result, Ok, Err, IfSome, length}
 use Rattle.std.specs.Io.KnownBytes.{Consumes, IsAtEnd}
 use Rattle.game_rules.specs.Text.{game_at}
-use Rattle.victor_run.specs.declared.game_input.GameInput.{GameInput}
+use Rattle.game_rules.specs.Game.{Game, IsTextOf}
 use Rattle.victor_run.specs.declared.game_input.InputStop.{InputStop}
 use Rattle.victor_run.specs.declared.game_input.InputStop.TheVariants.{NoGame, Read}
 use Rattle.victor_run.specs.declared.ending.Ending.{Ending}
@@ -17,11 +17,10 @@ pub record TookText (before after : Option (List ℕ)) (taken : List ℕ) : Type
   pub gave : Consumes before after taken
   pub few : length taken ≤ 256
 
--- The first bytes of the buffer are the text of the game, and all of the input was read then. A fault is that of the bytes that
+-- The bytes that were taken are the text of the game, and all of the input was read then. A fault is that of the bytes that
 -- were taken, and that of all of the input, where the source tells it.
-abbrev pub TakesGame : Option (List ℕ) → Option (List ℕ) → List ℕ → Result GameInput InputStop → Type 0
-TakesGame before after buffer (Ok game) =
-    (game.length ≤ 256) × TookText before after (take game.length buffer) × (game_at (take game.length buffer) ≡ Ok game.position) × IsAtEnd after
-TakesGame before after buffer (Err (NoGame fault)) =
+abbrev pub TakesGame : Option (List ℕ) → Option (List ℕ) → Result Game InputStop → Type 0
+TakesGame before after (Ok game) = (taken : List ℕ) × TookText before after taken × IsTextOf taken game × IsAtEnd after
+TakesGame before after (Err (NoGame fault)) =
     (taken : List ℕ) × TookText before after taken × (game_at taken ≡ Err fault) × IfSome before (λ bytes. game_at bytes ≡ Err fault)
-TakesGame before after buffer (Err Read) = (taken : List ℕ) × TookText before after taken
+TakesGame before after (Err Read) = (taken : List ℕ) × TookText before after taken

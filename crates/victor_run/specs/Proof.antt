@@ -17,14 +17,6 @@ use Rattle.io_ports.specs.declared.ports.Failed.{Failed}
 use Rattle.victor_run.specs.Questions.{IsRemarkedInTurn, HasBothRemarks}
 use Rattle.victor_run.specs.Remarks.{IsFrontRemark}
 
--- the text with a line feed at its end
-abbrev pub with_feed : List ℕ → List ℕ
-with_feed bytes = if slice_index bytes (length bytes - 1) == 10 then bytes else as_line bytes
-
--- the head of a proof for the text of a game
-abbrev pub head_for : List ℕ → List ℕ
-head_for bytes = as_line first_line ++ with_feed bytes
-
 -- White's question has its remark, and Black's in its turn. Without a front, there are no remarks.
 abbrev pub AreRemarked : (slots : Option ℕ) (reach : ℕ) → (root : Position) → {head text last : List ℕ} {after : List Shown} → HasWritten root head text after last → Type 0
 AreRemarked slots reach root written = IsFrontRemark slots reach root White written.white_remark × IsRemarkedInTurn slots reach root written.mid written.black_remark written.black

@@ -17,7 +17,7 @@ ghost use Rattle.victor_words.specs.declared.form.Form.TheVariants as forms;
 ghost use Rattle.victor_run.specs.declared.ending.Ending.TheVariants as endings;
 
 use crate::ending::Ending;
-use crate::game_input::{MOST_INPUT, read_game_input};
+use crate::game_input::read_game_input;
 use crate::output::put_line;
 use board_bits::{Position, Square};
 use cert_format::{Item, print_item, print_plan};
@@ -34,9 +34,8 @@ pub(crate) fn explain<S: Source, O: Sink>(reach: u32, source: &mut S, out: &mut 
     ensures read_fault { result ≡ endings.Read → Rose (S.faults source.old) (S.faults source.new) }
     ensures write_fault { result ≡ endings.Write → Rose (O.faults out.old) (O.faults out.new) }
 {
-    let mut buffer = [0; MOST_INPUT];
-    match read_game_input(source, &mut buffer) {
-        Ok(game) => explained_ending(write_choice(&game.position, reach, out)),
+    match read_game_input(source) {
+        Ok(game) => explained_ending(write_choice(game.position(), reach, out)),
         Err(stop) => stop.ending(),
     }
 }

@@ -5,18 +5,11 @@ ghost use Rattle.victor_run.specs.GameInput.{TakesGame, input_ending};
 ghost use Rattle.victor_run.specs.declared.game_input.InputStop.TheVariants as stops;
 
 use crate::ending::Ending;
-use board_bits::{InputFault, Position, read_game};
+use board_bits::{Game, InputFault, read_game_moves};
 use io_ports::{Source, read_all};
 
 /// No more bytes of the input are read. The text of a game is shorter.
-pub(crate) const MOST_INPUT: usize = 256;
-
-/// A game that was read: how many bytes its text has, and its position.
-#[derive(Clone, Copy)]
-pub(crate) struct GameInput {
-    pub(crate) length: usize,
-    pub(crate) position: Position,
-}
+const MOST_INPUT: usize = 256;
 
 /// Why no game was read.
 #[derive(Clone, Copy)]
@@ -39,19 +32,17 @@ impl InputStop {
     }
 }
 
-/// Reads the text of a game into the buffer. All of the input was read then.
-pub(crate) fn read_game_input<S: Source>(
-    source: &mut S,
-    buffer: &mut [u8; MOST_INPUT],
-) -> Result<GameInput, InputStop>
-    ensures takes { TakesGame (S.left source.old) (S.left source.new) buffer.new result }
+/// Reads a game. All of the input was read then.
+pub(crate) fn read_game_input<S: Source>(source: &mut S) -> Result<Game, InputStop>
+    ensures takes { TakesGame (S.left source.old) (S.left source.new) result }
     ensures cause { result ≡ Err stops.Read → Rose (S.faults source.old) (S.faults source.new) }
 {
-    let Ok(length) = read_all(source, buffer) else {
+    let mut buffer = [0; MOST_INPUT];
+    let Ok(length) = read_all(source, &mut buffer) else {
         return Err(InputStop::Read);
     };
-    match read_game(&buffer[..length]) {
-        Ok(position) => Ok(GameInput { length, position }),
+    match read_game_moves(&buffer[..length]) {
+        Ok(game) => Ok(game),
         Err(fault) => Err(InputStop::NoGame(fault)),
     }
 }

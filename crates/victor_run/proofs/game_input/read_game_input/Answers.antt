@@ -14,18 +14,18 @@ returns-in-Err-clause-takes g c =
     let bytes = c.in-Ok.ensures.bytes in
     let size : length heard ≡ c.in-Ok.length = length-take-le c.in-Ok.length c.read_all.new.buf c.in-Ok.ensures.within in
     let ended : length heard < 256 → IsAtEnd new = λ short. bytes.1 (omega (arith, size, c.read_all.auto.buf)) in
-    let fault = sym c.in-Err.ensures in
+    let fault = c.in-Err.ensures.position in
     let took : TookText old new heard = record { gave = bytes.0; few = omega (arith, size, c.in-Ok.ensures.within, c.read_all.auto.buf) } in
     (heard, took, fault, IfSome_more old _ _ (same_game old new heard bytes.0 ended) (λ xs same. same ∙ fault))
 
-pub returns-in-Ok-read_game-clause-takes : goal.returns-in-Ok-read_game-clause-takes
-returns-in-Ok-read_game-clause-takes g c =
+pub returns-in-Ok-read_game_moves-clause-takes : goal.returns-in-Ok-read_game_moves-clause-takes
+returns-in-Ok-read_game_moves-clause-takes g c =
     let old = g.S.Source.left c.args.source.now in
     let new = g.S.Source.left c.read_all.new.source in
     let heard = take c.in-Ok.length c.read_all.new.buf in
     let bytes = c.in-Ok.ensures.bytes in
     let size : length heard ≡ c.in-Ok.length = length-take-le c.in-Ok.length c.read_all.new.buf c.in-Ok.ensures.within in
     let ended : length heard < 256 → IsAtEnd new = λ short. bytes.1 (omega (arith, size, c.read_all.auto.buf)) in
-    let is_game : game_at heard ≡ Ok c.in-Ok-read_game.position = sym c.in-Ok-read_game.ensures in
+    let game = c.in-Ok-read_game_moves.game in
     let few : c.in-Ok.length ≤ 256 = omega (arith, c.in-Ok.ensures.within, c.read_all.auto.buf) in
-    (few, record { gave = bytes.0; few = omega (arith, size, few) }, is_game, game_ended old new heard bytes.0 ended c.in-Ok-read_game.position is_game)
+    (heard, record { gave = bytes.0; few = omega (arith, size, few) }, c.in-Ok-read_game_moves.ensures.text, game_ended old new heard bytes.0 ended game.position c.in-Ok-read_game_moves.ensures.position)

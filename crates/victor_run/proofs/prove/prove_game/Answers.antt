@@ -1,10 +1,15 @@
 use Rattle.std.proofs.Common.{subst}
+use Rattle.game_rules.proofs.Games.{game_is_read}
 use Rattle.victor_run.specs.Proof.{Writes}
 use Rattle.victor_run.proofs.Ends.{proves_game}
 use Rattle.victor_run.proofs.prove.prove_game.Goals as goal
 
 pub returns-clause-proves : goal.returns-clause-proves
-returns-clause-proves g c = λ input left ended.
-    rw c.ending_of.ensures (proves_game c.args.nodes c.args.reach c.args.slots _ c.args.position.now _ ended c.requires.game c.write_proof-proved.result
-    (subst (λ slots. Writes c.args.nodes c.args.reach slots c.args.text.now c.args.position.now (g.O.Sink.written c.args.out.now) (g.O.Sink.written c.write_proof-proved.new.out) c.write_proof-proved.result) c.in-Ok-front_for.ensures.slots c.write_proof-proved.ensures.written)
-    c.write_proof-proved.ensures.unknown)
+returns-clause-proves g c = λ text input left is_text ended.
+    let p = c.args.game.now.position in
+    let old = g.O.Sink.written c.args.out.now in
+    let new = g.O.Sink.written c.write_proof-proved.new.out in
+    let written = subst (λ slots. Writes c.args.nodes c.args.reach slots text p old new c.write_proof-proved.result)
+        c.in-Ok-front_for.ensures.slots (c.write_proof-proved.ensures.written text is_text) in
+    rw c.ending_of.ensures (proves_game c.args.nodes c.args.reach c.args.slots _ p text ended (game_is_read text c.args.game.now is_text)
+    c.write_proof-proved.result written c.write_proof-proved.ensures.unknown)

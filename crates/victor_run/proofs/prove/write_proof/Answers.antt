@@ -2,45 +2,50 @@ use Rattle.std.proofs.Common.{◌≡◌, false, Ok, Err, refl, ap, ◌∙◌, su
 use Rattle.std.specs.Io.KnownBytes.{Appends}
 use Rattle.std.proofs.lemmas.Result.{err_from_is_err_and}
 use Rattle.device_rules.specs.Devices.{AppendsPrefix}
-use Rattle.game_rules.proofs.Prefix.{game_short}
-use Rattle.game_rules.proofs.Grammar.{read_in_grammar}
+use Rattle.game_rules.specs.Game.{board_played}
+use Rattle.game_rules.proofs.Games.{game_in_grammar}
+use Rattle.proof_text.specs.Texts.{head_of}
 use Rattle.proof_text.specs.declared.Verdict.TheVariants.{Unknown}
-use Rattle.victor_run.specs.Proof.{head_for}
 use Rattle.victor_run.specs.Questions.{Asks}
 use Rattle.victor_run.specs.SizedFronts.{slots_of}
 use Rattle.deep_search.specs.declared.solving.SearchStop.TheVariants.{Spent}
 use Rattle.victor_run.proofs.Writing.{writes_head, writes_lemmas, writes_verdict}
 use Rattle.victor_run.proofs.prove.write_proof.Goals as goal
 
-pub head_for-requires : goal.head_for-requires
-head_for-requires g c = game_short c.args.text.now c.args.position.now c.requires.game
-
 pub returns-in_err-put_all-clause-written : goal.returns-in_err-put_all-clause-written
-returns-in_err-put_all-clause-written g c =
+returns-in_err-put_all-clause-written g c = λ text is_text.
     let same = err_from_is_err_and c.from_residual.result c.from_residual.ensures.1 in
-    let head : c.as_slice.result.now ≡ head_for c.args.text.now = c.as_slice.ensures.value ∙ c.head_for.ensures in
-    rw same.1 (writes_head c.args.nodes c.args.reach (slots_of c.args.front.now) c.args.text.now c.args.position.now (read_in_grammar c.args.text.now c.args.position.now c.requires.game) c.requires.nodes _ _ same.0
+    let game = c.args.game.now in
+    let head = c.as_slice.ensures.value ∙ c.head_of.ensures in
+    rw same.1 (writes_head c.args.nodes c.args.reach (slots_of c.args.front.now) text game.position (game_in_grammar text game is_text) c.requires.nodes _ _ same.0
     (subst (AppendsPrefix false (g.O.Sink.written c.args.out.now) (g.O.Sink.written c.put_all.new.out)) head c.in_err-put_all.ensures.bytes))
 
 pub returns-in-Ok-clause-written : goal.returns-in-Ok-clause-written
-returns-in-Ok-clause-written g c =
-    let head : c.as_slice.result.now ≡ head_for c.args.text.now = c.as_slice.ensures.value ∙ c.head_for.ensures in
+returns-in-Ok-clause-written g c = λ text is_text.
+    let game = c.args.game.now in
+    let head = c.as_slice.ensures.value ∙ c.head_of.ensures in
     let asks = c.in-Ok.ensures.asked in
-    writes_verdict c.args.nodes c.args.reach (slots_of c.args.front.now) c.args.text.now c.args.position.now (read_in_grammar c.args.text.now c.args.position.now c.requires.game) c.requires.nodes _ _ (Ok c.in-Ok.verdict) asks c.in-Ok.verdict asks.verdict.0 _ _ c.write_verdict.result (asks.both_remarked refl) (λ unknown. absurd (asks.verdict.1 unknown))
-    (subst (Appends (g.O.Sink.written c.args.out.now) (g.O.Sink.written c.put_all.new.out)) head c.in_ok-put_all.ensures.bytes) asks.text c.write_verdict.ensures.verdict c.write_verdict.ensures.written
+    writes_verdict c.args.nodes c.args.reach (slots_of c.args.front.now) text game.position (game_in_grammar text game is_text) c.requires.nodes
+        _ _ (Ok c.in-Ok.verdict) asks c.in-Ok.verdict asks.verdict.0 _ _ c.write_verdict.result (asks.both_remarked refl) (λ unknown. absurd (asks.verdict.1 unknown))
+        (subst (Appends (g.O.Sink.written c.args.out.now) (g.O.Sink.written c.put_all.new.out)) head c.in_ok-put_all.ensures.bytes)
+        asks.text c.write_verdict.ensures.verdict c.write_verdict.ensures.written
 
 pub returns-in-Err-Spent-clause-written : goal.returns-in-Err-Spent-clause-written
-returns-in-Err-Spent-clause-written g c =
-    let p = c.args.position.now in
-    let head : c.as_slice.result.now ≡ head_for c.args.text.now = c.as_slice.ensures.value ∙ c.head_for.ensures in
-    let asks = subst (λ stop. Asks p c.args.nodes c.args.reach (slots_of c.args.front.now) (g.O.Sink.written c.put_all.new.out) (g.O.Sink.written c.ask.new.out) (Err stop)) c.in-Err-Spent.field-0-is c.in-Err-Spent.ensures.asked in
-    writes_verdict c.args.nodes c.args.reach (slots_of c.args.front.now) c.args.text.now p (read_in_grammar c.args.text.now p c.requires.game) c.requires.nodes _ _ (Err Spent) asks Unknown tt _ _ c.write_verdict-in-Err-Spent.result (asks.both_remarked refl) (λ unknown. c.in-Err-Spent.ensures.spent (ap Err c.in-Err-Spent.field-0-is))
-    (subst (Appends (g.O.Sink.written c.args.out.now) (g.O.Sink.written c.put_all.new.out)) head c.in_ok-put_all.ensures.bytes) asks.text c.write_verdict-in-Err-Spent.ensures.verdict c.write_verdict-in-Err-Spent.ensures.written
+returns-in-Err-Spent-clause-written g c = λ text is_text.
+    let game = c.args.game.now in
+    let head = c.as_slice.ensures.value ∙ c.head_of.ensures in
+    let asked = λ stop. Asks game.position c.args.nodes c.args.reach (slots_of c.args.front.now) (g.O.Sink.written c.put_all.new.out) (g.O.Sink.written c.ask.new.out) (Err stop) in
+    let asks = subst asked c.in-Err-Spent.field-0-is c.in-Err-Spent.ensures.asked in
+    writes_verdict c.args.nodes c.args.reach (slots_of c.args.front.now) text game.position (game_in_grammar text game is_text) c.requires.nodes
+        _ _ (Err Spent) asks Unknown tt _ _ c.write_verdict-in-Err-Spent.result (asks.both_remarked refl) (λ unknown. c.in-Err-Spent.ensures.spent (ap Err c.in-Err-Spent.field-0-is))
+        (subst (Appends (g.O.Sink.written c.args.out.now) (g.O.Sink.written c.put_all.new.out)) head c.in_ok-put_all.ensures.bytes)
+        asks.text c.write_verdict-in-Err-Spent.ensures.verdict c.write_verdict-in-Err-Spent.ensures.written
 
 pub returns-in-Err-WriteFault-clause-written : goal.returns-in-Err-WriteFault-clause-written
-returns-in-Err-WriteFault-clause-written g c =
-    let p = c.args.position.now in
-    let head : c.as_slice.result.now ≡ head_for c.args.text.now = c.as_slice.ensures.value ∙ c.head_for.ensures in
-    let asks = subst (λ stop. Asks p c.args.nodes c.args.reach (slots_of c.args.front.now) (g.O.Sink.written c.put_all.new.out) (g.O.Sink.written c.ask.new.out) (Err stop)) c.in-Err-WriteFault.field-0-is c.in-Err-WriteFault.ensures.asked in
-    writes_lemmas c.args.nodes c.args.reach (slots_of c.args.front.now) c.args.text.now p (read_in_grammar c.args.text.now p c.requires.game) c.requires.nodes _ _ _ _ asks
-    (subst (Appends (g.O.Sink.written c.args.out.now) (g.O.Sink.written c.put_all.new.out)) head c.in_ok-put_all.ensures.bytes)
+returns-in-Err-WriteFault-clause-written g c = λ text is_text.
+    let game = c.args.game.now in
+    let head = c.as_slice.ensures.value ∙ c.head_of.ensures in
+    let asked = λ stop. Asks game.position c.args.nodes c.args.reach (slots_of c.args.front.now) (g.O.Sink.written c.put_all.new.out) (g.O.Sink.written c.ask.new.out) (Err stop) in
+    let asks = subst asked c.in-Err-WriteFault.field-0-is c.in-Err-WriteFault.ensures.asked in
+    writes_lemmas c.args.nodes c.args.reach (slots_of c.args.front.now) text game.position (game_in_grammar text game is_text) c.requires.nodes _ _ _ _ asks
+        (subst (Appends (g.O.Sink.written c.args.out.now) (g.O.Sink.written c.put_all.new.out)) head c.in_ok-put_all.ensures.bytes)

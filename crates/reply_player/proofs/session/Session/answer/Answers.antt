@@ -2,7 +2,8 @@ use Rattle.std.proofs.Common.{◌≡◌, sym, ap, ◌∙◌, subst}
 use Rattle.game_rules.specs.Position.{end_of, after_move}
 use Rattle.reply_player.specs.Playing.{Playing, reply_for, HasAnswered}
 use Rattle.reply_player.specs.declared.session.Reply.{Reply}
-use Rattle.reply_player.proofs.Duels.{answers, move_made, moved_to}
+use Rattle.board_bits.proofs.MovesMade.{move_made}
+use Rattle.reply_player.proofs.Duels.{answers, moved_to}
 use Rattle.reply_player.proofs.session.Session.answer.Goals as goal
 
 pub reply-requires : goal.reply-requires
