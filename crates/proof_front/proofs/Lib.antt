@@ -9,4 +9,5 @@ pub mod Expanding
 pub mod Skipping
 pub mod Descending
 pub mod Branches
+pub mod Expansions
 pub mod Root

@@ -1,7 +1,7 @@
 -- A node whose children changed is looked at again: its numbers, and its children where it is settled.
 use Rattle.std.proofs.Common.{◌≡◌, ◌≢◌, ℕ, Bool, true, List, [], ◌∷◌, ◌++◌, set, Option, None, Some, is_some, refl, sym, ap, subst, ◌∙◌, arith}
 use Rattle.std.proofs.lemmas.Bool.{and_parts}
-use Rattle.game_rules.specs.Position.{same_side}
+use Rattle.game_rules.specs.Position.{Position, same_side, side_to_move}
 use Rattle.game_rules.specs.declared.Side.{Side}
 use Rattle.game_rules.specs.declared.Side.TheVariants.{White, Black}
 use Rattle.game_rules.specs.contracts.SidePartialEq.TheImpl.{eq-value}
@@ -15,7 +15,9 @@ use Rattle.node_pool.specs.Slots.{held, IsLive, live_slots}
 use Rattle.proof_front.specs.Cells.{Cell, Owns}
 use Rattle.proof_front.specs.Numbers.{row_numbers, node_numbers, same_numbers}
 use Rattle.proof_front.specs.Rows.{Placed, row_of, first_of, cells_of, Lies, IsRowAt}
-use Rattle.proof_front.specs.Steps.{LiesBelow, renewed}
+use Rattle.proof_front.specs.Steps.{LiesBelow, renewed, IsRenewed}
+use Rattle.proof_front.specs.declared.growing.Step.{Step}
+use Rattle.proof_front.specs.declared.growing.Step.TheVariants as steps
 use Rattle.proof_front.specs.declared.node.Node.{Node}
 use Rattle.proof_front.specs.declared.node.Numbers.{Numbers}
 use Rattle.proof_front.proofs.Cells.{exchanged, mine, changed_to}
@@ -65,7 +67,7 @@ module _ (side : Side) {slots : List (Option Node)} {at : ℕ} {first : Option �
     still_live Yes k = ap is_some (mine at node others (settled_owns k (λ e. cc)))
     still_live No k = ap is_some (mine at node others (settled_owns k (λ e. cc)))
 
-    pub put_back : (v : Verdict) → Kept v mid kept → v ≡ verdict_on side node.position (row_of kids) → live_slots (set mid at (Some (put_as side node kids kept))) ≡ live_slots mid
+    put_back : (v : Verdict) → Kept v mid kept → v ≡ verdict_on side node.position (row_of kids) → live_slots (set mid at (Some (put_as side node kids kept))) ≡ live_slots mid
         → Owns (set mid at (Some (put_as side node kids kept))) (renewed side at node kids ++ others)
     put_back Unsettled k e count =
         let begins : kept ≡ first_of kids = (k.same refl).1 ∙ sym b.begins in
@@ -75,7 +77,7 @@ module _ (side : Side) {slots : List (Option Node)} {at : ℕ} {first : Option �
     put_back No k e count = rw (← e) (rw (k.none (λ e. cc)) (changed_to at node _ others (settled_owns k (λ e. cc)) (subst (λ f. live_slots (set mid at (Some (put_as side node kids f))) ≡ live_slots mid) (k.none (λ e. cc)) count)))
 
   -- the node was put back with the numbers that its children have
-  pub renewed_owns : (read : Node) (n : Numbers) (v : Verdict) (kept : Option ℕ) (mid new : List (Option Node)) → held slots at ≡ Some read → n ≡ node_numbers side node.position (row_of kids) → v ≡ verdict_of n.proof n.disproof → Kept v mid kept
+  renewed_owns : (read : Node) (n : Numbers) (v : Verdict) (kept : Option ℕ) (mid new : List (Option Node)) → held slots at ≡ Some read → n ≡ node_numbers side node.position (row_of kids) → v ≡ verdict_of n.proof n.disproof → Kept v mid kept
       → new ≡ set mid at (Some (record { position = read.position; first = kept; next = read.next; numbers = n })) → live_slots new ≡ live_slots mid → Owns new (renewed side at node kids ++ others)
   renewed_owns read n v kept mid new here e f k put count =
       let made : record { position = read.position; first = kept; next = read.next; numbers = n } ≡ put_as side node kids kept = rw (read_is read here, e) refl in
@@ -83,11 +85,21 @@ module _ (side : Side) {slots : List (Option Node)} {at : ℕ} {first : Option �
       subst (λ s. Owns s (renewed side at node kids ++ others)) (sym is) (put_back v k (f ∙ ap (λ n. verdict_of n.proof n.disproof) e) (sym (ap live_slots is) ∙ count))
 
   -- the numbers of the children, as a node's
-  pub numbers_are : (read : Node) (own : Bool) (n : Numbers) → held slots at ≡ Some read → own ≡ is_own side read.position → n ≡ row_numbers side own (row_of kids) → n ≡ node_numbers side node.position (row_of kids)
+  numbers_are : (read : Node) (own : Bool) (n : Numbers) → held slots at ≡ Some read → own ≡ is_own side read.position → n ≡ row_numbers side own (row_of kids) → n ≡ node_numbers side node.position (row_of kids)
   numbers_are read own n here e f = f ∙ (ap (λ b. row_numbers side b (row_of kids)) e ∙ ap (λ m. node_numbers side m.position (row_of kids)) (read_is read here))
 
-  pub before_is : (read : Node) (n : Numbers) (same : Bool) → held slots at ≡ Some read → n ≡ node_numbers side node.position (row_of kids) → same ≡ same_numbers n read.numbers → same ≡ true → node.numbers ≡ node_numbers side node.position (row_of kids)
-  before_is read n same here e f alike = sym (ap (λ m. m.numbers) (read_is read here)) ∙ (sym (numbers_same n read.numbers (sym f ∙ alike)) ∙ e)
+  -- where the numbers are as before, they were the children's before
+  before_is : (read : Node) (n : Numbers) → held slots at ≡ Some read → n ≡ node_numbers side node.position (row_of kids) → same_numbers n read.numbers ≡ true → node.numbers ≡ node_numbers side node.position (row_of kids)
+  before_is read n here e alike = sym (ap (λ m. m.numbers) (read_is read here)) ∙ (sym (numbers_same n read.numbers alike) ∙ e)
+
+  -- the node after it was looked at again
+  pub renewed_again : {read : Node} {own : Bool} {n : Numbers} {v : Verdict} {kept : Option ℕ} {mid new : List (Option Node)} {step : Step} → held slots at ≡ Some read → own ≡ is_own side read.position
+      → n ≡ row_numbers side own (row_of kids) → v ≡ verdict_of n.proof n.disproof → Kept v mid kept
+      → new ≡ set mid at (Some (record { position = read.position; first = kept; next = read.next; numbers = n })) → live_slots new ≡ live_slots mid → (step ≡ steps.Same → same_numbers n read.numbers ≡ true)
+      → IsRenewed side new at node kids others step
+  renewed_again {read} {own} {n} {v} {kept} {mid} {new} here moves e f k put count alike =
+      let numbers = numbers_are read own n here moves e in
+      record { owns = renewed_owns read n v kept mid new here numbers f k put count; numbers = λ same. before_is read n here numbers (alike same) }
 
 -- the comparison of sides in the code is the one in the definitions
 pub side_same : (a b : Side) → eq-value.it a b ≡ same_side a b
@@ -95,3 +107,7 @@ side_same White White = refl
 side_same White Black = refl
 side_same Black White = refl
 side_same Black Black = refl
+
+-- whether the side that is asked about is to move, as the code tests it
+pub own_is : (side : Side) {turn : Side} {own : Bool} (p : Position) → own ≡ eq-value.it side turn → turn ≡ side_to_move p → own ≡ is_own side p
+own_is side {turn} p is moves = is ∙ side_same side turn ∙ ap (same_side side) moves

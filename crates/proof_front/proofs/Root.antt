@@ -18,7 +18,7 @@ use Rattle.proof_front.specs.Cells.{Owns, listed}
 use Rattle.proof_front.specs.Numbers.{number_in, leaf_numbers}
 use Rattle.proof_front.specs.Rows.{Placed, end, leaf_at, inner_at, row_of, cells_of, Lies, IsRowAt, row_at}
 use Rattle.proof_front.specs.Steps.{IsAsked, Grew}
-use Rattle.proof_front.specs.Fronts.{beside, IsFront, is_full}
+use Rattle.proof_front.specs.Fronts.{beside, IsFront, is_full, IsAnswer}
 use Rattle.proof_front.specs.declared.node.Node.{Node}
 use Rattle.proof_front.proofs.Cells.{placed_to}
 use Rattle.proof_front.proofs.Reading.{reads_at, length_cells}
@@ -164,7 +164,7 @@ module _ {side : Side} {slots : List (Option Node)} {root : ℕ} (f : IsFront si
         look No e = no_zero node.numbers.proof node.numbers.disproof (sym e)
 
     module _ (step : Step) (result : Grown) (answers : result ≡ answer_of v step) where
-      pub says_yes : (result ≡ Settled true) ↔ (is_zero (root_number side true (row_at slots (Some root))) ≡ true)
+      says_yes : (result ≡ Settled true) ↔ (is_zero (root_number side true (row_at slots (Some root))) ≡ true)
       unfolding is_yes
       says_yes = rw (answers, proof_zero) (look v step)
         where
@@ -175,7 +175,7 @@ module _ {side : Side} {slots : List (Option Node)} {root : ℕ} (f : IsFront si
           look Unsettled steps.Same = (λ e. cc, λ e. cc)
           look Unsettled steps.Changed = (λ e. cc, λ e. cc)
 
-      pub says_no : (result ≡ Settled false) ↔ (is_zero (root_number side false (row_at slots (Some root))) ≡ true)
+      says_no : (result ≡ Settled false) ↔ (is_zero (root_number side false (row_at slots (Some root))) ≡ true)
       unfolding is_no
       says_no = rw (answers, disproof_zero) (look v step)
         where
@@ -187,7 +187,7 @@ module _ {side : Side} {slots : List (Option Node)} {root : ℕ} (f : IsFront si
           look Unsettled steps.Changed = (λ e. cc, λ e. cc)
 
       -- where the root is settled nothing is said of room
-      pub says_full : (v ≡ Unsettled → (step ≡ steps.Full) ↔ (free_slots slots < asked_in side true node.numbers.proof (row_of f.tree)))
+      says_full : (v ≡ Unsettled → (step ≡ steps.Full) ↔ (free_slots slots < asked_in side true node.numbers.proof (row_of f.tree)))
           → (result ≡ Full) ↔ ((is_settled side (row_at slots (Some root)) ≡ false) × (is_full side (length slots) (row_at slots (Some root)) ≡ true))
       unfolding is_yes is_no
       says_full room = rw (answers, proof_zero, disproof_zero) (look v step room)
@@ -216,6 +216,10 @@ module _ {side : Side} {slots : List (Option Node)} {root : ℕ} (f : IsFront si
             where
               other : steps.Changed ≡ steps.Full → ⊥
               other e = cc
+
+      pub says : {reach : ℕ} → (v ≡ Unsettled → (step ≡ steps.Full) ↔ (free_slots slots < asked_in side true node.numbers.proof (row_of f.tree)))
+          → IsAnswer (record { side = side; reach = reach; slots = slots; root = root }) result
+      says room = record { yes = says_yes; no = says_no; full = says_full room }
 
 -- ---- a new tree
 

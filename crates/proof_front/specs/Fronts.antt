@@ -1,12 +1,15 @@
 -- A front as its callers see it: a tree, the side that is asked about, the reach of the plans, and the number of slots.
-use Rattle.std.specs.Prelude.{◌≡◌, ℕ, ◌-◌, nat_lt, ◌≤◌, List, [], length, Option, Some, Bool}
+use Rattle.std.specs.Prelude.{◌≡◌, ◌↔◌, ℕ, ◌-◌, nat_lt, ◌≤◌, List, [], length, Option, Some, Bool, true, false}
 use Rattle.game_rules.specs.Position.{Position}
 use Rattle.game_rules.specs.declared.Side.{Side}
 use Rattle.game_rules.specs.declared.Side.TheVariants.{White, Black}
 use Rattle.game_rules.specs.declared.Question.{Question}
 use Rattle.game_rules.specs.declared.Question.TheVariants.{WhiteWins, BlackWins}
-use Rattle.front_rules.specs.Front.{Row, nothing, leaf, inner, node_count, asked, front}
+use Rattle.front_rules.specs.Counts.{is_zero}
+use Rattle.front_rules.specs.Front.{Row, nothing, leaf, inner, node_count, root_number, is_settled, asked, front}
 use Rattle.proof_front.specs.Rows.{Placed, row_of, Lies, row_at}
+use Rattle.proof_front.specs.declared.front.Grown.{Grown}
+use Rattle.proof_front.specs.declared.front.Grown.TheVariants as grows
 use Rattle.proof_front.specs.declared.node.Node.{Node}
 
 -- the side that a question asks about
@@ -50,3 +53,10 @@ pub record IsFrontOf (p : Position) (side : Side) (reach n slots : ℕ) (f : Fro
   pub same_side : f.side ≡ side
   pub same_reach : f.reach ≡ reach
   pub same_slots : capacity f ≡ slots
+
+-- What a front answers that is to grow: whether the side wins exactly where its root is settled, and else whether there is
+-- too little room.
+pub record IsAnswer (f : FrontState) (answer : Grown) : Type 0 where
+  pub yes : (answer ≡ grows.Settled true) ↔ (is_zero (root_number f.side true (tree_of f)) ≡ true)
+  pub no : (answer ≡ grows.Settled false) ↔ (is_zero (root_number f.side false (tree_of f)) ≡ true)
+  pub full : (answer ≡ grows.Full) ↔ ((is_settled f.side (tree_of f) ≡ false) × (is_full f.side (capacity f) (tree_of f) ≡ true))

@@ -1,17 +1,20 @@
 -- What an expansion rests on and what it leaves, node by node.
 use Rattle.std.specs.List.{filter}
-use Rattle.std.specs.Prelude.{◌≡◌, ℕ, false, List, [], ◌∷◌, ◌++◌, map, Option, Some, None, Bool, true}
+use Rattle.std.specs.Prelude.{◌≡◌, ◌≢◌, ◌↔◌, ℕ, ◌<◌, false, List, [], ◌∷◌, ◌++◌, length, map, Option, Some, None, Bool, true}
 use Rattle.game_rules.specs.Position.{Position, has_room, after_move, end_of}
 use Rattle.game_rules.specs.declared.Side.{Side}
 use Rattle.front_rules.specs.Counts.{is_zero, is_infinite}
-use Rattle.front_rules.specs.Front.{Row, number_of, verdict_on, leaves}
-use Rattle.front_rules.specs.Path.{IsClean}
+use Rattle.front_rules.specs.Front.{Row, number_of, verdict_on, leaves, moves_out, planned, asked_in}
+use Rattle.front_rules.specs.Path.{IsClean, updated}
 use Rattle.front_rules.specs.declared.Count.{Count}
 use Rattle.front_rules.specs.declared.Verdict.{Verdict}
 use Rattle.front_rules.specs.declared.Verdict.TheVariants.{Unsettled, Yes, No}
+use Rattle.node_pool.specs.Slots.{free_slots}
 use Rattle.proof_front.specs.Numbers.{node_numbers}
 use Rattle.proof_front.specs.Cells.{Cell, Owns}
 use Rattle.proof_front.specs.Rows.{Placed, row_of, first_of, cells_of, AreGoing, Lies}
+use Rattle.proof_front.specs.declared.growing.Step.{Step}
+use Rattle.proof_front.specs.declared.growing.Step.TheVariants as steps
 use Rattle.proof_front.specs.declared.node.Node.{Node}
 
 -- A row lies from this slot on whose least number is this one, neither 0 nor infinite.
@@ -66,3 +69,24 @@ pub record Grew (side : Side) (slots : List (Option Node)) (at : ℕ) (row : Row
   pub placed : Placed
   pub is : row_of placed ≡ row
   pub lies : Lies side slots (Some at) placed others
+
+-- ---- what an expansion did, step by step
+
+-- A node was looked at again, whose children lie beside other cells.
+pub record IsRenewed (side : Side) (slots : List (Option Node)) (at : ℕ) (node : Node) (kids : Placed) (others : List (Cell Node)) (step : Step) : Type 0 where
+  pub owns : Owns slots (renewed side at node kids ++ others)
+  pub numbers : step ≡ steps.Same → node.numbers ≡ node_numbers side node.position (row_of kids)
+
+-- A leaf got a child for each of its moves, or there was too little room.
+pub record IsExpanded (side : Side) (reach : ℕ) (old new : List (Option Node)) (at : ℕ) (node : Node) (others : List (Cell Node)) (step : Step) : Type 0 where
+  pub full : step ≡ steps.Full ↔ (free_slots old < length (moves_out node.position))
+  pub grown : step ≢ steps.Full
+      → (kids : Placed) × (row_of kids ≡ leaves side (planned reach) (moves_out node.position)) × AreGoing (row_of kids) × Owns new (renewed side at node kids ++ others)
+  pub numbers : step ≡ steps.Same → node.numbers ≡ node_numbers side node.position (leaves side (planned reach) (moves_out node.position))
+
+-- A row grew by its most-proving leaf, or there was too little room; where its first number stays, all of them do.
+pub record IsGrown (side : Side) (reach : ℕ) (old new : List (Option Node)) (at : ℕ) (proof : Bool) (least : Count) (row : Placed) (others : List (Cell Node)) (step : Step) : Type 0 where
+  pub full : step ≡ steps.Full ↔ (free_slots old < asked_in side proof least (row_of row))
+  pub grown : step ≢ steps.Full → Grew side new at (updated side (planned reach) proof least (row_of row)) others
+  pub numbers : step ≡ steps.Same
+      → (b smallest : Bool) → number_of side b smallest (updated side (planned reach) proof least (row_of row)) ≡ number_of side b smallest (row_of row)

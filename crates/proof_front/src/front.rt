@@ -1,9 +1,8 @@
 //! The front: a tree in a pool, what it asks, and where its root lies.
-ghost use Rattle.std.specs.Prelude.{◌≡◌, ◌≢◌, ℕ, ◌+◌, ◌↔◌, ◌≤◌, true, false, IfOk};
+ghost use Rattle.std.specs.Prelude.{◌≡◌, ◌≢◌, ℕ, ◌+◌, ◌≤◌, true, false, IfOk};
 ghost use Rattle.game_rules.specs.Position.{Position as Men};
-ghost use Rattle.front_rules.specs.Counts.{is_zero};
-ghost use Rattle.front_rules.specs.Front.{node_count, root_number, is_settled, planned, grown};
-ghost use Rattle.proof_front.specs.Fronts.{side_asked, tree_of, capacity, is_full, IsFrontOf};
+ghost use Rattle.front_rules.specs.Front.{node_count, root_number, planned, grown};
+ghost use Rattle.proof_front.specs.Fronts.{side_asked, tree_of, capacity, IsFrontOf, IsAnswer};
 ghost use Rattle.proof_front.specs.declared.front.Grown.TheVariants as grows;
 
 use crate::growing::{Step, grow_in};
@@ -86,9 +85,7 @@ impl Front {
     /// Expands the most-proving leaf. `Settled` comes exactly where the root is settled, with whether the side wins; else
     /// `Full` exactly where fewer slots are free than that leaf has legal moves. With either, nothing is changed.
     pub fn grow(&mut self, chooser: &mut Chooser) -> Grown
-        ensures yes { (result ≡ grows.Settled true) ↔ (is_zero (root_number self.old.side true (tree_of self.old)) ≡ true) }
-        ensures no { (result ≡ grows.Settled false) ↔ (is_zero (root_number self.old.side false (tree_of self.old)) ≡ true) }
-        ensures full { (result ≡ grows.Full) ↔ ((is_settled self.old.side (tree_of self.old) ≡ false) × (is_full self.old.side (capacity self.old) (tree_of self.old) ≡ true)) }
+        ensures answer { IsAnswer self.old result }
         ensures same { result ≢ grows.Expanded → self.new ≡ self.old }
         ensures expanded { result ≡ grows.Expanded → tree_of self.new ≡ grown self.old.side (planned self.old.reach) (tree_of self.old) }
         ensures front { result ≡ grows.Expanded → (p : Men) (n : ℕ) → IsFrontOf p self.old.side self.old.reach n (capacity self.old) self.old

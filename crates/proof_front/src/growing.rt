@@ -1,15 +1,11 @@
 //! An expansion: down one path to the most-proving leaf, and back up by it.
-ghost use Rattle.std.specs.Prelude.{◌≡◌, ◌≢◌, ◌↔◌, ◌<◌, Bool, List, ◌∷◌, ◌++◌, length, filter, nat_lt, Some, None, ◌≤◌};
+ghost use Rattle.std.specs.Prelude.{◌≡◌, ◌≢◌, Bool, List, ◌∷◌, length, filter, nat_lt, Some, None, ◌≤◌};
 ghost use Rattle.game_rules.specs.Position.{has_room};
 ghost use Rattle.game_rules.specs.declared.Side.{Side};
-ghost use Rattle.front_rules.specs.Counts.{is_zero, is_infinite};
-ghost use Rattle.front_rules.specs.Front.{moves_out, leaves, planned, number_of, asked_in};
-ghost use Rattle.front_rules.specs.Path.{updated};
 ghost use Rattle.node_pool.specs.Slots.{free_slots};
-ghost use Rattle.proof_front.specs.Numbers.{node_numbers};
 ghost use Rattle.proof_front.specs.Cells.{Cell, Owns};
-ghost use Rattle.proof_front.specs.Rows.{Placed, row_of, AreGoing, Lies, IsRowAt};
-ghost use Rattle.proof_front.specs.Steps.{LiesBelow, IsBelow, renewed, IsAsked, IsGoingLeaf, Grew};
+ghost use Rattle.proof_front.specs.Rows.{Placed, Lies, IsRowAt};
+ghost use Rattle.proof_front.specs.Steps.{LiesBelow, IsBelow, IsRenewed, IsGoingLeaf, IsExpanded, IsAsked, IsGrown};
 ghost use Rattle.proof_front.specs.declared.node.Node.{Node as Held};
 ghost use Rattle.front_rules.specs.declared.Verdict.TheVariants as verdicts;
 ghost use Rattle.proof_front.specs.declared.growing.Step.TheVariants as steps;
@@ -45,13 +41,9 @@ pub(crate) fn grow_in(
 ) -> Step
     requires few { length pool.old ≤ 1000000 }
     requires row { IsAsked asked.now.side pool.old at proof least }
-    ensures full { (row : Placed) (others : List (Cell Held)) → Lies asked.now.side pool.old (Some at) row others
-        → (result ≡ steps.Full ↔ (free_slots pool.old < asked_in asked.now.side proof least (row_of row))) }
+    ensures row { (row : Placed) (others : List (Cell Held)) → Lies asked.now.side pool.old (Some at) row others
+        → IsGrown asked.now.side asked.now.reach pool.old pool.new at proof least row others result }
     ensures kept { result ≡ steps.Full → pool.new ≡ pool.old }
-    ensures grown { (row : Placed) (others : List (Cell Held)) → Lies asked.now.side pool.old (Some at) row others → result ≢ steps.Full
-        → Grew asked.now.side pool.new at (updated asked.now.side (planned asked.now.reach) proof least (row_of row)) others }
-    ensures numbers { (row : Placed) (others : List (Cell Held)) → Lies asked.now.side pool.old (Some at) row others → result ≡ steps.Same
-        → (b smallest : Bool) → number_of asked.now.side b smallest (updated asked.now.side (planned asked.now.reach) proof least (row_of row)) ≡ number_of asked.now.side b smallest (row_of row) }
     ensures same { length pool.new ≡ length pool.old }
 {
     let node = pool.get(at);
@@ -74,20 +66,18 @@ pub(crate) fn grow_in(
 fn expand(pool: &mut Pool<Node>, asked: &Asked, chooser: &mut Chooser, at: Slot) -> Step
     requires few { length pool.old ≤ 1000000 }
     requires leaf { IsGoingLeaf pool.old at }
-    ensures full { (node : Held) (others : List (Cell Held)) → Owns pool.old ((at, node) ∷ others) → (result ≡ steps.Full ↔ (free_slots pool.old < length (moves_out node.position))) }
+    ensures leaf { (node : Held) (others : List (Cell Held)) → Owns pool.old ((at, node) ∷ others)
+        → IsExpanded asked.now.side asked.now.reach pool.old pool.new at node others result }
     ensures kept { result ≡ steps.Full → pool.new ≡ pool.old }
-    ensures grown { (node : Held) (others : List (Cell Held)) → Owns pool.old ((at, node) ∷ others) → result ≢ steps.Full
-        → (kids : Placed) × (row_of kids ≡ leaves asked.now.side (planned asked.now.reach) (moves_out node.position)) × AreGoing (row_of kids) × Owns pool.new (renewed asked.now.side at node kids ++ others) }
-    ensures numbers { (node : Held) (others : List (Cell Held)) → Owns pool.old ((at, node) ∷ others) → result ≡ steps.Same
-        → node.numbers ≡ node_numbers asked.now.side node.position (leaves asked.now.side (planned asked.now.reach) (moves_out node.position)) }
     ensures same { length pool.new ≡ length pool.old }
 {
     let position = pool.get(at).position;
     let order = centre_out(position.size());
-    if is_short(pool, &position, order.as_slice()) {
+    let columns = order.as_slice();
+    if is_short(pool, &position, columns) {
         return Step::Full;
     }
-    let first = place_leaves(pool, asked, chooser, &position, order.as_slice());
+    let first = place_leaves(pool, asked, chooser, &position, columns);
     renew(pool, asked.side, at, first)
 }
 
@@ -118,9 +108,8 @@ fn renew(pool: &mut Pool<Node>, side: Side, at: Slot, first: Option<Slot>) -> St
     requires few { length pool.old ≤ 1000000 }
     requires below { IsBelow side pool.old at first }
     ensures done { result ≢ steps.Full }
-    ensures renewed { (node : Held) (kids : Placed) (others : List (Cell Held)) → LiesBelow side pool.old at first node kids others → Owns pool.new (renewed side at node kids ++ others) }
-    ensures numbers { (node : Held) (kids : Placed) (others : List (Cell Held)) → LiesBelow side pool.old at first node kids others → result ≡ steps.Same
-        → node.numbers ≡ node_numbers side node.position (row_of kids) }
+    ensures renewed { (node : Held) (kids : Placed) (others : List (Cell Held)) → LiesBelow side pool.old at first node kids others
+        → IsRenewed side pool.new at node kids others result }
     ensures same { length pool.new ≡ length pool.old }
 {
     let node = pool.get(at);

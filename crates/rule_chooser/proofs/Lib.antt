@@ -10,4 +10,6 @@ mod GivenLists
 mod Visits
 mod ChosenPlans
 mod Linked
+mod NextSets
+mod FittingRoom
 mod StandingFirst

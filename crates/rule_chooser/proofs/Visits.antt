@@ -2,6 +2,7 @@
 -- and another one is gone on with, zone after zone.
 use Rattle.std.proofs.Common.{◌≡◌, ℕ, suc, ◌+◌, ◌-◌, ◌<◌, ◌≤◌, Bool, true, false, not, ◌&&◌, ◌||◌, if◌then◌else◌, List, [], ◌∷◌, ◌++◌, length, filter, take, drop, get_or, Some, None, is_some, refl, sym, ap, ◌∙◌, subst, arith}
 use Rattle.std.specs.List.{list_all, flat_map, slice_get}
+use Rattle.std.proofs.Math.Bool.{and-true}
 use Rattle.std.proofs.lemmas.Bool.{and_parts}
 use Rattle.std.proofs.lemmas.List.{at_drop_more, append_assoc, append-nil, length-append, length-map, map-append, drop_all, take_at}
 use Rattle.std.proofs.lemmas.List.Concat.{flat_map-cons}
@@ -27,7 +28,7 @@ use Rattle.walk_rules.proofs.Steps.{set_push, set_room}
 use Rattle.walk_rules.proofs.Walks.{walk_step}
 use Rattle.rule_chooser.specs.declared.visit.Found.{Found}
 use Rattle.rule_chooser.specs.declared.visit.Found.TheVariants as founds
-use Rattle.rule_chooser.specs.Walked.{goes_on, chosen_by}
+use Rattle.rule_chooser.specs.Walked.{LeavesOpen, goes_on, chosen_by}
 
 -- the first of a list, and the list
 none_at : {X : Type 0} (xs : List X) → slice_get xs 0 ≡ None → xs ≡ []
@@ -45,8 +46,8 @@ open_is p set board squares is =
 
 module _ (p : Position) (set : List RuleInstance) where
   -- no set more may be visited
-  pub none_left : (rest : List (List RuleInstance)) → choice_among p 0 (walk_from p set ++ rest) ≡ spent
-  none_left rest = ap (λ sets. choice_among p 0 (sets ++ rest)) (walk_step p set)
+  pub none_left : {left : ℕ} → left ≡ 0 → (rest : List (List RuleInstance)) → choice_among p left (walk_from p set ++ rest) ≡ spent
+  none_left none rest = ap (λ k. choice_among p k (walk_from p set ++ rest)) none ∙ ap (λ sets. choice_among p 0 (sets ++ rest)) (walk_step p set)
 
   -- the set is visited
   visited : (k : ℕ) (rest : List (List RuleInstance))
@@ -173,6 +174,30 @@ module _ (p : Position) (set : List Instance) (going : is_plan_position p ≡ tr
   without_one zones i zone k rest within at stays =
       ap (λ sets. choice_among p k (sets ++ rest)) (after_drop p (written_list set) zones i zone within at ∙ after_other p (written_list set) (written zone) (written_list (drop (i + 1) zones)) stays)
 
+-- ---- a set that leaves these squares open is visited
+
+module _ (set : List Instance) {p : Position} {squares : List Square} (leaves : LeavesOpen p (written_list set) squares) (board : is_board (board_of p) ≡ true) (left k : ℕ) (more : left ≡ suc k) (rest : List (List RuleInstance)) where
+  -- the set alone decides
+  module _ (none : slice_get squares 0 ≡ None) (lent : List Instance) {answered : Bool} (lend : lent ≡ set)
+      (told : answered ≡ list_all (λ g. not (is_left p (written_list lent) g) || is_some (answer_to p (written_list lent) g)) (groups_of (board_of p))) where
+    decided : choice_among p left (walk_from p (written_list set) ++ rest) ≡ (if answered then gave (given p (written_list set)) else choice_among p k rest)
+    decided =
+        ap (λ n. choice_among p n (walk_from p (written_list set) ++ rest)) more
+        ∙ full_is p (written_list set) leaves.going leaves.is_set board squares leaves.open_squares k rest answered none
+        (told ∙ ap (λ zs. list_all (λ g. not (is_left p (written_list zs) g) || is_some (answer_to p (written_list zs) g)) (groups_of (board_of p))) lend)
+
+    pub gives : {list : List Instance} → answered ≡ true → list ≡ lent → choice_among p left (walk_from p (written_list set) ++ rest) ≡ gave (given p (written_list list))
+    gives {list} does same = decided ∙ ap (λ b. if b then gave (given p (written_list set)) else choice_among p k rest) does ∙ ap (λ zs. gave (given p (written_list zs))) (sym (same ∙ lend))
+
+    pub gives_none : answered ≡ false → choice_among p left (walk_from p (written_list set) ++ rest) ≡ choice_among p k rest
+    gives_none fails = decided ∙ ap (λ b. if b then gave (given p (written_list set)) else choice_among p k rest) fails
+
+  -- what comes of it does
+  pub goes_next : {first : Square} → slice_get squares 0 ≡ Some first → choice_among p left (walk_from p (written_list set) ++ rest) ≡ choice_among p k (after p (written_list set) (fitting_zones p) ++ rest)
+  goes_next {first} some =
+      ap (λ n. choice_among p n (walk_from p (written_list set) ++ rest)) more
+      ∙ open_goes p (written_list set) leaves.going leaves.is_set board squares leaves.open_squares k rest first some
+
 -- the last element taken away again
 pub taken_back : {X : Type 0} (xs longer shorter : List X) (x : X) → longer ≡ xs ++ x ∷ [] → shorter ≡ take (length longer - 1) longer → shorter ≡ xs
 taken_back xs longer shorter x same taken =
@@ -188,3 +213,8 @@ goes_end p k ws founds.Spent = refl
 -- the walk of a position at which White is to move and the game goes on
 pub walk_going : (p : Position) (k : ℕ) → is_plan_position p ≡ true → choice_of p k ≡ choice_among p k (walk_from p [] ++ [])
 walk_going p k going = ap (λ b. choice_among p k (if b then walk_from p [] else [])) going ∙ ap (choice_among p k) (sym (append-nil (walk_from p [])))
+
+-- the empty set leaves all empty squares open
+pub opens_all : {p : Position} {squares : List Square} → is_plan_position p ≡ true → IsSetOf (is_empty p) squares → LeavesOpen p [] squares
+opens_all {p} {squares} going is =
+    record { going = going; is_set = refl; open_squares = set_same _ _ squares is (λ u. sym (and-true (is_empty p u))) }

@@ -1,8 +1,12 @@
 -- What a walk has found among the sets of a part of it, for whatever sets come after that part.
-use Rattle.std.specs.Prelude.{ℕ, List}
+use Rattle.std.specs.Prelude.{◌≡◌, ℕ, true, List, Some, slice_get}
+use Rattle.game_rules.specs.Board.{Square}
 use Rattle.game_rules.specs.Position.{Position}
+use Rattle.game_rules.specs.Squares.{IsSetOf}
 use Rattle.plan_rules.specs.Rules.{RuleInstance}
-use Rattle.walk_rules.specs.Walk.{Chosen, gave, no_plan, spent, given, choice_among}
+use Rattle.plan_rules.specs.Refusal.{is_uncovered}
+use Rattle.walk_rules.specs.Walk.{Chosen, gave, no_plan, spent, given, is_plan_position, choice_among}
+use Rattle.walk_rules.specs.Steps.{is_zone_set}
 use Rattle.rule_chooser.specs.declared.visit.Found.{Found}
 use Rattle.rule_chooser.specs.declared.visit.Found.TheVariants as founds
 
@@ -23,3 +27,14 @@ abbrev pub choice_shown : List RuleInstance → Found → Chosen
 choice_shown list founds.Plan = gave list
 choice_shown list founds.NoPlan = no_plan
 choice_shown list founds.Spent = spent
+
+-- A set of zones at a position with a walk leaves these squares open.
+pub record LeavesOpen (p : Position) (set : List RuleInstance) (squares : List Square) : Type 0 where
+  pub going : is_plan_position p ≡ true
+  pub is_set : is_zone_set p set ≡ true
+  pub open_squares : IsSetOf (is_uncovered p set) squares
+
+-- This is the first of them.
+pub record OpensAt (p : Position) (set : List RuleInstance) (squares : List Square) (first : Square) : Type 0 where
+  pub leaves : LeavesOpen p set squares
+  pub at : slice_get squares 0 ≡ Some first

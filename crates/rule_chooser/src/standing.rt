@@ -3,13 +3,15 @@ ghost use Rattle.std.specs.Prelude.{◌≡◌, true};
 ghost use Rattle.std.specs.List.{find};
 ghost use Rattle.std.specs.Option.{option_map};
 ghost use Rattle.game_rules.specs.Board.{Square as Place};
+ghost use Rattle.game_rules.specs.Position.{board_of};
 ghost use Rattle.game_rules.specs.Squares.{has_square, is_empty, IsSetOf};
-ghost use Rattle.plan_rules.specs.Rules.{vertical};
+ghost use Rattle.game_rules.specs.Groups.{groups_of};
+ghost use Rattle.plan_rules.specs.Rules.{vertical, aftereven, before};
 ghost use Rattle.plan_rules.specs.Listing.{squares_at};
 ghost use Rattle.rule_law.specs.KeptFacts.{facts_in};
 ghost use Rattle.rule_compat.specs.Written.{written};
 ghost use Rattle.rule_chooser.specs.Ground.{IsGround};
-ghost use Rattle.rule_chooser.specs.Standing.{does_answer, first_standing, is_open_within};
+ghost use Rattle.rule_chooser.specs.Standing.{does_answer, first_of, first_standing, is_open_within};
 
 use crate::ground::Ground;
 use crate::lines::Line;
@@ -34,17 +36,13 @@ pub(crate) fn first_answer(
     requires part { (u : Place) → has_square empty u ≡ true → is_empty p.now u ≡ true }
     ensures { option_map written result ≡ first_standing p.now (facts_in kept.now) (has_square empty) }
 {
-    // its contract says that the board is one with a size
-    let _board = p.size();
     if let Some(rule) = first_vertical(p, kept, empty) {
         return Some(Instance::Vertical(rule));
     }
-    let after = kept.upper.intersection(squares_below(empty));
-    if let Some(group) = first_within(ground.black.as_slice(), after) {
+    if let Some(group) = first_aftereven(p, ground, kept, empty) {
         return Some(Instance::Aftereven(Aftereven::new(group)));
     }
-    let before = kept.upper.union(kept.pair).intersection(empty.lowered());
-    if let Some(group) = first_within(ground.black.as_slice(), before) {
+    if let Some(group) = first_before(p, ground, kept, empty) {
         return Some(Instance::Before(Before::new(group)));
     }
     let rule = first_specialbefore(p, ground, kept, empty)?;
@@ -61,6 +59,31 @@ fn first_vertical(p: &Position, kept: &Kept, empty: Mask) -> Option<Vertical>
     let both = empty.intersection(empty.lowered());
     let squares = both.intersection(kept.pair).without(Mask::odd_rows());
     Vertical::new(size, squares.first()?)
+}
+
+/// The group of the first Aftereven, in group order, that answers the line.
+fn first_aftereven(p: &Position, ground: &Ground, kept: &Kept, empty: Mask) -> Option<GroupId>
+    requires ground { IsGround p.now ground.now }
+    requires kept { (u : Place) → has_square kept.now.empty u ≡ is_empty p.now u }
+    ensures { option_map aftereven result ≡ first_of p.now (facts_in kept.now) (has_square empty) aftereven (groups_of (board_of p.now)) }
+{
+    // its contract says that the board is one with a size
+    let _board = p.size();
+    let squares = kept.upper.intersection(squares_below(empty));
+    first_within(ground.black.as_slice(), squares)
+}
+
+/// The group of the first Before, in group order, that answers the line.
+fn first_before(p: &Position, ground: &Ground, kept: &Kept, empty: Mask) -> Option<GroupId>
+    requires ground { IsGround p.now ground.now }
+    requires kept { (u : Place) → has_square kept.now.empty u ≡ is_empty p.now u }
+    requires part { (u : Place) → has_square empty u ≡ true → is_empty p.now u ≡ true }
+    ensures { option_map before result ≡ first_of p.now (facts_in kept.now) (has_square empty) before (groups_of (board_of p.now)) }
+{
+    // its contract says that the board is one with a size
+    let _board = p.size();
+    let squares = kept.upper.union(kept.pair).intersection(empty.lowered());
+    first_within(ground.black.as_slice(), squares)
 }
 
 /// The first of Black's lines that has an empty square, and of which the set has all empty squares.

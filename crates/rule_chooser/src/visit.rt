@@ -1,14 +1,13 @@
 //! The walk through the sets of zones, depth first: one recursion for each zone of a set.
 ghost use Rattle.std.specs.Prelude.{◌≡◌, ◌≤◌, true, ◌&&◌, List, ◌++◌, length};
 ghost use Rattle.std.specs.List.{list_all};
-ghost use Rattle.game_rules.specs.Squares.{has_square, IsSetOf};
+ghost use Rattle.game_rules.specs.Squares.{has_square};
 ghost use Rattle.plan_rules.specs.Rules.{RuleInstance, zone_of, together};
-ghost use Rattle.plan_rules.specs.Refusal.{is_uncovered};
 ghost use Rattle.rule_compat.specs.Written.{written, written_list};
-ghost use Rattle.walk_rules.specs.Walk.{is_plan_position, walk_from, choice_among, choice_of};
-ghost use Rattle.walk_rules.specs.Steps.{is_zone_set};
+ghost use Rattle.walk_rules.specs.Walk.{fitting_zones, is_plan_position, walk_from, choice_among, choice_of};
+ghost use Rattle.walk_rules.specs.Steps.{is_zone_set, after};
 ghost use Rattle.rule_chooser.specs.Ground.{IsGround};
-ghost use Rattle.rule_chooser.specs.Walked.{goes_on, chosen_by};
+ghost use Rattle.rule_chooser.specs.Walked.{LeavesOpen, OpensAt, goes_on, chosen_by};
 ghost use Rattle.rule_chooser.specs.declared.visit.Found.TheVariants as founds;
 
 use crate::full::{MOST_MEMBERS, is_answered};
@@ -67,9 +66,9 @@ fn is_plan_position(p: &Position) -> bool
     }
 }
 
-/// Visits a set, given the squares that it leaves open, and then each set that goes on with a zone that may follow, in
-/// their order, up to the first that gives a plan: then the list has its zones. Each set visited takes 1 from what is
-/// left; where nothing is left, the sets are spent.
+/// Visits a set, given the squares that it leaves open, and then each set that comes of it, up to the first that gives a
+/// plan: then the list has its zones. Each set visited takes 1 from what is left; where nothing is left, the sets are spent.
+#[cycle(sets)]
 pub(crate) fn visit(
     p: &Position,
     ground: &Ground,
@@ -78,10 +77,8 @@ pub(crate) fn visit(
     set: &mut ArrayVec<Zone, MOST_ZONES>,
     list: &mut ArrayVec<Instance, MOST_MEMBERS>,
 ) -> Found
-    requires going { is_plan_position p.now ≡ true }
     requires ground { IsGround p.now ground.now }
-    requires set { is_zone_set p.now (written_list set.old.items) ≡ true }
-    requires uncovered { IsSetOf (is_uncovered p.now (written_list set.old.items)) uncovered }
+    requires set { LeavesOpen p.now (written_list set.old.items) uncovered }
     ensures found { (rest : List (List RuleInstance)) → choice_among p.now left.old (walk_from p.now (written_list set.old.items) ++ rest) ≡ goes_on p.now left.new rest (written_list list.new.items) result }
     ensures set { result ≡ founds.NoPlan → set.new.items ≡ set.old.items }
     ensures plan { result ≡ founds.Plan → is_zone_set p.now (written_list list.new.items) ≡ true }
@@ -100,6 +97,29 @@ pub(crate) fn visit(
             Found::NoPlan
         };
     };
+    visit_next(p, ground, uncovered, first, left, set, list)
+}
+
+/// Visits each set that goes on with a zone that may follow, in their order, and what comes of each.
+#[cycle(sets)]
+fn visit_next(
+    p: &Position,
+    ground: &Ground,
+    uncovered: Mask,
+    first: Square,
+    left: &mut u32,
+    set: &mut ArrayVec<Zone, MOST_ZONES>,
+    list: &mut ArrayVec<Instance, MOST_MEMBERS>,
+) -> Found
+    requires ground { IsGround p.now ground.now }
+    requires set { OpensAt p.now (written_list set.old.items) uncovered first }
+    ensures found { (rest : List (List RuleInstance)) → choice_among p.now left.old (after p.now (written_list set.old.items) (fitting_zones p.now) ++ rest) ≡ goes_on p.now left.new rest (written_list list.new.items) result }
+    ensures set { result ≡ founds.NoPlan → set.new.items ≡ set.old.items }
+    ensures plan { result ≡ founds.Plan → is_zone_set p.now (written_list list.new.items) ≡ true }
+    ensures few { result ≡ founds.Plan → length list.new.items ≤ 50 }
+{
+    // its contract says that the board is one with a size
+    let _board = p.size();
     let zones = ground.zones.list.as_slice();
     let mut index = ground.zones.first_with(first);
     'zones: while index < zones.len() {

@@ -12,7 +12,7 @@ use Rattle.game_rules.specs.declared.Side.TheVariants.{White, Black}
 use Rattle.front_rules.specs.Counts.{is_zero}
 use Rattle.front_rules.specs.Front.{root_number, is_settled, front}
 use Rattle.front_rules.specs.declared.Count.{Count}
-use Rattle.proof_front.specs.Fronts.{FrontState, tree_of, capacity, is_full, IsFrontOf}
+use Rattle.proof_front.specs.Fronts.{FrontState, tree_of, capacity, is_full, IsFrontOf, IsAnswer}
 use Rattle.proof_front.specs.declared.front.Grown.{Grown}
 use Rattle.proof_front.specs.declared.front.Grown.TheVariants.{Settled, Full, Expanded}
 use Rattle.device_rules.specs.Devices.{AppendsPrefix}
@@ -98,17 +98,6 @@ none_of true b c first second third = absurd (true≢false first)
 none_of false true c first second third = absurd (true≢false second)
 none_of false false c first second third = third
 
--- what a call of `grow` says of the front
-module _ (g : Grown) (f : FrontState) where
-  abbrev pub SaysYes : Type 0
-  SaysYes = (g ≡ Settled true) ↔ (is_zero (root_number f.side true (tree_of f)) ≡ true)
-
-  abbrev pub SaysNo : Type 0
-  SaysNo = (g ≡ Settled false) ↔ (is_zero (root_number f.side false (tree_of f)) ≡ true)
-
-  abbrev pub SaysFull : Type 0
-  SaysFull = (g ≡ Full) ↔ ((is_settled f.side (tree_of f) ≡ false) × (is_full f.side (capacity f) (tree_of f) ≡ true))
-
 module _ (root : Position) (side : Side) (reach slots n : ℕ) (f : FrontState) (is : IsFrontOf root side reach n slots f) where
   -- the front's own words are those of its position
   pub settled_is : is_settled f.side (tree_of f) ≡ is_settled side (front root side reach n)
@@ -120,20 +109,20 @@ module _ (root : Position) (side : Side) (reach slots n : ℕ) (f : FrontState) 
   abbrev has_zero : Bool → Bool
   has_zero proof = is_zero (root_number f.side proof (tree_of f))
 
-  pub stopped : (g : Grown) → g ≢ Expanded → SaysYes g f → SaysNo g f → SaysFull g f → is_front_end root side reach slots n ≡ true
-  stopped (Settled true) other at_yes at_no at_full = by_first _ _ _ (sym settled_is ∙ ap (λ b. b || has_zero false) (at_yes.0 refl))
-  stopped (Settled false) other at_yes at_no at_full = by_first _ _ _ (sym settled_is ∙ or_true (has_zero true) (has_zero false) (at_no.0 refl))
-  stopped Full other at_yes at_no at_full = by_second (is_settled side (front root side reach n)) (is_full side slots (front root side reach n)) (n == slots) (sym full_is ∙ (at_full.0 refl).1)
-  stopped Expanded other at_yes at_no at_full = absurd (other refl)
+  pub stopped : (g : Grown) → g ≢ Expanded → IsAnswer f g → is_front_end root side reach slots n ≡ true
+  stopped (Settled true) other answer = by_first _ _ _ (sym settled_is ∙ ap (λ b. b || has_zero false) (answer.yes.0 refl))
+  stopped (Settled false) other answer = by_first _ _ _ (sym settled_is ∙ or_true (has_zero true) (has_zero false) (answer.no.0 refl))
+  stopped Full other answer = by_second (is_settled side (front root side reach n)) (is_full side slots (front root side reach n)) (n == slots) (sym full_is ∙ (answer.full.0 refl).1)
+  stopped Expanded other answer = absurd (other refl)
 
-  pub went_on : (g : Grown) → g ≡ Expanded → SaysYes g f → SaysNo g f → SaysFull g f → n < slots → is_front_end root side reach slots n ≡ false
-  went_on g is_expanded at_yes at_no at_full within =
+  pub went_on : (g : Grown) → g ≡ Expanded → IsAnswer f g → n < slots → is_front_end root side reach slots n ≡ false
+  went_on g is_expanded answer within =
       elim (cases_Bool (has_zero true)) [
-        | inl won ↦ absurd (let same : Settled true ≡ Expanded = sym (at_yes.1 won) ∙ is_expanded in cc)
+        | inl won ↦ absurd (let same : Settled true ≡ Expanded = sym (answer.yes.1 won) ∙ is_expanded in cc)
         | inr first ↦ elim (cases_Bool (has_zero false)) [
-          | inl lost ↦ absurd (let same : Settled false ≡ Expanded = sym (at_no.1 lost) ∙ is_expanded in cc)
+          | inl lost ↦ absurd (let same : Settled false ≡ Expanded = sym (answer.no.1 lost) ∙ is_expanded in cc)
           | inr second ↦ elim (cases_Bool (is_full f.side (capacity f) (tree_of f))) [
-            | inl no_room ↦ absurd (let same : Full ≡ Expanded = sym (at_full.1 (ap (λ b. b || has_zero false) first ∙ second, no_room)) ∙ is_expanded in cc)
+            | inl no_room ↦ absurd (let same : Full ≡ Expanded = sym (answer.full.1 (ap (λ b. b || has_zero false) first ∙ second, no_room)) ∙ is_expanded in cc)
             | inr room ↦ none_of _ _ _ (sym settled_is ∙ ap (λ b. b || has_zero false) first ∙ second) (sym full_is ∙ room) (ne_eqb n slots (λ same. omega (arith, same, within)))
           ]
         ]
@@ -156,7 +145,7 @@ next_front root side reach slots n f g is step =
     let next = step root n own in
     record { tree = next.tree ∙ rw (is.same_side, is.same_reach) refl; same_side = next.same_side ∙ is.same_side; same_reach = next.same_reach ∙ is.same_reach; same_slots = next.same_slots ∙ is.same_slots }
 
-module _ (old now : SizedFront) (n : ℕ) (grew : Grew old now n) (g : Grown) (at_yes : SaysYes g now.front) (at_no : SaysNo g now.front) (at_full : SaysFull g now.front) where
+module _ (old now : SizedFront) (n : ℕ) (grew : Grew old now n) (g : Grown) (answer : IsAnswer now.front g) where
   -- one more expansion
   pub grew_more : (next : FrontState) → g ≡ Expanded → n < old.slots
       → ((p : Position) (n : ℕ) → IsFrontOf p now.front.side now.front.reach n (capacity now.front) now.front → IsFrontOf p now.front.side now.front.reach (n + 1) (capacity now.front) next)
@@ -171,12 +160,12 @@ module _ (old now : SizedFront) (n : ℕ) (grew : Grew old now n) (g : Grown) (a
       goes root side reach is m h (inl before) = grew.goes_on root side reach is m before
       goes root side reach is m h (inr here) =
           let same : n ≡ m = omega (arith, h, here) in
-          subst (λ m. is_front_end root side reach old.slots m ≡ false) same (went_on root side reach old.slots n now.front (grew.front root side reach is) g is_expanded at_yes at_no at_full within)
+          subst (λ m. is_front_end root side reach old.slots m ≡ false) same (went_on root side reach old.slots n now.front (grew.front root side reach is) g is_expanded answer within)
 
   -- it stopped
   pub ends_here : g ≢ Expanded → (root : Position) (side : Side) (reach : ℕ) → IsFrontOf root side reach 0 old.slots old.front → EndsAfter root side reach old.slots n
   ends_here other root side reach is =
-      record { last = stopped root side reach old.slots n now.front (grew.front root side reach is) g other at_yes at_no at_full; first = grew.goes_on root side reach is }
+      record { last = stopped root side reach old.slots n now.front (grew.front root side reach is) g other answer; first = grew.goes_on root side reach is }
 
 -- there were as many expansions as slots
 pub ends_last : (old now : SizedFront) → Grew old now old.slots → (root : Position) (side : Side) (reach : ℕ) → IsFrontOf root side reach 0 old.slots old.front → EndsAfter root side reach old.slots old.slots

@@ -10,14 +10,14 @@ loop-expansions-init c = grew_none c.args.self.now
 pub loop-expansions-preserved : goal.loop-expansions-preserved
 loop-expansions-preserved c =
     let went = c.grow.ensures in
-    grew_more c.args.self.now c.loop-expansions.self c.loop-expansions.expansions c.loop-expansions.invariant c.grow.result went.yes went.no went.full c.grow.new.self c.in-Expanded.is c.loop-expansions-test.true (went.front c.in-Expanded.is)
+    grew_more c.args.self.now c.loop-expansions.self c.loop-expansions.expansions c.loop-expansions.invariant c.grow.result went.answer c.grow.new.self c.in-Expanded.is c.loop-expansions-test.true (went.front c.in-Expanded.is)
 
 pub returns-in_default : goal.returns-in_default
 returns-in_default c =
     let went = c.grow.ensures in
     let grew = c.loop-expansions.invariant in
     record {
-      end = ends_here c.args.self.now c.loop-expansions.self c.loop-expansions.expansions grew c.grow.result went.yes went.no went.full c.in_default.not-Expanded;
+      end = ends_here c.args.self.now c.loop-expansions.self c.loop-expansions.expansions grew c.grow.result went.answer c.in_default.not-Expanded;
       front = λ root side reach is. subst (IsFrontOf root side reach c.loop-expansions.expansions c.args.self.now.slots) (sym (went.same c.in_default.not-Expanded)) (grew.front root side reach is);
       slots = grew.slots;
     }
