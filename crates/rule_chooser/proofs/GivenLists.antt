@@ -1,4 +1,4 @@
--- The list that a set gives, one of White's lines after another.
+-- The list that a set gives, one of White's groups after another.
 use Rattle.std.proofs.Common.{◌≡◌, ℕ, ◌+◌, ◌<◌, ◌≤◌, Bool, true, false, not, ◌||◌, if◌then◌else◌, List, [], ◌∷◌, ◌++◌, length, map, filter, take, drop, get_or, Some, refl, sym, ap, ◌∙◌, subst, inl, inr, arith}
 use Rattle.std.specs.List.{list_any, slice_get}
 use Rattle.std.specs.Option.{option_map}
@@ -16,35 +16,35 @@ use Rattle.plan_rules.specs.Plan.{empty_part, is_barred}
 use Rattle.rule_compat.specs.declared.instance.Instance.{Instance}
 use Rattle.rule_compat.specs.Written.{written, written_list}
 use Rattle.walk_rules.specs.Walk.{is_left, answer_to, with_one, answers, given}
-use Rattle.rule_chooser.specs.declared.lines.Line.{Line}
-use Rattle.rule_chooser.specs.Lines.{line_at, lines_for}
+use Rattle.rule_chooser.specs.declared.groups.OpenGroup.{OpenGroup}
+use Rattle.rule_chooser.specs.OpenGroups.{open_group_at, groups_for}
 use Rattle.rule_chooser.specs.Standing.{first_standing, some_bars}
-use Rattle.rule_chooser.proofs.LineAnswers.{bars_is, answer_is}
+use Rattle.rule_chooser.proofs.GroupAnswers.{bars_is, answer_is}
 
--- a line with its own squares, at its place in the list of the groups
-pub group_at : (p : Position) (gs : List Group) (lines : List Line) (i : ℕ) (line : Line) → lines ≡ map (line_at p) gs → i < length lines → line ≡ get_or lines i line
-    → drop i gs ≡ line.group ∷ drop (i + 1) gs
-group_at p gs lines i line same within at =
-    drop_more gs i line.group (omega (arith, within, ap length same, length-map gs (line_at p)))
-    ∙ ap (λ g. g ∷ drop (i + 1) gs) (is_group (get_or gs i line.group) (at_place gs i within_gs))
+-- a group with its own squares, at its place in the list of the groups
+pub group_at : (p : Position) (gs : List Group) (groups : List OpenGroup) (i : ℕ) (group : OpenGroup) → groups ≡ map (open_group_at p) gs → i < length groups → group ≡ get_or groups i group
+    → drop i gs ≡ group.id ∷ drop (i + 1) gs
+group_at p gs groups i group same within at =
+    drop_more gs i group.id (omega (arith, within, ap length same, length-map gs (open_group_at p)))
+    ∙ ap (λ g. g ∷ drop (i + 1) gs) (is_group (get_or gs i group.id) (at_place gs i within_gs))
   where
     within_gs : i < length gs
-    within_gs = omega (arith, within, ap length same, length-map gs (line_at p))
+    within_gs = omega (arith, within, ap length same, length-map gs (open_group_at p))
 
-    at_place : (gs : List Group) (i : ℕ) → i < length gs → slice_get gs i ≡ Some (get_or gs i line.group)
-    at_place gs i h = slice_get_read gs (length gs) i (get_or gs i line.group) refl h (default gs i h)
+    at_place : (gs : List Group) (i : ℕ) → i < length gs → slice_get gs i ≡ Some (get_or gs i group.id)
+    at_place gs i h = slice_get_read gs (length gs) i (get_or gs i group.id) refl h (default gs i h)
       where
-        default : (gs : List Group) (i : ℕ) → i < length gs → get_or gs i line.group ≡ get_or gs i (get_or gs i line.group)
-        default gs i h = get_or_default gs i line.group (get_or gs i line.group) h
+        default : (gs : List Group) (i : ℕ) → i < length gs → get_or gs i group.id ≡ get_or gs i (get_or gs i group.id)
+        default gs i h = get_or_default gs i group.id (get_or gs i group.id) h
 
-    found : option_map (line_at p) (slice_get gs i) ≡ Some line
-    found = sym (slice_get-map (line_at p) gs i) ∙ ap (λ ls. slice_get ls i) (sym same) ∙ slice_get_read lines (length lines) i line refl within at
+    found : option_map (open_group_at p) (slice_get gs i) ≡ Some group
+    found = sym (slice_get-map (open_group_at p) gs i) ∙ ap (λ ls. slice_get ls i) (sym same) ∙ slice_get_read groups (length groups) i group refl within at
 
-    is_group : (g : Group) → slice_get gs i ≡ Some g → g ≡ line.group
-    is_group g is = let both : Some (line_at p g) ≡ Some line = ap (option_map (line_at p)) (sym is) ∙ found in let same : line_at p g ≡ line = cc both in ap (λ (l : Line). l.group) same
+    is_group : (g : Group) → slice_get gs i ≡ Some g → g ≡ group.id
+    is_group g is = let both : Some (open_group_at p g) ≡ Some group = ap (option_map (open_group_at p)) (sym is) ∙ found in let same : open_group_at p g ≡ group = cc both in ap (λ (l : OpenGroup). l.id) same
 
 module _ (p : Position) (set : List RuleInstance) where
-  -- lines with a man of Black's need no answer
+  -- groups with a man of Black's need no answer
   pub answers_free : (gs : List Group) (ws : List RuleInstance) → answers p set (filter (is_free_for White p) gs) ws ≡ answers p set gs ws
   answers_free [] ws = refl
   answers_free (g ∷ gs) ws = elim (cases_Bool (is_free_for White p g)) [
@@ -56,7 +56,7 @@ module _ (p : Position) (set : List RuleInstance) where
       none_left true d h = refl
       none_left false d h = absurd (cc h)
 
-  -- one line more
+  -- one group more
   pub answers_one : (board : is_board (board_of p) ≡ true) (facts : Facts) (g : Group) (gs : List Group) (ws : List RuleInstance) → facts ≡ facts_of p set → is_free_for White p g ≡ true
       → answers p set (g ∷ gs) ws ≡ answers p set gs (
       if some_bars facts (has_square (squares_where (empty_part p g))) set then ws
@@ -73,18 +73,18 @@ module _ (p : Position) (set : List RuleInstance) where
       turned false true xs ys h = refl
       turned false false xs ys h = refl
 
-  -- the list with the answers to all lines
-  pub given_all : (zones : ℕ) (items old : List Instance) (i : ℕ) → set ≡ written_list old → take zones items ≡ old → length (lines_for White p) ≤ i
-      → answers p set (drop i (lines_for White p)) (written_list (drop zones items)) ≡ answers p set (lines_for White p) [] → written_list items ≡ given p set
+  -- the list with the answers to all groups
+  pub given_all : (zones : ℕ) (items old : List Instance) (i : ℕ) → set ≡ written_list old → take zones items ≡ old → length (groups_for White p) ≤ i
+      → answers p set (drop i (groups_for White p)) (written_list (drop zones items)) ≡ answers p set (groups_for White p) [] → written_list items ≡ given p set
   given_all zones items old i is first past answered =
       ap written_list (sym (take-append-drop zones items))
       ∙ map-append written (take zones items) (drop zones items)
       ∙ ap (λ ws. ws ++ written_list (drop zones items)) (ap written_list first ∙ sym is)
-      ∙ ap (λ ws. set ++ ws) (ap (λ gs. answers p set gs (written_list (drop zones items))) (sym (drop_all i (lines_for White p) past)) ∙ answered ∙ answers_free (groups_of (board_of p)) [])
+      ∙ ap (λ ws. set ++ ws) (ap (λ gs. answers p set gs (written_list (drop zones items))) (sym (drop_all i (groups_for White p) past)) ∙ answered ∙ answers_free (groups_of (board_of p)) [])
 
--- a line of the list is free for White
-pub line_free : (p : Position) (lines : List Line) (i : ℕ) (line : Line) → drop i (lines_for White p) ≡ line.group ∷ drop (i + 1) (lines_for White p) → is_free_for White p line.group ≡ true
-line_free p lines i line is = (Among-filter_gives (is_free_for White p) (groups_of (board_of p)) line.group (dropped (lines_for White p) i (subst (λ gs. Among line.group gs) (sym is) (inl refl)))).1
+-- a group of the list is free for White
+pub group_free : (p : Position) (groups : List OpenGroup) (i : ℕ) (group : OpenGroup) → drop i (groups_for White p) ≡ group.id ∷ drop (i + 1) (groups_for White p) → is_free_for White p group.id ≡ true
+group_free p groups i group is = (Among-filter_gives (is_free_for White p) (groups_of (board_of p)) group.id (dropped (groups_for White p) i (subst (λ gs. Among group.id gs) (sym is) (inl refl)))).1
   where
-    dropped : (gs : List Group) (i : ℕ) → Among line.group (drop i gs) → Among line.group gs
-    dropped gs i among = subst (λ hs. Among line.group hs) (take-append-drop i gs) (Among-append_right line.group (take i gs) (drop i gs) among)
+    dropped : (gs : List Group) (i : ℕ) → Among group.id (drop i gs) → Among group.id gs
+    dropped gs i among = subst (λ hs. Among group.id hs) (take-append-drop i gs) (Among-append_right group.id (take i gs) (drop i gs) among)

@@ -1,11 +1,11 @@
-mod FreeLines
+mod FreeGroups
 mod ZoneBars
 mod Twins
 mod SameInstance
 mod Specials
-mod OpenLines
-mod SpecialLines
-mod LineAnswers
+mod BlackGroups
+mod SpecialGroups
+mod GroupAnswers
 mod GivenLists
 mod Visits
 mod ChosenPlans

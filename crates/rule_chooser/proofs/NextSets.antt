@@ -14,8 +14,8 @@ use Rattle.rule_compat.specs.Written.{written, written_list}
 use Rattle.walk_rules.specs.Walk.{fitting_zones, may_follow, walk_from, choice_among}
 use Rattle.walk_rules.specs.Steps.{after}
 use Rattle.rule_chooser.specs.declared.ground.Ground.{Ground}
-use Rattle.rule_chooser.specs.declared.visit.Found.{Found}
-use Rattle.rule_chooser.specs.declared.visit.Found.TheVariants as founds
+use Rattle.rule_chooser.specs.declared.visit.WalkOutcome.{WalkOutcome}
+use Rattle.rule_chooser.specs.declared.visit.WalkOutcome.TheVariants as outcomes
 use Rattle.rule_chooser.specs.Ground.{IsGround}
 use Rattle.rule_chooser.specs.Links.{least_place, next_at}
 use Rattle.rule_chooser.specs.Walked.{LeavesOpen, OpensAt, goes_on}
@@ -148,7 +148,7 @@ module _ {p : Position} {set now list zones : List Instance} {squares : List Squ
           })
 
       -- the set with it is visited
-      module _ (mid : ℕ) (ws : List RuleInstance) (found : Found) (visit : (rest : List (List RuleInstance)) → choice_among p left (walk_from p (written_list pushed) ++ rest) ≡ goes_on p mid rest ws found) where
+      module _ (mid : ℕ) (ws : List RuleInstance) (found : WalkOutcome) (visit : (rest : List (List RuleInstance)) → choice_among p left (walk_from p (written_list pushed) ++ rest) ≡ goes_on p mid rest ws found) where
         goes_in : (rest : List (List RuleInstance))
             → choice_among p left (after p (written_list set) (written_list (drop i zones)) ++ rest) ≡ goes_on p mid (after p (written_list set) (written_list (drop (i + 1) zones)) ++ rest) ws found
         goes_in rest =
@@ -157,13 +157,13 @@ module _ {p : Position} {set now list zones : List Instance} {squares : List Squ
             ∙ visit (after p (written_list set) (written_list (drop (i + 1) zones)) ++ rest)
 
         -- which decides
-        pub decided : (rest : List (List RuleInstance)) → (found ≡ founds.NoPlan → ⊥) → choice_among p before (after p (written_list set) (fitting_zones p) ++ rest) ≡ goes_on p mid rest ws found
+        pub decided : (rest : List (List RuleInstance)) → (found ≡ outcomes.NoPlan → ⊥) → choice_among p before (after p (written_list set) (fitting_zones p) ++ rest) ≡ goes_on p mid rest ws found
         decided rest some =
             t.from.goes rest ∙ goes_in rest ∙ found_before p mid (after p (written_list set) (written_list (drop (i + 1) zones)) ++ rest) rest ws found some
 
         -- or doesn't
-        pub tried : {n last : ℕ} {longer shorter new : List Instance} → IsNext list i n → found ≡ founds.NoPlan → last ≡ mid
-            → (found ≡ founds.NoPlan → longer ≡ pushed) → shorter ≡ take (length longer - 1) longer → new ≡ shorter → GoesFrom p set new zones first before last n
+        pub tried : {n last : ℕ} {longer shorter new : List Instance} → IsNext list i n → found ≡ outcomes.NoPlan → last ≡ mid
+            → (found ≡ outcomes.NoPlan → longer ≡ pushed) → shorter ≡ take (length longer - 1) longer → new ≡ shorter → GoesFrom p set new zones first before last n
         tried {longer = longer} {shorter} next none same_left back pop kept =
             steps_on next (kept ∙ taken_back set longer shorter zone (back none ∙ pushed_is) pop) (λ rest.
             goes_in rest

@@ -1,4 +1,4 @@
--- The first standing instance that answers a line, as sets of squares and lists of lines find it.
+-- The first standing instance that answers a group, as sets of squares and lists of groups find it.
 use Rattle.std.proofs.Common.{◌≡◌, ◌+◌, ◌%◌, Bool, true, not, ◌&&◌, ◌==◌, nat_le, if◌then◌else◌, Option, Some, None, List, slice_get, refl, sym, ap, ◌∙◌}
 use Rattle.std.specs.List.{find}
 use Rattle.std.specs.Option.{option_or}

@@ -26,8 +26,8 @@ use Rattle.walk_rules.proofs.Given.{choice_step}
 use Rattle.walk_rules.proofs.Lists.{filter_none}
 use Rattle.walk_rules.proofs.Steps.{set_push, set_room}
 use Rattle.walk_rules.proofs.Walks.{walk_step}
-use Rattle.rule_chooser.specs.declared.visit.Found.{Found}
-use Rattle.rule_chooser.specs.declared.visit.Found.TheVariants as founds
+use Rattle.rule_chooser.specs.declared.visit.WalkOutcome.{WalkOutcome}
+use Rattle.rule_chooser.specs.declared.visit.WalkOutcome.TheVariants as outcomes
 use Rattle.rule_chooser.specs.Walked.{LeavesOpen, goes_on, chosen_by}
 
 -- the first of a list, and the list
@@ -129,10 +129,10 @@ after_end p set zones i rest past = ap (λ zs. after p set (written_list zs) ++ 
 -- ---- what was found
 
 -- what was found, if anything, doesn't depend on the sets that come after
-pub found_before : (p : Position) (k : ℕ) (rest other : List (List RuleInstance)) (ws : List RuleInstance) (found : Found) → (found ≡ founds.NoPlan → ⊥) → goes_on p k rest ws found ≡ goes_on p k other ws found
-found_before p k rest other ws founds.Plan some = refl
-found_before p k rest other ws founds.NoPlan some = absurd (some refl)
-found_before p k rest other ws founds.Spent some = refl
+pub found_before : (p : Position) (k : ℕ) (rest other : List (List RuleInstance)) (ws : List RuleInstance) (found : WalkOutcome) → (found ≡ outcomes.NoPlan → ⊥) → goes_on p k rest ws found ≡ goes_on p k other ws found
+found_before p k rest other ws outcomes.Plan some = refl
+found_before p k rest other ws outcomes.NoPlan some = absurd (some refl)
+found_before p k rest other ws outcomes.Spent some = refl
 
 -- ---- one step of the search
 
@@ -205,10 +205,10 @@ taken_back xs longer shorter x same taken =
     taken ∙ ap (λ n. take n longer) long ∙ ap (take (length xs)) same ∙ take_at xs (x ∷ []) (length xs) refl
 
 -- where no set comes after
-pub goes_end : (p : Position) (k : ℕ) (ws : List RuleInstance) (found : Found) → goes_on p k [] ws found ≡ chosen_by p ws found
-goes_end p k ws founds.Plan = refl
-goes_end p k ws founds.NoPlan = refl
-goes_end p k ws founds.Spent = refl
+pub goes_end : (p : Position) (k : ℕ) (ws : List RuleInstance) (found : WalkOutcome) → goes_on p k [] ws found ≡ chosen_by p ws found
+goes_end p k ws outcomes.Plan = refl
+goes_end p k ws outcomes.NoPlan = refl
+goes_end p k ws outcomes.Spent = refl
 
 -- the walk of a position at which White is to move and the game goes on
 pub walk_going : (p : Position) (k : ℕ) → is_plan_position p ≡ true → choice_of p k ≡ choice_among p k (walk_from p [] ++ [])

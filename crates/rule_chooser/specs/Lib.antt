@@ -1,5 +1,5 @@
 pub mod Shown
-pub mod Lines
+pub mod OpenGroups
 pub mod Ground
 pub mod Standing
 pub mod Walked

@@ -5,6 +5,7 @@ use Rattle.game_rules.specs.Squares.{has_square, squares_where}
 use Rattle.plan_rules.specs.Rules.{zone_of}
 use Rattle.board_bits.specs.Words.{place_of}
 use Rattle.rule_compat.specs.declared.instance.Instance.{Instance}
+use Rattle.rule_chooser.specs.declared.zones.TheConstants.{PLACES}
 use Rattle.rule_compat.specs.Written.{written}
 
 -- the place of an instance's first square
@@ -18,5 +19,5 @@ next_at place n (w ∷ ws) = if least_place w == place then n else next_at place
 
 -- each head is the number of the first one with its first square there, and each link that of the next one
 pub record IsLinked (list : List Instance) (heads links : List ℕ) : Type 0 where
-  pub heads_are : (place : ℕ) → place < 110 → slice_index_or heads place 0 ≡ next_at place 0 list
+  pub heads_are : (place : ℕ) → place < PLACES → slice_index_or heads place 0 ≡ next_at place 0 list
   pub links_are : (i : ℕ) (w : Instance) → slice_get list i ≡ Some w → slice_index_or links i 0 ≡ next_at (least_place w) (i + 1) (drop (i + 1) list)

@@ -7,26 +7,26 @@ use Rattle.plan_rules.specs.Rules.{RuleInstance}
 use Rattle.plan_rules.specs.Refusal.{is_uncovered}
 use Rattle.walk_rules.specs.Walk.{Chosen, gave, no_plan, spent, given, is_plan_position, choice_among}
 use Rattle.walk_rules.specs.Steps.{is_zone_set}
-use Rattle.rule_chooser.specs.declared.visit.Found.{Found}
-use Rattle.rule_chooser.specs.declared.visit.Found.TheVariants as founds
+use Rattle.rule_chooser.specs.declared.visit.WalkOutcome.{WalkOutcome}
+use Rattle.rule_chooser.specs.declared.visit.WalkOutcome.TheVariants as outcomes
 
 -- the list of a set that gives a plan is chosen; where no set does, what is left decides among the sets that come after
-abbrev pub goes_on : Position → ℕ → List (List RuleInstance) → List RuleInstance → Found → Chosen
-goes_on p left rest set founds.Plan = gave (given p set)
-goes_on p left rest set founds.NoPlan = choice_among p left rest
-goes_on p left rest set founds.Spent = spent
+abbrev pub goes_on : Position → ℕ → List (List RuleInstance) → List RuleInstance → WalkOutcome → Chosen
+goes_on p left rest set outcomes.Plan = gave (given p set)
+goes_on p left rest set outcomes.NoPlan = choice_among p left rest
+goes_on p left rest set outcomes.Spent = spent
 
 -- what is chosen among all sets
-abbrev pub chosen_by : Position → List RuleInstance → Found → Chosen
-chosen_by p set founds.Plan = gave (given p set)
-chosen_by p set founds.NoPlan = no_plan
-chosen_by p set founds.Spent = spent
+abbrev pub chosen_by : Position → List RuleInstance → WalkOutcome → Chosen
+chosen_by p set outcomes.Plan = gave (given p set)
+chosen_by p set outcomes.NoPlan = no_plan
+chosen_by p set outcomes.Spent = spent
 
 -- and where the list is the one that is given
-abbrev pub choice_shown : List RuleInstance → Found → Chosen
-choice_shown list founds.Plan = gave list
-choice_shown list founds.NoPlan = no_plan
-choice_shown list founds.Spent = spent
+abbrev pub choice_shown : List RuleInstance → WalkOutcome → Chosen
+choice_shown list outcomes.Plan = gave list
+choice_shown list outcomes.NoPlan = no_plan
+choice_shown list outcomes.Spent = spent
 
 -- A set of zones at a position with a walk leaves these squares open.
 pub record LeavesOpen (p : Position) (set : List RuleInstance) (squares : List Square) : Type 0 where

@@ -3,12 +3,13 @@
 ghost use Rattle.std.specs.Prelude.{◌≡◌, ◌≤◌, true, [], length};
 ghost use Rattle.walk_rules.specs.Walk.{gave, is_given, choice_of};
 ghost use Rattle.rule_compat.specs.Written.{written_list};
+ghost use Rattle.rule_chooser.specs.declared.full.TheConstants.{MOST_MEMBERS};
 ghost use Rattle.rule_chooser.specs.Shown.{shown, IsOf};
 ghost use Rattle.rule_chooser.specs.Walked.{choice_shown};
 
 use crate::full::{MOST_MEMBERS, add_answers};
 use crate::ground::Ground;
-use crate::visit::{Found, MOST_ZONES, walk};
+use crate::visit::{MOST_ZONES, WalkOutcome, walk};
 use arrayvec::ArrayVec;
 use board_bits::Position;
 use rule_compat::{Instance, Plan, Zone};
@@ -61,29 +62,29 @@ impl Chooser {
         ensures found { result ≡ is_given (choice_of p.now reach) }
     {
         match walk(p, reach, &mut self.ground, &mut self.set, &mut self.list) {
-            Found::Plan => true,
-            Found::NoPlan | Found::Spent => false,
+            WalkOutcome::Plan => true,
+            WalkOutcome::NoPlan | WalkOutcome::Spent => false,
         }
     }
 
     /// Whether one of the first `reach` sets of the position's walk gives a plan; and then the plan of the first that
     /// does is the list that is given: its zones in the order of adding, and then the standing instances that answer
-    /// the lines which the zones leave, line by line. Otherwise the list that was given last may be lost.
+    /// the groups which the zones leave, group by group. Otherwise the list that was given last may be lost.
     pub fn give(&mut self, p: &Position, reach: u32) -> bool
         ensures found { result ≡ is_given (choice_of p.now reach) }
         ensures plan { result ≡ true → choice_of p.now reach ≡ gave (written_list self.new) }
-        ensures few { length self.new ≤ 300 }
+        ensures few { length self.new ≤ MOST_MEMBERS }
     {
-        match self.listed(p, reach) {
-            Found::Plan => true,
-            Found::NoPlan | Found::Spent => false,
+        match self.list_choice(p, reach) {
+            WalkOutcome::Plan => true,
+            WalkOutcome::NoPlan | WalkOutcome::Spent => false,
         }
     }
 
     /// The list of instances that was given last.
     pub fn plan(&self) -> &ArrayVec<Instance, MOST_MEMBERS>
         ensures value { result.now.items ≡ self.now }
-        ensures few { length self.now ≤ 300 }
+        ensures few { length self.now ≤ MOST_MEMBERS }
     {
         // its contract says that no list has more
         let _few = self.list.as_slice();
@@ -98,20 +99,20 @@ impl Chooser {
         ensures choice { shown result ≡ choice_of p.now reach }
         ensures at { IsOf p.now result }
     {
-        match self.listed(p, reach) {
-            Found::Plan => Choice::Gave(Plan::check(p, self.list.as_slice()).unwrap()),
-            Found::NoPlan => Choice::NoPlan,
-            Found::Spent => Choice::Spent,
+        match self.list_choice(p, reach) {
+            WalkOutcome::Plan => Choice::Gave(Plan::check(p, self.list.as_slice()).unwrap()),
+            WalkOutcome::NoPlan => Choice::NoPlan,
+            WalkOutcome::Spent => Choice::Spent,
         }
     }
 
     /// The same, with the list that is given where a set gives a plan.
-    fn listed(&mut self, p: &Position, reach: u32) -> Found
+    fn list_choice(&mut self, p: &Position, reach: u32) -> WalkOutcome
         ensures found { choice_of p.now reach ≡ choice_shown (written_list self.new) result }
-        ensures few { length self.new ≤ 300 }
+        ensures few { length self.new ≤ MOST_MEMBERS }
     {
         let found = walk(p, reach, &mut self.ground, &mut self.set, &mut self.list);
-        if let Found::Plan = found {
+        if let WalkOutcome::Plan = found {
             add_answers(p, &self.ground, &mut self.list);
         }
         // its contract says that no list has more

@@ -10,6 +10,8 @@ ghost use Rattle.rule_law.specs.KeptFacts.{facts_in};
 ghost use Rattle.rule_compat.specs.Written.{written, written_list};
 ghost use Rattle.walk_rules.specs.Walk.{is_left, answer_to, with_one, given};
 ghost use Rattle.walk_rules.specs.Steps.{is_zone_set};
+ghost use Rattle.rule_chooser.specs.declared.full.TheConstants.{MOST_MEMBERS};
+ghost use Rattle.rule_chooser.specs.declared.visit.TheConstants.{MOST_ZONES};
 ghost use Rattle.rule_chooser.specs.Ground.{IsGround};
 ghost use Rattle.rule_chooser.specs.Standing.{first_standing, some_bars, is_answered_by};
 
@@ -23,7 +25,7 @@ use rule_law::{Kept, Rule};
 /// The most members of a list that is given, and more.
 pub(crate) const MOST_MEMBERS: usize = 300;
 
-/// Whether each line that the set leaves has an answer. The set's instances are put into the list, in place of what it had.
+/// Whether each group that the set leaves has an answer. The set's instances are put into the list, in place of what it had.
 pub(crate) fn is_answered(
     p: &Position,
     ground: &Ground,
@@ -32,7 +34,7 @@ pub(crate) fn is_answered(
 ) -> bool
     requires ground { IsGround p.now ground.now }
     requires set { is_zone_set p.now (written_list set.now) ≡ true }
-    requires few { length set.now ≤ 50 }
+    requires few { length set.now ≤ MOST_ZONES }
     ensures answered { result ≡ list_all (λ g. not (is_left p.now (written_list set.now) g) || is_some (answer_to p.now (written_list set.now) g)) (groups_of (board_of p.now)) }
     ensures list { list.new.items ≡ set.now }
 {
@@ -40,8 +42,8 @@ pub(crate) fn is_answered(
     let _board = p.size();
     list_instances(set, list);
     let kept = facts_kept(p, list.as_slice());
-    for line in ground.white.as_slice() {
-        if !has_answer(p, ground, set, &kept, line.empty) {
+    for group in ground.white.as_slice() {
+        if !has_answer(p, ground, set, &kept, group.empty) {
             return false;
         }
     }
@@ -50,7 +52,7 @@ pub(crate) fn is_answered(
 
 /// Puts the instances of the zones into the list, in place of what it had.
 fn list_instances(set: &[Zone], list: &mut ArrayVec<Instance, MOST_MEMBERS>)
-    requires { length set.now ≤ 50 }
+    requires { length set.now ≤ MOST_ZONES }
     ensures { list.new.items ≡ set.now }
 {
     list.clear();
@@ -59,7 +61,7 @@ fn list_instances(set: &[Zone], list: &mut ArrayVec<Instance, MOST_MEMBERS>)
     }
 }
 
-/// Whether a zone of a set or a standing instance answers a line.
+/// Whether a zone of a set or a standing instance answers a group.
 fn has_answer(p: &Position, ground: &Ground, set: &[Zone], kept: &Kept, empty: Mask) -> bool
     requires ground { IsGround p.now ground.now }
     requires set { is_zone_set p.now (written_list set.now) ≡ true }
@@ -83,7 +85,7 @@ fn is_barred(set: &[Zone], kept: &Kept, empty: Mask) -> bool
     false
 }
 
-/// Puts behind a set's zones the first answer to each line that they leave, none twice.
+/// Puts behind a set's zones the first answer to each group that they leave, none twice.
 pub(crate) fn add_answers(
     p: &Position,
     ground: &Ground,
@@ -91,7 +93,7 @@ pub(crate) fn add_answers(
 )
     requires ground { IsGround p.now ground.now }
     requires set { is_zone_set p.now (written_list list.old.items) ≡ true }
-    requires few { length list.old.items ≤ 50 }
+    requires few { length list.old.items ≤ MOST_ZONES }
     ensures given { written_list list.new.items ≡ given p.now (written_list list.old.items) }
     ensures few { length list.new.items ≤ 288 }
 {
@@ -99,12 +101,12 @@ pub(crate) fn add_answers(
     let _board = p.size();
     let kept = facts_kept(p, list.as_slice());
     let zones = list.len();
-    for line in ground.white.as_slice() {
-        add_answer(p, ground, &kept, line.empty, zones, list);
+    for group in ground.white.as_slice() {
+        add_answer(p, ground, &kept, group.empty, zones, list);
     }
 }
 
-/// Puts the first answer to a line behind the others, where no zone answers the line and the answer isn't among them. The
+/// Puts the first answer to a group behind the others, where no zone answers the group and the answer isn't among them. The
 /// zones stand first in the list.
 fn add_answer(
     p: &Position,
@@ -118,7 +120,7 @@ fn add_answer(
     requires kept { (u : Place) → has_square kept.now.empty u ≡ is_empty p.now u }
     requires part { (u : Place) → has_square empty u ≡ true → is_empty p.now u ≡ true }
     requires zones { zones ≤ length list.old.items }
-    requires room { length list.old.items < 300 }
+    requires room { length list.old.items < MOST_MEMBERS }
     ensures zones { take zones list.new.items ≡ take zones list.old.items }
     ensures answers { written_list (drop zones list.new.items) ≡ (
         if some_bars (facts_in kept.now) (has_square empty) (written_list (take zones list.old.items)) then written_list (drop zones list.old.items)

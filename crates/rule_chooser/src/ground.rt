@@ -1,19 +1,19 @@
 //! What the position alone decides for a search: listed once a call, and lent to each step.
 ghost use Rattle.rule_chooser.specs.Ground.{IsGround};
 
-use crate::lines::{Line, list_lines};
-use crate::table::{LineTable, MOST_LINES};
+use crate::groups::{OpenGroup, list_groups};
+use crate::table::{GroupTable, MOST_GROUPS};
 use crate::zones::Zones;
 use arrayvec::ArrayVec;
 use board_bits::{Mask, Position, Size};
 
-/// The zones that fit, the lines that each side can still fill, and the playable squares.
+/// The zones that fit, the groups that each side can still fill, and the playable squares.
 #[derive(Drop)]
 pub(crate) struct Ground {
-    table: LineTable,
+    table: GroupTable,
     pub(crate) zones: Zones,
-    pub(crate) white: ArrayVec<Line, MOST_LINES>,
-    pub(crate) black: ArrayVec<Line, MOST_LINES>,
+    pub(crate) white: ArrayVec<OpenGroup, MOST_GROUPS>,
+    pub(crate) black: ArrayVec<OpenGroup, MOST_GROUPS>,
     pub(crate) playable: Mask,
 }
 
@@ -21,7 +21,7 @@ impl Ground {
     /// That of no position yet.
     pub(crate) fn new() -> Ground {
         Ground {
-            table: LineTable::of(smallest()),
+            table: GroupTable::of(smallest()),
             zones: Zones::new(),
             white: ArrayVec::new(),
             black: ArrayVec::new(),
@@ -35,7 +35,7 @@ impl Ground {
     {
         self.zones.list(p);
         self.table.turn_to(p.size());
-        list_lines(p, &self.table, &mut self.white, &mut self.black);
+        list_groups(p, &self.table, &mut self.white, &mut self.black);
         self.playable = Mask::of(p.playables().as_slice());
     }
 }

@@ -1,4 +1,4 @@
-//! The first Specialbefore that answers a line. One of its squares is a twin's and lies in the line, so most lines are
+//! The first Specialbefore that answers a group. One of its squares is a twin's and lies in the group, so most groups are
 //! settled without a look at Black's.
 ghost use Rattle.std.specs.Prelude.{◌≡◌, ◌&&◌, if◌then◌else◌, Some, None};
 ghost use Rattle.std.specs.Option.{option_map};
@@ -8,18 +8,18 @@ ghost use Rattle.plan_rules.specs.Rules.{specialbefore};
 ghost use Rattle.plan_rules.specs.Listing.{playable_squares, each_with};
 ghost use Rattle.rule_law.specs.KeptFacts.{facts_in};
 ghost use Rattle.rule_chooser.specs.Ground.{IsGround};
-ghost use Rattle.rule_chooser.specs.Lines.{line_at};
+ghost use Rattle.rule_chooser.specs.OpenGroups.{open_group_at};
 ghost use Rattle.rule_chooser.specs.Standing.{does_answer, first_of, first_special, is_of_twin, is_outside};
 
 use crate::ground::Ground;
-use crate::lines::Line;
+use crate::groups::OpenGroup;
 use board_bits::{Mask, Position, Square};
 use group_rules::Specialbefore;
 use open_groups::GroupId;
 use rule_law::{Kept, Rule};
 
 /// The first Specialbefore, by its group, then by `f` and then by `e0`, that fits at the position, is supported and bars
-/// the empty squares of a line.
+/// the empty squares of a group.
 pub(crate) fn first_specialbefore(
     p: &Position,
     ground: &Ground,
@@ -39,8 +39,8 @@ pub(crate) fn first_specialbefore(
     if outside.is_empty() {
         return None;
     }
-    for line in ground.black.as_slice() {
-        let found = special_of(p, line, outside, ground.playable, kept, empty);
+    for group in ground.black.as_slice() {
+        let found = special_of(p, group, outside, ground.playable, kept, empty);
         if found.is_some() {
             return found;
         }
@@ -59,32 +59,32 @@ fn twin_squares(kept: &Kept) -> Mask
     squares
 }
 
-/// The first of one line of Black's, given the playable squares, and those of them that are a twin's and in the line that
+/// The first of one group of Black's, given the playable squares, and those of them that are a twin's and in the group that
 /// is to be answered.
 fn special_of(
     p: &Position,
-    line: &Line,
+    group: &OpenGroup,
     outside: Mask,
     playable: Mask,
     kept: &Kept,
     empty: Mask,
 ) -> Option<Specialbefore>
-    requires line { line.now ≡ line_at p.now line.now.group }
+    requires group { group.now ≡ open_group_at p.now group.now.id }
     requires kept { (u : Place) → has_square kept.now.empty u ≡ is_empty p.now u }
     requires playable { IsSetOf (has_square (playable_squares p.now)) playable }
     requires outside { IsSetOf (is_outside p.now (facts_in kept.now) (has_square empty)) outside }
-    ensures { option_map (λ x. specialbefore x.0 x.1 x.2) result ≡ first_of p.now (facts_in kept.now) (has_square empty) (λ two. specialbefore line.now.group two.0 two.1) (each_with (playable_squares p.now) (playable_squares p.now)) }
+    ensures { option_map (λ x. specialbefore x.0 x.1 x.2) result ≡ first_of p.now (facts_in kept.now) (has_square empty) (λ two. specialbefore group.now.id two.0 two.1) (each_with (playable_squares p.now) (playable_squares p.now)) }
 {
     // its contract says that the board is one with a size
     let _board = p.size();
-    if !line.empty.within(empty.lowered()) {
+    if !group.empty.within(empty.lowered()) {
         return None;
     }
     special_among(
         p,
-        line.group,
+        group.id,
         outside,
-        playable.intersection(line.empty),
+        playable.intersection(group.empty),
         kept,
         empty,
     )
@@ -130,7 +130,7 @@ fn special_with(
     None
 }
 
-/// The one of a group and two squares, where it answers the line.
+/// The one of a group and two squares, where it answers the group.
 fn special_at(
     p: &Position,
     group: GroupId,

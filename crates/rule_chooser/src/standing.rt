@@ -1,4 +1,4 @@
-//! The first standing instance that answers a line which a full set of zones leaves, kind by kind.
+//! The first standing instance that answers a group that a full set of zones leaves, kind by kind.
 ghost use Rattle.std.specs.Prelude.{◌≡◌, true};
 ghost use Rattle.std.specs.List.{find};
 ghost use Rattle.std.specs.Option.{option_map};
@@ -14,7 +14,7 @@ ghost use Rattle.rule_chooser.specs.Ground.{IsGround};
 ghost use Rattle.rule_chooser.specs.Standing.{does_answer, first_of, first_standing, is_open_within};
 
 use crate::ground::Ground;
-use crate::lines::Line;
+use crate::groups::OpenGroup;
 use crate::special::first_specialbefore;
 use board_bits::{Mask, Position};
 use group_rules::{Aftereven, Before, squares_below};
@@ -24,7 +24,7 @@ use rule_compat::Instance;
 use rule_law::Kept;
 
 /// The first standing instance that fits at the position, is supported by what a set of zones keeps, and bars the empty
-/// squares of a line.
+/// squares of a group.
 pub(crate) fn first_answer(
     p: &Position,
     ground: &Ground,
@@ -49,7 +49,7 @@ pub(crate) fn first_answer(
     Some(Instance::Specialbefore(rule))
 }
 
-/// The first Vertical, in square order, that answers the line: with both its squares in the line's empty part.
+/// The first Vertical, in square order, that answers the group: with both its squares in the group's empty part.
 fn first_vertical(p: &Position, kept: &Kept, empty: Mask) -> Option<Vertical>
     requires { (u : Place) → has_square empty u ≡ true → is_empty p.now u ≡ true }
     ensures { result ≡ find (λ e. does_answer p.now (facts_in kept.now) (has_square empty) (vertical e)) (squares_at p.now) }
@@ -61,7 +61,7 @@ fn first_vertical(p: &Position, kept: &Kept, empty: Mask) -> Option<Vertical>
     Vertical::new(size, squares.first()?)
 }
 
-/// The group of the first Aftereven, in group order, that answers the line.
+/// The group of the first Aftereven, in group order, that answers the group.
 fn first_aftereven(p: &Position, ground: &Ground, kept: &Kept, empty: Mask) -> Option<GroupId>
     requires ground { IsGround p.now ground.now }
     requires kept { (u : Place) → has_square kept.now.empty u ≡ is_empty p.now u }
@@ -73,7 +73,7 @@ fn first_aftereven(p: &Position, ground: &Ground, kept: &Kept, empty: Mask) -> O
     first_within(ground.black.as_slice(), squares)
 }
 
-/// The group of the first Before, in group order, that answers the line.
+/// The group of the first Before, in group order, that answers the group.
 fn first_before(p: &Position, ground: &Ground, kept: &Kept, empty: Mask) -> Option<GroupId>
     requires ground { IsGround p.now ground.now }
     requires kept { (u : Place) → has_square kept.now.empty u ≡ is_empty p.now u }
@@ -86,16 +86,16 @@ fn first_before(p: &Position, ground: &Ground, kept: &Kept, empty: Mask) -> Opti
     first_within(ground.black.as_slice(), squares)
 }
 
-/// The first of Black's lines that has an empty square, and of which the set has all empty squares.
-fn first_within(lines: &[Line], set: Mask) -> Option<GroupId>
-    ensures { result ≡ option_map (λ line. line.group) (find (is_open_within set) lines.now) }
+/// The first of Black's groups that has an empty square, and of which the set has all empty squares.
+fn first_within(groups: &[OpenGroup], set: Mask) -> Option<GroupId>
+    ensures { result ≡ option_map (λ group. group.id) (find (is_open_within set) groups.now) }
 {
     if set.is_empty() {
         return None;
     }
-    for line in lines {
-        if !line.empty.is_empty() && line.empty.within(set) {
-            return Some(line.group);
+    for group in groups {
+        if !group.empty.is_empty() && group.empty.within(set) {
+            return Some(group.id);
         }
     }
     None

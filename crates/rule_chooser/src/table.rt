@@ -1,8 +1,9 @@
-//! The lines of a board, each with its squares. They are made anew only where another board comes, so that a search,
+//! The groups of a board, each with its squares. They are made anew only where another board comes, so that a search,
 //! which stays on one board, makes them once.
 ghost use Rattle.std.specs.Prelude.{◌≡◌, ◌≤◌, length};
 ghost use Rattle.game_rules.specs.Squares.{has_square, IsSetOf};
 ghost use Rattle.game_rules.specs.Groups.{squares_of, groups_of};
+ghost use Rattle.rule_chooser.specs.declared.table.TheConstants.{MOST_GROUPS};
 
 use arrayvec::ArrayVec;
 use board_bits::{Mask, Size};
@@ -10,53 +11,50 @@ use open_groups::{GroupId, group_mask, groups};
 use std::marker::Model;
 
 /// No board has more groups.
-pub(crate) const MOST_LINES: usize = 238;
+pub(crate) const MOST_GROUPS: usize = 238;
 
-/// A line of a board, with the set of its squares.
+/// A group of a board, with the set of its squares.
 #[derive(Drop)]
-pub(crate) struct BoardLine {
-    group: GroupId,
+pub(crate) struct BoardGroup {
+    id: GroupId,
     squares: Mask,
 }
 
-impl Model for BoardLine {
+impl Model for BoardGroup {
     ghost use Rattle.game_rules.specs.Squares.{has_square, IsSetOf};
     ghost use Rattle.game_rules.specs.Groups.{Group, squares_of};
 
     ghost Value = { Group };
 
-    ghost view = { λ line. line.group };
+    ghost view = { λ group. group.id };
 
-    ghost invariant = { λ line. IsSetOf (has_square (squares_of line.group)) line.squares };
+    ghost invariant = { λ group. IsSetOf (has_square (squares_of group.id)) group.squares };
 }
 
-impl Default for BoardLine {
-    ghost is_default = { λ line. line ≡ line };
+impl Default for BoardGroup {
+    ghost is_default = { λ group. group ≡ group };
 
     fn default() -> Self {
-        BoardLine::of(GroupId::default())
+        BoardGroup::of(GroupId::default())
     }
 }
 
-impl BoardLine {
-    /// The line of a group.
-    fn of(group: GroupId) -> BoardLine
-        ensures { result ≡ group }
+impl BoardGroup {
+    fn of(id: GroupId) -> BoardGroup
+        ensures { result ≡ id }
     {
-        BoardLine {
-            group,
-            squares: group_mask(group),
+        BoardGroup {
+            id,
+            squares: group_mask(id),
         }
     }
 
-    /// The group.
-    pub(crate) fn group(&self) -> GroupId
+    pub(crate) fn id(&self) -> GroupId
         ensures { result ≡ self.now }
     {
-        self.group
+        self.id
     }
 
-    /// Its squares.
     pub(crate) fn squares(&self) -> Mask
         ensures { IsSetOf (has_square (squares_of self.now)) result }
     {
@@ -64,14 +62,14 @@ impl BoardLine {
     }
 }
 
-/// The lines of a board in group order. A contract sees the board.
+/// The groups of a board in group order. A contract sees the board.
 #[derive(Drop)]
-pub(crate) struct LineTable {
+pub(crate) struct GroupTable {
     size: Size,
-    lines: ArrayVec<BoardLine, MOST_LINES>,
+    groups: ArrayVec<BoardGroup, MOST_GROUPS>,
 }
 
-impl Model for LineTable {
+impl Model for GroupTable {
     ghost use Rattle.std.specs.Prelude.{◌≡◌};
     ghost use Rattle.game_rules.specs.Board.{Board};
     ghost use Rattle.game_rules.specs.Groups.{groups_of};
@@ -80,17 +78,17 @@ impl Model for LineTable {
 
     ghost view = { λ table. table.size };
 
-    ghost invariant = { λ table. table.lines.items ≡ groups_of table.size };
+    ghost invariant = { λ table. table.groups.items ≡ groups_of table.size };
 }
 
-impl LineTable {
+impl GroupTable {
     /// The table of a board.
-    pub(crate) fn of(size: Size) -> LineTable
+    pub(crate) fn of(size: Size) -> GroupTable
         ensures { result ≡ size }
     {
-        let mut lines = ArrayVec::new();
-        list_all(size, &mut lines);
-        LineTable { size, lines }
+        let mut groups = ArrayVec::new();
+        list_all(size, &mut groups);
+        GroupTable { size, groups }
     }
 
     /// Makes it the table of a board.
@@ -99,28 +97,27 @@ impl LineTable {
     {
         if !self.size.same(&size) {
             self.size = size;
-            list_all(size, &mut self.lines);
+            list_all(size, &mut self.groups);
         }
     }
 
-    /// The lines.
-    pub(crate) fn lines(&self) -> &[BoardLine]
+    pub(crate) fn groups(&self) -> &[BoardGroup]
         ensures value { result.now ≡ groups_of self.now }
-        ensures few { length result.now ≤ 238 }
+        ensures few { length result.now ≤ MOST_GROUPS }
     {
-        self.lines.as_slice()
+        self.groups.as_slice()
     }
 }
 
-/// Lists the lines of a board, in place of what was listed. Its local list is cleared at each call, so it isn't made a part
+/// Lists the groups of a board, in place of what was listed. Its local list is cleared at each call, so it isn't made a part
 /// of a function that is called often.
 #[inline(never)]
-fn list_all(size: Size, lines: &mut ArrayVec<BoardLine, MOST_LINES>)
-    ensures { lines.new.items ≡ groups_of size }
+fn list_all(size: Size, list: &mut ArrayVec<BoardGroup, MOST_GROUPS>)
+    ensures { list.new.items ≡ groups_of size }
 {
-    lines.clear();
+    list.clear();
     let groups = groups(size);
     for group in groups.as_slice() {
-        lines.push(BoardLine::of(*group));
+        list.push(BoardGroup::of(*group));
     }
 }

@@ -8,7 +8,8 @@ ghost use Rattle.walk_rules.specs.Walk.{fitting_zones, is_plan_position, walk_fr
 ghost use Rattle.walk_rules.specs.Steps.{is_zone_set, after};
 ghost use Rattle.rule_chooser.specs.Ground.{IsGround};
 ghost use Rattle.rule_chooser.specs.Walked.{LeavesOpen, OpensAt, goes_on, chosen_by};
-ghost use Rattle.rule_chooser.specs.declared.visit.Found.TheVariants as founds;
+ghost use Rattle.rule_chooser.specs.declared.visit.TheConstants.{MOST_ZONES};
+ghost use Rattle.rule_chooser.specs.declared.visit.WalkOutcome.TheVariants as outcomes;
 
 use crate::full::{MOST_MEMBERS, is_answered};
 use crate::ground::Ground;
@@ -21,7 +22,7 @@ pub(crate) const MOST_ZONES: usize = 50;
 
 /// What a walk has found.
 #[derive(Clone, Copy)]
-pub(crate) enum Found {
+pub(crate) enum WalkOutcome {
     /// A set that gives a plan.
     Plan,
     /// That no set gives one.
@@ -38,18 +39,18 @@ pub(crate) fn walk(
     ground: &mut Ground,
     set: &mut ArrayVec<Zone, MOST_ZONES>,
     list: &mut ArrayVec<Instance, MOST_MEMBERS>,
-) -> Found
+) -> WalkOutcome
     ensures found { choice_of p.now reach ≡ chosen_by p.now (written_list list.new.items) result }
-    ensures ground { result ≡ founds.Plan → IsGround p.now ground.new }
-    ensures set { result ≡ founds.Plan → is_zone_set p.now (written_list list.new.items) ≡ true }
-    ensures few { result ≡ founds.Plan → length list.new.items ≤ 50 }
+    ensures ground { result ≡ outcomes.Plan → IsGround p.now ground.new }
+    ensures set { result ≡ outcomes.Plan → is_zone_set p.now (written_list list.new.items) ≡ true }
+    ensures few { result ≡ outcomes.Plan → length list.new.items ≤ MOST_ZONES }
 {
     if !is_plan_position(p) {
-        return Found::NoPlan;
+        return WalkOutcome::NoPlan;
     }
     let mut left = reach;
     if left == 0 {
-        return Found::Spent;
+        return WalkOutcome::Spent;
     }
     ground.list(p);
     set.clear();
@@ -76,25 +77,25 @@ pub(crate) fn visit(
     left: &mut u32,
     set: &mut ArrayVec<Zone, MOST_ZONES>,
     list: &mut ArrayVec<Instance, MOST_MEMBERS>,
-) -> Found
+) -> WalkOutcome
     requires ground { IsGround p.now ground.now }
     requires set { LeavesOpen p.now (written_list set.old.items) uncovered }
     ensures found { (rest : List (List RuleInstance)) → choice_among p.now left.old (walk_from p.now (written_list set.old.items) ++ rest) ≡ goes_on p.now left.new rest (written_list list.new.items) result }
-    ensures set { result ≡ founds.NoPlan → set.new.items ≡ set.old.items }
-    ensures plan { result ≡ founds.Plan → is_zone_set p.now (written_list list.new.items) ≡ true }
-    ensures few { result ≡ founds.Plan → length list.new.items ≤ 50 }
+    ensures set { result ≡ outcomes.NoPlan → set.new.items ≡ set.old.items }
+    ensures plan { result ≡ outcomes.Plan → is_zone_set p.now (written_list list.new.items) ≡ true }
+    ensures few { result ≡ outcomes.Plan → length list.new.items ≤ MOST_ZONES }
 {
     // its contract says that the board is one with a size
     let _board = p.size();
     let Some(less) = left.checked_sub(1) else {
-        return Found::Spent;
+        return WalkOutcome::Spent;
     };
     *left = less;
     let Some(first) = uncovered.first() else {
         return if is_answered(p, ground, set.as_slice(), list) {
-            Found::Plan
+            WalkOutcome::Plan
         } else {
-            Found::NoPlan
+            WalkOutcome::NoPlan
         };
     };
     visit_next(p, ground, uncovered, first, left, set, list)
@@ -110,13 +111,13 @@ fn visit_next(
     left: &mut u32,
     set: &mut ArrayVec<Zone, MOST_ZONES>,
     list: &mut ArrayVec<Instance, MOST_MEMBERS>,
-) -> Found
+) -> WalkOutcome
     requires ground { IsGround p.now ground.now }
     requires set { OpensAt p.now (written_list set.old.items) uncovered first }
     ensures found { (rest : List (List RuleInstance)) → choice_among p.now left.old (after p.now (written_list set.old.items) (fitting_zones p.now) ++ rest) ≡ goes_on p.now left.new rest (written_list list.new.items) result }
-    ensures set { result ≡ founds.NoPlan → set.new.items ≡ set.old.items }
-    ensures plan { result ≡ founds.Plan → is_zone_set p.now (written_list list.new.items) ≡ true }
-    ensures few { result ≡ founds.Plan → length list.new.items ≤ 50 }
+    ensures set { result ≡ outcomes.NoPlan → set.new.items ≡ set.old.items }
+    ensures plan { result ≡ outcomes.Plan → is_zone_set p.now (written_list list.new.items) ≡ true }
+    ensures few { result ≡ outcomes.Plan → length list.new.items ≤ MOST_ZONES }
 {
     // its contract says that the board is one with a size
     let _board = p.size();
@@ -128,7 +129,7 @@ fn visit_next(
             set.push(*zone);
             let still = uncovered.without(zone.squares());
             match visit(p, ground, still, left, set, list) {
-                Found::NoPlan => {
+                WalkOutcome::NoPlan => {
                     set.pop();
                 }
                 found => return found,
@@ -136,7 +137,7 @@ fn visit_next(
         }
         index = ground.zones.next(index);
     }
-    Found::NoPlan // each was tried
+    WalkOutcome::NoPlan // each was tried
 }
 
 /// Whether a zone has the first square that a set leaves open, and may stand with each of the set.

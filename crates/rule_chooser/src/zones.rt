@@ -5,6 +5,7 @@ ghost use Rattle.board_bits.specs.Words.{place_of};
 ghost use Rattle.rule_compat.specs.declared.instance.Instance.{Instance as Listed};
 ghost use Rattle.rule_compat.specs.Written.{written_list};
 ghost use Rattle.walk_rules.specs.Walk.{fitting_zones};
+ghost use Rattle.rule_chooser.specs.declared.zones.TheConstants.{MOST_FITTING, PLACES};
 ghost use Rattle.rule_chooser.specs.Links.{least_place, next_at, IsLinked};
 
 use arrayvec::ArrayVec;
@@ -88,16 +89,16 @@ impl Zones {
 
 /// The heads of a list of so many zones before one is linked.
 fn no_heads(zones: usize) -> [u16; PLACES]
-    requires { zones ≤ 1580 }
-    ensures { (place : ℕ) → place < 110 → slice_index_or result place 0 ≡ zones }
+    requires { zones ≤ MOST_FITTING }
+    ensures { (place : ℕ) → place < PLACES → slice_index_or result place 0 ≡ zones }
 {
     [zones as u16; PLACES]
 }
 
 /// Links the zones of a list, from the last to the first.
 fn link(list: &[Zone], heads: &mut [u16; PLACES], links: &mut [u16; MOST_FITTING])
-    requires few { length list.now ≤ 1580 }
-    requires none { (place : ℕ) → place < 110 → slice_index_or heads.old place 0 ≡ length list.now }
+    requires few { length list.now ≤ MOST_FITTING }
+    requires none { (place : ℕ) → place < PLACES → slice_index_or heads.old place 0 ≡ length list.now }
     ensures { IsLinked list.now heads.new links.new }
 {
     let mut index = list.len();
@@ -110,7 +111,7 @@ fn link(list: &[Zone], heads: &mut [u16; PLACES], links: &mut [u16; MOST_FITTING
 /// The place of the zone's first square, in square order.
 fn least_place(zone: &Zone) -> usize
     ensures value { result ≡ least_place zone.now }
-    ensures within { result < 110 }
+    ensures within { result < PLACES }
 {
     match zone.squares().first() {
         Some(square) => place_of(square) as usize,
@@ -120,12 +121,12 @@ fn least_place(zone: &Zone) -> usize
 
 /// Links a zone with this number in front of those that are linked already.
 fn link_one(zone: &Zone, index: usize, heads: &mut [u16; PLACES], links: &mut [u16; MOST_FITTING])
-    requires { index < 1580 }
+    requires { index < MOST_FITTING }
     ensures heads { heads.new ≡ slice_set heads.old (least_place zone.now) index }
     ensures links { links.new ≡ slice_set links.old index (slice_index_or heads.old (least_place zone.now) 0) }
-    ensures place { least_place zone.now < 110 }
-    ensures places { length heads.old ≡ 110 }
-    ensures all { length links.old ≡ 1580 }
+    ensures place { least_place zone.now < PLACES }
+    ensures places { length heads.old ≡ PLACES }
+    ensures all { length links.old ≡ MOST_FITTING }
 {
     let place = least_place(zone);
     links[index] = heads[place];
@@ -135,7 +136,7 @@ fn link_one(zone: &Zone, index: usize, heads: &mut [u16; PLACES], links: &mut [u
 impl Taker<Claimeven> for Zones {
     ghost taken = { λ zones. written_list zones.list.items };
 
-    ghost room = { λ zones. 1580 };
+    ghost room = { λ zones. MOST_FITTING };
 
     fn take(&mut self, rule: Claimeven) {
         let squares = rule.zone();
@@ -146,7 +147,7 @@ impl Taker<Claimeven> for Zones {
 impl Taker<Baseinverse> for Zones {
     ghost taken = { λ zones. written_list zones.list.items };
 
-    ghost room = { λ zones. 1580 };
+    ghost room = { λ zones. MOST_FITTING };
 
     fn take(&mut self, rule: Baseinverse) {
         let squares = rule.zone();
@@ -158,7 +159,7 @@ impl Taker<Baseinverse> for Zones {
 impl Taker<Lowinverse> for Zones {
     ghost taken = { λ zones. written_list zones.list.items };
 
-    ghost room = { λ zones. 1580 };
+    ghost room = { λ zones. MOST_FITTING };
 
     fn take(&mut self, rule: Lowinverse) {
         let squares = rule.zone();
@@ -170,7 +171,7 @@ impl Taker<Lowinverse> for Zones {
 impl Taker<Highinverse> for Zones {
     ghost taken = { λ zones. written_list zones.list.items };
 
-    ghost room = { λ zones. 1580 };
+    ghost room = { λ zones. MOST_FITTING };
 
     fn take(&mut self, rule: Highinverse) {
         let squares = rule.zone();
@@ -182,7 +183,7 @@ impl Taker<Highinverse> for Zones {
 impl Taker<Baseclaim> for Zones {
     ghost taken = { λ zones. written_list zones.list.items };
 
-    ghost room = { λ zones. 1580 };
+    ghost room = { λ zones. MOST_FITTING };
 
     fn take(&mut self, rule: Baseclaim) {
         let squares = rule.zone();

@@ -7,12 +7,12 @@ use Rattle.plan_rules.specs.Refusal.{StandTogether}
 use Rattle.rule_law.specs.KeptFacts.{facts_in}
 use Rattle.rule_compat.specs.Written.{written_list}
 use Rattle.walk_rules.specs.Walk.{answers, with_one}
-use Rattle.rule_chooser.specs.declared.lines.Line.{Line}
-use Rattle.rule_chooser.specs.Lines.{line_at, lines_for}
+use Rattle.rule_chooser.specs.declared.groups.OpenGroup.{OpenGroup}
+use Rattle.rule_chooser.specs.OpenGroups.{open_group_at, groups_for}
 use Rattle.rule_chooser.specs.Standing.{first_standing, some_bars}
-use Rattle.rule_chooser.proofs.SpecialLines.{line_of}
-use Rattle.rule_chooser.proofs.LineAnswers.{stand_together, part_empty}
-use Rattle.rule_chooser.proofs.GivenLists.{group_at, line_free, answers_one, given_all}
+use Rattle.rule_chooser.proofs.SpecialGroups.{group_is}
+use Rattle.rule_chooser.proofs.GroupAnswers.{stand_together, part_empty}
+use Rattle.rule_chooser.proofs.GivenLists.{group_at, group_free, answers_one, given_all}
 use Rattle.rule_chooser.proofs.full.add_answers.Goals as goal
 
 pub facts_kept-kept-requires : goal.facts_kept-kept-requires
@@ -23,36 +23,36 @@ add_answer-requires-clause-kept c = λ u. ap (λ (facts : Facts). facts.empty u)
 
 pub add_answer-requires-clause-part : goal.add_answer-requires-clause-part
 add_answer-requires-clause-part c =
-    part_empty c.args.p.now c.size-board.ensures.board c.line-item.result
-    (line_of c.args.p.now (lines_for White c.args.p.now) c.as_slice-line-items.result.now c.loop-line.line-index c.line-item.result (c.as_slice-line-items.ensures.value ∙ c.requires.ground.white) c.loop-line-test.true c.line-item.is)
+    part_empty c.args.p.now c.size-board.ensures.board c.group-item.result
+    (group_is c.args.p.now (groups_for White c.args.p.now) c.as_slice-group-items.result.now c.loop-group.group-index c.group-item.result (c.as_slice-group-items.ensures.value ∙ c.requires.ground.white) c.loop-group-test.true c.group-item.is)
 
-pub loop-line-preserved : goal.loop-line-preserved
-loop-line-preserved c =
-    let p = c.args.p.now in let set = written_list c.args.list.now.items in let gs = lines_for White p in let lines = c.as_slice-line-items.result.now in let i = c.loop-line.line-index in
-    let old = c.loop-line.list.items in let zones = c.len-zones.result in let facts = facts_in c.facts_kept-kept.result in let ws = written_list (drop zones old) in
-    let same = c.as_slice-line-items.ensures.value ∙ c.requires.ground.white in
-    let next = group_at p gs lines i c.line-item.result same c.loop-line-test.true c.line-item.is in
-    let is = line_of p gs lines i c.line-item.result same c.loop-line-test.true c.line-item.is in
-    let empty = ap (λ (line : Line). line.empty) is in
-    let made : written_list (drop zones c.add_answer.new.list.items) ≡ (if some_bars facts (has_square (line_at p c.line-item.result.group).empty) set then ws else with_one ws (first_standing p facts (has_square (line_at p c.line-item.result.group).empty))) =
+pub loop-group-preserved : goal.loop-group-preserved
+loop-group-preserved c =
+    let p = c.args.p.now in let set = written_list c.args.list.now.items in let gs = groups_for White p in let groups = c.as_slice-group-items.result.now in let i = c.loop-group.group-index in
+    let old = c.loop-group.list.items in let zones = c.len-zones.result in let facts = facts_in c.facts_kept-kept.result in let ws = written_list (drop zones old) in
+    let same = c.as_slice-group-items.ensures.value ∙ c.requires.ground.white in
+    let next = group_at p gs groups i c.group-item.result same c.loop-group-test.true c.group-item.is in
+    let is = group_is p gs groups i c.group-item.result same c.loop-group-test.true c.group-item.is in
+    let empty = ap (λ (group : OpenGroup). group.empty) is in
+    let made : written_list (drop zones c.add_answer.new.list.items) ≡ (if some_bars facts (has_square (open_group_at p c.group-item.result.id).empty) set then ws else with_one ws (first_standing p facts (has_square (open_group_at p c.group-item.result.id).empty))) =
     c.add_answer.ensures.answers
-    ∙ ap (λ zs. if some_bars facts (has_square c.line-item.result.empty) (written_list zs) then ws else with_one ws (first_standing p facts (has_square c.line-item.result.empty))) c.loop-line.invariant.zones
+    ∙ ap (λ zs. if some_bars facts (has_square c.group-item.result.empty) (written_list zs) then ws else with_one ws (first_standing p facts (has_square c.group-item.result.empty))) c.loop-group.invariant.zones
     ∙ ap (λ us. if some_bars facts (has_square us) set then ws else with_one ws (first_standing p facts (has_square us))) empty in
-    let least = c.add_answer.ensures.least in let most = c.add_answer.ensures.most in let low = c.loop-line.invariant.least in let high = c.loop-line.invariant.most in
+    let least = c.add_answer.ensures.least in let most = c.add_answer.ensures.most in let low = c.loop-group.invariant.least in let high = c.loop-group.invariant.most in
     record {
-      zones = c.add_answer.ensures.zones ∙ c.loop-line.invariant.zones;
+      zones = c.add_answer.ensures.zones ∙ c.loop-group.invariant.zones;
       answers =
           ap (answers p set (drop (i + 1) gs)) made
-          ∙ sym (answers_one p set c.size-board.ensures.board facts c.line-item.result.group (drop (i + 1) gs) ws (c.facts_kept-kept.ensures ∙ ap (λ zs. facts_of p (written_list zs)) c.as_slice.ensures.value) (line_free p lines i c.line-item.result next))
+          ∙ sym (answers_one p set c.size-board.ensures.board facts c.group-item.result.id (drop (i + 1) gs) ws (c.facts_kept-kept.ensures ∙ ap (λ zs. facts_of p (written_list zs)) c.as_slice.ensures.value) (group_free p groups i c.group-item.result next))
           ∙ ap (λ hs. answers p set hs ws) (sym next)
-          ∙ c.loop-line.invariant.answers;
+          ∙ c.loop-group.invariant.answers;
       least = omega (arith, least, low);
       most = omega (arith, most, high);
     }
 
 pub returns-clause-given : goal.returns-clause-given
 returns-clause-given c =
-    let p = c.args.p.now in let past = c.loop-line-test.false in
-    given_all p (written_list c.args.list.now.items) c.len-zones.result c.loop-line.list.items c.args.list.now.items c.loop-line.line-index refl c.loop-line.invariant.zones
-    (omega (arith, past, ap length (c.as_slice-line-items.ensures.value ∙ c.requires.ground.white), length-map (lines_for White p) (line_at p)))
-    c.loop-line.invariant.answers
+    let p = c.args.p.now in let past = c.loop-group-test.false in
+    given_all p (written_list c.args.list.now.items) c.len-zones.result c.loop-group.list.items c.args.list.now.items c.loop-group.group-index refl c.loop-group.invariant.zones
+    (omega (arith, past, ap length (c.as_slice-group-items.ensures.value ∙ c.requires.ground.white), length-map (groups_for White p) (open_group_at p)))
+    c.loop-group.invariant.answers

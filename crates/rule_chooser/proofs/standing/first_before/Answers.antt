@@ -1,7 +1,7 @@
 use Rattle.std.proofs.Common.{ap, ◌∙◌}
 use Rattle.std.specs.Option.{option_map}
 use Rattle.plan_rules.specs.Rules.{before}
-use Rattle.rule_chooser.proofs.OpenLines.{first_before}
+use Rattle.rule_chooser.proofs.BlackGroups.{first_before}
 use Rattle.rule_chooser.proofs.standing.first_before.Goals as goal
 
 pub returns : goal.returns

@@ -1,8 +1,8 @@
 use Rattle.std.proofs.Common.{sym, ap, ◌∙◌}
 use Rattle.std.specs.Option.{option_map}
-use Rattle.rule_chooser.specs.declared.lines.Line.{Line}
-use Rattle.rule_chooser.proofs.OpenLines.{none_within}
+use Rattle.rule_chooser.specs.declared.groups.OpenGroup.{OpenGroup}
+use Rattle.rule_chooser.proofs.BlackGroups.{none_within}
 use Rattle.rule_chooser.proofs.standing.first_within.Goals as goal
 
 pub returns-then-is_empty : goal.returns-then-is_empty
-returns-then-is_empty c = sym (ap (option_map (λ (line : Line). line.group)) (none_within c.args.set c.args.lines.now (sym c.is_empty.ensures ∙ c.if-is_empty.true)))
+returns-then-is_empty c = sym (ap (option_map (λ (group : OpenGroup). group.id)) (none_within c.args.set c.args.groups.now (sym c.is_empty.ensures ∙ c.if-is_empty.true)))

@@ -1,4 +1,4 @@
--- Where a Specialbefore can answer a line: which squares and which lines of Black's are enough to look at.
+-- Where a Specialbefore can answer a group: which squares and which groups of Black's are enough to look at.
 use Rattle.std.proofs.Common.{◌≡◌, ℕ, ◌+◌, ◌<◌, Bool, true, false, ◌&&◌, ◌||◌, ◌==◌, nat_le, List, [], ◌∷◌, length, map, filter, get_or, None, refl, sym, ap, ◌∙◌, subst, inl, inr, arith}
 use Rattle.std.specs.List.{list_all}
 use Rattle.std.specs.Option.{option_or}
@@ -22,10 +22,10 @@ use Rattle.plan_rules.proofs.Sites.{some_playables}
 use Rattle.plan_rules.proofs.Turns.{playable_empty}
 use Rattle.rule_law.specs.declared.kept.Kept.{Kept}
 use Rattle.rule_law.specs.KeptFacts.{facts_in}
-use Rattle.rule_chooser.specs.declared.lines.Line.{Line}
-use Rattle.rule_chooser.specs.Lines.{line_at, lines_for}
+use Rattle.rule_chooser.specs.declared.groups.OpenGroup.{OpenGroup}
+use Rattle.rule_chooser.specs.OpenGroups.{open_group_at, groups_for}
 use Rattle.rule_chooser.specs.Standing.{does_answer, first_of, first_special, is_of_twin, is_outside, special_along}
-use Rattle.rule_chooser.proofs.OpenLines.{part_set, part_all, each_low, has_empty}
+use Rattle.rule_chooser.proofs.BlackGroups.{part_set, part_all, each_low, has_empty}
 use Rattle.rule_chooser.proofs.Specials.{first_each, first_narrowed, first_none}
 
 -- the one of two twins is a twin's
@@ -46,12 +46,12 @@ filter_true [] = refl
 filter_true (x ∷ xs) = ap (λ ys. x ∷ ys) (filter_true xs)
 
 module _ (p : Position) (kept : Kept) (part : List Square) (board : is_board (board_of p) ≡ true) (empty : (u : Square) → has_square kept.empty u ≡ is_empty p u) where
-  -- what answers the line
+  -- what answers the group
   record Answers (g : Group) (f e : Square) : Type 0 where
     pub low : is_low_line p g ≡ true
     pub outer : is_playable p f ≡ true
     pub inner : is_playable p e ≡ true
-    pub in_line : has_square (squares_of g) e ≡ true
+    pub in_group : has_square (squares_of g) e ≡ true
     pub of_twin : is_of_twin kept.twin.items f ≡ true
     pub in_part : has_square part f ≡ true
     pub all_above : each_of (is_empty p) (λ u. has_square part (above u)) (squares_of g) ≡ true
@@ -68,35 +68,35 @@ module _ (p : Position) (kept : Kept) (part : List Square) (board : is_board (bo
         low = outer.0;
         outer = outer.1;
         inner = more.1;
-        in_line = shape.3;
+        in_group = shape.3;
         of_twin = twin_of_two kept.twin.items f e (and_parts (is_twin kept.twin.items f e) _ two.0).0;
         in_part = bars.0;
         all_above = subst (λ chosen. each_of chosen (λ u. has_square part (above u)) (squares_of g) ≡ true) (has_empty p kept part board empty) bars.1;
       }
 
-  -- ---- one line
+  -- ---- one group
 
   -- the playable squares that are looked at are enough
-  pub line_narrowed : (g : Group) (playable outside inside line : List Square) → line ≡ squares_where (empty_part p g) → IsSetOf (has_square (playable_squares p)) playable
-      → IsSetOf (is_outside p (facts_in kept) (has_square part)) outside → IsSetOf (λ u. has_square playable u && has_square line u) inside
+  pub group_narrowed : (g : Group) (playable outside inside group : List Square) → group ≡ squares_where (empty_part p g) → IsSetOf (has_square (playable_squares p)) playable
+      → IsSetOf (is_outside p (facts_in kept) (has_square part)) outside → IsSetOf (λ u. has_square playable u && has_square group u) inside
       → first_of p (facts_in kept) (has_square part) (λ two. specialbefore g two.0 two.1) (each_with outside inside)
       ≡ first_of p (facts_in kept) (has_square part) (λ two. specialbefore g two.0 two.1) (each_with (playable_squares p) (playable_squares p))
-  line_narrowed g playable outside inside line same all outer inner =
+  group_narrowed g playable outside inside group same all outer inner =
       ap (λ fs. first_of p (facts_in kept) (has_square part) (λ two. specialbefore g two.0 two.1) (each_with fs inside)) (some_playables p (λ u. is_of_twin kept.twin.items u && has_square part u) outside board outer)
       ∙ ap (λ es. first_of p (facts_in kept) (has_square part) (λ two. specialbefore g two.0 two.1) (each_with (filter (λ u. is_of_twin kept.twin.items u && has_square part u) (playable_squares p)) es))
-      (some_playables p (empty_part p g) inside board (set_same _ _ inside inner (λ u. ap (λ b. b && has_square line u) (all.has u) ∙ ap (λ b. has_square (playable_squares p) u && b) (ap (λ us. has_square us u) same ∙ (part_set p g board).has u))))
+      (some_playables p (empty_part p g) inside board (set_same _ _ inside inner (λ u. ap (λ b. b && has_square group u) (all.has u) ∙ ap (λ b. has_square (playable_squares p) u && b) (ap (λ us. has_square us u) same ∙ (part_set p g board).has u))))
       ∙ first_narrowed p (facts_in kept) (has_square part) (λ two. specialbefore g two.0 two.1) (λ u. is_of_twin kept.twin.items u && has_square part u) (empty_part p g) (playable_squares p) (playable_squares p)
-      (λ f e h. let is = answers g f e h in (and_from _ _ is.of_twin is.in_part, and_from _ _ (playable_empty p e is.inner) is.in_line))
+      (λ f e h. let is = answers g f e h in (and_from _ _ is.of_twin is.in_part, and_from _ _ (playable_empty p e is.inner) is.in_group))
 
-  -- a line of which some empty square lies under none of the line that is to be answered
-  pub line_none : (g : Group) (line lowered : List Square) → line ≡ squares_where (empty_part p g) → IsSetOf (λ u. nat_le 1 u.1 && has_square part (u.0, u.1 + 1)) lowered
-      → list_all (has_square lowered) line ≡ false
+  -- a group of which some empty square lies under none of the group that is to be answered
+  pub group_none : (g : Group) (group lowered : List Square) → group ≡ squares_where (empty_part p g) → IsSetOf (λ u. nat_le 1 u.1 && has_square part (u.0, u.1 + 1)) lowered
+      → list_all (has_square lowered) group ≡ false
       → None ≡ first_of p (facts_in kept) (has_square part) (λ two. specialbefore g two.0 two.1) (each_with (playable_squares p) (playable_squares p))
-  line_none g line lowered same low fails =
+  group_none g group lowered same low fails =
       first_none p (facts_in kept) (has_square part) (λ two. specialbefore g two.0 two.1) (playable_squares p) (playable_squares p)
-      (λ f e. false_from_ne_true _ (λ h. both_ways (list_all (has_square lowered) line) fails (all_low (answers g f e h).all_above)))
+      (λ f e. false_from_ne_true _ (λ h. both_ways (list_all (has_square lowered) group) fails (all_low (answers g f e h).all_above)))
     where
-      all_low : each_of (is_empty p) (λ u. has_square part (above u)) (squares_of g) ≡ true → list_all (has_square lowered) line ≡ true
+      all_low : each_of (is_empty p) (λ u. has_square part (above u)) (squares_of g) ≡ true → list_all (has_square lowered) group ≡ true
       all_low h =
           ap (list_all (has_square lowered)) same
           ∙ part_all p g board lowered
@@ -104,9 +104,9 @@ module _ (p : Position) (kept : Kept) (part : List Square) (board : is_board (bo
           ∙ each_low p kept part board empty (λ u. has_square part (above u)) (squares_of g)
           ∙ h
 
-  -- ---- all lines
+  -- ---- all groups
 
-  -- without a square of a twin in the line there is none
+  -- without a square of a twin in the group there is none
   pub none_outside : (outside : List Square) → IsSetOf (is_outside p (facts_in kept) (has_square part)) outside → (length outside == 0) ≡ true → None ≡ first_special p (facts_in kept) (has_square part)
   none_outside outside is none =
       first_none p (facts_in kept) (has_square part) (λ three. specialbefore three.0 three.1.0 three.1.1) (groups_of (board_of p)) (each_with (playable_squares p) (playable_squares p))
@@ -119,33 +119,33 @@ module _ (p : Position) (kept : Kept) (part : List Square) (board : is_board (bo
       no_square [] none u h = cc h
       no_square (v ∷ us) none u h = absurd (omega arith)
 
-  -- Black's lines are enough
-  pub along_lines : (lines : List Line) → lines ≡ map (line_at p) (lines_for Black p) → special_along p (facts_in kept) (has_square part) lines ≡ first_special p (facts_in kept) (has_square part)
-  along_lines lines same =
+  -- Black's groups are enough
+  pub along_groups : (groups : List OpenGroup) → groups ≡ map (open_group_at p) (groups_for Black p) → special_along p (facts_in kept) (has_square part) groups ≡ first_special p (facts_in kept) (has_square part)
+  along_groups groups same =
       ap (λ gs. first_of p (facts_in kept) (has_square part) (λ three. specialbefore three.0 three.1.0 three.1.1) (each_with gs (each_with (playable_squares p) (playable_squares p))))
-      (ap (map (λ (line : Line). line.group)) same ∙ back (lines_for Black p))
-      ∙ ap (λ ys. first_of p (facts_in kept) (has_square part) (λ three. specialbefore three.0 three.1.0 three.1.1) (each_with (lines_for Black p) ys)) (sym (filter_true (each_with (playable_squares p) (playable_squares p))))
+      (ap (map (λ (group : OpenGroup). group.id)) same ∙ back (groups_for Black p))
+      ∙ ap (λ ys. first_of p (facts_in kept) (has_square part) (λ three. specialbefore three.0 three.1.0 three.1.1) (each_with (groups_for Black p) ys)) (sym (filter_true (each_with (playable_squares p) (playable_squares p))))
       ∙ first_narrowed p (facts_in kept) (has_square part) (λ three. specialbefore three.0 three.1.0 three.1.1) (is_free_for Black p) (λ two. true) (groups_of (board_of p)) (each_with (playable_squares p) (playable_squares p))
       (λ g two h. (free g (answers g two.0 two.1 h).low, refl))
     where
-      back : (gs : List Group) → map (λ (line : Line). line.group) (map (line_at p) gs) ≡ gs
+      back : (gs : List Group) → map (λ (group : OpenGroup). group.id) (map (open_group_at p) gs) ≡ gs
       back [] = refl
       back (g ∷ gs) = ap (λ hs. g ∷ hs) (back gs)
 
       free : (g : Group) → is_low_line p g ≡ true → is_free_for Black p g ≡ true
       free g low = (and_parts _ (is_free_for Black p g) (and_parts _ _ (sym (open_is p g) ∙ low_open p g low)).0).1
 
--- one line more
-pub along_more : (p : Position) (facts : Facts) (part : Square → Bool) (line : Line) (lines : List Line)
-    → special_along p facts part (line ∷ lines) ≡ option_or (first_of p facts part (λ two. specialbefore line.group two.0 two.1) (each_with (playable_squares p) (playable_squares p))) (special_along p facts part lines)
-along_more p facts part line lines = first_each p facts part (λ three. specialbefore three.0 three.1.0 three.1.1) (each_with (playable_squares p) (playable_squares p)) line.group (map (λ (line : Line). line.group) lines)
+-- one group more
+pub along_more : (p : Position) (facts : Facts) (part : Square → Bool) (group : OpenGroup) (groups : List OpenGroup)
+    → special_along p facts part (group ∷ groups) ≡ option_or (first_of p facts part (λ two. specialbefore group.id two.0 two.1) (each_with (playable_squares p) (playable_squares p))) (special_along p facts part groups)
+along_more p facts part group groups = first_each p facts part (λ three. specialbefore three.0 three.1.0 three.1.1) (each_with (playable_squares p) (playable_squares p)) group.id (map (λ (group : OpenGroup). group.id) groups)
 
--- a line of the list is one of its group
-pub line_of : (p : Position) (gs : List Group) (lines : List Line) (i : ℕ) (line : Line) → lines ≡ map (line_at p) gs → i < length lines → line ≡ get_or lines i line → line ≡ line_at p line.group
-line_of p gs lines i line same within at =
-    let among = subst (λ ls. Among line ls) same (subst (λ x. Among x lines) (sym at) (Among-at lines i line within)) in
-    let found = Among-map_gives (line_at p) gs line among in
-    subst (λ (l : Line). l ≡ line_at p l.group) found.2 refl
+-- a group of the list is one of its group
+pub group_is : (p : Position) (gs : List Group) (groups : List OpenGroup) (i : ℕ) (group : OpenGroup) → groups ≡ map (open_group_at p) gs → i < length groups → group ≡ get_or groups i group → group ≡ open_group_at p group.id
+group_is p gs groups i group same within at =
+    let among = subst (λ ls. Among group ls) same (subst (λ x. Among x groups) (sym at) (Among-at groups i group within)) in
+    let found = Among-map_gives (open_group_at p) gs group among in
+    subst (λ (l : OpenGroup). l ≡ open_group_at p l.id) found.2 refl
 
 -- the squares that are looked at
 pub outside_is : (p : Position) (twins : List (Square × Square)) (part playable of_twins both outside : List Square)

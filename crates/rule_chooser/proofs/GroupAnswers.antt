@@ -1,4 +1,4 @@
--- Each line that a set leaves has an answer exactly where each of White's lines does, by what code keeps of the set.
+-- Each group that a set leaves has an answer exactly where each of White's groups does, by what code keeps of the set.
 use Rattle.std.proofs.Common.{◌≡◌, Bool, true, false, not, ◌&&◌, ◌||◌, List, [], ◌∷◌, map, filter, is_some, refl, sym, ap, ◌∙◌, inl, inr}
 use Rattle.std.specs.List.{list_all, list_any}
 use Rattle.std.proofs.Math.Path.{fun_ext}
@@ -17,10 +17,10 @@ use Rattle.walk_rules.specs.Walk.{is_left, answer_to}
 use Rattle.walk_rules.specs.Steps.{is_zone_set}
 use Rattle.walk_rules.proofs.Fast.{answer_by_kind}
 use Rattle.walk_rules.proofs.Lists.{all_agree}
-use Rattle.rule_chooser.specs.declared.lines.Line.{Line}
-use Rattle.rule_chooser.specs.Lines.{line_at, lines_for}
+use Rattle.rule_chooser.specs.declared.groups.OpenGroup.{OpenGroup}
+use Rattle.rule_chooser.specs.OpenGroups.{open_group_at, groups_for}
 use Rattle.rule_chooser.specs.Standing.{first_standing, some_bars, is_answered_by}
-use Rattle.rule_chooser.proofs.OpenLines.{part_set}
+use Rattle.rule_chooser.proofs.BlackGroups.{part_set}
 
 pub stand_together : (p : Position) (set : List RuleInstance) → is_zone_set p set ≡ true → StandTogether p set
 stand_together p set is =
@@ -38,7 +38,7 @@ module _ (p : Position) (set : List RuleInstance) (board : is_board (board_of p)
   pub part_is : (g : Group) → has_square (squares_where (empty_part p g)) ≡ empty_part p g
   part_is g = fun_ext (part_set p g board).has
 
-  -- whether a zone bars the line, and the first standing answer to it
+  -- whether a zone bars the group, and the first standing answer to it
   pub bars_is : (facts : Facts) (g : Group) → facts ≡ facts_of p set → some_bars facts (has_square (squares_where (empty_part p g))) set ≡ is_barred p set g
   bars_is facts g same = ap (λ f. some_bars f (has_square (squares_where (empty_part p g))) set) same ∙ ap (λ part. some_bars (facts_of p set) part set) (part_is g)
 
@@ -48,11 +48,11 @@ module _ (p : Position) (set : List RuleInstance) (board : is_board (board_of p)
       ∙ ap (λ part. first_standing p (facts_of p set) part) (part_is g)
       ∙ sym (answer_by_kind p set g)
 
-  pub all_answered : (facts : Facts) (lines : List Line) → facts ≡ facts_of p set → lines ≡ map (line_at p) (lines_for White p)
-      → list_all (λ (line : Line). is_answered_by p facts set line.empty) lines ≡ list_all (λ g. not (is_left p set g) || is_some (answer_to p set g)) (groups_of (board_of p))
-  all_answered facts lines same are =
-      ap (list_all (λ (line : Line). is_answered_by p facts set line.empty)) are
-      ∙ all_mapped (λ (line : Line). is_answered_by p facts set line.empty) (line_at p) (is_free_for White p) (groups_of (board_of p))
+  pub all_answered : (facts : Facts) (groups : List OpenGroup) → facts ≡ facts_of p set → groups ≡ map (open_group_at p) (groups_for White p)
+      → list_all (λ (group : OpenGroup). is_answered_by p facts set group.empty) groups ≡ list_all (λ g. not (is_left p set g) || is_some (answer_to p set g)) (groups_of (board_of p))
+  all_answered facts groups same are =
+      ap (list_all (λ (group : OpenGroup). is_answered_by p facts set group.empty)) are
+      ∙ all_mapped (λ (group : OpenGroup). is_answered_by p facts set group.empty) (open_group_at p) (is_free_for White p) (groups_of (board_of p))
       ∙ all_agree _ _ (groups_of (board_of p)) (λ g among.
       ap (λ b. not (is_free_for White p g) || (b || is_some (first_standing p facts (has_square (squares_where (empty_part p g)))))) (bars_is facts g same)
       ∙ ap (λ o. not (is_free_for White p g) || (is_barred p set g || is_some o)) (answer_is facts g same)
@@ -63,7 +63,7 @@ module _ (p : Position) (set : List RuleInstance) (board : is_board (board_of p)
       grouped false true a = refl
       grouped false false a = refl
 
--- the squares that are kept of a line are empty ones
-pub part_empty : (p : Position) → is_board (board_of p) ≡ true → (line : Line) → line ≡ line_at p line.group → (u : Square) → has_square line.empty u ≡ true → is_empty p u ≡ true
-part_empty p board line is u h =
-    (and_parts (is_empty p u) _ (sym ((part_set p line.group board).has u) ∙ ap (λ (l : Line). has_square l.empty u) (sym is) ∙ h)).0
+-- the squares that are kept of a group are empty ones
+pub part_empty : (p : Position) → is_board (board_of p) ≡ true → (group : OpenGroup) → group ≡ open_group_at p group.id → (u : Square) → has_square group.empty u ≡ true → is_empty p u ≡ true
+part_empty p board group is u h =
+    (and_parts (is_empty p u) _ (sym ((part_set p group.id board).has u) ∙ ap (λ (l : OpenGroup). has_square l.empty u) (sym is) ∙ h)).0

@@ -1,4 +1,4 @@
--- The lines of Black's that Aftereven and Before rest on, as a search finds them: by their empty squares, and a set that
+-- The groups of Black's that Aftereven and Before rest on, as a search finds them: by their empty squares, and a set that
 -- has to have those.
 use Rattle.std.proofs.Common.{◌≡◌, ◌+◌, Bool, true, false, not, ◌&&◌, ◌||◌, ◌==◌, nat_le, nat_lt, List, [], ◌∷◌, length, map, Option, Some, None, refl, sym, ap, ◌∙◌, inl, inr, arith}
 use Rattle.std.specs.List.{list_all, list_any, find}
@@ -24,8 +24,8 @@ use Rattle.plan_rules.proofs.Places.{find_map}
 use Rattle.walk_rules.proofs.Fast.{find_filter}
 use Rattle.rule_law.specs.declared.kept.Kept.{Kept}
 use Rattle.rule_law.specs.KeptFacts.{facts_in}
-use Rattle.rule_chooser.specs.declared.lines.Line.{Line}
-use Rattle.rule_chooser.specs.Lines.{line_at, lines_for}
+use Rattle.rule_chooser.specs.declared.groups.OpenGroup.{OpenGroup}
+use Rattle.rule_chooser.specs.OpenGroups.{open_group_at, groups_for}
 use Rattle.rule_chooser.specs.Standing.{does_answer, is_open_within}
 
 -- ---- lists
@@ -56,9 +56,9 @@ each_both chosen f g (u ∷ us) =
     four true true false false e = refl
     four true true false true e = refl
 
--- no line with an empty square is within no squares
-pub none_within : (set : List Square) (lines : List Line) → (length set == 0) ≡ true → find (is_open_within set) lines ≡ None
-none_within [] lines none = nothing lines
+-- no group with an empty square is within no squares
+pub none_within : (set : List Square) (groups : List OpenGroup) → (length set == 0) ≡ true → find (is_open_within set) groups ≡ None
+none_within [] groups none = nothing groups
   where
     open_nowhere : (us : List Square) → (not (length us == 0) && list_all (has_square []) us) ≡ false
     open_nowhere [] = refl
@@ -68,12 +68,12 @@ none_within [] lines none = nothing lines
         out true = refl
         out false = refl
 
-    nothing : (ls : List Line) → find (is_open_within []) ls ≡ None
+    nothing : (ls : List OpenGroup) → find (is_open_within []) ls ≡ None
     nothing [] = refl
     nothing (l ∷ ls) = rw (open_nowhere l.empty) (nothing ls)
-none_within (u ∷ us) lines none = absurd (omega (arith, eqb-true (length (u ∷ us)) 0 none))
+none_within (u ∷ us) groups none = absurd (omega (arith, eqb-true (length (u ∷ us)) 0 none))
 
--- ---- a line's empty squares
+-- ---- a group's empty squares
 
 module _ (p : Position) (g : Group) (board : is_board (board_of p) ≡ true) where
   pub part_set : IsSetOf (empty_part p g) (squares_where (empty_part p g))
@@ -95,24 +95,24 @@ module _ (p : Position) (g : Group) (board : is_board (board_of p) ≡ true) whe
       any_from (λ u. true) (squares_where (empty_part p g)) found.0
       (has_gives (squares_where (empty_part p g)) found.0 (part_set.has found.0 ∙ and_from _ _ found.2 (has_from (squares_of g) found.0 found.1))) refl)
 
-  -- a line of Black's that is open, and whose empty squares are all in a set
-  pub within_is : (set : List Square) → (is_free_for Black p g && is_open_within set (line_at p g)) ≡ (is_free_for Black p g && (list_any (is_empty p) (squares_of g) && each_of (is_empty p) (has_square set) (squares_of g)))
+  -- a group of Black's that is open, and whose empty squares are all in a set
+  pub within_is : (set : List Square) → (is_free_for Black p g && is_open_within set (open_group_at p g)) ≡ (is_free_for Black p g && (list_any (is_empty p) (squares_of g) && each_of (is_empty p) (has_square set) (squares_of g)))
   within_is set = ap (λ b. is_free_for Black p g && b) (ap (λ b. b && list_all (has_square set) (squares_where (empty_part p g))) part_some ∙ ap (λ b. list_any (is_empty p) (squares_of g) && b) (part_all set))
 
--- ---- the first line
+-- ---- the first group
 
--- the first of Black's lines that passes, found by a test of its empty squares
-first_along : (p : Position) (lines : List Line) (set : List Square) (test : Group → Bool) → lines ≡ map (line_at p) (lines_for Black p)
-    → ((g : Group) → lies_on (board_of p) g ≡ true → (is_free_for Black p g && is_open_within set (line_at p g)) ≡ test g)
-    → option_map (λ (line : Line). line.group) (find (is_open_within set) lines) ≡ find test (groups_of (board_of p))
-first_along p lines set test same agrees =
-    ap (λ ls. option_map (λ (line : Line). line.group) (find (is_open_within set) ls)) same
-    ∙ ap (option_map (λ (line : Line). line.group)) (find_map (is_open_within set) (line_at p) (lines_for Black p))
-    ∙ back (find (λ g. is_open_within set (line_at p g)) (lines_for Black p))
-    ∙ find_filter (λ g. is_open_within set (line_at p g)) (is_free_for Black p) (groups_of (board_of p))
+-- the first of Black's groups that passes, found by a test of its empty squares
+first_along : (p : Position) (groups : List OpenGroup) (set : List Square) (test : Group → Bool) → groups ≡ map (open_group_at p) (groups_for Black p)
+    → ((g : Group) → lies_on (board_of p) g ≡ true → (is_free_for Black p g && is_open_within set (open_group_at p g)) ≡ test g)
+    → option_map (λ (group : OpenGroup). group.id) (find (is_open_within set) groups) ≡ find test (groups_of (board_of p))
+first_along p groups set test same agrees =
+    ap (λ ls. option_map (λ (group : OpenGroup). group.id) (find (is_open_within set) ls)) same
+    ∙ ap (option_map (λ (group : OpenGroup). group.id)) (find_map (is_open_within set) (open_group_at p) (groups_for Black p))
+    ∙ back (find (λ g. is_open_within set (open_group_at p g)) (groups_for Black p))
+    ∙ find_filter (λ g. is_open_within set (open_group_at p g)) (is_free_for Black p) (groups_of (board_of p))
     ∙ find_agree _ test (groups_of (board_of p)) (λ g among. agrees g (Among-groups_gives (board_of p) g among))
   where
-    back : (o : Option Group) → option_map (λ (line : Line). line.group) (option_map (line_at p) o) ≡ o
+    back : (o : Option Group) → option_map (λ (group : OpenGroup). group.id) (option_map (open_group_at p) o) ≡ o
     back None = refl
     back (Some g) = refl
 
@@ -135,10 +135,10 @@ module _ (p : Position) (kept : Kept) (part : List Square) (board : is_board (bo
       ∙ each_both (is_empty p) (has_square first) (λ u. nat_le 1 u.1 && test u) (squares_of g)
       ∙ ap (λ b. each_of (is_empty p) (has_square first) (squares_of g) && b) (each_low test (squares_of g))
 
-  pub first_aftereven : (lines : List Line) (below set : List Square) → lines ≡ map (line_at p) (lines_for Black p)
+  pub first_aftereven : (groups : List OpenGroup) (below set : List Square) → groups ≡ map (open_group_at p) (groups_for Black p)
       → IsSetOf (λ u. nat_le 1 u.1 && some_above (has_square part) u) below → IsSetOf (λ u. has_square kept.upper u && has_square below u) set
-      → option_map (λ (line : Line). line.group) (find (is_open_within set) lines) ≡ find (λ g. does_answer p (facts_in kept) (has_square part) (aftereven g)) (groups_of (board_of p))
-  first_aftereven lines below set same is both = first_along p lines set _ same (λ g lies.
+      → option_map (λ (group : OpenGroup). group.id) (find (is_open_within set) groups) ≡ find (λ g. does_answer p (facts_in kept) (has_square part) (aftereven g)) (groups_of (board_of p))
+  first_aftereven groups below set same is both = first_along p groups set _ same (λ g lies.
       within_is p g board set
       ∙ ap (λ b. is_free_for Black p g && (list_any (is_empty p) (squares_of g) && b)) (both_sets g kept.upper below set (some_above (has_square part)) is both)
       ∙ grouped (lies_on (board_of p) g) (is_free_for Black p g) (list_any (is_empty p) (squares_of g)) _ lies
@@ -150,10 +150,10 @@ module _ (p : Position) (kept : Kept) (part : List Square) (board : is_board (bo
       grouped l true false b h = rw h refl
       grouped l false a b h = rw h refl
 
-  pub first_before : (lines : List Line) (held lowered set : List Square) → lines ≡ map (line_at p) (lines_for Black p) → ((u : Square) → has_square part u ≡ true → is_empty p u ≡ true)
+  pub first_before : (groups : List OpenGroup) (held lowered set : List Square) → groups ≡ map (open_group_at p) (groups_for Black p) → ((u : Square) → has_square part u ≡ true → is_empty p u ≡ true)
       → IsSetOf (λ u. has_square kept.upper u || has_square kept.pair u) held → IsSetOf (λ u. nat_le 1 u.1 && has_square part (u.0, u.1 + 1)) lowered → IsSetOf (λ u. has_square held u && has_square lowered u) set
-      → option_map (λ (line : Line). line.group) (find (is_open_within set) lines) ≡ find (λ g. does_answer p (facts_in kept) (has_square part) (before g)) (groups_of (board_of p))
-  first_before lines held lowered set same inside union low both = first_along p lines set _ same (λ g lies.
+      → option_map (λ (group : OpenGroup). group.id) (find (is_open_within set) groups) ≡ find (λ g. does_answer p (facts_in kept) (has_square part) (before g)) (groups_of (board_of p))
+  first_before groups held lowered set same inside union low both = first_along p groups set _ same (λ g lies.
       within_is p g board set
       ∙ ap (λ b. is_free_for Black p g && (list_any (is_empty p) (squares_of g) && b)) (both_sets g held lowered set (λ u. has_square part (above u)) low both)
       ∙ ap (λ t. is_free_for Black p g && (list_any (is_empty p) (squares_of g) && (each_of (is_empty p) t (squares_of g) && each_of (is_empty p) (λ u. has_square part (above u)) (squares_of g)))) (fun_ext union.has)
