@@ -6,5 +6,5 @@
 mod pool;
 mod slot;
 
-pub use pool::Pool;
+pub use pool::{MOST_SLOTS, Pool};
 pub use slot::Slot;

@@ -2,11 +2,15 @@
 //! the pool is made; placing takes the last of them and giving back adds one behind. So each call is a few reads and
 //! writes, no chain of slots has to be followed, and no list ever grows.
 ghost use Rattle.std.specs.Prelude.{◌≡◌, ◌+◌, ◌-◌, ◌<◌, ◌≤◌, ◌↔◌, Some, None, length, replicate, slice_set, IfSome, IfNone, IfOk};
+ghost use Rattle.node_pool.specs.declared.pool.TheConstants.{MOST_SLOTS};
 ghost use Rattle.node_pool.specs.Slots.{held, IsLive, live_slots, free_slots};
 
 use crate::slot::Slot;
 use std::alloc::{AllocError, Global};
 use std::marker::Model;
+
+/// No pool has more slots.
+pub const MOST_SLOTS: u32 = 1_000_000;
 
 /// A map from slots to values, with room for so many. A slot is live from the call of `place` that gave it to the call of
 /// `give_back` that takes it.
@@ -31,19 +35,23 @@ impl<T: Copy> Model for Pool<T> {
 impl<T: Copy> Pool<T> {
     /// A pool with this many slots, from 1 to 1,000,000, none of them live. All the memory that the pool ever has is
     /// taken here; `AllocError` comes where there isn't so much.
-    pub fn new(alloc: Global, capacity: u32) -> Result<Pool<T>, AllocError>
-        requires some { 1 ≤ capacity }
-        requires few { capacity ≤ 1000000 }
-        ensures empty { IfOk result (λ pool. pool ≡ replicate capacity None) }
+    pub fn new(alloc: Global, slots: u32) -> Result<Pool<T>, AllocError>
+        requires some { 1 ≤ slots }
+        requires few { slots ≤ MOST_SLOTS }
+        ensures empty { IfOk result (λ pool. pool ≡ replicate slots None) }
         ensures none { IfOk result (λ pool. live_slots pool ≡ 0) }
     {
-        let room = capacity as usize;
-        let slots = vec![in alloc; None; room]?;
+        let room = slots as usize;
+        let values = vec![in alloc; None; room]?;
         let mut free = vec![in alloc; 0; room]?;
-        for number in 0..capacity {
+        for number in 0..slots {
             free[number as usize] = number;
         }
-        Ok(Pool { slots, free, room })
+        Ok(Pool {
+            slots: values,
+            free,
+            room,
+        })
     }
 
     /// Puts the value into a slot that isn't live, which is live from then on, and leaves every other slot as it was.
@@ -97,16 +105,16 @@ impl<T: Copy> Pool<T> {
     pub fn live(&self) -> u32
         ensures value { result ≡ live_slots self.now }
         ensures within { result ≤ length self.now }
-        ensures most { length self.now ≤ 1000000 }
+        ensures most { length self.now ≤ MOST_SLOTS }
     {
         (self.slots.len() - self.room) as u32
     }
 
-    /// How many slots aren't live: the capacity less the number of live slots.
+    /// How many slots aren't live: all but the live ones.
     pub fn room(&self) -> u32
         ensures value { result ≡ free_slots self.now }
         ensures both { result + live_slots self.now ≡ length self.now }
-        ensures most { length self.now ≤ 1000000 }
+        ensures most { length self.now ≤ MOST_SLOTS }
     {
         self.room as u32
     }

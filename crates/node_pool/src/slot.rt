@@ -3,7 +3,7 @@ ghost use Rattle.std.specs.Prelude.{◌≡◌};
 
 use std::marker::Model;
 
-/// A slot of a pool, as `Pool::place` gave it: a number below the pool's capacity.
+/// A slot of a pool, as `Pool::place` gave it: a number below that of the pool's slots.
 #[derive(Clone, Copy, Debug, PartialEq, Eq)]
 pub struct Slot {
     number: u32,

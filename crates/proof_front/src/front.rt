@@ -2,7 +2,8 @@
 ghost use Rattle.std.specs.Prelude.{◌≡◌, ◌≢◌, ℕ, ◌+◌, ◌≤◌, true, false, IfOk};
 ghost use Rattle.game_rules.specs.Position.{Position as Men};
 ghost use Rattle.front_rules.specs.Front.{node_count, root_number, planned, grown};
-ghost use Rattle.proof_front.specs.Fronts.{side_asked, tree_of, capacity, IsFrontOf, IsAnswer};
+ghost use Rattle.node_pool.specs.declared.pool.TheConstants.{MOST_SLOTS};
+ghost use Rattle.proof_front.specs.Fronts.{side_asked, tree_of, slot_count, IsFrontOf, IsAnswer};
 ghost use Rattle.proof_front.specs.declared.front.Grown.TheVariants as grows;
 
 use crate::growing::{Step, grow_in};
@@ -53,26 +54,26 @@ impl Front {
         alloc: Global,
         root: &Position,
         question: Question,
-        nodes: u32,
+        slots: u32,
         reach: u32,
         chooser: &mut Chooser,
     ) -> Result<Front, AllocError>
-        requires some { 1 ≤ nodes }
-        requires few { nodes ≤ 1000000 }
-        ensures { IfOk result (λ front. IsFrontOf root.now (side_asked question) reach 0 nodes front) }
+        requires some { 1 ≤ slots }
+        requires few { slots ≤ MOST_SLOTS }
+        ensures { IfOk result (λ front. IsFrontOf root.now (side_asked question) reach 0 slots front) }
     {
         let asked = Asked {
             side: side_asked(question),
             reach,
         };
-        let mut pool = Pool::new(alloc, nodes)?;
+        let mut pool = Pool::new(alloc, slots)?;
         let root = pool.place(asked.leaf(root, None, chooser)).unwrap();
         Ok(Front { asked, root, pool })
     }
 
     /// Drops the tree and begins anew with a position and a question, in the same pool and with the same reach.
     pub fn restart(&mut self, root: &Position, question: Question, chooser: &mut Chooser)
-        ensures { IsFrontOf root.now (side_asked question) self.old.reach 0 (capacity self.old) self.new }
+        ensures { IsFrontOf root.now (side_asked question) self.old.reach 0 (slot_count self.old) self.new }
     {
         free_row(&mut self.pool, Some(self.root));
         self.asked.side = side_asked(question);
@@ -88,8 +89,8 @@ impl Front {
         ensures answer { IsAnswer self.old result }
         ensures same { result ≢ grows.Expanded → self.new ≡ self.old }
         ensures expanded { result ≡ grows.Expanded → tree_of self.new ≡ grown self.old.side (planned self.old.reach) (tree_of self.old) }
-        ensures front { result ≡ grows.Expanded → (p : Men) (n : ℕ) → IsFrontOf p self.old.side self.old.reach n (capacity self.old) self.old
-            → IsFrontOf p self.old.side self.old.reach (n + 1) (capacity self.old) self.new }
+        ensures front { result ≡ grows.Expanded → (p : Men) (n : ℕ) → IsFrontOf p self.old.side self.old.reach n (slot_count self.old) self.old
+            → IsFrontOf p self.old.side self.old.reach (n + 1) (slot_count self.old) self.new }
     {
         let numbers = self.pool.get(self.root).numbers;
         match numbers.verdict() {
@@ -122,8 +123,8 @@ impl Front {
     /// How many nodes the tree has.
     pub fn live(&self) -> u32
         ensures value { result ≡ node_count (tree_of self.now) }
-        ensures within { result ≤ capacity self.now }
-        ensures few { capacity self.now ≤ 1000000 }
+        ensures within { result ≤ slot_count self.now }
+        ensures few { slot_count self.now ≤ MOST_SLOTS }
     {
         self.pool.live()
     }

@@ -2,6 +2,7 @@
 ghost use Rattle.std.specs.Prelude.{◌≡◌, ◌≢◌, Bool, List, ◌∷◌, length, filter, nat_lt, Some, None, ◌≤◌};
 ghost use Rattle.game_rules.specs.Position.{has_room};
 ghost use Rattle.game_rules.specs.declared.Side.{Side};
+ghost use Rattle.node_pool.specs.declared.pool.TheConstants.{MOST_SLOTS};
 ghost use Rattle.node_pool.specs.Slots.{free_slots};
 ghost use Rattle.proof_front.specs.Cells.{Cell, Owns};
 ghost use Rattle.proof_front.specs.Rows.{Placed, Lies, IsRowAt};
@@ -39,7 +40,7 @@ pub(crate) fn grow_in(
     proof: bool,
     least: Count,
 ) -> Step
-    requires few { length pool.old ≤ 1000000 }
+    requires few { length pool.old ≤ MOST_SLOTS }
     requires row { IsAsked asked.now.side pool.old at proof least }
     ensures row { (row : Placed) (others : List (Cell Held)) → Lies asked.now.side pool.old (Some at) row others
         → IsGrown asked.now.side asked.now.reach pool.old pool.new at proof least row others result }
@@ -64,7 +65,7 @@ pub(crate) fn grow_in(
 
 /// Gives a leaf its moves as children, where there is room for all of them.
 fn expand(pool: &mut Pool<Node>, asked: &Asked, chooser: &mut Chooser, at: Slot) -> Step
-    requires few { length pool.old ≤ 1000000 }
+    requires few { length pool.old ≤ MOST_SLOTS }
     requires leaf { IsGoingLeaf pool.old at }
     ensures leaf { (node : Held) (others : List (Cell Held)) → Owns pool.old ((at, node) ∷ others)
         → IsExpanded asked.now.side asked.now.reach pool.old pool.new at node others result }
@@ -105,7 +106,7 @@ fn open_columns(position: &Position, order: &[Column]) -> usize
 
 /// Looks at the numbers of a node again, whose children lie from `first` on: it has no children any more where it is settled.
 fn renew(pool: &mut Pool<Node>, side: Side, at: Slot, first: Option<Slot>) -> Step
-    requires few { length pool.old ≤ 1000000 }
+    requires few { length pool.old ≤ MOST_SLOTS }
     requires below { IsBelow side pool.old at first }
     ensures done { result ≢ steps.Full }
     ensures renewed { (node : Held) (kids : Placed) (others : List (Cell Held)) → LiesBelow side pool.old at first node kids others

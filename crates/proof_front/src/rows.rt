@@ -4,6 +4,7 @@ ghost use Rattle.game_rules.specs.Position.{has_room};
 ghost use Rattle.game_rules.specs.declared.Side.{Side};
 ghost use Rattle.front_rules.specs.Counts.{finite_part};
 ghost use Rattle.front_rules.specs.Front.{joined, of_none, planned};
+ghost use Rattle.node_pool.specs.declared.pool.TheConstants.{MOST_SLOTS};
 ghost use Rattle.node_pool.specs.Slots.{live_slots};
 ghost use Rattle.proof_front.specs.Numbers.{row_numbers};
 ghost use Rattle.proof_front.specs.Cells.{Cell, Owns};
@@ -21,7 +22,7 @@ use rule_chooser::Chooser;
 /// The numbers of a row together, for a node whose children they are: the least of the proof numbers and the sum of the
 /// disproof numbers where the side that is asked about is `own` to move there, and else the other way round.
 pub(crate) fn numbers_of(pool: &Pool<Node>, at: Option<Slot>, own: bool) -> Numbers
-    requires few { length pool.now ≤ 1000000 }
+    requires few { length pool.now ≤ MOST_SLOTS }
     requires row { (side : Side) × IsRowAt side pool.now at }
     ensures { (side : Side) (row : Placed) (others : List (Cell Held)) → Lies side pool.now at row others → result ≡ row_numbers side own (row_of row) }
 {

@@ -12,7 +12,7 @@ use Rattle.game_rules.specs.declared.Side.TheVariants.{White, Black}
 use Rattle.front_rules.specs.Counts.{is_zero}
 use Rattle.front_rules.specs.Front.{root_number, is_settled, front}
 use Rattle.front_rules.specs.declared.Count.{Count}
-use Rattle.proof_front.specs.Fronts.{FrontState, tree_of, capacity, is_full, IsFrontOf, IsAnswer}
+use Rattle.proof_front.specs.Fronts.{FrontState, tree_of, slot_count, is_full, IsFrontOf, IsAnswer}
 use Rattle.proof_front.specs.declared.front.Grown.{Grown}
 use Rattle.proof_front.specs.declared.front.Grown.TheVariants.{Settled, Full, Expanded}
 use Rattle.device_rules.specs.Devices.{AppendsPrefix}
@@ -103,7 +103,7 @@ module _ (root : Position) (side : Side) (reach slots n : ℕ) (f : FrontState) 
   pub settled_is : is_settled f.side (tree_of f) ≡ is_settled side (front root side reach n)
   settled_is = rw (is.same_side, is.tree) refl
 
-  pub full_is : is_full f.side (capacity f) (tree_of f) ≡ is_full side slots (front root side reach n)
+  pub full_is : is_full f.side (slot_count f) (tree_of f) ≡ is_full side slots (front root side reach n)
   full_is = rw (is.same_side, is.tree, is.same_slots) refl
 
   abbrev has_zero : Bool → Bool
@@ -121,7 +121,7 @@ module _ (root : Position) (side : Side) (reach slots n : ℕ) (f : FrontState) 
         | inl won ↦ absurd (let same : Settled true ≡ Expanded = sym (answer.yes.1 won) ∙ is_expanded in cc)
         | inr first ↦ elim (cases_Bool (has_zero false)) [
           | inl lost ↦ absurd (let same : Settled false ≡ Expanded = sym (answer.no.1 lost) ∙ is_expanded in cc)
-          | inr second ↦ elim (cases_Bool (is_full f.side (capacity f) (tree_of f))) [
+          | inr second ↦ elim (cases_Bool (is_full f.side (slot_count f) (tree_of f))) [
             | inl no_room ↦ absurd (let same : Full ≡ Expanded = sym (answer.full.1 (ap (λ b. b || has_zero false) first ∙ second, no_room)) ∙ is_expanded in cc)
             | inr room ↦ none_of _ _ _ (sym settled_is ∙ ap (λ b. b || has_zero false) first ∙ second) (sym full_is ∙ room) (ne_eqb n slots (λ same. omega (arith, same, within)))
           ]
@@ -139,16 +139,16 @@ grew_none old = record { slots = refl; front = λ root side reach is. is; goes_o
 
 -- what is said of an expansion is said of the position's front
 pub next_front : (root : Position) (side : Side) (reach slots n : ℕ) (f g : FrontState) → IsFrontOf root side reach n slots f
-    → ((p : Position) (n : ℕ) → IsFrontOf p f.side f.reach n (capacity f) f → IsFrontOf p f.side f.reach (n + 1) (capacity f) g) → IsFrontOf root side reach (n + 1) slots g
+    → ((p : Position) (n : ℕ) → IsFrontOf p f.side f.reach n (slot_count f) f → IsFrontOf p f.side f.reach (n + 1) (slot_count f) g) → IsFrontOf root side reach (n + 1) slots g
 next_front root side reach slots n f g is step =
-    let own : IsFrontOf root f.side f.reach n (capacity f) f = record { tree = is.tree ∙ rw (is.same_side, is.same_reach) refl; same_side = refl; same_reach = refl; same_slots = refl } in
+    let own : IsFrontOf root f.side f.reach n (slot_count f) f = record { tree = is.tree ∙ rw (is.same_side, is.same_reach) refl; same_side = refl; same_reach = refl; same_slots = refl } in
     let next = step root n own in
     record { tree = next.tree ∙ rw (is.same_side, is.same_reach) refl; same_side = next.same_side ∙ is.same_side; same_reach = next.same_reach ∙ is.same_reach; same_slots = next.same_slots ∙ is.same_slots }
 
 module _ (old now : SizedFront) (n : ℕ) (grew : Grew old now n) (g : Grown) (answer : IsAnswer now.front g) where
   -- one more expansion
   pub grew_more : (next : FrontState) → g ≡ Expanded → n < old.slots
-      → ((p : Position) (n : ℕ) → IsFrontOf p now.front.side now.front.reach n (capacity now.front) now.front → IsFrontOf p now.front.side now.front.reach (n + 1) (capacity now.front) next)
+      → ((p : Position) (n : ℕ) → IsFrontOf p now.front.side now.front.reach n (slot_count now.front) now.front → IsFrontOf p now.front.side now.front.reach (n + 1) (slot_count now.front) next)
       → Grew old (record now { front = next }) (n + 1)
   grew_more next is_expanded within step = record {
     slots = grew.slots;
@@ -172,10 +172,10 @@ pub ends_last : (old now : SizedFront) → Grew old now old.slots → (root : Po
 ends_last old now grew root side reach is = record { last = last_of (is_settled side (front root side reach old.slots)) (is_full side old.slots (front root side reach old.slots)) (old.slots == old.slots) (eq-eqb old.slots old.slots refl); first = grew.goes_on root side reach is }
 
 -- a front that was begun anew for Black
-pub turned : (p : Position) (side : Side) (reach : ℕ) (old new : SizedFront) → IsAfterSome p side reach (Some old) → new.slots ≡ old.slots → IsFrontOf p Black old.front.reach 0 (capacity old.front) new.front
+pub turned : (p : Position) (side : Side) (reach : ℕ) (old new : SizedFront) → IsAfterSome p side reach (Some old) → new.slots ≡ old.slots → IsFrontOf p Black old.front.reach 0 (slot_count old.front) new.front
     → IsAfter p Black reach 0 (Some new)
 turned p side reach old new (n, is) same begun =
-    subst (λ slots. IsFrontOf p Black reach 0 slots new.front) (is.same_slots ∙ sym same) (subst (λ reach. IsFrontOf p Black reach 0 (capacity old.front) new.front) is.same_reach begun)
+    subst (λ slots. IsFrontOf p Black reach 0 slots new.front) (is.same_slots ∙ sym same) (subst (λ reach. IsFrontOf p Black reach 0 (slot_count old.front) new.front) is.same_reach begun)
 
 -- ---- what a question's remark leaves in a sink
 

@@ -6,7 +6,7 @@ ghost use Rattle.device_rules.specs.Devices.{HasCause};
 ghost use Rattle.game_rules.specs.Position.{Position as Men};
 ghost use Rattle.game_rules.specs.declared.Side.{Side};
 ghost use Rattle.game_rules.specs.declared.Side.TheVariants as sides;
-ghost use Rattle.proof_front.specs.Fronts.{capacity, IsFrontOf};
+ghost use Rattle.proof_front.specs.Fronts.{slot_count, IsFrontOf};
 ghost use Rattle.proof_text.specs.Spelling.{as_line, is_remark};
 ghost use Rattle.text_words.specs.Lines.{line_room};
 ghost use Rattle.victor_run.specs.Remarks.{side_word, count_word, remark_of, IsRemarkWord, EndsAfter};
@@ -90,7 +90,7 @@ impl SizedFront {
     /// Begins anew with the position alone, for the question whether Black wins.
     fn restart(&mut self, position: &Position, chooser: &mut Chooser)
         ensures slots { self.new.slots ≡ self.old.slots }
-        ensures front { IsFrontOf position.now sides.Black self.old.front.reach 0 (capacity self.old.front) self.new.front }
+        ensures front { IsFrontOf position.now sides.Black self.old.front.reach 0 (slot_count self.old.front) self.new.front }
     {
         self.front.restart(position, Question::BlackWins, chooser);
     }

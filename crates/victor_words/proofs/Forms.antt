@@ -9,7 +9,7 @@ use Rattle.game_rules.specs.declared.Length.{Length}
 use Rattle.game_rules.specs.declared.Length.TheVariants.{Four, Five}
 use Rattle.plan_text.proofs.Spaced.{bind_some, map_some, chosen_some}
 use Rattle.plan_text.specs.Words.{◌>>=◌}
-use Rattle.victor_words.specs.Words.{command_of, numbers_of, number_in, usual, usual_nodes, usual_reach, usual_table, AreTimes, HasRanges, IsGiven}
+use Rattle.victor_words.specs.Words.{command_of, numbers_of, number_in, usual, usual_nodes, usual_reach, usual_table, AreSlots, HasRanges, IsGiven}
 use Rattle.victor_words.specs.Reading.{within, nodes_from, reach_from, front_from, table_from, board_with, size_from, prove_from, none_of_prove, none_given, without_options, explain_from, five_from, drill_from, form_with}
 use Rattle.victor_words.specs.declared.form.Command.{Command}
 use Rattle.victor_words.specs.declared.form.Command.TheVariants as commands
@@ -58,20 +58,20 @@ option_spelled : (low high usually n : ℕ) (number : Option ℕ) → IsInRange 
 option_spelled low high usually n number range is = ap (within low high) (given_says usually n number is) ∙ within_spelled low high n range
 
 -- a front's number, or none
-front_gives : (front number : Option ℕ) → front_from number ≡ Some front → (IfSome front AreTimes) × (IsGiven None front (option_to_list number))
-front_gives front None h = let same : None ≡ front = cc (h) in subst (λ front. (IfSome front AreTimes) × (IsGiven None front [])) same (tt, refl)
-front_gives front (Some times) h =
-    let found = map_some Some (within 1 1000000 times) front h in
-    let told = within_gives 1 1000000 times found.0 found.1 in
-    subst (λ front. (IfSome front AreTimes) × (IsGiven None front (times ∷ []))) found.2 (told.0, inl (ap (λ n. n ∷ []) told.1))
+front_gives : (front number : Option ℕ) → front_from number ≡ Some front → (IfSome front AreSlots) × (IsGiven None front (option_to_list number))
+front_gives front None h = let same : None ≡ front = cc (h) in subst (λ front. (IfSome front AreSlots) × (IsGiven None front [])) same (tt, refl)
+front_gives front (Some slots) h =
+    let found = map_some Some (within 1 1000000 slots) front h in
+    let told = within_gives 1 1000000 slots found.0 found.1 in
+    subst (λ front. (IfSome front AreSlots) × (IsGiven None front (slots ∷ []))) found.2 (told.0, inl (ap (λ n. n ∷ []) told.1))
 
-front_spelled : (front number : Option ℕ) → IfSome front AreTimes → IsGiven None front (option_to_list number) → front_from number ≡ Some front
+front_spelled : (front number : Option ℕ) → IfSome front AreSlots → IsGiven None front (option_to_list number) → front_from number ≡ Some front
 front_spelled None None range is = refl
-front_spelled None (Some times) range is = cc
+front_spelled None (Some slots) range is = cc
 front_spelled (Some n) None range (inl alone) = cc
 front_spelled (Some n) None range (inr (none, same)) = cc
-front_spelled (Some n) (Some times) range (inl alone) = let same : times ≡ n = cc (alone) in rw same (ap (option_map Some) (within_spelled 1 1000000 n range))
-front_spelled (Some n) (Some times) range (inr (none, same)) = cc
+front_spelled (Some n) (Some slots) range (inl alone) = let same : slots ≡ n = cc (alone) in rw same (ap (option_map Some) (within_spelled 1 1000000 n range))
+front_spelled (Some n) (Some slots) range (inr (none, same)) = cc
 
 -- ---- sizes
 

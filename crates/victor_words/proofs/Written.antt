@@ -47,7 +47,7 @@ option_fits : (form : Form) (name : Name) (n : ℕ) → HasRanges form → numbe
 option_fits (Prove nodes reach front table) Nodes n ranges h = let same : nodes ≡ n = cc in omega (arith, ranges.0.1)
 option_fits (Prove nodes reach front table) Reach n ranges h = let same : reach ≡ n = cc in omega (arith, ranges.1.1)
 option_fits (Prove nodes reach None table) Front n ranges h = cc
-option_fits (Prove nodes reach (Some times) table) Front n ranges h = let same : times ≡ n = cc in omega (arith, ranges.2.1)
+option_fits (Prove nodes reach (Some slots) table) Front n ranges h = let same : slots ≡ n = cc in omega (arith, ranges.2.1)
 option_fits (Prove nodes reach front table) Table n ranges h = let same : table ≡ n = cc in omega (arith, ranges.3.1)
 option_fits Check name n ranges h = cc
 option_fits Play name n ranges h = cc

@@ -103,7 +103,7 @@ reach_from number = within 0 1000000 (unwrap_or number usual_reach)
 
 abbrev pub front_from : Option ℕ → Option (Option ℕ)
 front_from None = Some None
-front_from (Some times) = option_map Some (within 1 1000000 times)
+front_from (Some slots) = option_map Some (within 1 1000000 slots)
 
 abbrev pub table_from : Option ℕ → Option ℕ
 table_from number = within 1 1000000 (unwrap_or number usual_table)

@@ -131,9 +131,9 @@ AreNodes n = IsInRange 1 10000000 n
 abbrev pub IsReach : ℕ → Type 0
 IsReach n = IsInRange 0 1000000 n
 
--- how often a front may be grown
-abbrev pub AreTimes : ℕ → Type 0
-AreTimes n = IsInRange 1 1000000 n
+-- how many slots a front may have
+abbrev pub AreSlots : ℕ → Type 0
+AreSlots n = IsInRange 1 1000000 n
 
 -- how many settled positions a table may keep
 abbrev pub IsRoom : ℕ → Type 0
@@ -148,7 +148,7 @@ pub record AreGames (board : Board) (most from count : ℕ) : Type 0 where
 
 -- the numbers of a form are in their ranges
 abbrev pub HasRanges : Form → Type 0
-HasRanges (Prove nodes reach front table) = AreNodes nodes × IsReach reach × IfSome front AreTimes × IsRoom table
+HasRanges (Prove nodes reach front table) = AreNodes nodes × IsReach reach × IfSome front AreSlots × IsRoom table
 HasRanges Check = Unit {0}
 HasRanges Play = Unit {0}
 HasRanges (Explain reach) = IsReach reach

@@ -14,7 +14,7 @@ pub enum Form {
         nodes: u32,
         /// How many sets of zones a walk looks at, from 0 to 1,000,000; 1,000 where the words don't say.
         reach: u32,
-        /// How often a front is grown before the search, from 1 to 1,000,000; None where the words ask for no front.
+        /// How many slots a front has before each search, from 1 to 1,000,000; None where the words ask for no front.
         front: Option<u32>,
         /// How many settled positions a table keeps, from 1 to 1,000,000; 100,000 where the words don't say.
         table: u32,

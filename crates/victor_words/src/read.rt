@@ -20,8 +20,8 @@ const MOST_REACH: u32 = 1_000_000;
 /// How many sets of zones a walk looks at, where the words don't say.
 const USUAL_REACH: u32 = 1_000;
 
-/// The most times that a front may be given to grow.
-const MOST_FRONT: u32 = 1_000_000;
+/// The most slots that a front may be given.
+const MOST_SLOTS: u32 = 1_000_000;
 
 /// The most settled positions that a table may be given to keep.
 const MOST_TABLE: u32 = 1_000_000;
@@ -88,7 +88,7 @@ fn prove_form(found: &Found) -> Option<Form>
         nodes: found.nodes()?,
         reach: found.reach()?,
         front: match found.front {
-            Some(times) => Some(within(1, MOST_FRONT, times)?),
+            Some(slots) => Some(within(1, MOST_SLOTS, slots)?),
             None => None,
         },
         table: found.table()?,

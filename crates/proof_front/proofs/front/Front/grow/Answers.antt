@@ -1,7 +1,7 @@
 use Rattle.std.proofs.Common.{◌≡◌, true, false, [], refl, sym, ap, subst, ◌∙◌, inl, inr}
 use Rattle.front_rules.specs.Front.{planned, grown}
 use Rattle.front_rules.specs.declared.Verdict.TheVariants.{Unsettled, Yes, No}
-use Rattle.proof_front.specs.Fronts.{tree_of, capacity, IsAnswer}
+use Rattle.proof_front.specs.Fronts.{tree_of, slot_count, IsAnswer}
 use Rattle.proof_front.specs.declared.front.Grown.TheVariants as grows
 use Rattle.proof_front.specs.declared.growing.Step.TheVariants as steps
 use Rattle.proof_front.proofs.Root.{answer_of, says, asked_root, front_kept, expanded_not_full, grown_after, front_more}
@@ -55,5 +55,5 @@ returns-after-grow_in-clause-front c expanded p n is =
       tree = returns-after-grow_in-clause-expanded c expanded ∙ (ap (grown here.side (planned here.reach)) is.tree ∙ sym (front_more p here.side here.reach n));
       same_side = ap (λ state. state.side) c.self.view_is;
       same_reach = ap (λ state. state.reach) c.self.view_is;
-      same_slots = c.grow_in.ensures.same ∙ ap capacity c.self.view_is;
+      same_slots = c.grow_in.ensures.same ∙ ap slot_count c.self.view_is;
     }
