@@ -14,7 +14,7 @@ use crate::moves::cites_all;
 use crate::stops::Why;
 use crate::trail::Reached;
 use board_bits::{End, Position};
-use cert_format::{Cite, ReasonView};
+use cert_format::{Cite, Reason, ReasonView};
 use proof_text::{Claim, Verdict};
 use rule_compat::{Instance, Plan};
 
@@ -29,10 +29,10 @@ pub(crate) fn check_reason(
     ensures { Finds result (reason_refusal known.now.shown reached.now claim (reason_viewed reason.now)) }
 {
     match reason {
-        ReasonView::Ended => check_end(claim, reached.ended()),
-        ReasonView::One(cite) => check_one(known, reached, claim, *cite),
-        ReasonView::All(cites) => check_all(known, reached, claim, cites.as_slice()),
-        ReasonView::Plan(members) => check_plan(reached, claim, members.as_slice()),
+        Reason::Ended => check_end(claim, reached.ended()),
+        Reason::One(cite) => check_one(known, reached, claim, *cite),
+        Reason::All(cites) => check_all(known, reached, claim, cites.as_slice()),
+        Reason::Plan(members) => check_plan(reached, claim, members.as_slice()),
     }
 }
 

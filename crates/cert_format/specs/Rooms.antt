@@ -1,25 +1,17 @@
 -- What is in the room that a line is read into.
 use Rattle.std.specs.Prelude.{◌≡◌, map, Option, Some, None, Result, Ok, Err}
-use Rattle.proof_text.specs.Lemma.{Reason as PlainReason, ByEnd, ByOne, ByAll, ByPlan, Lemma as PlainLemma, Line as PlainLine, ALemma, ARemark, AVerdict}
+use Rattle.proof_text.specs.Lemma.{Reason as PlainReason, Lemma as PlainLemma, Line as PlainLine, ALemma, ARemark, AVerdict}
 use Rattle.rule_compat.specs.Written.{written_list}
-use Rattle.cert_format.specs.Shape.{cite_of, viewed}
+use Rattle.cert_format.specs.Shape.{cite_of, reason_by, viewed}
 use Rattle.cert_format.specs.declared.lines.LineView.{LineView}
 use Rattle.cert_format.specs.declared.lines.LineFault.{LineFault}
 use Rattle.cert_format.specs.declared.room.Kind.{Kind}
 use Rattle.cert_format.specs.declared.room.Kind.TheVariants as kinds
-use Rattle.cert_format.specs.declared.room.ReasonKind.{ReasonKind}
-use Rattle.cert_format.specs.declared.room.ReasonKind.TheVariants as reasons
 use Rattle.cert_format.specs.declared.room.ReasonRoom.{ReasonRoom}
 use Rattle.cert_format.specs.declared.room.LemmaRoom.{LemmaRoom}
 
-abbrev pub reason_with : ReasonKind → ReasonRoom → PlainReason
-reason_with reasons.Ended room = ByEnd
-reason_with (reasons.One cite) room = ByOne (cite_of cite)
-reason_with reasons.All room = ByAll (map cite_of room.cites.items)
-reason_with reasons.Plan room = ByPlan (written_list room.members.items)
-
 abbrev pub reason_in : ReasonRoom → PlainReason
-reason_in room = reason_with room.kind room
+reason_in room = reason_by (λ _. map cite_of room.cites.items) (λ _. written_list room.members.items) room.kind
 
 abbrev pub lemma_in : LemmaRoom → PlainLemma
 lemma_in room = record { number = room.number; path = room.path.items; claim = room.claim; reason = reason_in room.reason }

@@ -1,15 +1,17 @@
 -- The lines of the code as the plain data of the definitions.
 use Rattle.std.specs.Prelude.{◌≡◌, ℕ, List, [], ◌∷◌, ◌++◌, map, flat_map, Option, Some, None, Result, Ok, Err}
+use Rattle.std.specs.Borrow.{Bor}
+use Rattle.arrayvec.specs.ArrayVec.{ArrayVec}
+use Rattle.plan_rules.specs.Rules.{RuleInstance}
 use Rattle.proof_text.specs.Lemma.{Cite as PlainCite, Reason as PlainReason, ByEnd, ByOne, ByAll, ByPlan, Lemma as PlainLemma, Line as PlainLine, ALemma, ARemark, AVerdict}
 use Rattle.proof_text.specs.Spelling.{cite_word, lemma_line, verdict_line}
 use Rattle.cert_format.specs.Items.{members_text}
 use Rattle.cert_format.specs.declared.lines.Cite.{Cite}
 use Rattle.cert_format.specs.declared.lines.Reason.{Reason}
 use Rattle.cert_format.specs.declared.lines.Reason.TheVariants as reasons
-use Rattle.cert_format.specs.declared.lines.ReasonView.{ReasonView}
-use Rattle.cert_format.specs.declared.lines.ReasonView.TheVariants as reason_views
 use Rattle.cert_format.specs.declared.lines.LemmaView.{LemmaView}
 use Rattle.rule_compat.specs.Written.{written_list}
+use Rattle.rule_compat.specs.declared.instance.Instance.{Instance}
 use Rattle.cert_format.specs.declared.lines.Lemma.{Lemma}
 use Rattle.cert_format.specs.declared.lines.Line.{Line}
 use Rattle.cert_format.specs.declared.lines.Line.TheVariants as lines
@@ -20,18 +22,19 @@ use Rattle.cert_format.specs.declared.lines.LineFault.{LineFault}
 abbrev pub cite_of : Cite → PlainCite
 cite_of cite = record { column = cite.column; lemma = cite.lemma }
 
-abbrev pub reason_of : Reason → PlainReason
-reason_of reasons.Ended = ByEnd
-reason_of (reasons.One cite) = ByOne (cite_of cite)
-reason_of (reasons.All cites) = ByAll (map cite_of cites.items)
-reason_of (reasons.Plan members) = ByPlan (written_list members.items)
+-- a reason, by what its cites and its instances are as plain data
+abbrev pub reason_by : {C P : Type 0} → (C → List PlainCite) → (P → List RuleInstance) → Reason C P → PlainReason
+reason_by cites_in members_in reasons.Ended = ByEnd
+reason_by cites_in members_in (reasons.One cite) = ByOne (cite_of cite)
+reason_by cites_in members_in (reasons.All cites) = ByAll (cites_in cites)
+reason_by cites_in members_in (reasons.Plan members) = ByPlan (members_in members)
+
+abbrev pub reason_of : Reason (ArrayVec Cite) (ArrayVec Instance) → PlainReason
+reason_of reason = reason_by (λ cites. map cite_of cites.items) (λ members. written_list members.items) reason
 
 -- the same of a reason that is lent
-abbrev pub reason_viewed : ReasonView → PlainReason
-reason_viewed reason_views.Ended = ByEnd
-reason_viewed (reason_views.One cite) = ByOne (cite_of cite)
-reason_viewed (reason_views.All cites) = ByAll (map cite_of cites.now.items)
-reason_viewed (reason_views.Plan members) = ByPlan (written_list members.now.items)
+abbrev pub reason_viewed : Reason (Bor (ArrayVec Cite)) (Bor (ArrayVec Instance)) → PlainReason
+reason_viewed reason = reason_by (λ cites. map cite_of cites.now.items) (λ members. written_list members.now.items) reason
 
 abbrev pub lemma_of : Lemma → PlainLemma
 lemma_of l = record { number = l.number; path = l.path.items; claim = l.claim; reason = reason_of l.reason }

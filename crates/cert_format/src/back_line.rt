@@ -6,7 +6,7 @@ ghost use Rattle.proof_text.specs.Spelling.{cite_word, reason_words, lemma_line,
 ghost use Rattle.cert_format.specs.Shape.{cite_of, reason_viewed, cite_words, behind_spaces, behind_word};
 ghost use Rattle.text_words.specs.Lines.{line_room};
 
-use crate::lines::{Cite, ReasonView};
+use crate::lines::{Cite, Reason, ReasonView};
 use crate::verdict_line::claim_word;
 use board_bits::Column;
 use itoa::Buffer;
@@ -83,10 +83,10 @@ impl BackLine {
         ensures bound { length self.new ≤ 141 }
     {
         match reason {
-            ReasonView::Ended => self.put_text(b" end\n"),
-            ReasonView::One(cite) => self.put_one(*cite),
-            ReasonView::All(cites) => self.put_all(cites.as_slice()),
-            ReasonView::Plan(_) => self.put_text(b" plan"),
+            Reason::Ended => self.put_text(b" end\n"),
+            Reason::One(cite) => self.put_one(*cite),
+            Reason::All(cites) => self.put_all(cites.as_slice()),
+            Reason::Plan(_) => self.put_text(b" plan"),
         }
     }
 

@@ -1,7 +1,9 @@
 //! What a line of a proof says. A lemma stands at the position that its path leads to from the root of the proof, and
 //! names the earlier lemmas that its claim rests on.
-ghost use Rattle.std.specs.Prelude.{◌≡◌};
-ghost use Rattle.cert_format.specs.Shape.{reason_of, reason_viewed, lemma_of, lemma_viewed};
+ghost use Rattle.std.specs.Prelude.{◌≡◌, List};
+ghost use Rattle.plan_rules.specs.Rules.{RuleInstance};
+ghost use Rattle.proof_text.specs.Lemma.{Cite as PlainCite};
+ghost use Rattle.cert_format.specs.Shape.{reason_by, reason_of, reason_viewed, lemma_of, lemma_viewed};
 
 use crate::plan_line::MOST_MEMBERS;
 use arrayvec::ArrayVec;
@@ -28,18 +30,25 @@ pub struct Cite {
     pub lemma: u32,
 }
 
-/// Why a lemma's claim holds.
-#[derive(Drop)]
-pub enum Reason {
+/// Why a lemma's claim holds. `C` has the cites of `All`, and `P` the instances of `Plan`.
+#[derive(Clone, Copy, Drop)]
+pub enum Reason<C = ArrayVec<Cite, MOST_CITES>, P = ArrayVec<Instance, MOST_MEMBERS>> {
     /// The game has ended, and the claim is true of its end.
     Ended,
     /// One move shows it.
     One(Cite),
     /// All moves together show it.
-    All(ArrayVec<Cite, MOST_CITES>),
+    All(C),
     /// The instances are a plan of Black's, by which White doesn't win.
-    Plan(ArrayVec<Instance, MOST_MEMBERS>),
+    Plan(P),
 }
+
+/// A reason whose cites and instances stay where they are, so that a reason is small to hand on.
+pub type ReasonView<'a> =
+    Reason<&'a ArrayVec<Cite, MOST_CITES>, &'a ArrayVec<Instance, MOST_MEMBERS>>;
+
+/// Which reason it is. Its cites, or the instances of its plan, are elsewhere.
+pub(crate) type ReasonKind = Reason<(), ()>;
 
 impl Reason {
     /// The same reason, lent.
@@ -47,25 +56,28 @@ impl Reason {
         ensures { reason_viewed result ≡ reason_of self.now }
     {
         match self {
-            Reason::Ended => ReasonView::Ended,
-            Reason::One(cite) => ReasonView::One(*cite),
-            Reason::All(cites) => ReasonView::All(cites),
-            Reason::Plan(members) => ReasonView::Plan(members),
+            Reason::Ended => Reason::Ended,
+            Reason::One(cite) => Reason::One(*cite),
+            Reason::All(cites) => Reason::All(cites),
+            Reason::Plan(members) => Reason::Plan(members),
         }
     }
 }
 
-/// A reason whose cites and instances stay where they are, so that a reason is small to hand on.
-#[derive(Clone, Copy)]
-pub enum ReasonView<'a> {
-    /// The game has ended, and the claim is true of its end.
-    Ended,
-    /// One move shows it.
-    One(Cite),
-    /// All moves together show it.
-    All(&'a ArrayVec<Cite, MOST_CITES>),
-    /// The instances are a plan of Black's, by which White doesn't win.
-    Plan(&'a ArrayVec<Instance, MOST_MEMBERS>),
+impl ReasonKind {
+    /// The reason of this kind that has these cites, or these instances.
+    #[inline(always)]
+    pub(crate) fn with<C: Drop, P: Drop>(self, cites: C, members: P) -> Reason<C, P>
+        ensures { (cites_in : C → List PlainCite) (members_in : P → List RuleInstance)
+            → reason_by cites_in members_in result ≡ reason_by (λ _. cites_in cites) (λ _. members_in members) self }
+    {
+        match self {
+            Reason::Ended => Reason::Ended,
+            Reason::One(cite) => Reason::One(cite),
+            Reason::All(()) => Reason::All(cites),
+            Reason::Plan(()) => Reason::Plan(members),
+        }
+    }
 }
 
 /// A lemma of a proof: its number, its position as the moves from the root, and what it claims there and why.

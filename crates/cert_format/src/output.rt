@@ -58,7 +58,7 @@ fn put_lemma<O: Sink>(
     line.make_lemma(number, path, claim, reason);
     put_all(out, line.bytes())?;
     match reason {
-        ReasonView::Plan(members) => put_plan_end(members.as_slice(), out),
+        Reason::Plan(members) => put_plan_end(members.as_slice(), out),
         _ => Ok(()),
     }
 }

@@ -12,10 +12,10 @@ ghost use Rattle.cert_format.specs.Shape.{Reads};
 ghost use Rattle.cert_format.specs.Rooms.{reason_in, lemma_in, ReadsInto};
 ghost use Rattle.cert_format.specs.Words.{HasNoClaim};
 
-use crate::lines::{Cite, LONGEST_LINE, LONGEST_PATH, Line, LineFault, MOST_CITES};
+use crate::lines::{Cite, LONGEST_LINE, LONGEST_PATH, Line, LineFault, MOST_CITES, Reason};
 use crate::named_moves::named_moves;
 use crate::plan_line::members_of;
-use crate::room::{Kind, LemmaRoom, ReasonKind, ReasonRoom};
+use crate::room::{Kind, LemmaRoom, ReasonRoom};
 use arrayvec::ArrayVec;
 use board_bits::{Column, Size};
 use bstr::ByteSlice;
@@ -146,19 +146,19 @@ fn read_reason(room: &mut ReasonRoom, bytes: &[u8], size: Size) -> Option<()>
     ensures { option_map (λ _. reason_in room.new) result ≡ reason_of size (words_of bytes.now) }
 {
     if is_word(bytes, b"end") {
-        room.kind = ReasonKind::Ended;
+        room.kind = Reason::Ended;
         return Some(());
     }
     if let Some(rest) = behind(bytes, b"one ") {
-        room.kind = ReasonKind::One(one_of(rest, size)?);
+        room.kind = Reason::One(one_of(rest, size)?);
         return Some(());
     }
     if let Some(rest) = behind(bytes, b"all ") {
-        room.kind = ReasonKind::All;
+        room.kind = Reason::All(());
         return all_of(rest, size, &mut room.cites);
     }
     if let Some(rest) = behind(bytes, b"plan ") {
-        room.kind = ReasonKind::Plan;
+        room.kind = Reason::Plan(());
         return members_of(rest, size, &mut room.members);
     }
     None

@@ -6,7 +6,8 @@ ghost use Rattle.cert_format.specs.Shape.{reason_of, reason_viewed, lemma_of, le
 ghost use Rattle.cert_format.specs.Rooms.{reason_in, lemma_in, Views};
 
 use crate::lines::{
-    Cite, LONGEST_PATH, Lemma, LemmaView, LineFault, LineView, MOST_CITES, Reason, ReasonView,
+    Cite, LONGEST_PATH, Lemma, LemmaView, LineFault, LineView, MOST_CITES, Reason, ReasonKind,
+    ReasonView,
 };
 use crate::plan_line::MOST_MEMBERS;
 use crate::reading::read_into;
@@ -49,15 +50,6 @@ pub(crate) enum Kind {
     Verdict(Verdict),
 }
 
-/// Which kind of reason was read. Its cites, or the members of its plan, are in the room.
-#[derive(Clone, Copy)]
-pub(crate) enum ReasonKind {
-    Ended,
-    One(Cite),
-    All,
-    Plan,
-}
-
 /// Room for a reason.
 #[derive(Drop)]
 pub(crate) struct ReasonRoom {
@@ -69,7 +61,7 @@ pub(crate) struct ReasonRoom {
 impl ReasonRoom {
     fn new() -> ReasonRoom {
         ReasonRoom {
-            kind: ReasonKind::Ended,
+            kind: Reason::Ended,
             cites: ArrayVec::new(),
             members: ArrayVec::new(),
         }
@@ -79,24 +71,14 @@ impl ReasonRoom {
     fn view(&self) -> ReasonView<'_>
         ensures { reason_viewed result ≡ reason_in self.now }
     {
-        match self.kind {
-            ReasonKind::Ended => ReasonView::Ended,
-            ReasonKind::One(cite) => ReasonView::One(cite),
-            ReasonKind::All => ReasonView::All(&self.cites),
-            ReasonKind::Plan => ReasonView::Plan(&self.members),
-        }
+        self.kind.with(&self.cites, &self.members)
     }
 
     /// The reason that is in the room, taken out of it.
     fn into_reason(self) -> Reason
         ensures { reason_of result ≡ reason_in self }
     {
-        match self.kind {
-            ReasonKind::Ended => Reason::Ended,
-            ReasonKind::One(cite) => Reason::One(cite),
-            ReasonKind::All => Reason::All(self.cites),
-            ReasonKind::Plan => Reason::Plan(self.members),
-        }
+        self.kind.with(self.cites, self.members)
     }
 }
 

@@ -21,7 +21,7 @@ ghost use Rattle.deep_search.specs.declared.solving.SearchStop.TheVariants as st
 
 use arrayvec::ArrayVec;
 use board_bits::{Column, MOST_COLS, MOST_SQUARES, Position, Question, Side, centre_out};
-use cert_format::{Cite, Claim, LemmaOut, ReasonView};
+use cert_format::{Cite, Claim, LemmaOut, Reason, ReasonView};
 use io_ports::{Failed, Sink};
 use position_table::{Found, Table};
 use rule_chooser::Chooser;
@@ -139,12 +139,12 @@ fn solve<O: Sink>(
     }
     if let Some(end) = position.ended() {
         let yes = side.win() == end;
-        let ended = ReasonView::Ended;
+        let ended = Reason::Ended;
         return put_lemma(position, path, aim, yes, &ended, table, lemmas, out);
     }
     let own = side == position.to_move();
     if is_planned(position, aim, own, chooser) {
-        let plan = ReasonView::Plan(chooser.plan());
+        let plan = Reason::Plan(chooser.plan());
         return put_lemma(position, path, aim, false, &plan, table, lemmas, out);
     }
     let order = aim.order.as_slice();
@@ -161,14 +161,14 @@ fn solve<O: Sink>(
                     column: *column,
                     lemma: found.lemma,
                 };
-                let one = ReasonView::One(cite);
+                let one = Reason::One(cite);
                 return put_lemma(position, path, aim, own, &one, table, lemmas, out);
             }
             numbers[column.index() as usize] = found.lemma;
         }
     }
     let cites = cites_from(position, &numbers);
-    let all = ReasonView::All(&cites);
+    let all = Reason::All(&cites);
     put_lemma(position, path, aim, !own, &all, table, lemmas, out)
 }
 
