@@ -11,3 +11,4 @@ pub mod Laws
 pub mod Squares
 pub mod Groups
 pub mod Number
+pub mod Questions

@@ -8,6 +8,7 @@
 
 ghost use Rattle.std.specs.Prelude.{◌≡◌, ◌≤◌, length};
 ghost use Rattle.game_rules.specs.Position.{other};
+ghost use Rattle.game_rules.specs.Questions.{side_asked};
 ghost use Rattle.game_rules.specs.Value.{win_of};
 ghost use Rattle.game_rules.specs.Words.{kind_word};
 
@@ -77,6 +78,18 @@ pub enum Way {
 pub enum Question {
     WhiteWins,
     BlackWins,
+}
+
+impl Question {
+    /// The side of which it is asked whether it wins.
+    pub fn side(self) -> Side
+        ensures { result ≡ side_asked self }
+    {
+        match self {
+            Question::WhiteWins => Side::White,
+            Question::BlackWins => Side::Black,
+        }
+    }
 }
 
 /// Why a text is no game. [`InputFault`] says where.

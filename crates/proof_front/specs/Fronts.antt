@@ -2,9 +2,6 @@
 use Rattle.std.specs.Prelude.{◌≡◌, ◌↔◌, ℕ, ◌-◌, nat_lt, ◌≤◌, List, [], length, Option, Some, Bool, true, false}
 use Rattle.game_rules.specs.Position.{Position}
 use Rattle.game_rules.specs.declared.Side.{Side}
-use Rattle.game_rules.specs.declared.Side.TheVariants.{White, Black}
-use Rattle.game_rules.specs.declared.Question.{Question}
-use Rattle.game_rules.specs.declared.Question.TheVariants.{WhiteWins, BlackWins}
 use Rattle.front_rules.specs.Counts.{is_zero}
 use Rattle.front_rules.specs.Front.{Row, nothing, leaf, inner, node_count, root_number, is_settled, asked, front}
 use Rattle.node_pool.specs.declared.pool.TheConstants.{MOST_SLOTS}
@@ -12,11 +9,6 @@ use Rattle.proof_front.specs.Rows.{Placed, row_of, Lies, row_at}
 use Rattle.proof_front.specs.declared.front.Grown.{Grown}
 use Rattle.proof_front.specs.declared.front.Grown.TheVariants as grows
 use Rattle.proof_front.specs.declared.node.Node.{Node}
-
--- the side that a question asks about
-abbrev pub side_asked : Question → Side
-side_asked WhiteWins = White
-side_asked BlackWins = Black
 
 pub record FrontState : Type 0 where
   pub side : Side

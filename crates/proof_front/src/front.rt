@@ -1,16 +1,17 @@
 //! The front: a tree in a pool, what it asks, and where its root lies.
 ghost use Rattle.std.specs.Prelude.{◌≡◌, ◌≢◌, ℕ, ◌+◌, ◌≤◌, true, false, IfOk};
 ghost use Rattle.game_rules.specs.Position.{Position as Men};
+ghost use Rattle.game_rules.specs.Questions.{side_asked};
 ghost use Rattle.front_rules.specs.Front.{node_count, root_number, planned, grown};
 ghost use Rattle.node_pool.specs.declared.pool.TheConstants.{MOST_SLOTS};
-ghost use Rattle.proof_front.specs.Fronts.{side_asked, tree_of, slot_count, IsFrontOf, IsAnswer};
+ghost use Rattle.proof_front.specs.Fronts.{tree_of, slot_count, IsFrontOf, IsAnswer};
 ghost use Rattle.proof_front.specs.declared.front.Grown.TheVariants as grows;
 
 use crate::growing::{Step, grow_in};
 use crate::judging::Asked;
 use crate::node::Node;
 use crate::rows::free_row;
-use board_bits::{Position, Question, Side};
+use board_bits::{Position, Question};
 use front_rules::{Count, Verdict};
 use node_pool::{Pool, Slot};
 use rule_chooser::Chooser;
@@ -63,7 +64,7 @@ impl Front {
         ensures { IfOk result (λ front. IsFrontOf root.now (side_asked question) reach 0 slots front) }
     {
         let asked = Asked {
-            side: side_asked(question),
+            side: question.side(),
             reach,
         };
         let mut pool = Pool::new(alloc, slots)?;
@@ -76,7 +77,7 @@ impl Front {
         ensures { IsFrontOf root.now (side_asked question) self.old.reach 0 (slot_count self.old) self.new }
     {
         free_row(&mut self.pool, Some(self.root));
-        self.asked.side = side_asked(question);
+        self.asked.side = question.side();
         self.root = self
             .pool
             .place(self.asked.leaf(root, None, chooser))
@@ -127,15 +128,5 @@ impl Front {
         ensures few { slot_count self.now ≤ MOST_SLOTS }
     {
         self.pool.live()
-    }
-}
-
-/// The side that the question asks about.
-fn side_asked(question: Question) -> Side
-    ensures { result ≡ side_asked question }
-{
-    match question {
-        Question::WhiteWins => Side::White,
-        Question::BlackWins => Side::Black,
     }
 }
