@@ -204,7 +204,8 @@ def prove(program, game, words, keep=None):
         if (answer[1] == "unknown") != (made.returncode == 5):
             raise Unproved("the proof's verdict isn't the one that the status of prove says")
         if keep:
-            shutil.copyfile(path, keep)
+            with open(path, "rb") as proof, boards.output(keep) as out:
+                shutil.copyfileobj(proof, out)
         return answer[1], int(answer[2])
 
 

@@ -3,6 +3,7 @@
 A column is a number from 0 at the left, a row from 1 at the bottom, and a square the pair of both.
 """
 
+import contextlib
 import os
 import shutil
 import subprocess
@@ -21,6 +22,29 @@ TOP = os.path.dirname(os.path.dirname(os.path.abspath(__file__)))
 
 class Fault(Exception):
     """What is wrong, in one line."""
+
+
+@contextlib.contextmanager
+def output(path):
+    """A file to write bytes to. It has its name, behind any links, only when it is whole and nothing failed. A pipe or a
+    device is written to as it stands."""
+    if os.path.exists(path) and not os.path.isfile(path):
+        with open(path, "wb") as out:
+            yield out
+        return
+    path = os.path.realpath(path)
+    part = "%s.%d.part" % (path, os.getpid())
+    try:
+        with open(part, "wb") as out:
+            yield out
+            out.flush()
+            os.fsync(out.fileno())
+        if os.path.exists(path):
+            shutil.copymode(path, part)
+        os.replace(part, path)
+    finally:
+        if os.path.exists(part):
+            os.remove(part)
 
 
 class Game:

@@ -451,8 +451,8 @@ def main():
     try:
         made = draw(words)
         if words.out:
-            with open(words.out, "w", encoding="ascii") as out:
-                out.write(made)
+            with boards.output(words.out) as out:
+                out.write(made.encode("ascii"))
         else:
             sys.stdout.write(made)
             sys.stdout.flush()

@@ -37,6 +37,14 @@ def tool(name, *words, text=None, **more):
     return run.returncode, run.stdout, run.stderr
 
 
+def heard(pipe, call):
+    """What a named pipe that is made here is told while something writes to it, and what the call gives."""
+    os.mkfifo(pipe)
+    with subprocess.Popen(["cat", pipe], stdout=subprocess.PIPE) as reader:
+        given = call()
+        return given, reader.stdout.read().decode("ascii")
+
+
 class ToolTest(unittest.TestCase):
     def refuses(self, name, *words, said="", text=None):
         """Status 2, and one line on standard error that says this."""

@@ -6,7 +6,7 @@ import stat
 import tempfile
 import unittest
 
-from common import ToolTest, boards, example, program, read, tool
+from common import ToolTest, boards, example, heard, program, read, tool
 import ask
 import mutants
 
@@ -129,6 +129,19 @@ class SentenceTest(ToolTest):
             path = os.path.join(folder, "kept.proof")
             self.says("wins", "dcdcdc", "--keep", path)
             self.assertEqual(read(path), read(example("usual-board.proof")))
+
+    def test_keep_in_what_is_no_file(self):
+        """A pipe is written to as it stands, and a link stays one."""
+        proof = read(example("usual-board.proof"))
+        with tempfile.TemporaryDirectory() as folder:
+            pipe, link = os.path.join(folder, "pipe"), os.path.join(folder, "link")
+            self.assertEqual(heard(pipe, lambda: self.says("wins", "dcdcdc", "--keep", pipe))[1], proof)
+            os.symlink("kept", link)
+            self.says("wins", "dcdcdc", "--keep", link)
+            self.assertTrue(os.path.islink(link))
+            self.assertEqual(read(os.path.join(folder, "kept")), proof)
+            self.says("wins", "dcdcdc", "--keep", "/dev/null")
+            self.assertTrue(stat.S_ISCHR(os.stat("/dev/null").st_mode))
 
     def test_faults(self):
         self.helps("ask.py")

@@ -13,7 +13,7 @@ import tempfile
 import time
 import unittest
 
-from common import TOOLS, ToolTest, boards, program, read, tool
+from common import TOOLS, ToolTest, boards, heard, program, read, tool
 import mutants
 
 COUNT = 60
@@ -201,6 +201,29 @@ class BatchTest(ToolTest):
         self.assertIn("0 done before, 2 to prove", out)
         self.assertEqual([row["position"] for row in self.rows()], ["start", "4"])
         self.assertEqual({row["value"] for row in self.rows()}, {"unknown"})
+
+    @with_make
+    def test_what_is_no_file(self):
+        """The table is written behind a link and to a pipe as it stands, as are proofs behind links; no proof is a pipe."""
+        name = self.names[0]
+        write(self.list, name + "\n")
+        os.mkdir(self.out)
+        elsewhere = os.path.join(self.folder, "elsewhere")
+        table, proof = (os.path.join(self.out, file) for file in ("positions.csv", name + ".proof"))
+        for file in (table, proof):
+            os.symlink(elsewhere + file[-4:], file)
+        status, _, err = tool("batch", *self.words())
+        self.assertEqual((status, os.path.islink(table), os.path.islink(proof)), (0, True, True), err)
+        self.assertIn(name, read(elsewhere + ".csv"))
+        self.assertTrue(self.is_whole(name))
+        rows = read(elsewhere + ".csv")
+        os.remove(table)
+        (status, _, err), said = heard(table, lambda: tool("batch", *self.words()))
+        self.assertEqual((status, said), (0, rows), err)
+        os.remove(table)
+        os.remove(proof)
+        os.mkfifo(proof)
+        self.refuses("batch", *self.words(), said="isn't a file")
 
     @with_make
     def test_failing_program(self):

@@ -10,7 +10,7 @@ import tempfile
 import unittest
 import xml.etree.ElementTree
 
-from common import ToolTest, boards, example, program, read, tool
+from common import ToolTest, boards, example, heard, program, read, tool
 import mutants
 
 SVG = "{http://www.w3.org/2000/svg}"
@@ -136,6 +136,20 @@ class DuelTest(ToolTest):
         self.assertEqual((status, err), (0, ""))
         for line in ("B B W B", "W W B B", "B B W W", "W W W B", "8.  b3  b4  full"):
             self.assertIn(line, out)
+
+    def test_out(self):
+        """A file is written whole, a pipe as it stands, and a link stays one."""
+        words = ("draw.py", "position", "--text", example("four-in-a-column.txt"))
+        _, wanted, _ = tool(*words)
+        with tempfile.TemporaryDirectory() as folder:
+            path, pipe, link = (os.path.join(folder, name) for name in ("file", "pipe", "link"))
+            os.symlink("file", link)
+            self.assertEqual(tool(*words, "-o", link), (0, "", ""))
+            self.assertTrue(os.path.islink(link))
+            self.assertEqual(read(path), wanted)
+            self.assertEqual(heard(pipe, lambda: tool(*words, "-o", pipe)), ((0, "", ""), wanted))
+            self.assertEqual(sorted(os.listdir(folder)), ["file", "link", "pipe"])
+            self.refuses(*words, "-o", folder, said="Is a directory")
 
     def test_svg(self):
         for name, men in (("aftereven", 10), ("specialbefore", 18), ("shifted", 8), ("baseclaim", 10)):

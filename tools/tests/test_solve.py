@@ -5,11 +5,12 @@ import random
 import re
 import resource
 import shutil
+import stat
 import subprocess
 import tempfile
 import unittest
 
-from common import TOOLS, ToolTest, boards, program, read
+from common import TOOLS, ToolTest, boards, heard, program, read
 import mutants
 
 SOURCES = os.path.join(TOOLS, "solve")
@@ -172,6 +173,31 @@ class SolveTest(ToolTest):
         self.assertIn("searched", err)
         self.assertEqual(read(path), self.proof_of(text)[0])
         self.assertFalse(os.path.exists(path + ".part"))
+
+    def test_what_is_no_file(self):
+        """A pipe and a device are written to as they stand, and a link stays one."""
+        text = game_text(4, 4, "dcddd")
+        proof = self.proof_of(text)[0]
+        pipe = os.path.join(self.folder, "a pipe")
+        given, said = heard(pipe, lambda: self.solve(text, "--quiet", "-o", pipe))
+        self.assertEqual((given, said), ((0, "", ""), proof))
+        self.assertTrue(stat.S_ISFIFO(os.stat(pipe).st_mode))
+        device = os.path.join(self.folder, "a device")
+        os.symlink("/dev/null", device)
+        self.assertEqual(self.solve(text, "--quiet", "-o", device), (0, "", ""))
+        self.assertTrue(os.path.islink(device) and stat.S_ISCHR(os.stat("/dev/null").st_mode))
+        for there in (True, False):
+            target = os.path.join(self.folder, "behind %s" % there)
+            link = target + " a link"
+            os.symlink(os.path.basename(target), link)
+            if there:
+                open(target, "w", encoding="ascii").close()
+            self.assertEqual(self.solve(text, "--quiet", "-o", link), (0, "", ""))
+            self.assertTrue(os.path.islink(link))
+            self.assertEqual(read(target), proof)
+        self.assertEqual([name for name in os.listdir(self.folder) if name.endswith(".part")], [])
+        status, _, err = self.solve(text, "--quiet", "-o", self.folder)
+        self.assertEqual((status, err.count("\n")), (2, 1))
 
     def fails(self, text, said, *words, **more):
         path = os.path.join(self.folder, "none")
