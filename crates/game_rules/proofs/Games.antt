@@ -73,7 +73,7 @@ text_of_game bytes game read moves =
     }
 
 -- a game's text in the words of the grammar
-pub game_in_grammar : (bytes : List ℕ) (game : Game) → IsTextOf bytes game → IsGameText bytes game.position
+abbrev pub game_in_grammar : (bytes : List ℕ) (game : Game) → IsTextOf bytes game → IsGameText bytes game.position
 game_in_grammar bytes game text = record {
   board = board_played game;
   columns = game.moves;

@@ -9,7 +9,7 @@ use Rattle.game_rules.specs.Cost.{cost}
 use Rattle.game_rules.specs.Position.{Position}
 use Rattle.game_rules.specs.Grammar.{IsGameText, game_text, board_line, moves_line, move_list, letter_of}
 use Rattle.proof_text.specs.Right.{IsVerdict}
-use Rattle.proof_text.specs.Spelling.{as_line, lines_of, verdict_line}
+use Rattle.proof_text.specs.Spelling.{greatest_number, lines_of, verdict_line}
 use Rattle.proof_text.specs.Texts.{first_line, head_of}
 use Rattle.proof_text.specs.Written.{IsProof, remark_line}
 use Rattle.proof_text.proofs.Written.{both_written, lemmas_stand, head_stands, proof_stands, proof_accepted, head_of_fed, head_of_bare}
@@ -49,7 +49,7 @@ stands_all b old mid held new head remark white also black last first both rest 
         append_assoc remark (white ++ (also ++ black)) last
         ∙ ap (λ text. remark ++ text) (append_assoc white (also ++ black) last ∙ ap (λ text. white ++ text) (append_assoc also black last))
 
-module _ (nodes reach : ℕ) (slots : Option ℕ) (bytes : List ℕ) (p : Position) (game : IsGameText bytes p) (small : nodes ≤ 10000000) where
+module _ (nodes reach : ℕ) (slots : Option ℕ) (bytes : List ℕ) (p : Position) (game : IsGameText bytes p) (small : nodes ≤ greatest_number) where
   abbrev the_head : List ℕ
   the_head = head_of game.board game.columns
 

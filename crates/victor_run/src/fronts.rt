@@ -1,6 +1,7 @@
 //! The front that `prove` grows before a question, and the remark that says how far it grew. A front is expanded as often
 //! as it has slots at most, so that it ends also where its tree stays small.
 ghost use Rattle.std.specs.Prelude.{◌≡◌, ℕ, ◌+◌, ◌≤◌, ◌++◌, decimal, length, is_ok, true, IfOk, IfSome};
+ghost use Rattle.victor_words.specs.Words.{AreSlots};
 ghost use Rattle.arrayvec.specs.ArrayVec.{array_vec_len};
 ghost use Rattle.device_rules.specs.Devices.{HasCause};
 ghost use Rattle.game_rules.specs.Position.{Position as Men};
@@ -34,8 +35,7 @@ pub(crate) fn front_for(
     reach: u32,
     chooser: &mut Chooser,
 ) -> Result<Option<SizedFront>, AllocError>
-    requires some { IfSome slots (λ n. 1 ≤ n) }
-    requires few { IfSome slots (λ n. n ≤ 1000000) }
+    requires { IfSome slots AreSlots }
     ensures slots { IfOk result (λ sized. slots_of sized ≡ slots) }
     ensures front { IfOk result (λ sized. IsAfter position.now sides.White reach 0 sized) }
 {

@@ -6,13 +6,14 @@ ghost use Rattle.device_rules.specs.Devices.{HasCause, Rose, AppendsPrefix};
 ghost use Rattle.game_rules.specs.Cost.{cost};
 ghost use Rattle.game_rules.specs.Game.{board_played, IsTextOf};
 ghost use Rattle.game_rules.specs.declared.Side.TheVariants as sides;
-ghost use Rattle.proof_text.specs.Spelling.{verdict_line};
+ghost use Rattle.proof_text.specs.Spelling.{greatest_number, verdict_line};
 ghost use Rattle.proof_text.specs.declared.Verdict.TheVariants as verdicts;
 ghost use Rattle.deep_search.specs.Planned.{solved_within};
 ghost use Rattle.victor_run.specs.Outcome.{Outcome, Proves, ending_of};
 ghost use Rattle.proof_text.specs.Texts.{head_of};
 ghost use Rattle.victor_run.specs.Proof.{Writes};
 ghost use Rattle.victor_run.specs.SizedFronts.{slots_of, IsAfter};
+ghost use Rattle.victor_words.specs.Words.{AreSlots, IsRoom};
 ghost use Rattle.victor_words.specs.declared.form.Form.TheVariants as forms;
 ghost use Rattle.victor_run.specs.declared.ending.Ending.TheVariants as endings;
 
@@ -40,10 +41,9 @@ pub(crate) fn prove<S: Source, O: Sink>(
     source: &mut S,
     out: &mut O,
 ) -> Ending
-    requires nodes { nodes ≤ 10000000 }
-    requires slots { IfSome slots (λ n. (1 ≤ n) × (n ≤ 1000000)) }
-    requires some { 1 ≤ table }
-    requires few { table ≤ 1000000 }
+    requires nodes { nodes ≤ greatest_number }
+    requires slots { IfSome slots AreSlots }
+    requires room { IsRoom table }
     ensures outcome { Outcome (Some (forms.Prove nodes reach slots table))
         (record { input = S.left source.old; left = S.left source.new; old = O.written out.old; new = O.written out.new }) result }
     ensures read_fault { result ≡ endings.Read → Rose (S.faults source.old) (S.faults source.new) }
@@ -65,10 +65,9 @@ fn prove_game<O: Sink>(
     table: u32,
     out: &mut O,
 ) -> Ending
-    requires nodes { nodes ≤ 10000000 }
-    requires slots { IfSome slots (λ n. (1 ≤ n) × (n ≤ 1000000)) }
-    requires some { 1 ≤ table }
-    requires few { table ≤ 1000000 }
+    requires nodes { nodes ≤ greatest_number }
+    requires slots { IfSome slots AreSlots }
+    requires room { IsRoom table }
     ensures proves { (text : List ℕ) (input left : Option (List ℕ)) → IsTextOf text game.now → IsAtEnd left → Proves nodes reach slots text
         (record { input = input; left = left; old = O.written out.old; new = O.written out.new }) result }
     ensures no_read { result ≡ endings.Read → ⊥ }
@@ -115,7 +114,7 @@ fn write_proof<O: Sink>(
     chooser: &mut Chooser,
     out: &mut O,
 ) -> Result<Verdict, Failed>
-    requires nodes { nodes ≤ 10000000 }
+    requires nodes { nodes ≤ greatest_number }
     requires empty { table.old.entries ≡ [] }
     requires front { IsAfter game.now.position sides.White reach 0 front.old }
     ensures written { (text : List ℕ) → IsTextOf text game.now → Writes nodes reach (slots_of front.old) text game.now.position (O.written out.old) (O.written out.new) result }

@@ -9,7 +9,7 @@ use Rattle.game_rules.specs.declared.Length.{Length}
 use Rattle.game_rules.specs.declared.Length.TheVariants.{Four, Five}
 use Rattle.plan_text.proofs.Spaced.{bind_some, map_some, chosen_some}
 use Rattle.plan_text.specs.Words.{◌>>=◌}
-use Rattle.victor_words.specs.Words.{command_of, numbers_of, number_in, usual, usual_nodes, usual_reach, usual_table, AreSlots, HasRanges, IsGiven}
+use Rattle.victor_words.specs.Words.{command_of, numbers_of, number_in, usual, usual_nodes, usual_reach, usual_table, AreSlots, HasRanges, IsGiven, most_nodes, most_reach, most_slots, most_room}
 use Rattle.victor_words.specs.Reading.{within, nodes_from, reach_from, front_from, table_from, board_with, size_from, prove_from, none_of_prove, none_given, without_options, explain_from, five_from, drill_from, form_with}
 use Rattle.victor_words.specs.declared.form.Command.{Command}
 use Rattle.victor_words.specs.declared.form.Command.TheVariants as commands
@@ -61,8 +61,8 @@ option_spelled low high usually n number range is = ap (within low high) (given_
 front_gives : (front number : Option ℕ) → front_from number ≡ Some front → (IfSome front AreSlots) × (IsGiven None front (option_to_list number))
 front_gives front None h = let same : None ≡ front = cc (h) in subst (λ front. (IfSome front AreSlots) × (IsGiven None front [])) same (tt, refl)
 front_gives front (Some slots) h =
-    let found = map_some Some (within 1 1000000 slots) front h in
-    let told = within_gives 1 1000000 slots found.0 found.1 in
+    let found = map_some Some (within 1 most_slots slots) front h in
+    let told = within_gives 1 most_slots slots found.0 found.1 in
     subst (λ front. (IfSome front AreSlots) × (IsGiven None front (slots ∷ []))) found.2 (told.0, inl (ap (λ n. n ∷ []) told.1))
 
 front_spelled : (front number : Option ℕ) → IfSome front AreSlots → IsGiven None front (option_to_list number) → front_from number ≡ Some front
@@ -70,7 +70,7 @@ front_spelled None None range is = refl
 front_spelled None (Some slots) range is = cc
 front_spelled (Some n) None range (inl alone) = cc
 front_spelled (Some n) None range (inr (none, same)) = cc
-front_spelled (Some n) (Some slots) range (inl alone) = let same : slots ≡ n = cc (alone) in rw same (ap (option_map Some) (within_spelled 1 1000000 n range))
+front_spelled (Some n) (Some slots) range (inl alone) = let same : slots ≡ n = cc (alone) in rw same (ap (option_map Some) (within_spelled 1 most_slots n range))
 front_spelled (Some n) (Some slots) range (inr (none, same)) = cc
 
 -- ---- sizes
@@ -111,10 +111,10 @@ prove_gives given form h =
     let f = bind_some (front_from (given Front)) _ form k.2 in
     let t = bind_some (table_from (given Table)) _ form f.2 in
     let same : Prove n.0 k.0 f.0 t.0 ≡ form = cc (t.2) in
-    let of_nodes = option_gives 1 10000000 usual_nodes n.0 (given Nodes) n.1 in
-    let of_reach = option_gives 0 1000000 usual_reach k.0 (given Reach) k.1 in
+    let of_nodes = option_gives 1 most_nodes usual_nodes n.0 (given Nodes) n.1 in
+    let of_reach = option_gives 0 most_reach usual_reach k.0 (given Reach) k.1 in
     let of_front = front_gives f.0 (given Front) f.1 in
-    let of_table = option_gives 1 1000000 usual_table t.0 (given Table) t.1 in
+    let of_table = option_gives 1 most_room usual_table t.0 (given Table) t.1 in
     subst (IsFormOf commands.Prove [] given) same (record {
       command = refl;
       numbers = refl;
@@ -152,7 +152,7 @@ explain_gives given form h =
     let none = and_parts (is_none (given Nodes)) (none_of_prove given) told.0 in
     let of_prove = and_parts (is_none (given Front)) (is_none (given Table)) none.1 in
     let k = map_some Explain (reach_from (given Reach)) form told.1 in
-    let of_reach = option_gives 0 1000000 usual_reach k.0 (given Reach) k.1 in
+    let of_reach = option_gives 0 most_reach usual_reach k.0 (given Reach) k.1 in
     subst (IsFormOf commands.Explain [] given) k.2 (record { command = refl; numbers = refl; options = each k.0 none.0 of_reach.1 of_prove.0 of_prove.1; ranges = of_reach.0 })
   where
     each : (k : ℕ) → is_none (given Nodes) ≡ true → IsGiven (usual Reach) (Some k) (option_to_list (given Reach)) → is_none (given Front) ≡ true → is_none (given Table) ≡ true → HasOptions given (Explain k)
@@ -175,8 +175,8 @@ five_give cols rows moves seed games given form none h =
     let of_most = within_gives 0 100 moves most.0 most.1 in
     let of_seed = within_gives 1 2147483646 seed from.0 from.1 in
     let of_games = within_gives 1 1000 games count.0 count.1 in
-    let of_nodes = option_gives 1 10000000 usual_nodes n.0 (given Nodes) n.1 in
-    let of_reach = option_gives 0 1000000 usual_reach k.0 (given Reach) k.1 in
+    let of_nodes = option_gives 1 most_nodes usual_nodes n.0 (given Nodes) n.1 in
+    let of_reach = option_gives 0 most_reach usual_reach k.0 (given Reach) k.1 in
     let of_prove = and_parts (is_none (given Front)) (is_none (given Table)) none in
     let first : cols ≡ size.0.cols = cc (of_size.1) in
     let second : rows ≡ size.0.rows = cc (of_size.1) in
@@ -234,16 +234,16 @@ bare_found given bare none =
 form_found : (form : Form) (given : Name → Option ℕ) → HasOptions given form → HasRanges form → form_with (command_of form) (numbers_of form) given ≡ Some form
 form_found (Prove n k front t) given options ranges =
     ap (λ found. found >>= λ n. reach_from (given Reach) >>= λ k. front_from (given Front) >>= λ f. table_from (given Table) >>= λ t. Some (Prove n k f t))
-    (option_spelled 1 10000000 usual_nodes n (given Nodes) ranges.0 (options Nodes))
-    ∙ ap (λ found. found >>= λ k. front_from (given Front) >>= λ f. table_from (given Table) >>= λ t. Some (Prove n k f t)) (option_spelled 0 1000000 usual_reach k (given Reach) ranges.1 (options Reach))
+    (option_spelled 1 most_nodes usual_nodes n (given Nodes) ranges.0 (options Nodes))
+    ∙ ap (λ found. found >>= λ k. front_from (given Front) >>= λ f. table_from (given Table) >>= λ t. Some (Prove n k f t)) (option_spelled 0 most_reach usual_reach k (given Reach) ranges.1 (options Reach))
     ∙ ap (λ found. found >>= λ f. table_from (given Table) >>= λ t. Some (Prove n k f t)) (front_spelled front (given Front) ranges.2 (options Front))
-    ∙ ap (λ found. found >>= λ t. Some (Prove n k front t)) (option_spelled 1 1000000 usual_table t (given Table) ranges.3 (options Table))
+    ∙ ap (λ found. found >>= λ t. Some (Prove n k front t)) (option_spelled 1 most_room usual_table t (given Table) ranges.3 (options Table))
 form_found Check given options ranges = bare_found given Check (λ name. none_says (usual name) (given name) (options name))
 form_found Play given options ranges = bare_found given Play (λ name. none_says (usual name) (given name) (options name))
 form_found (Explain k) given options ranges =
     ap (λ b. cond b (option_map Explain (reach_from (given Reach))) None)
     (and_from (is_none (given Nodes)) (none_of_prove given) (none_says (usual Nodes) (given Nodes) (options Nodes)) (none_of_prove_found given (Explain k) options refl refl))
-    ∙ ap (option_map Explain) (option_spelled 0 1000000 usual_reach k (given Reach) ranges (options Reach))
+    ∙ ap (option_map Explain) (option_spelled 0 most_reach usual_reach k (given Reach) ranges (options Reach))
 form_found (Drill size moves seed games n k) given options ranges =
     ap (λ b. cond b (five_from (numbers_of (Drill size moves seed games n k)) given) None) (none_of_prove_found given (Drill size moves seed games n k) options refl refl)
     ∙ ap (λ found. found >>= λ size. within 0 100 moves >>= λ moves. within 1 2147483646 seed >>= λ seed. within 1 1000 games >>= λ games.
@@ -253,8 +253,8 @@ form_found (Drill size moves seed games n k) given options ranges =
     ∙ ap (λ found. found >>= λ seed. within 1 1000 games >>= λ games.
     nodes_from (given Nodes) >>= λ n. reach_from (given Reach) >>= λ k. Some (Drill size moves seed games n k)) (within_spelled 1 2147483646 seed ranges.0.seed)
     ∙ ap (λ found. found >>= λ games. nodes_from (given Nodes) >>= λ n. reach_from (given Reach) >>= λ k. Some (Drill size moves seed games n k)) (within_spelled 1 1000 games ranges.0.games)
-    ∙ ap (λ found. found >>= λ n. reach_from (given Reach) >>= λ k. Some (Drill size moves seed games n k)) (option_spelled 1 10000000 usual_nodes n (given Nodes) ranges.1 (options Nodes))
-    ∙ ap (λ found. found >>= λ k. Some (Drill size moves seed games n k)) (option_spelled 0 1000000 usual_reach k (given Reach) ranges.2 (options Reach))
+    ∙ ap (λ found. found >>= λ n. reach_from (given Reach) >>= λ k. Some (Drill size moves seed games n k)) (option_spelled 1 most_nodes usual_nodes n (given Nodes) ranges.1 (options Nodes))
+    ∙ ap (λ found. found >>= λ k. Some (Drill size moves seed games n k)) (option_spelled 0 most_reach usual_reach k (given Reach) ranges.2 (options Reach))
 
 pub form_spelled : (command : Command) (alone : List ℕ) (given : Name → Option ℕ) (form : Form) → IsFormOf command alone given form → form_with command alone given ≡ Some form
 form_spelled command alone given form is =

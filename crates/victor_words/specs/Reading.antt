@@ -7,7 +7,7 @@ use Rattle.game_rules.specs.Board.{Board, is_board}
 use Rattle.game_rules.specs.Number.{number_between}
 use Rattle.game_rules.specs.declared.Length.TheVariants.{Four}
 use Rattle.plan_text.specs.Words.{◌>>=◌, split_once}
-use Rattle.victor_words.specs.Words.{words_of, given_by, own_by, given, own, usual_nodes, usual_reach, usual_table}
+use Rattle.victor_words.specs.Words.{words_of, given_by, own_by, given, own, usual_nodes, usual_reach, usual_table, most_nodes, most_reach, most_slots, most_room}
 use Rattle.victor_words.specs.declared.form.Command.{Command}
 use Rattle.victor_words.specs.declared.form.Command.TheVariants as commands
 use Rattle.victor_words.specs.declared.form.Form.{Form}
@@ -96,17 +96,17 @@ abbrev pub within : ℕ → ℕ → ℕ → Option ℕ
 within low high n = if nat_le low n && nat_le n high then Some n else None
 
 abbrev pub nodes_from : Option ℕ → Option ℕ
-nodes_from number = within 1 10000000 (unwrap_or number usual_nodes)
+nodes_from number = within 1 most_nodes (unwrap_or number usual_nodes)
 
 abbrev pub reach_from : Option ℕ → Option ℕ
-reach_from number = within 0 1000000 (unwrap_or number usual_reach)
+reach_from number = within 0 most_reach (unwrap_or number usual_reach)
 
 abbrev pub front_from : Option ℕ → Option (Option ℕ)
 front_from None = Some None
-front_from (Some slots) = option_map Some (within 1 1000000 slots)
+front_from (Some slots) = option_map Some (within 1 most_slots slots)
 
 abbrev pub table_from : Option ℕ → Option ℕ
-table_from number = within 1 1000000 (unwrap_or number usual_table)
+table_from number = within 1 most_room (unwrap_or number usual_table)
 
 abbrev pub board_with : ℕ → ℕ → Board
 board_with cols rows = record { cols = cols; rows = rows; len = Four }

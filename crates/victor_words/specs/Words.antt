@@ -124,20 +124,33 @@ usual Reach = Some usual_reach
 usual Front = None
 usual Table = Some usual_table
 
+-- the greatest number that an option may have
+abbrev pub most_nodes : ℕ
+most_nodes = 10000000
+
+abbrev pub most_reach : ℕ
+most_reach = 1000000
+
+abbrev pub most_slots : ℕ
+most_slots = 1000000
+
+abbrev pub most_room : ℕ
+most_room = 1000000
+
 -- how many positions a search may enter, and at how many sets of zones a walk may look
 abbrev pub AreNodes : ℕ → Type 0
-AreNodes n = IsInRange 1 10000000 n
+AreNodes n = IsInRange 1 most_nodes n
 
 abbrev pub IsReach : ℕ → Type 0
-IsReach n = IsInRange 0 1000000 n
+IsReach n = IsInRange 0 most_reach n
 
 -- how many slots a front may have
 abbrev pub AreSlots : ℕ → Type 0
-AreSlots n = IsInRange 1 1000000 n
+AreSlots n = IsInRange 1 most_slots n
 
 -- how many settled positions a table may keep
 abbrev pub IsRoom : ℕ → Type 0
-IsRoom n = IsInRange 1 1000000 n
+IsRoom n = IsInRange 1 most_room n
 
 -- games on a board with lines of four, with their most moves, the number that they are made from, and how many they are
 pub record AreGames (board : Board) (most from count : ℕ) : Type 0 where

@@ -1,4 +1,8 @@
+use Rattle.std.proofs.Common.{◌≡◌, IfOk, is_ok, subst}
+use Rattle.device_rules.specs.Devices.{AppendsPrefix}
 use Rattle.game_rules.proofs.Games.{game_is_read}
+use Rattle.walk_rules.specs.Walk.{solved}
+use Rattle.explain_text.specs.Explanation.{explanation}
 use Rattle.victor_run.specs.ExplainPromise.{Explains}
 use Rattle.victor_run.proofs.Ends.{no_game}
 use Rattle.victor_run.proofs.Explaining.{explains_game}
@@ -7,11 +11,16 @@ use Rattle.victor_run.proofs.explain.explain.Goals as goal
 pub returns-in-Ok-clause-outcome : goal.returns-in-Ok-clause-outcome
 returns-in-Ok-clause-outcome g c =
     let takes = c.in-Ok.ensures.takes in
+    let game = c.in-Ok.game in
+    let found = subst (λ p. IfOk c.write_choice.result (λ found. found ≡ solved p c.args.reach)) c.position.ensures.position c.write_choice.ensures.found in
+    let written = subst (λ p. AppendsPrefix (is_ok c.write_choice.result) (g.O.Sink.written c.args.out.now) (g.O.Sink.written c.write_choice.new.out)
+        (explanation p c.args.reach)) c.position.ensures.position c.write_choice.ensures.written in
     record {
       taken = takes.0;
       gave = takes.1.gave;
       few = takes.1.few;
-      holds = rw c.explained_ending.ensures (explains_game c.args.reach _ _ c.in-Ok.game.position takes.3 (game_is_read takes.0 c.in-Ok.game takes.2) c.write_choice.result c.write_choice.ensures.found c.write_choice.ensures.written);
+      holds = rw c.explained_ending.ensures (explains_game c.args.reach _ _ game.position takes.3 (game_is_read takes.0 game takes.2)
+        c.write_choice.result found written);
     }
 
 pub returns-in-Err-clause-outcome : goal.returns-in-Err-clause-outcome

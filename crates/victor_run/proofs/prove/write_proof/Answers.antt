@@ -1,13 +1,13 @@
-use Rattle.std.proofs.Common.{◌≡◌, false, Ok, Err, refl, ap, ◌∙◌, subst}
+use Rattle.std.proofs.Common.{◌≡◌, ◌<◌, false, Ok, Err, refl, ap, ◌∙◌, subst}
 use Rattle.std.specs.Io.KnownBytes.{Appends}
 use Rattle.std.proofs.lemmas.Result.{err_from_is_err_and}
 use Rattle.device_rules.specs.Devices.{AppendsPrefix}
-use Rattle.game_rules.specs.Game.{board_played}
+use Rattle.game_rules.specs.Cost.{cost}
 use Rattle.game_rules.proofs.Games.{game_in_grammar}
-use Rattle.proof_text.specs.Texts.{head_of}
 use Rattle.proof_text.specs.declared.Verdict.TheVariants.{Unknown}
 use Rattle.victor_run.specs.Questions.{Asks}
 use Rattle.victor_run.specs.SizedFronts.{slots_of}
+use Rattle.deep_search.specs.Planned.{solved_within}
 use Rattle.deep_search.specs.declared.solving.SearchStop.TheVariants.{Spent}
 use Rattle.victor_run.proofs.Writing.{writes_head, writes_lemmas, writes_verdict}
 use Rattle.victor_run.proofs.prove.write_proof.Goals as goal
@@ -24,7 +24,8 @@ pub returns-in-Ok-clause-written : goal.returns-in-Ok-clause-written
 returns-in-Ok-clause-written g c = λ text is_text.
     let game = c.args.game.now in
     let head = c.as_slice.ensures.value ∙ c.head_of.ensures in
-    let asks = c.in-Ok.ensures.asked in
+    let asks = subst (λ p. Asks p c.args.nodes c.args.reach (slots_of c.args.front.now) (g.O.Sink.written c.put_all.new.out) (g.O.Sink.written c.ask.new.out) (Ok c.in-Ok.verdict))
+        c.position.ensures.position c.in-Ok.ensures.asked in
     writes_verdict c.args.nodes c.args.reach (slots_of c.args.front.now) text game.position (game_in_grammar text game is_text) c.requires.nodes
         _ _ (Ok c.in-Ok.verdict) asks c.in-Ok.verdict asks.verdict.0 _ _ c.write_verdict.result (asks.both_remarked refl) (λ unknown. absurd (asks.verdict.1 unknown))
         (subst (Appends (g.O.Sink.written c.args.out.now) (g.O.Sink.written c.put_all.new.out)) head c.in_ok-put_all.ensures.bytes)
@@ -34,10 +35,13 @@ pub returns-in-Err-Spent-clause-written : goal.returns-in-Err-Spent-clause-writt
 returns-in-Err-Spent-clause-written g c = λ text is_text.
     let game = c.args.game.now in
     let head = c.as_slice.ensures.value ∙ c.head_of.ensures in
-    let asked = λ stop. Asks game.position c.args.nodes c.args.reach (slots_of c.args.front.now) (g.O.Sink.written c.put_all.new.out) (g.O.Sink.written c.ask.new.out) (Err stop) in
-    let asks = subst asked c.in-Err-Spent.field-0-is c.in-Err-Spent.ensures.asked in
+    let asked = subst (λ p. Asks p c.args.nodes c.args.reach (slots_of c.args.front.now) (g.O.Sink.written c.put_all.new.out) (g.O.Sink.written c.ask.new.out) (Err c.in-Err-Spent.field-0))
+        c.position.ensures.position c.in-Err-Spent.ensures.asked in
+    let asks = subst (λ stop. Asks game.position c.args.nodes c.args.reach (slots_of c.args.front.now) (g.O.Sink.written c.put_all.new.out) (g.O.Sink.written c.ask.new.out) (Err stop))
+        c.in-Err-Spent.field-0-is asked in
+    let short = subst (λ p. c.args.nodes < cost (solved_within c.args.reach) p) c.position.ensures.position (c.in-Err-Spent.ensures.spent (ap Err c.in-Err-Spent.field-0-is)) in
     writes_verdict c.args.nodes c.args.reach (slots_of c.args.front.now) text game.position (game_in_grammar text game is_text) c.requires.nodes
-        _ _ (Err Spent) asks Unknown tt _ _ c.write_verdict-in-Err-Spent.result (asks.both_remarked refl) (λ unknown. c.in-Err-Spent.ensures.spent (ap Err c.in-Err-Spent.field-0-is))
+        _ _ (Err Spent) asks Unknown tt _ _ c.write_verdict-in-Err-Spent.result (asks.both_remarked refl) (λ unknown. short)
         (subst (Appends (g.O.Sink.written c.args.out.now) (g.O.Sink.written c.put_all.new.out)) head c.in_ok-put_all.ensures.bytes)
         asks.text c.write_verdict-in-Err-Spent.ensures.verdict c.write_verdict-in-Err-Spent.ensures.written
 
@@ -45,7 +49,9 @@ pub returns-in-Err-WriteFault-clause-written : goal.returns-in-Err-WriteFault-cl
 returns-in-Err-WriteFault-clause-written g c = λ text is_text.
     let game = c.args.game.now in
     let head = c.as_slice.ensures.value ∙ c.head_of.ensures in
-    let asked = λ stop. Asks game.position c.args.nodes c.args.reach (slots_of c.args.front.now) (g.O.Sink.written c.put_all.new.out) (g.O.Sink.written c.ask.new.out) (Err stop) in
-    let asks = subst asked c.in-Err-WriteFault.field-0-is c.in-Err-WriteFault.ensures.asked in
+    let asked = subst (λ p. Asks p c.args.nodes c.args.reach (slots_of c.args.front.now) (g.O.Sink.written c.put_all.new.out) (g.O.Sink.written c.ask.new.out) (Err c.in-Err-WriteFault.field-0))
+        c.position.ensures.position c.in-Err-WriteFault.ensures.asked in
+    let asks = subst (λ stop. Asks game.position c.args.nodes c.args.reach (slots_of c.args.front.now) (g.O.Sink.written c.put_all.new.out) (g.O.Sink.written c.ask.new.out) (Err stop))
+        c.in-Err-WriteFault.field-0-is asked in
     writes_lemmas c.args.nodes c.args.reach (slots_of c.args.front.now) text game.position (game_in_grammar text game is_text) c.requires.nodes _ _ _ _ asks
         (subst (Appends (g.O.Sink.written c.args.out.now) (g.O.Sink.written c.put_all.new.out)) head c.in_ok-put_all.ensures.bytes)
