@@ -60,8 +60,8 @@ impl Baseclaim {
     pub fn new(size: Size, a: Square, b: Square, e: Square) -> Option<Baseclaim>
         ensures value { result ≡ (if is_shaped (baseclaim a b e) size then Some (a, b, e) else None) }
     {
-        // its contract says that the size is a board's, which has an even number of rows
-        let _board = size.cols();
+        // a board has an even number of rows
+        size.is_a_board();
         let on_board = size.has(a) && size.has(b) && size.has(e);
         let apart = a.column() != b.column()
             && a.column() != e.column()
@@ -143,8 +143,8 @@ impl Rule for Baseclaim {
 
     #[tactic(auto, using(plan_rules::proofs::Fits::baseclaim_fits))]
     fn fits(&self, p: &Position) -> bool {
-        // its contract says that the size is a board's, so above a playable square on an odd row there is an empty one
-        let _board = p.size();
+        // above a playable square on an odd row there is an empty one
+        p.has_a_board();
         p.is_playable(self.a()) && p.is_playable(self.b()) && p.is_playable(self.e())
     }
 
@@ -217,8 +217,7 @@ impl Listed for Baseclaim {
 pub fn list_baseclaim(p: &Position) -> ArrayVec<Baseclaim, MOST_BASECLAIMS>
     ensures { map (λ x. baseclaim x.0 x.1 x.2) result.items ≡ listed kinds.Baseclaim p.now }
 {
-    // its contract says that the board is one with a size
-    let _board = p.size();
+    p.has_a_board();
     let mut list = ArrayVec::new();
     push_baseclaims(p, &mut list);
     list
@@ -230,8 +229,7 @@ pub fn push_baseclaims<T: Taker<Baseclaim>>(p: &Position, taker: &mut T)
     ensures taken { T.taken taker.new ≡ T.taken taker.old ++ listed kinds.Baseclaim p.now }
     ensures room { T.room taker.new ≡ T.room taker.old }
 {
-    // its contract says that the board is one with a size
-    let _board = p.size();
+    p.has_a_board();
     let playables = Mask::of(p.playables().as_slice());
     let evens = playables.without(Mask::odd_rows()).squares();
     let odds = playables.intersection(Mask::odd_rows()).squares();

@@ -56,8 +56,7 @@ impl Baseinverse {
     pub fn new(size: Size, s: Square, t: Square) -> Option<Baseinverse>
         ensures value { result ≡ (if is_shaped (baseinverse s t) size then Some (s, t) else None) }
     {
-        // its contract says that the size is a board's
-        let _board = size.cols();
+        size.is_a_board();
         if s.column().index() < t.column().index() && size.has(s) && size.has(t) {
             Some(Baseinverse { s, t })
         } else {
@@ -187,8 +186,7 @@ impl Listed for Baseinverse {
 pub fn list_baseinverse(p: &Position) -> ArrayVec<Baseinverse, MOST_BASEINVERSES>
     ensures { map (λ x. baseinverse x.0 x.1) result.items ≡ listed kinds.Baseinverse p.now }
 {
-    // its contract says that the board is one with a size
-    let _board = p.size();
+    p.has_a_board();
     let mut list = ArrayVec::new();
     push_baseinverses(p, &mut list);
     list

@@ -56,8 +56,7 @@ impl Position {
     pub fn empty(size: Size) -> Position
         ensures { result ≡ empty_position size }
     {
-        // its contract says that the size is a board's
-        let _board = size.cols();
+        size.is_a_board();
         Position {
             size,
             white: 0,

@@ -101,6 +101,14 @@ impl Size {
         self == other
     }
 
+    /// A fact of every size: it is one of a board's.
+    pub fn is_a_board(&self)
+        ensures { is_board self.now ≡ true }
+    {
+        // each look at a field says that the size is sound
+        let _cols = self.cols;
+    }
+
     /// How many columns the board has, from 4 to 10.
     pub fn cols(&self) -> u8
         ensures value { result ≡ self.now.cols }
@@ -178,8 +186,7 @@ impl Size {
         ensures value { result ≡ is_line self.now way anchor }
         ensures board { is_board self.now ≡ true }
     {
-        // its contract says that the size is a board's
-        let _board = self.cols();
+        self.is_a_board();
         is_line(*self, way, (anchor.column().index(), anchor.row()))
     }
 

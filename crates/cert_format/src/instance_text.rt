@@ -128,8 +128,7 @@ fn rule_of(letters: &[u8]) -> Option<Kind>
 fn of_rule(rule: Kind, parts: &[u8], size: Size) -> Option<Instance>
     ensures { option_map written result ≡ option_and_then (if_named size) (of_rule size rule parts.now) }
 {
-    // its contract says that the size is a board's
-    let _board = size.cols();
+    size.is_a_board();
     match rule {
         Kind::Claimeven => {
             let lower = square_of(parts, size)?;

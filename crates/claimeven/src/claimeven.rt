@@ -56,8 +56,8 @@ impl Claimeven {
         ensures value { result ≡ (if is_shaped (claimeven lower) size then Some lower else None) }
         ensures odd { is_some result ≡ (on_board size lower && is_odd lower.1) }
     {
-        // its contract says that the size is a board's, which has an even number of rows
-        let _board = size.cols();
+        // a board has an even number of rows
+        size.is_a_board();
         if size.has(lower) && lower.row() % 2 == 1 {
             Some(Claimeven { lower })
         } else {
@@ -183,8 +183,7 @@ impl Listed for Claimeven {
 pub fn list_claimeven(p: &Position) -> ArrayVec<Claimeven, MOST_CLAIMEVENS>
     ensures { map claimeven result.items ≡ listed kinds.Claimeven p.now }
 {
-    // its contract says that the board is one with a size
-    let _board = p.size();
+    p.has_a_board();
     let mut list = ArrayVec::new();
     push_claimevens(p, &mut list);
     list
@@ -196,8 +195,7 @@ pub fn push_claimevens<T: Taker<Claimeven>>(p: &Position, taker: &mut T)
     ensures taken { T.taken taker.new ≡ T.taken taker.old ++ listed kinds.Claimeven p.now }
     ensures room { T.room taker.new ≡ T.room taker.old }
 {
-    // its contract says that the board is one with a size
-    let _board = p.size();
+    p.has_a_board();
     let lowers = lowers(p).squares();
     list_fitting(p, lowers.as_slice(), taker);
 }
@@ -206,8 +204,7 @@ pub fn push_claimevens<T: Taker<Claimeven>>(p: &Position, taker: &mut T)
 fn lowers(p: &Position) -> Mask
     ensures { IsSetOf (λ lower. fits (claimeven lower) p.now) result }
 {
-    // its contract says that the board is one with a size
-    let _board = p.size();
+    p.has_a_board();
     let empties = p.empties();
     empties
         .intersection(empties.lowered())

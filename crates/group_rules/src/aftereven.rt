@@ -166,8 +166,7 @@ impl Listed for Aftereven {
 pub fn list_aftereven(p: &Position) -> ArrayVec<Aftereven, MOST_AFTEREVENS>
     ensures { map aftereven result.items ≡ listed kinds.Aftereven p.now }
 {
-    // its contract says that the board is one with a size
-    let _board = p.size();
+    p.has_a_board();
     let mut list = ArrayVec::new();
     push_afterevens(p, &mut list);
     list

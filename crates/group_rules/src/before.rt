@@ -167,8 +167,7 @@ impl Listed for Before {
 pub fn list_before(p: &Position) -> ArrayVec<Before, MOST_BEFORES>
     ensures { map before result.items ≡ listed kinds.Before p.now }
 {
-    // its contract says that the board is one with a size
-    let _board = p.size();
+    p.has_a_board();
     let mut list = ArrayVec::new();
     push_befores(p, &mut list);
     list

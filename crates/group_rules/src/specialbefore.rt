@@ -68,8 +68,7 @@ impl Specialbefore {
     pub fn new(size: Size, g: GroupId, f: Square, e0: Square) -> Option<Specialbefore>
         ensures { result ≡ (if is_shaped (specialbefore g f e0) size then Some (g, f, e0) else None) }
     {
-        // its contract says that the size is a board's
-        let _board = size.cols();
+        size.is_a_board();
         let squares = group_mask(g);
         let apart = f.column() != e0.column();
         if g.lies_on(size) && size.has(f) && !squares.has(f) && squares.has(e0) && apart {
@@ -197,8 +196,7 @@ impl Listed for Specialbefore {
         p: &Position,
         (g, (f, e0)): (GroupId, (Square, Square)),
     ) -> Option<Specialbefore> {
-        // its contract says that the board is one with a size
-        let _board = p.size();
+        p.has_a_board();
         Some(Specialbefore { g, f, e0 })
     }
 }
@@ -208,8 +206,7 @@ impl Listed for Specialbefore {
 pub fn list_specialbefore(p: &Position) -> ArrayVec<Specialbefore, MOST_SPECIALBEFORES>
     ensures { map (λ x. specialbefore x.0 x.1 x.2) result.items ≡ listed kinds.Specialbefore p.now }
 {
-    // its contract says that the board is one with a size
-    let _board = p.size();
+    p.has_a_board();
     let mut list = ArrayVec::new();
     push_specialbefores(p, &mut list);
     list
@@ -236,8 +233,7 @@ fn push_of_group<T: Taker<Specialbefore>>(p: &Position, g: GroupId, playables: M
     ensures taken { T.taken taker.new ≡ T.taken taker.old ++ fitting (λ two. specialbefore g two.0 two.1) p.now (each_with (playable_squares p.now) (playable_squares p.now)) }
     ensures room { T.room taker.new ≡ T.room taker.old }
 {
-    // its contract says that the board is one with a size
-    let _board = p.size();
+    p.has_a_board();
     let squares = group_mask(g);
     if is_low_where_free(p, g, squares) {
         let outside = playables.without(squares).squares();

@@ -30,8 +30,7 @@ fn is_playable_under(p: &Position, u: Square) -> bool
 pub(crate) fn bottoms(p: &Position) -> ArrayVec<Square, MOST_COLS>
     ensures { result.items ≡ filter (is_bottom p.now) (squares_at p.now) }
 {
-    // its contract says that the board is one with a size
-    let _board = p.size();
+    p.has_a_board();
     let playables = p.playables();
     let mut bottoms = ArrayVec::new();
     for playable in playables.as_slice() {
@@ -45,8 +44,8 @@ fn bottom_over(p: &Position, playable: Square) -> Square
     requires { is_playable p.now playable ≡ true }
     ensures { result ≡ (if is_even playable.1 then playable else above playable) }
 {
-    // its contract says that the board is one with a size, so there is a square above one on an odd row
-    let _board = p.size();
+    // there is a square above one on an odd row
+    p.has_a_board();
     if playable.row() % 2 == 0 {
         playable
     } else {

@@ -59,8 +59,7 @@ impl Highinverse {
     pub fn new(size: Size, x: Square, y: Square) -> Option<Highinverse>
         ensures value { result ≡ (if is_shaped (highinverse x y) size then Some (x, y) else None) }
     {
-        // its contract says that the size is a board's
-        let _board = size.cols();
+        size.is_a_board();
         let on_board = size.has(x)
             && size.has(y)
             && x.row() + 2 <= size.rows()
@@ -237,8 +236,7 @@ impl Listed for Highinverse {
 pub fn list_highinverse(p: &Position) -> ArrayVec<Highinverse, MOST_HIGHINVERSES>
     ensures { map (λ x. highinverse x.0 x.1) result.items ≡ listed kinds.Highinverse p.now }
 {
-    // its contract says that the board is one with a size
-    let _board = p.size();
+    p.has_a_board();
     let mut list = ArrayVec::new();
     push_highinverses(p, &mut list);
     list

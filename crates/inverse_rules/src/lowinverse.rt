@@ -73,8 +73,7 @@ impl Lowinverse {
     pub fn new(size: Size, x: Square, x_top: Square, y: Square, y_top: Square) -> Option<Lowinverse>
         ensures value { result ≡ (if is_shaped (lowinverse x x_top y y_top) size then Some (x, x_top, y, y_top) else None) }
     {
-        // its contract says that the size is a board's
-        let _board = size.cols();
+        size.is_a_board();
         let ordered = x.column().index() < y.column().index();
         if ordered && is_column(size, x, x_top) && is_column(size, y, y_top) {
             Some(Lowinverse { x, x_top, y, y_top })
@@ -257,8 +256,7 @@ impl Listed for Lowinverse {
         p: &Position,
         ((x, x_top), (y, y_top)): ((Square, Square), (Square, Square)),
     ) -> Option<Lowinverse> {
-        // its contract says that the board is one with a size
-        let _board = p.size();
+        p.has_a_board();
         if x.column().index() < y.column().index() && is_common_ground(p, x, y) {
             Some(Lowinverse { x, x_top, y, y_top })
         } else {
@@ -271,8 +269,7 @@ impl Listed for Lowinverse {
 pub fn list_lowinverse(p: &Position) -> ArrayVec<Lowinverse, MOST_LOWINVERSES>
     ensures { map (λ x. lowinverse x.0 x.1 x.2 x.3) result.items ≡ listed kinds.Lowinverse p.now }
 {
-    // its contract says that the board is one with a size
-    let _board = p.size();
+    p.has_a_board();
     let mut list = ArrayVec::new();
     push_lowinverses(p, &mut list);
     list

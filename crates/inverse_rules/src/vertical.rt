@@ -52,8 +52,7 @@ impl Vertical {
     pub fn new(size: Size, e: Square) -> Option<Vertical>
         ensures value { result ≡ (if is_shaped (vertical e) size then Some e else None) }
     {
-        // its contract says that the size is a board's
-        let _board = size.cols();
+        size.is_a_board();
         if size.has(e) && e.row() % 2 == 0 && e.row() < size.rows() {
             Some(Vertical { e })
         } else {
@@ -173,8 +172,7 @@ impl Listed for Vertical {
 pub fn list_vertical(p: &Position) -> ArrayVec<Vertical, MOST_VERTICALS>
     ensures { map vertical result.items ≡ listed kinds.Vertical p.now }
 {
-    // its contract says that the board is one with a size
-    let _board = p.size();
+    p.has_a_board();
     let mut list = ArrayVec::new();
     push_verticals(p, &mut list);
     list
@@ -186,8 +184,7 @@ pub fn push_verticals<T: Taker<Vertical>>(p: &Position, taker: &mut T)
     ensures taken { T.taken taker.new ≡ T.taken taker.old ++ listed kinds.Vertical p.now }
     ensures room { T.room taker.new ≡ T.room taker.old }
 {
-    // its contract says that the board is one with a size
-    let _board = p.size();
+    p.has_a_board();
     let squares = fitting_squares(p).squares();
     list_fitting(p, squares.as_slice(), taker);
 }
@@ -196,8 +193,7 @@ pub fn push_verticals<T: Taker<Vertical>>(p: &Position, taker: &mut T)
 fn fitting_squares(p: &Position) -> Mask
     ensures { IsSetOf (λ e. fits (vertical e) p.now) result }
 {
-    // its contract says that the board is one with a size
-    let _board = p.size();
+    p.has_a_board();
     let empties = p.empties();
     empties
         .intersection(empties.lowered())

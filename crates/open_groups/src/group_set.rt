@@ -49,8 +49,7 @@ impl GroupSet {
     pub fn empty(size: Size) -> GroupSet
         ensures { IsGroupSetOf size (λ _. false) result }
     {
-        // its contract says that the size is a board's
-        let _board = size.cols();
+        size.is_a_board();
         GroupSet {
             size,
             anchors: [Mask::empty(); WAYS],

@@ -38,8 +38,7 @@ pub(crate) fn is_answered(
     ensures answered { result ≡ list_all (λ g. not (is_left p.now (written_list set.now) g) || is_some (answer_to p.now (written_list set.now) g)) (groups_of (board_of p.now)) }
     ensures list { list.new.items ≡ set.now }
 {
-    // its contract says that the board is one with a size
-    let _board = p.size();
+    p.has_a_board();
     list_instances(set, list);
     let kept = facts_kept(p, list.as_slice());
     for group in ground.white.as_slice() {
@@ -97,8 +96,7 @@ pub(crate) fn add_answers(
     ensures given { written_list list.new.items ≡ given p.now (written_list list.old.items) }
     ensures few { length list.new.items ≤ 288 }
 {
-    // its contract says that the board is one with a size
-    let _board = p.size();
+    p.has_a_board();
     let kept = facts_kept(p, list.as_slice());
     let zones = list.len();
     for group in ground.white.as_slice() {

@@ -30,8 +30,7 @@ pub(crate) fn first_specialbefore(
     requires kept { (u : Place) → has_square kept.now.empty u ≡ is_empty p.now u }
     ensures { option_map (λ x. specialbefore x.0 x.1 x.2) result ≡ first_special p.now (facts_in kept.now) (has_square empty) }
 {
-    // its contract says that the board is one with a size
-    let _board = p.size();
+    p.has_a_board();
     let outside = ground
         .playable
         .intersection(twin_squares(kept))
@@ -75,8 +74,7 @@ fn special_of(
     requires outside { IsSetOf (is_outside p.now (facts_in kept.now) (has_square empty)) outside }
     ensures { option_map (λ x. specialbefore x.0 x.1 x.2) result ≡ first_of p.now (facts_in kept.now) (has_square empty) (λ two. specialbefore group.now.id two.0 two.1) (each_with (playable_squares p.now) (playable_squares p.now)) }
 {
-    // its contract says that the board is one with a size
-    let _board = p.size();
+    p.has_a_board();
     if !group.empty.within(empty.lowered()) {
         return None;
     }

@@ -67,8 +67,7 @@ fn first_aftereven(p: &Position, ground: &Ground, kept: &Kept, empty: Mask) -> O
     requires kept { (u : Place) → has_square kept.now.empty u ≡ is_empty p.now u }
     ensures { option_map aftereven result ≡ first_of p.now (facts_in kept.now) (has_square empty) aftereven (groups_of (board_of p.now)) }
 {
-    // its contract says that the board is one with a size
-    let _board = p.size();
+    p.has_a_board();
     let squares = kept.upper.intersection(squares_below(empty));
     first_within(ground.black.as_slice(), squares)
 }
@@ -80,8 +79,7 @@ fn first_before(p: &Position, ground: &Ground, kept: &Kept, empty: Mask) -> Opti
     requires part { (u : Place) → has_square empty u ≡ true → is_empty p.now u ≡ true }
     ensures { option_map before result ≡ first_of p.now (facts_in kept.now) (has_square empty) before (groups_of (board_of p.now)) }
 {
-    // its contract says that the board is one with a size
-    let _board = p.size();
+    p.has_a_board();
     let squares = kept.upper.union(kept.pair).intersection(empty.lowered());
     first_within(ground.black.as_slice(), squares)
 }

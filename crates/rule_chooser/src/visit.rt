@@ -85,8 +85,7 @@ pub(crate) fn visit(
     ensures plan { result ≡ outcomes.Plan → is_zone_set p.now (written_list list.new.items) ≡ true }
     ensures few { result ≡ outcomes.Plan → length list.new.items ≤ MOST_ZONES }
 {
-    // its contract says that the board is one with a size
-    let _board = p.size();
+    p.has_a_board();
     let Some(less) = left.checked_sub(1) else {
         return WalkOutcome::Spent;
     };
@@ -119,8 +118,7 @@ fn visit_next(
     ensures plan { result ≡ outcomes.Plan → is_zone_set p.now (written_list list.new.items) ≡ true }
     ensures few { result ≡ outcomes.Plan → length list.new.items ≤ MOST_ZONES }
 {
-    // its contract says that the board is one with a size
-    let _board = p.size();
+    p.has_a_board();
     let zones = ground.zones.list.as_slice();
     let mut index = ground.zones.first_with(first);
     'zones: while index < zones.len() {

@@ -57,8 +57,7 @@ impl Zones {
     fn list_fitting(&mut self, p: &Position)
         ensures { written_list self.new.list.items ≡ fitting_zones p.now }
     {
-        // its contract says that the board is one with a size
-        let _board = p.size();
+        p.has_a_board();
         self.list.clear();
         push_claimevens(p, self);
         push_baseinverses(p, self);

@@ -100,8 +100,7 @@ fn cover_accepted(p: &Position, list: &[Instance], zones: &[PlacedZone]) -> Resu
 fn first_uncovered(p: &Position, zones: &[PlacedZone]) -> Option<Square>
     ensures { result ≡ find (λ u. is_empty p.now u && not (list_any (λ zone. has_square (zone_of (written zone.1)) u) zones.now)) (squares_of_board (board_of p.now)) }
 {
-    // its contract says that the board is one with a size
-    let _board = p.size();
+    p.has_a_board();
     let uncovered = p.empties().without(owned(zones));
     match uncovered.squares().as_slice() {
         [first, ..] => Some(*first),

@@ -56,8 +56,7 @@ fn twins(p: &Position, list: &[Instance]) -> ArrayVec<(Square, Square), MOST_TWI
     requires { StandTogether p.now (written_list list.now) }
     ensures { result.items ≡ (facts_of p.now (written_list list.now)).twin }
 {
-    // its contract says that the board is one with a size
-    let _board = p.size();
+    p.has_a_board();
     let mut twins = ArrayVec::new();
     for instance in list {
         if let Some(twin) = instance.twin() {

@@ -42,8 +42,7 @@ pub(crate) fn gather(
     ensures two { result ≡ first_two_from (λ x y. together (written x) (written y)) 1 list.now }
     ensures zones { result ≡ None → zones.new.items ≡ zones_from (λ x. owns_zone (written x)) 1 list.now }
 {
-    // its contract says that the board is one with a size
-    let _board = p.size();
+    p.has_a_board();
     for (index, instance) in list.iter().enumerate() {
         if instance.owns_zone() {
             let zone = PlacedZone::of(index as u32 + 1, instance);

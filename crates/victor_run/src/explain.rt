@@ -6,6 +6,8 @@ ghost use Rattle.game_rules.specs.Groups.{groups_of, lies_on};
 ghost use Rattle.game_rules.specs.Position.{board_of};
 ghost use Rattle.plan_rules.specs.Plan.{is_plan};
 ghost use Rattle.plan_text.specs.Items.{square_text};
+ghost use Rattle.plan_text.specs.PlanLine.{plan_text};
+ghost use Rattle.proof_text.specs.Spelling.{as_line};
 ghost use Rattle.rule_compat.specs.Written.{written, written_list};
 ghost use Rattle.rule_compat.specs.Planned.{members};
 ghost use Rattle.walk_rules.specs.Walk.{solved, is_given};
@@ -89,11 +91,20 @@ fn write_plan<O: Sink>(plan: &Plan, out: &mut O) -> Result<(), Failed>
     ensures written { AppendsPrefix (is_ok result) (O.written out.old) (O.written out.new) (plan_explained plan.now.at (members plan.now)) }
     ensures cause { HasCause (O.faults out.old) (O.faults out.new) result }
 {
+    write_members(plan, out)?;
     let groups = groups(plan.at().size());
-    print_plan(plan.list(), out)?;
-    write_zones(plan.list(), out)?;
     write_answers(plan, groups.as_slice(), out)?;
     out.flush()
+}
+
+/// Writes the line of a plan, and a line for each instance.
+fn write_members<O: Sink>(plan: &Plan, out: &mut O) -> Result<(), Failed>
+    ensures written { AppendsPrefix (is_ok result) (O.written out.old) (O.written out.new) (as_line (plan_text (members plan.now)) ++ owns_lines (members plan.now)) }
+    ensures cause { HasCause (O.faults out.old) (O.faults out.new) result }
+{
+    plan.at().has_a_board();
+    print_plan(plan.list(), out)?;
+    write_zones(plan.list(), out)
 }
 
 /// Writes a line for each instance, with the squares that it owns.

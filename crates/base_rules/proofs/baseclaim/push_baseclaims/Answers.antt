@@ -4,7 +4,7 @@ use Rattle.base_rules.proofs.baseclaim.push_baseclaims.Goals as goal
 
 pub list_triples-requires-clause-sites : goal.list_triples-requires-clause-sites
 list_triples-requires-clause-sites g c =
-    let p = c.args.p.now in let h = c.size-board.ensures.board in
+    let p = c.args.p.now in let h = c.has_a_board.ensures.board in
     let all = c.as_slice.ensures.value ∙ c.playables.ensures in
     let evens = c.squares-evens.ensures ∙ playables_off p _ _ _ c.without.result h all c.of-playables.ensures c.odd_rows.ensures c.without.ensures in
     let odds = c.squares-odds.ensures ∙ playables_on p _ _ _ c.intersection.result h all c.of-playables.ensures c.odd_rows-2.ensures c.intersection.ensures in
@@ -15,7 +15,7 @@ list_triples-requires-clause-sites g c =
 
 pub list_triples-requires-clause-room : goal.list_triples-requires-clause-room
 list_triples-requires-clause-room g c =
-    let p = c.args.p.now in let h = c.size-board.ensures.board in
+    let p = c.args.p.now in let h = c.has_a_board.ensures.board in
     let all = c.as_slice.ensures.value ∙ c.playables.ensures in
     let evens = c.squares-evens.ensures ∙ playables_off p _ _ _ c.without.result h all c.of-playables.ensures c.odd_rows.ensures c.without.ensures in
     let odds = c.squares-odds.ensures ∙ playables_on p _ _ _ c.intersection.result h all c.of-playables.ensures c.odd_rows-2.ensures c.intersection.ensures in
@@ -23,7 +23,7 @@ list_triples-requires-clause-room g c =
 
 pub returns-clause-taken : goal.returns-clause-taken
 returns-clause-taken g c =
-    let p = c.args.p.now in let h = c.size-board.ensures.board in
+    let p = c.args.p.now in let h = c.has_a_board.ensures.board in
     let all = c.as_slice.ensures.value ∙ c.playables.ensures in
     let evens = c.squares-evens.ensures ∙ playables_off p _ _ _ c.without.result h all c.of-playables.ensures c.odd_rows.ensures c.without.ensures in
     let odds = c.squares-odds.ensures ∙ playables_on p _ _ _ c.intersection.result h all c.of-playables.ensures c.odd_rows-2.ensures c.intersection.ensures in

@@ -11,4 +11,4 @@ returns c = set_same _ _ c.intersection-2.result c.intersection-2.ensures (λ u.
     ∙ ap (λ b. (is_empty c.args.p.now u && b) && has_square c.odd_rows.result u) (c.lowered.ensures.has u)
     ∙ ap (λ b. (is_empty c.args.p.now u && (nat_le 1 u.1 && b)) && has_square c.odd_rows.result u) (c.empties-empties.ensures.has (u.0, u.1 + 1))
     ∙ ap (λ b. two_empty c.args.p.now u && b) (c.odd_rows.ensures.has u)
-    ∙ claimeven_sites c.args.p.now u c.size-board.ensures.board)
+    ∙ claimeven_sites c.args.p.now u c.has_a_board.ensures.board)

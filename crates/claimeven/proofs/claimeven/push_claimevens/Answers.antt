@@ -13,11 +13,11 @@ list_fitting-requires-clause-sites g c =
 pub list_fitting-requires-clause-room : goal.list_fitting-requires-clause-room
 list_fitting-requires-clause-room g c =
     let sites = ap (fitting claimeven c.args.p.now) (c.as_slice.ensures.value ∙ c.squares-lowers.ensures) in
-    let whole = all_sites claimeven c.args.p.now c.lowers.result c.size-board.ensures.board (claimeven_site c.args.p.now) c.lowers.ensures in
+    let whole = all_sites claimeven c.args.p.now c.lowers.result c.has_a_board.ensures.board (claimeven_site c.args.p.now) c.lowers.ensures in
     subst (λ ws. length (g.T.Taker.taken c.args.taker.now) + length ws ≤ g.T.Taker.room c.args.taker.now) (sym (sites ∙ whole)) c.requires
 
 pub returns-clause-taken : goal.returns-clause-taken
 returns-clause-taken g c =
     let sites = ap (fitting claimeven c.args.p.now) (c.as_slice.ensures.value ∙ c.squares-lowers.ensures) in
-    let whole = all_sites claimeven c.args.p.now c.lowers.result c.size-board.ensures.board (claimeven_site c.args.p.now) c.lowers.ensures in
+    let whole = all_sites claimeven c.args.p.now c.lowers.result c.has_a_board.ensures.board (claimeven_site c.args.p.now) c.lowers.ensures in
     c.list_fitting.ensures.taken ∙ ap (λ ws. g.T.Taker.taken c.args.taker.now ++ ws) (sites ∙ whole)

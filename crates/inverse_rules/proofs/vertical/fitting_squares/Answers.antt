@@ -11,4 +11,4 @@ returns c = set_same _ _ c.without.result c.without.ensures (λ u.
     ∙ ap (λ b. (is_empty c.args.p.now u && b) && not (has_square c.odd_rows.result u)) (c.lowered.ensures.has u)
     ∙ ap (λ b. (is_empty c.args.p.now u && (nat_le 1 u.1 && b)) && not (has_square c.odd_rows.result u)) (c.empties-empties.ensures.has (u.0, u.1 + 1))
     ∙ ap (λ b. two_empty c.args.p.now u && not b) (c.odd_rows.ensures.has u)
-    ∙ vertical_sites c.args.p.now u c.size-board.ensures.board)
+    ∙ vertical_sites c.args.p.now u c.has_a_board.ensures.board)

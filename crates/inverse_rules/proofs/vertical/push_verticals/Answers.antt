@@ -13,11 +13,11 @@ list_fitting-requires-clause-sites g c =
 pub list_fitting-requires-clause-room : goal.list_fitting-requires-clause-room
 list_fitting-requires-clause-room g c =
     let sites = ap (fitting vertical c.args.p.now) (c.as_slice.ensures.value ∙ c.squares-squares.ensures) in
-    let whole = all_sites vertical c.args.p.now c.fitting_squares.result c.size-board.ensures.board (vertical_site c.args.p.now) c.fitting_squares.ensures in
+    let whole = all_sites vertical c.args.p.now c.fitting_squares.result c.has_a_board.ensures.board (vertical_site c.args.p.now) c.fitting_squares.ensures in
     subst (λ ws. length (g.T.Taker.taken c.args.taker.now) + length ws ≤ g.T.Taker.room c.args.taker.now) (sym (sites ∙ whole)) c.requires
 
 pub returns-clause-taken : goal.returns-clause-taken
 returns-clause-taken g c =
     let sites = ap (fitting vertical c.args.p.now) (c.as_slice.ensures.value ∙ c.squares-squares.ensures) in
-    let whole = all_sites vertical c.args.p.now c.fitting_squares.result c.size-board.ensures.board (vertical_site c.args.p.now) c.fitting_squares.ensures in
+    let whole = all_sites vertical c.args.p.now c.fitting_squares.result c.has_a_board.ensures.board (vertical_site c.args.p.now) c.fitting_squares.ensures in
     c.list_fitting.ensures.taken ∙ ap (λ ws. g.T.Taker.taken c.args.taker.now ++ ws) (sites ∙ whole)

@@ -23,7 +23,7 @@ add_answer-requires-clause-kept c = λ u. ap (λ (facts : Facts). facts.empty u)
 
 pub add_answer-requires-clause-part : goal.add_answer-requires-clause-part
 add_answer-requires-clause-part c =
-    part_empty c.args.p.now c.size-board.ensures.board c.group-item.result
+    part_empty c.args.p.now c.has_a_board.ensures.board c.group-item.result
     (group_is c.args.p.now (groups_for White c.args.p.now) c.as_slice-group-items.result.now c.loop-group.group-index c.group-item.result (c.as_slice-group-items.ensures.value ∙ c.requires.ground.white) c.loop-group-test.true c.group-item.is)
 
 pub loop-group-preserved : goal.loop-group-preserved
@@ -43,7 +43,7 @@ loop-group-preserved c =
       zones = c.add_answer.ensures.zones ∙ c.loop-group.invariant.zones;
       answers =
           ap (answers p set (drop (i + 1) gs)) made
-          ∙ sym (answers_one p set c.size-board.ensures.board facts c.group-item.result.id (drop (i + 1) gs) ws (c.facts_kept-kept.ensures ∙ ap (λ zs. facts_of p (written_list zs)) c.as_slice.ensures.value) (group_free p groups i c.group-item.result next))
+          ∙ sym (answers_one p set c.has_a_board.ensures.board facts c.group-item.result.id (drop (i + 1) gs) ws (c.facts_kept-kept.ensures ∙ ap (λ zs. facts_of p (written_list zs)) c.as_slice.ensures.value) (group_free p groups i c.group-item.result next))
           ∙ ap (λ hs. answers p set hs ws) (sym next)
           ∙ c.loop-group.invariant.answers;
       least = omega (arith, least, low);

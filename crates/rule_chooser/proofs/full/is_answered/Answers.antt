@@ -22,7 +22,7 @@ has_answer-requires-clause-kept c = λ u. ap (λ (facts : Facts). facts.empty u)
 
 pub has_answer-requires-clause-part : goal.has_answer-requires-clause-part
 has_answer-requires-clause-part c =
-    part_empty c.args.p.now c.size-board.ensures.board c.group-item.result
+    part_empty c.args.p.now c.has_a_board.ensures.board c.group-item.result
     (group_is c.args.p.now (groups_for White c.args.p.now) c.as_slice-group-items.result.now c.loop-group.group-index c.group-item.result (c.as_slice-group-items.ensures.value ∙ c.requires.ground.white) c.loop-group-test.true c.group-item.is)
 
 pub returns-then-not-has_answer-clause-answered : goal.returns-then-not-has_answer-clause-answered
@@ -35,7 +35,7 @@ returns-then-not-has_answer-clause-answered c =
     ∙ sym (at_drop_more (list_all (λ (group : OpenGroup). is_answered_by p facts (written_list list) group.empty)) groups i c.group-item.result c.loop-group-test.true)
     ∙ c.loop-group.invariant
     ∙ ap (λ zs. list_all (λ (group : OpenGroup). is_answered_by p facts (written_list zs) group.empty) groups) c.list_instances.ensures
-    ∙ all_answered p (written_list c.args.set.now) c.size-board.ensures.board facts groups (c.facts_kept-kept.ensures ∙ ap (λ zs. facts_of p (written_list zs)) same) (c.as_slice-group-items.ensures.value ∙ c.requires.ground.white)
+    ∙ all_answered p (written_list c.args.set.now) c.has_a_board.ensures.board facts groups (c.facts_kept-kept.ensures ∙ ap (λ zs. facts_of p (written_list zs)) same) (c.as_slice-group-items.ensures.value ∙ c.requires.ground.white)
 
 pub returns-clause-answered : goal.returns-clause-answered
 returns-clause-answered c =
@@ -44,4 +44,4 @@ returns-clause-answered c =
     ap (list_all (λ (group : OpenGroup). is_answered_by p facts (written_list list) group.empty)) (sym (drop_of_length-le groups c.loop-group-test.false))
     ∙ c.loop-group.invariant
     ∙ ap (λ zs. list_all (λ (group : OpenGroup). is_answered_by p facts (written_list zs) group.empty) groups) c.list_instances.ensures
-    ∙ all_answered p (written_list c.args.set.now) c.size-board.ensures.board facts groups (c.facts_kept-kept.ensures ∙ ap (λ zs. facts_of p (written_list zs)) same) (c.as_slice-group-items.ensures.value ∙ c.requires.ground.white)
+    ∙ all_answered p (written_list c.args.set.now) c.has_a_board.ensures.board facts groups (c.facts_kept-kept.ensures ∙ ap (λ zs. facts_of p (written_list zs)) same) (c.as_slice-group-items.ensures.value ∙ c.requires.ground.white)

@@ -24,7 +24,7 @@ push-requires c =
     let list = c.args.list.now in
     let clash = c.first_clash.ensures ∙ ap (λ zone. clash_in c.as_slice.result.now zone.1) c.of-zone.ensures ∙ ap (λ zones. clash_in zones x) (c.as_slice.ensures.value ∙ c.loop-index.invariant.kept) in
     let none = none_step list i x c.loop-index-test.true c.index-list-index.is c.loop-index.invariant.none ∙ ap (option_map (λ k. (k, i + 1))) (sym clash ∙ c.in_default.is) in
-    let room = room_for_one c.args.p.now list i x c.size-board.ensures.board c.requires.fitting c.loop-index-test.true c.index-list-index.is none (sym c.owns_zone.ensures ∙ c.if-owns_zone.true) in
+    let room = room_for_one c.args.p.now list i x c.has_a_board.ensures.board c.requires.fitting c.loop-index-test.true c.index-list-index.is none (sym c.owns_zone.ensures ∙ c.if-owns_zone.true) in
     (lit< tt, omega (arith, room, ap length c.loop-index.invariant.kept))
 
 pub loop-index-preserved : goal.loop-index-preserved

@@ -20,7 +20,7 @@ invariant_of-result c =
     let both = and_parts (is_column_over p first) (is_column_over p second) c.requires in
     let w = lowinverse first.0 first.1 second.0 second.1 in
     let good = lowinverse_site p first.0 first.1 second.0 second.1 both.0 both.1 ∙ and_from _ _ (lt-ltb first.0.0 second.0.0 (omega (arith, c.if-index.true))) (sym c.is_common_ground.ensures ∙ c.if-is_common_ground.true) in
-    lowinverse_widest first.0 first.1 second.0 second.1 (board_of p) c.size-board.ensures.board (and_from _ _ (fits_on_board w p good) (fits_shape w p good))
+    lowinverse_widest first.0 first.1 second.0 second.1 (board_of p) c.has_a_board.ensures.board (and_from _ _ (fits_on_board w p good) (fits_shape w p good))
 
 pub returns-then-is_common_ground : goal.returns-then-is_common_ground
 returns-then-is_common_ground c =

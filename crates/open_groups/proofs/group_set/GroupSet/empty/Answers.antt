@@ -4,7 +4,7 @@ use Rattle.open_groups.proofs.group_set.GroupSet.empty.Goals as goal
 
 pub invariant_of-result : goal.invariant_of-result
 invariant_of-result c = record {
-  board = c.cols-board.ensures.board;
+  board = c.is_a_board.ensures;
   determined = determined_anchors c.args.size _ refl (λ _. false) (λ g h. cc) (each_empty c.empty.result c.empty.ensures);
 }
 
