@@ -1,8 +1,17 @@
 use Rattle.std.proofs.Common.{subst}
+use Rattle.std.proofs.KnownBytes.{Keeps-refl}
 use Rattle.game_rules.proofs.Games.{game_is_read}
 use Rattle.victor_run.specs.Proof.{Writes}
 use Rattle.victor_run.proofs.Ends.{proves_game}
 use Rattle.victor_run.proofs.prove.prove_game.Goals as goal
+
+pub returns-in_default-clause-proves : goal.returns-in_default-clause-proves
+returns-in_default-clause-proves g c = λ text input left is_text ended.
+    ((c.args.game.now.position, game_is_read text c.args.game.now is_text), ended, Keeps-refl (g.O.Sink.written c.args.out.now))
+
+pub returns-in_default-front_for-clause-proves : goal.returns-in_default-front_for-clause-proves
+returns-in_default-front_for-clause-proves g c = λ text input left is_text ended.
+    ((c.args.game.now.position, game_is_read text c.args.game.now is_text), ended, Keeps-refl (g.O.Sink.written c.args.out.now))
 
 pub returns-clause-proves : goal.returns-clause-proves
 returns-clause-proves g c = λ text input left is_text ended.
