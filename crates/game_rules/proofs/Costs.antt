@@ -1,5 +1,5 @@
 -- What the search costs at an end and after a move, and that its order of moves changes no answer.
-use Rattle.std.proofs.Common.{◌≡◌, ◌⊎◌, ℕ, zero, suc, ◌+◌, ◌<◌, ◌≤◌, Bool, true, false, not, ◌==◌, ◌||◌, cond, List, [], ◌∷◌, map, length, filter, Some, None, is_some, refl, sym, ap, ◌∙◌, inl, inr, arith}
+use Rattle.std.proofs.Common.{◌≡◌, ◌⊎◌, ℕ, zero, suc, ◌+◌, ◌<◌, ◌≤◌, Bool, true, false, not, ◌==◌, ◌||◌, cond, List, [], ◌∷◌, length, filter, Some, None, is_some, refl, sym, ap, ◌∙◌, inl, inr, arith}
 use Rattle.std.specs.List.{list_any}
 use Rattle.std.proofs.lemmas.Bool.{cases_Bool, eq-eqb}
 use Rattle.game_rules.specs.Board.{below}
@@ -7,8 +7,8 @@ use Rattle.game_rules.specs.Position.{Position, same_side, has_room, end_of, emp
 use Rattle.game_rules.specs.Value.{wins}
 use Rattle.game_rules.specs.Cost.{distance, centre_out, moved_out, decides, count_until, count_within, count, cost}
 use Rattle.game_rules.proofs.Lists.{Among, any_from, any_agree, any_same, any_map, all_any, Among-filter, Among-filter_gives, Among-flat_map, Among-flat_map_gives, Among-below, Among-below_gives}
-use Rattle.game_rules.proofs.Moves.{empty_count_moved, same_side_is, other_side}
-use Rattle.game_rules.proofs.Values.{goes_on_empty, wins_own, wins_other}
+use Rattle.game_rules.proofs.Moves.{same_side_is, other_side}
+use Rattle.game_rules.proofs.Values.{emptied, goes_on_empty, wins_own, wins_other}
 use Rattle.game_rules.specs.declared.Side.{Side}
 use Rattle.game_rules.specs.declared.Side.TheVariants.{White, Black}
 
@@ -62,12 +62,8 @@ wins_step side p h = elim (cases_Bool (same_side side (side_to_move p))) [
 -- ---- the count
 
 moved_out_empty : (p q : Position) → Among q (moved_out p) → empty_count q + 1 ≡ empty_count p
-moved_out_empty p q among = from_columns (filter (has_room p) (centre_out (length p.columns))) (λ column h. empty_count_moved p column (Among-filter_gives (has_room p) (centre_out (length p.columns)) column h).1) among
-  where
-    from_columns : (columns : List ℕ) → ((column : ℕ) → Among column columns → empty_count (after_move p column) + 1 ≡ empty_count p) → Among q (map (after_move p) columns) → empty_count q + 1 ≡ empty_count p
-    from_columns [] each h = absurd h
-    from_columns (column ∷ columns) each (inl same) = rw (← same) (each column (inl refl))
-    from_columns (column ∷ columns) each (inr later) = from_columns columns (λ c h. each c (inr h)) later
+moved_out_empty p q among =
+    emptied p q (filter (has_room p) (centre_out (length p.columns))) (λ column h. (Among-filter_gives (has_room p) (centre_out (length p.columns)) column h).1) among
 
 until_same : (test : Position → Bool) (f g : Position → ℕ) (qs : List Position) → ((q : Position) → Among q qs → f q ≡ g q) → count_until test f qs ≡ count_until test g qs
 until_same test f g [] same = refl

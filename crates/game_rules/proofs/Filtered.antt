@@ -1,9 +1,14 @@
 -- What the elements that pass a test stand for, one element of the list after the other, from the first on.
-use Rattle.std.proofs.Common.{◌≡◌, ℕ, ◌+◌, ◌<◌, ◌≤◌, Bool, cond, List, [], ◌∷◌, ◌++◌, length, map, filter, take, drop, get_or, Option, Some, None, inl, inr, sym, ap, ◌∙◌, arith, length-append, append-nil}
+use Rattle.std.proofs.Common.{◌≡◌, ℕ, ◌+◌, ◌<◌, ◌≤◌, Bool, true, cond, List, [], ◌∷◌, ◌++◌, length, map, filter, take, drop, get_or, Option, Some, None, inl, inr, refl, sym, ap, ◌∙◌, arith, length-append, append-nil}
 use Rattle.std.proofs.lemmas.Bool.{cases_Bool}
 use Rattle.std.proofs.lemmas.List.{map-append, take-append-drop}
 use Rattle.std.proofs.lemmas.List.Elements.{filter-append, filter_more}
 use Rattle.std.proofs.lemmas.Option.{cond_some}
+
+-- a test that all pass drops none
+pub filter_all : {X : Type 0} (xs : List X) → filter (λ x. true) xs ≡ xs
+filter_all [] = refl
+filter_all (x ∷ xs) = ap (λ ys. x ∷ ys) (filter_all xs)
 
 module _ {X Y : Type 0} (passes : X → Bool) (f : X → Y) (xs : List X) (i : ℕ) (x : X) (within : i < length xs) (here : x ≡ get_or xs i x) where
   -- what those of some elements that pass stand for

@@ -1,11 +1,11 @@
 -- The value at an end and after a move, and who wins by it.
-use Rattle.std.proofs.Common.{◌≡◌, ◌⊎◌, ℕ, zero, suc, ◌+◌, ◌<◌, ◌≤◌, Bool, true, false, not, ◌&&◌, ◌||◌, cond, List, [], ◌∷◌, map, length, Some, None, refl, sym, ap, ◌∙◌, inl, inr, arith}
+use Rattle.std.proofs.Common.{◌≡◌, ◌⊎◌, ℕ, zero, suc, ◌+◌, ◌<◌, ◌≤◌, Bool, true, false, not, ◌&&◌, ◌||◌, cond, List, [], ◌∷◌, map, subst, length, Some, None, refl, sym, ap, ◌∙◌, inl, inr, arith}
 use Rattle.std.specs.List.{list_any, list_all}
 use Rattle.std.proofs.lemmas.Bool.{cases_Bool, true_from_ne_false}
 use Rattle.game_rules.specs.Board.{below}
 use Rattle.game_rules.specs.Position.{Position, other, has_room, has_line, is_full, end_of, empty_count, after_move, side_to_move, open_columns, moved}
 use Rattle.game_rules.specs.Value.{win_of, same_end, best_of, ended_or, value_within, value, wins}
-use Rattle.game_rules.proofs.Lists.{Among, any_gives, any_map, all_any, Among-filter_gives}
+use Rattle.game_rules.proofs.Lists.{Among, Among-map_gives, any_gives, any_map, all_any, Among-filter_gives}
 use Rattle.game_rules.proofs.Moves.{empty_count_moved, other_other}
 use Rattle.game_rules.specs.declared.Side.{Side}
 use Rattle.game_rules.specs.declared.Side.TheVariants as sides
@@ -21,14 +21,16 @@ map_same : {X Y : Type 0} (f g : X → Y) (xs : List X) → ((x : X) → Among x
 map_same f g [] same = refl
 map_same f g (x ∷ xs) same = ap (λ y. y ∷ map f xs) (same x (inl refl)) ∙ ap (λ ys. g x ∷ ys) (map_same f g xs (λ y among. same y (inr among)))
 
+-- a position after a move in one of some columns with room
+pub emptied : (p q : Position) (columns : List ℕ) → ((column : ℕ) → Among column columns → has_room p column ≡ true) → Among q (map (after_move p) columns)
+    → empty_count q + 1 ≡ empty_count p
+emptied p q columns open_ones among =
+    let found = Among-map_gives (after_move p) columns q among in
+    subst (λ r. empty_count r + 1 ≡ empty_count p) found.2 (empty_count_moved p found.0 (open_ones found.0 found.1))
+
 -- each position after a move has one empty square fewer
 pub moved_empty : (p q : Position) → Among q (moved p) → empty_count q + 1 ≡ empty_count p
-moved_empty p q among = from_columns (open_columns p) (λ column h. empty_count_moved p column (Among-filter_gives (has_room p) (below (length p.columns)) column h).1) among
-  where
-    from_columns : (columns : List ℕ) → ((column : ℕ) → Among column columns → empty_count (after_move p column) + 1 ≡ empty_count p) → Among q (map (after_move p) columns) → empty_count q + 1 ≡ empty_count p
-    from_columns [] each h = absurd h
-    from_columns (column ∷ columns) each (inl same) = rw (← same) (each column (inl refl))
-    from_columns (column ∷ columns) each (inr later) = from_columns columns (λ c h. each c (inr h)) later
+moved_empty p q among = emptied p q (open_columns p) (λ column h. (Among-filter_gives (has_room p) (below (length p.columns)) column h).1) among
 
 -- no column has room where no square is empty
 nothing_open : (p : Position) → empty_count p ≡ 0 → is_full p ≡ true

@@ -1,7 +1,7 @@
 -- What the group rules ask of a line, said by sets of squares.
 use Rattle.std.proofs.Common.{◌≡◌, ◌⊎◌, ℕ, zero, suc, add-one, ◌+◌, ◌<◌, ◌≤◌, Bool, true, false, not, ◌&&◌, ◌||◌, ◌==◌, nat_le, nat_lt, List, [], ◌∷◌, None, is_none, refl, sym, ap, ◌∙◌, inl, inr, arith}
 use Rattle.std.specs.List.{list_all, list_any, range_with_len}
-use Rattle.std.proofs.Math.Bool.{or-false}
+use Rattle.std.proofs.Math.Bool.{or-false, or_assoc}
 use Rattle.std.proofs.lemmas.Bool.{cases_Bool, cases_lt, and_parts, and_from, le-leb, lt-ltb, ltb-true}
 use Rattle.game_rules.specs.Board.{Board, Square, below, on_board, is_line}
 use Rattle.game_rules.specs.Position.{Position, board_of, height, men_in, man_at, has_man}
@@ -83,11 +83,7 @@ below_top p (c, r) empty =
 -- one more number of a range
 any_more : (f : ℕ → Bool) (a n : ℕ) → list_any f (range_with_len a (suc n)) ≡ (list_any f (range_with_len a n) || f (a + n))
 any_more f a zero = or-false (f a) ∙ ap f (omega arith)
-any_more f a (suc n) = ap (λ b. f a || b) (any_more f (a + 1) n) ∙ or_grouped (f a) (list_any f (range_with_len (a + 1) n)) (f (a + 1 + n)) ∙ ap (λ i. (f a || list_any f (range_with_len (a + 1) n)) || f i) (omega arith)
-  where
-    or_grouped : (b c d : Bool) → (b || (c || d)) ≡ ((b || c) || d)
-    or_grouped true c d = refl
-    or_grouped false c d = refl
+any_more f a (suc n) = ap (λ b. f a || b) (any_more f (a + 1) n) ∙ sym (or_assoc (f a) (list_any f (range_with_len (a + 1) n)) (f (a + 1 + n))) ∙ ap (λ i. (f a || list_any f (range_with_len (a + 1) n)) || f i) (omega arith)
 
 -- some square above it, among those of one more row
 pub above_more : (set : Square → Bool) (u : Square) (k : ℕ) → list_any (λ i. set (u.0, u.1 + 1 + i)) (below (k + 1)) ≡ (list_any (λ i. set (u.0, u.1 + 1 + i)) (below k) || set (u.0, u.1 + 1 + k))

@@ -1,27 +1,22 @@
 -- What fits is listed among those of its kind, and what is listed fits.
-use Rattle.std.proofs.Common.{◌≡◌, zero, suc, add-one, true, ◌&&◌, not, nat_lt, nat_le, ◌+◌, ◌-◌, ◌≤◌, ◌==◌, List, map, filter, refl, sym, ap, ◌∙◌, subst, inl, inr, arith}
-use Rattle.std.specs.List.{list_all}
+use Rattle.std.proofs.Common.{◌≡◌, zero, suc, add-one, true, ◌&&◌, nat_lt, nat_le, ◌+◌, ◌-◌, ◌≤◌, ◌==◌, List, map, filter, refl, sym, ap, ◌∙◌, subst, inl, inr, arith}
 use Rattle.std.proofs.lemmas.Bool.{and_parts, and_from, eqb-true, leb-true}
 use Rattle.game_rules.specs.Board.{Board, Square, below, on_board}
-use Rattle.game_rules.specs.Position.{Position, board_of, has_man}
-use Rattle.game_rules.specs.declared.Side.TheVariants.{White}
+use Rattle.game_rules.specs.Position.{Position, board_of}
 use Rattle.game_rules.specs.Squares.{same_square, squares_in_column, is_playable}
-use Rattle.game_rules.specs.Groups.{Group, same_group, lies_on, groups_of, squares_of}
+use Rattle.game_rules.specs.Groups.{Group, same_group, lies_on, groups_of}
 use Rattle.game_rules.proofs.Lists.{Among, Among-map, Among-map_gives, Among-filter, Among-filter_gives, Among-below, Among-flat_map, Among-append_left, Among-append_right, any_gives, any_from, all_gives}
 use Rattle.game_rules.proofs.Ends.{on_board_parts}
 use Rattle.game_rules.proofs.Squares.{same_square_refl, same_square_is, has_gives, has_on_board}
 use Rattle.game_rules.proofs.Groups.{same_group_refl, same_group_is, group_gives, has_group_of}
 use Rattle.plan_rules.specs.Squares.{above, is_even, span}
 use Rattle.plan_rules.specs.Rules.{RuleInstance, claimeven, baseinverse, lowinverse, highinverse, baseclaim, vertical, aftereven, before, specialbefore, kind_of, zone_of, is_low_column, is_open_line, is_low_line, fits}
+use Rattle.plan_rules.proofs.Lines.{open_lies}
 use Rattle.plan_rules.proofs.Squares.{column_from}
 use Rattle.plan_rules.proofs.Grounds.{fits_shape, fits_on_board, fits_more}
 use Rattle.plan_rules.specs.declared.Kind.{Kind}
 use Rattle.plan_rules.specs.declared.Kind.TheVariants as kinds
 use Rattle.plan_rules.specs.Listing.{squares_at, playable_squares, tops_over, low_columns, each_with, candidates, listed, same_instance, has_instance}
-
--- a line that is open lies on the board
-line_on : (p : Position) (g : Group) → is_open_line p g ≡ true → lies_on (board_of p) g ≡ true
-line_on p g h = (and_parts (lies_on (board_of p) g) _ (and_parts (lies_on (board_of p) g && list_all (λ u. not (has_man p White u)) (squares_of g)) _ h).0).0
 
 -- ---- the same instance
 
@@ -147,14 +142,14 @@ fits_candidate (baseclaim a b e) p h =
 fits_candidate (vertical e) p h =
     let shape = and_parts (on_board (board_of p) e && on_board (board_of p) (above e)) (is_even e.1) (fits_shape (vertical e) p h) in
     Among-map vertical (squares_at p) e (at_square p e (and_parts (on_board (board_of p) e) (on_board (board_of p) (above e)) shape.0).0)
-fits_candidate (aftereven g) p h = Among-map aftereven (groups_of (board_of p)) g (at_group p g (line_on p g (fits_more (aftereven g) p h)))
-fits_candidate (before g) p h = Among-map before (groups_of (board_of p)) g (at_group p g (line_on p g (and_parts (is_open_line p g) _ (fits_more (before g) p h)).0))
+fits_candidate (aftereven g) p h = Among-map aftereven (groups_of (board_of p)) g (at_group p g (open_lies p g (fits_more (aftereven g) p h)))
+fits_candidate (before g) p h = Among-map before (groups_of (board_of p)) g (at_group p g (open_lies p g (and_parts (is_open_line p g) _ (fits_more (before g) p h)).0))
 fits_candidate (specialbefore g f e0) p h =
     let all = and_parts (is_low_line p g && is_playable p f) (is_playable p e0) (fits_more (specialbefore g f e0) p h) in
     let two = and_parts (is_low_line p g) (is_playable p f) all.0 in
     let squares = playable_squares p in
     Among-map (λ three. specialbefore three.0 three.1.0 three.1.1) (each_with (groups_of (board_of p)) (each_with squares squares)) (g, (f, e0))
-    (Among-each (groups_of (board_of p)) (each_with squares squares) g (f, e0) (at_group p g (line_on p g (and_parts (is_open_line p g) _ two.0).0))
+    (Among-each (groups_of (board_of p)) (each_with squares squares) g (f, e0) (at_group p g (open_lies p g (and_parts (is_open_line p g) _ two.0).0))
     (Among-each squares squares f e0 (at_playable p f two.1) (at_playable p e0 all.1)))
 
 pub fits_listed : (w : RuleInstance) (p : Position) → fits w p ≡ true → Among w (listed (kind_of w) p)

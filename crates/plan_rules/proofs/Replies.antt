@@ -2,6 +2,7 @@
 use Rattle.std.proofs.Common.{◌≡◌, ◌≢◌, ◌⊎◌, ℕ, zero, suc, ◌+◌, ◌-◌, ◌<◌, ◌≤◌, Bool, true, false, not, nat_lt, ◌&&◌, ◌||◌, ◌==◌, List, ◌++◌, Option, Some, None, is_none, is_some, refl, sym, ap, ◌∙◌, subst, arith, cond, inl, inr}
 use Rattle.std.specs.List.{list_any}
 use Rattle.std.proofs.lemmas.List.Folds.{list_any-append}
+use Rattle.std.proofs.Math.Bool.{or-false}
 use Rattle.std.proofs.lemmas.Bool.{cases_lt, and_parts, eqb-true, eq-eqb, ne_eqb, ltb-true, leb-true, cond-true, cond-false, false_from_ne_true}
 use Rattle.game_rules.specs.Board.{Square}
 use Rattle.game_rules.specs.Position.{Position, board_of, height, has_room, lowest_empty}
@@ -66,10 +67,6 @@ high_named u v now last = at (same_square last u) (same_square last (above u)) (
     at false false true free = refl
     at false false false free = refl
 
-or_none : (b : Bool) → (b || false) ≡ b
-or_none true = refl
-or_none false = refl
-
 highinverse_named : (x y : Square) (now : Position) (last : Square) → IsNamed (highinverse x y) now last
 highinverse_named x y now last =
     at (has_square (column_up x 3) last) (has_square (column_up y 3) last) (high_reply x y now last) (high_reply y x now last) (high_named x y now last) (high_named y x now last)
@@ -77,7 +74,7 @@ highinverse_named x y now last =
   where
     at : (a b : Bool) (u v : Option Square) → is_none u ≡ not a → is_none v ≡ not b → is_none (cond a u v) ≡ (not (a || b) || false)
     at true b u v left right = left
-    at false b u v left right = right ∙ sym (or_none (not b))
+    at false b u v left right = right ∙ sym (or-false (not b))
 
 -- ---- Lowinverse
 
@@ -146,7 +143,7 @@ or_same false a b same = refl
 -- what is so of each square of a column, and of at least one, is so of some
 any_column : (test : Square → Bool) (b : Bool) (bottom : Square) (size : ℕ) → ((u : Square) → u.0 ≡ bottom.0 → test u ≡ b) → 1 ≤ size → list_any test (column_up bottom size) ≡ b
 any_column test b bottom zero each some = absurd (omega arith)
-any_column test b bottom (suc zero) each some = ap (λ first. first || false) (each bottom refl) ∙ or_none b
+any_column test b bottom (suc zero) each some = ap (λ first. first || false) (each bottom refl) ∙ or-false b
 any_column test b bottom (suc (suc size)) each some =
     ap (λ first. first || list_any test (column_up (above bottom) (suc size))) (each bottom refl)
     ∙ ap (λ rest. b || rest) (any_column test b (above bottom) (suc size) each (omega arith)) ∙ twice b
@@ -247,7 +244,7 @@ lowinverse_missing x x_top y y_top now last h =
         ∙ ap (λ b. b || list_any (λ u. not (u.0 == last.0) && not (has_room now u.0)) (span y y_top))
         (full_other y y_top x x_top zone low_y low_x (λ same. omega (arith, order)) (has_right (span x x_top) (span y y_top)) turned now last here)
         ∙ ap (λ b. not (has_room now x.0) || b) (full_own y y_top x x_top zone low_y low_x (λ same. omega (arith, order)) (has_right (span x x_top) (span y y_top)) turned now last here)
-        ∙ or_none (not (has_room now x.0)) in
+        ∙ or-false (not (has_room now x.0)) in
         let beside : has_square (span x x_top) last ≡ false = false_from_ne_true _ (λ left.
         let other = column_gives x (x_top.1 + 1 - x.1) last (has_gives (span x x_top) last left) in
         omega (arith, order, here, ap (λ (u : Square). u.0) other.2)) in

@@ -6,6 +6,7 @@ use Rattle.game_rules.specs.Board.{Board, Square, on_board, is_line, is_board}
 use Rattle.game_rules.specs.Position.{Position, board_of, height}
 use Rattle.game_rules.specs.Squares.{has_square, is_playable, widest_with, IsSetOf}
 use Rattle.game_rules.specs.Groups.{Group, squares_of, groups_of, groups_where}
+use Rattle.game_rules.proofs.Filtered.{filter_all}
 use Rattle.game_rules.proofs.Lists.{all_gives, all_from}
 use Rattle.game_rules.proofs.Narrowed.{on_widest}
 use Rattle.game_rules.proofs.Groups.{lies_parts, line_widest}
@@ -96,10 +97,6 @@ special_groups p gs same =
     ∙ ap (λ twos. fitting special p (each_with (filter (is_open_for_black p) (groups_of (board_of p))) twos)) (sym (filter_all pairs))
     ∙ fitting_pairs_within special p (is_open_for_black p) (λ two. true) (groups_of (board_of p)) pairs (λ g two good. (opened g two good, refl))
   where
-    filter_all : {X : Type 0} (xs : List X) → filter (λ x. true) xs ≡ xs
-    filter_all [] = refl
-    filter_all (x ∷ xs) = ap (λ ys. x ∷ ys) (filter_all xs)
-
     opened : (g : Group) (two : Square × Square) → fits (special_of g two) p ≡ true → is_open_for_black p g ≡ true
     opened g two good =
         let low = (and_parts (is_low_line p g) _ (and_parts (is_low_line p g && is_playable p two.0) (is_playable p two.1) (fits_more (special_of g two) p good)).0).0 in

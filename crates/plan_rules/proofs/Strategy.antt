@@ -1,6 +1,6 @@
 -- From the laws of each instance and the table alone: whatever White plays, Black has a reply, each zone stays calm, and
 -- White never has a line.
-use Rattle.std.proofs.Common.{◌≡◌, ◌≢◌, ◌⊎◌, ℕ, zero, suc, ◌+◌, ◌*◌, ◌<◌, ◌≤◌, Bool, true, false, cond, List, [], ◌∷◌, map, length, Option, Some, None, is_none, refl, sym, ap, ◌∙◌, subst, inl, inr, arith}
+use Rattle.std.proofs.Common.{◌≡◌, ◌≢◌, ◌⊎◌, ℕ, zero, suc, ◌+◌, ◌*◌, ◌<◌, ◌≤◌, Bool, true, false, cond, List, [], ◌∷◌, length, Option, Some, None, is_none, refl, sym, ap, ◌∙◌, subst, inl, inr, arith}
 use Rattle.std.specs.List.{list_all, slice_get, find, flat_map}
 use Rattle.std.specs.Option.{option_map, option_map_or, option_and_then}
 use Rattle.std.proofs.lemmas.Bool.{cases_eq, both_ways, and_parts, and_from, cond-true, false_from_ne_true, not_from_true}
@@ -14,7 +14,7 @@ use Rattle.game_rules.specs.declared.Side.{Side}
 use Rattle.game_rules.specs.declared.Side.TheVariants.{White, Black}
 use Rattle.game_rules.specs.declared.End.{End}
 use Rattle.game_rules.specs.declared.End.TheVariants as ends
-use Rattle.game_rules.proofs.Lists.{Among, any_gives, any_from, all_gives, all_from, Among-below, Among-flat_map_gives, Among-filter, Among-filter_gives, Among-map, chosen}
+use Rattle.game_rules.proofs.Lists.{Among-map_gives, Among, any_gives, any_from, all_gives, all_from, Among-below, Among-flat_map_gives, Among-filter, Among-filter_gives, Among-map, chosen}
 use Rattle.game_rules.proofs.Moves.{man_past, board_moved, room_column, room_height, empty_count_moved, side_moved}
 use Rattle.game_rules.proofs.Values.{wins_own, wins_other, value_at_end}
 use Rattle.game_rules.proofs.Ends.{on_board_from, has_line_gives, has_line_from, has_line_same, each_step, from_steps, ended_parts, legal_parts, none_for_other, other_kept, disjoint, white_end}
@@ -32,14 +32,9 @@ use Rattle.plan_rules.proofs.Plans.{any_member}
 use Rattle.plan_rules.proofs.Grounds.{founded, members_together, has_floors}
 use Rattle.plan_rules.proofs.Even.{calm_even}
 
-Among-map_gives : {X Y : Type 0} (f : X → Y) (xs : List X) (y : Y) → Among y (map f xs) → (x : X) × Among x xs × (f x ≡ y)
-Among-map_gives f [] y among = absurd among
-Among-map_gives f (x ∷ xs) y (inl same) = (x, inl refl, same)
-Among-map_gives f (x ∷ xs) y (inr later) = let rest = Among-map_gives f xs y later in (rest.0, inr rest.1, rest.2)
-
--- the square of a legal move
-legal_square : (q : Position) (column : ℕ) → has_room q column ≡ true → is_playable q (column, height q column + 1) ≡ true
-legal_square q column room =
+-- where a column has room, the square on top of its men is playable
+pub room_playable : (q : Position) (column : ℕ) → has_room q column ≡ true → is_playable q (column, height q column + 1) ≡ true
+room_playable q column room =
     playable_from q (column, height q column + 1)
     (on_board_from (board_of q) column (height q column + 1) (room_column q column room) (omega arith) (omega (arith, room_height q column room)))
     (man_past (men_in q column) (height q column + 1) (omega arith)) (omega arith)
@@ -268,7 +263,7 @@ module _ (laws : (w : RuleInstance) → Lawful w) (p : Position) (ws : List Rule
   take_turn : (q : Position) → IsKept p ws q → (column : ℕ) → is_legal q column ≡ true → Turn q column
   take_turn q kept column legal =
       let parts = legal_parts q column legal in
-      from parts.0 (legal_square q column parts.1)
+      from parts.0 (room_playable q column parts.1)
     where
       from : end_of q ≡ None → is_playable q (column, height q column + 1) ≡ true → Turn q column
       from going playable = record {

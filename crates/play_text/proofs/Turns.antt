@@ -12,7 +12,7 @@ use Rattle.game_rules.proofs.Ends.{legal_parts}
 use Rattle.game_rules.proofs.Moves.{room_column}
 use Rattle.plan_rules.specs.Rules.{RuleInstance}
 use Rattle.plan_rules.specs.Plan.{is_plan, plan_reply, after_turn, after_turns, duel, is_playable_list, IsAnswered, IsTurn}
-use Rattle.plan_rules.proofs.MoreTurns.{turns_more}
+use Rattle.plan_rules.proofs.MoreTurns.{turns_more, turn_made}
 use Rattle.plan_rules.proofs.Theorems.{plan_answers, duel_turns, duel_no_line}
 use Rattle.plan_text.specs.Words.{is_letter, column_of}
 use Rattle.plan_text.proofs.Spaced.{letter_read, letter_spelled}
@@ -48,9 +48,6 @@ legal_unrefused q column legal = let parts = legal_parts q column legal in rw (p
 -- an answered move has its answer
 pub answer_is : (ws : List RuleInstance) (q : Position) (column : ℕ) (answered : IsAnswered ws q column) → answer_to ws q column ≡ Some answered.reply
 answer_is ws q column answered = rw answered.going answered.is_reply
-
-pub turn_made : (ws : List RuleInstance) (q : Position) (column : ℕ) (answered : IsAnswered ws q column) → after_turn ws q column ≡ Some (after_move (after_move q column) answered.reply.0)
-turn_made ws q column answered = rw (answered.going, answered.is_reply) refl
 
 -- so its line gives the line of the turn
 pub line_played : (ws : List RuleInstance) (q : Position) (at : ℕ) (line : List ℕ) (more : List (List ℕ)) (column : ℕ) (answered : IsAnswered ws q column) → column_in (board_of q) line ≡ Some column

@@ -32,6 +32,7 @@ use Rattle.game_rules.specs.Squares.{is_playable}
 use Rattle.game_rules.proofs.Squares.{playable_is}
 use Rattle.plan_rules.specs.Rules.{RuleInstance}
 use Rattle.plan_rules.specs.Plan.{IsMember, is_plan}
+use Rattle.plan_rules.proofs.Strategy.{room_playable}
 use Rattle.plan_rules.proofs.Plans.{plan_gives}
 use Rattle.std.proofs.lemmas.List.Concat.{flat_map-cons}
 use Rattle.plan_text.proofs.PlanLines.{members_length, fitting_named}
@@ -94,13 +95,6 @@ narrow_board board h =
     let both = and_parts (is_cols board.cols) (is_rows board.rows) h in
     let wide = and_parts (nat_le 4 board.cols) (nat_le board.cols 10) both.0 in
     leb-true board.cols 10 wide.1
-
--- where a column has room, the square on top of its men is playable
-room_playable : (p : Position) (column : ℕ) → has_room p column ≡ true → is_playable p (column, height p column + 1) ≡ true
-room_playable p column room =
-    let wide : column < length p.columns = room_column p column room in
-    let high : height p column < p.rows = room_height p column room in
-    and_from _ _ (and_from _ _ (lt-ltb column (length p.columns) wide) (and_from _ _ (le-leb 1 (height p column + 1) (omega arith)) (le-leb (height p column + 1) p.rows (omega arith)))) (eq-eqb (height p column + 1) (height p column + 1) refl)
 
 -- the members of a plan have texts, and there is one at least, since some square is empty
 pub plan_fits : (p : Position) (ws : List RuleInstance) → is_board (board_of p) ≡ true → length ws ≤ most_members → is_plan p ws ≡ true → PlanFits (board_of p) ws

@@ -9,7 +9,7 @@ use Rattle.game_rules.specs.declared.End.{End}
 use Rattle.game_rules.proofs.Ends.{legal_parts}
 use Rattle.plan_rules.specs.Rules.{RuleInstance}
 use Rattle.plan_rules.specs.Plan.{is_plan, plan_reply, after_turn, after_turns, duel, is_playable_list, IsAnswered}
-use Rattle.plan_rules.proofs.MoreTurns.{turns_more}
+use Rattle.plan_rules.proofs.MoreTurns.{turns_more, turn_made}
 use Rattle.plan_rules.proofs.Theorems.{plan_answers, plan_kept}
 use Rattle.rule_compat.specs.Planned.{Planned, members, IsReached, HasMoved}
 use Rattle.board_bits.specs.Move.{moved_into}
@@ -48,10 +48,6 @@ turns_end ws q r (column ∷ columns) turns = elim (cases_Bool (is_legal q colum
     of_turn (Some next) e legal later ends =
         let behind = ends next (rw e at later) in
         (rw (legal, e) behind.0, last_later ws q next column columns legal e ∙ behind.1)
-
--- an answered move makes a turn
-turn_made : (ws : List RuleInstance) (q : Position) (column : ℕ) (answered : IsAnswered ws q column) → after_turn ws q column ≡ Some (after_move (after_move q column) answered.reply.0)
-turn_made ws q column answered = rw (answered.going, answered.is_reply) refl
 
 -- by a plan the end of each duel is reached by turns
 ends_turns : (p : Position) (ws : List RuleInstance) → is_plan p ws ≡ true → (before : List ℕ) (q r : Position) (columns : List ℕ) → after_turns ws p before ≡ Some q

@@ -4,7 +4,7 @@ use Rattle.std.proofs.Common.{◌≡◌, ◌+◌, Bool, true, false, not, ◌&&�
 use Rattle.std.specs.List.{list_all, list_any, find}
 use Rattle.std.specs.Option.{option_map}
 use Rattle.std.proofs.Math.Path.{fun_ext}
-use Rattle.std.proofs.Math.Bool.{and_comm}
+use Rattle.std.proofs.Math.Bool.{and_comm, and-false}
 use Rattle.std.proofs.lemmas.Bool.{cases_Bool, and_parts, and_from, le-leb, lt-ltb, eqb-true, ne_eqb}
 use Rattle.game_rules.specs.Board.{Square, on_board, is_board}
 use Rattle.game_rules.specs.Position.{Position, board_of}
@@ -62,11 +62,7 @@ none_within [] groups none = nothing groups
   where
     open_nowhere : (us : List Square) → (not (length us == 0) && list_all (has_square []) us) ≡ false
     open_nowhere [] = refl
-    open_nowhere (u ∷ us) = out (not (length (u ∷ us) == 0))
-      where
-        out : (b : Bool) → (b && false) ≡ false
-        out true = refl
-        out false = refl
+    open_nowhere (u ∷ us) = and-false (not (length (u ∷ us) == 0))
 
     nothing : (ls : List OpenGroup) → find (is_open_within []) ls ≡ None
     nothing [] = refl

@@ -1,7 +1,6 @@
 mod FreeGroups
 mod ZoneBars
 mod Twins
-mod SameInstance
 mod Specials
 mod BlackGroups
 mod SpecialGroups

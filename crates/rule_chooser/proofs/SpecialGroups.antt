@@ -9,6 +9,7 @@ use Rattle.game_rules.specs.Position.{Position, board_of}
 use Rattle.game_rules.specs.Squares.{same_square, has_square, squares_where, squares_of_board, is_empty, is_playable, IsSetOf}
 use Rattle.game_rules.specs.Groups.{Group, squares_of, groups_of, is_free_for}
 use Rattle.game_rules.specs.declared.Side.TheVariants.{Black}
+use Rattle.game_rules.proofs.Filtered.{filter_all}
 use Rattle.game_rules.proofs.Lists.{Among, Among-at, Among-filter, Among-map_gives, any_gives, any_from}
 use Rattle.game_rules.proofs.Squares.{set_same, has_from, Among-board}
 use Rattle.plan_rules.specs.Squares.{above, each_of}
@@ -40,10 +41,6 @@ twin_of_two twins f e h =
 
 playable_one : (p : Position) (u : Square) → is_playable p u ≡ true → has_square (playable_squares p) u ≡ true
 playable_one p u h = has_from (playable_squares p) u (Among-filter (is_playable p) (squares_of_board (board_of p)) u (Among-board (board_of p) u (and_parts (on_board (board_of p) u) _ h).0) h)
-
-filter_true : {X : Type 0} (xs : List X) → filter (λ x. true) xs ≡ xs
-filter_true [] = refl
-filter_true (x ∷ xs) = ap (λ ys. x ∷ ys) (filter_true xs)
 
 module _ (p : Position) (kept : Kept) (part : List Square) (board : is_board (board_of p) ≡ true) (empty : (u : Square) → has_square kept.empty u ≡ is_empty p u) where
   -- what answers the group
@@ -124,7 +121,7 @@ module _ (p : Position) (kept : Kept) (part : List Square) (board : is_board (bo
   along_groups groups same =
       ap (λ gs. first_of p (facts_in kept) (has_square part) (λ three. specialbefore three.0 three.1.0 three.1.1) (each_with gs (each_with (playable_squares p) (playable_squares p))))
       (ap (map (λ (group : OpenGroup). group.id)) same ∙ back (groups_for Black p))
-      ∙ ap (λ ys. first_of p (facts_in kept) (has_square part) (λ three. specialbefore three.0 three.1.0 three.1.1) (each_with (groups_for Black p) ys)) (sym (filter_true (each_with (playable_squares p) (playable_squares p))))
+      ∙ ap (λ ys. first_of p (facts_in kept) (has_square part) (λ three. specialbefore three.0 three.1.0 three.1.1) (each_with (groups_for Black p) ys)) (sym (filter_all (each_with (playable_squares p) (playable_squares p))))
       ∙ first_narrowed p (facts_in kept) (has_square part) (λ three. specialbefore three.0 three.1.0 three.1.1) (is_free_for Black p) (λ two. true) (groups_of (board_of p)) (each_with (playable_squares p) (playable_squares p))
       (λ g two h. (free g (answers g two.0 two.1 h).low, refl))
     where

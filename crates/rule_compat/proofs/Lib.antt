@@ -6,3 +6,4 @@ pub mod UnansweredLines
 pub mod Checked
 pub mod Played
 pub mod ZoneBars
+pub mod SameInstance

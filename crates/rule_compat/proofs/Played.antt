@@ -14,7 +14,7 @@ use Rattle.plan_rules.specs.Plan.{is_plan, plan_reply, after_turn, IsAnswered}
 use Rattle.plan_rules.specs.Zones.{zones_from}
 use Rattle.plan_rules.proofs.Places.{find_map}
 use Rattle.plan_rules.proofs.Zones.{owner_of_zone, owner_alone}
-use Rattle.plan_rules.proofs.MoreTurns.{turns_more}
+use Rattle.plan_rules.proofs.MoreTurns.{turns_more, turn_made}
 use Rattle.plan_rules.proofs.Theorems.{plan_answers}
 use Rattle.rule_compat.specs.declared.instance.Instance.{Instance}
 use Rattle.rule_compat.specs.Written.{written, written_list}
@@ -44,9 +44,6 @@ pub record IsAnswer (plan : Planned) (now : Position) (last reply : Square) : Ty
   pub is_reply : plan_reply (members plan) now last ≡ Some reply
   pub playable : is_playable now reply ≡ true
   pub next : IsReached plan (after_move now reply.0)
-
-turn_made : (ws : List RuleInstance) (q : Position) (column : ℕ) (answered : IsAnswered ws q column) → after_turn ws q column ≡ Some (after_move (after_move q column) answered.reply.0)
-turn_made ws q column answered = rw (answered.going, answered.is_reply) refl
 
 -- each legal move at a position that is reached has one
 answer_after : (plan : Planned) (now : Position) (last : Square) → is_plan plan.at (members plan) ≡ true → HasMoved plan now last → (reply : Square) × IsAnswer plan now last reply

@@ -2,6 +2,7 @@
 -- the set, and then the walks of the sets with one zone more.
 use Rattle.std.proofs.Common.{◌≡◌, ℕ, zero, suc, ◌<◌, ◌≤◌, Bool, true, false, not, ◌&&◌, ◌||◌, List, [], ◌∷◌, ◌++◌, length, filter, refl, sym, ap, ◌∙◌, inl, arith}
 use Rattle.std.specs.List.{list_all, flat_map}
+use Rattle.std.proofs.Math.Bool.{or-false}
 use Rattle.std.proofs.lemmas.Bool.{and_parts, and_from, false_from_ne_true}
 use Rattle.std.proofs.lemmas.List.Folds.{list_any-append}
 use Rattle.game_rules.specs.Board.{Square}
@@ -18,11 +19,7 @@ use Rattle.walk_rules.proofs.Lists.{flat_map_same, filter_none, filter_less}
 
 -- whether a set with one zone more owns a square
 pub owner_more : (set : List RuleInstance) (w : RuleInstance) (u : Square) → has_owner (set ++ w ∷ []) u ≡ (has_owner set u || has_square (zone_of w) u)
-owner_more set w u = list_any-append (λ v. has_square (zone_of v) u) set (w ∷ []) ∙ ap (λ b. has_owner set u || b) (last (has_square (zone_of w) u))
-  where
-    last : (b : Bool) → (b || false) ≡ b
-    last false = refl
-    last true = refl
+owner_more set w u = list_any-append (λ v. has_square (zone_of v) u) set (w ∷ []) ∙ ap (λ b. has_owner set u || b) (or-false (has_square (zone_of w) u))
 
 -- the first open square is the zone's
 pub first_owned : (w : RuleInstance) (us : List Square) → owns_first w us ≡ true → (u : Square) × Among u us × (has_square (zone_of w) u ≡ true)

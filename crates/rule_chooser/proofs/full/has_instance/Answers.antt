@@ -2,7 +2,7 @@ use Rattle.std.proofs.Common.{drop, ◌+◌, ◌||◌, sym, ap, ◌∙◌}
 use Rattle.std.proofs.lemmas.List.{at_drop_more}
 use Rattle.plan_rules.specs.Listing.{same_instance, has_instance}
 use Rattle.rule_compat.specs.Written.{written, written_list}
-use Rattle.rule_chooser.proofs.SameInstance.{same_is}
+use Rattle.rule_compat.proofs.SameInstance.{same_is}
 use Rattle.rule_chooser.proofs.full.has_instance.Goals as goal
 
 pub returns-then-is_same : goal.returns-then-is_same

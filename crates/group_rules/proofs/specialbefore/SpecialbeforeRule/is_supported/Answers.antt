@@ -1,4 +1,5 @@
 use Rattle.std.proofs.Common.{◌≡◌, List, Bool, true, false, ◌&&◌, ◌||◌, refl, sym, ap, ◌∙◌}
+use Rattle.std.proofs.Math.Bool.{or_assoc}
 use Rattle.game_rules.specs.Squares.{same_square, has_square}
 use Rattle.game_rules.specs.Board.{Square}
 use Rattle.game_rules.specs.Groups.{Group, squares_of}
@@ -6,10 +7,6 @@ use Rattle.plan_rules.specs.Squares.{each_of}
 use Rattle.plan_rules.specs.Rules.{is_twin}
 use Rattle.plan_rules.proofs.LineSites.{each_of_same}
 use Rattle.group_rules.proofs.specialbefore.SpecialbeforeRule.is_supported.Goals as goal
-
-or_grouped : (b c d : Bool) → (b || (c || d)) ≡ ((b || c) || d)
-or_grouped true c d = refl
-or_grouped false c d = refl
 
 pub returns-then-are_twins : goal.returns-then-are_twins
 returns-then-are_twins c =
@@ -27,5 +24,5 @@ returns-then-are_twins c =
     c.with-held.ensures.has u
     ∙ ap (λ b. same_square u c.e0.result || b) (c.union.ensures.has u)
     ∙ ap (λ (e0 : Square). same_square u e0 || (has_square kept.upper u || has_square kept.pair u)) c.e0.ensures.value
-    ∙ or_grouped (same_square u x.2) (has_square kept.upper u) (has_square kept.pair u))
+    ∙ sym (or_assoc (same_square u x.2) (has_square kept.upper u) (has_square kept.pair u)))
     ∙ ap (λ b. b && each_of (has_square kept.empty) rests (squares_of x.0)) (sym twins)
