@@ -27,7 +27,8 @@ pub record IsAsked (side : Side) (slots : List (Option Node)) (at : ℕ) (proof 
   pub finite : is_infinite least ≡ false
 
 -- A node lies in this slot, and from `first` on a row for its children, beside other cells.
-pub record LiesBelow (side : Side) (slots : List (Option Node)) (at : ℕ) (first : Option ℕ) (node : Node) (kids : Placed) (others : List (Cell Node)) : Type 0 where
+pub record LiesBelow (side : Side) (slots : List (Option Node)) (at : ℕ) (first : Option ℕ) (node : Node) (kids : Placed)
+    (others : List (Cell Node)) : Type 0 where
   pub owns : Owns slots ((at, node) ∷ (cells_of side kids ++ others))
   pub begins : first_of kids ≡ first
   pub clean : IsClean side (row_of kids)
@@ -47,7 +48,8 @@ kept_below No at node first cells = (at, record node { first = None }) ∷ []
 
 abbrev pub renewed : Side → ℕ → Node → Placed → List (Cell Node)
 renewed side at node kids =
-    kept_below (verdict_on side node.position (row_of kids)) at (record node { numbers = node_numbers side node.position (row_of kids) }) (first_of kids) (cells_of side kids)
+    kept_below (verdict_on side node.position (row_of kids)) at (record node { numbers = node_numbers side node.position (row_of kids) }) (first_of kids)
+    (cells_of side kids)
 
 -- a node lies in this slot at whose position the game goes on
 pub record IsGoingLeaf (slots : List (Option Node)) (at : ℕ) : Type 0 where
@@ -57,7 +59,8 @@ pub record IsGoingLeaf (slots : List (Option Node)) (at : ℕ) : Type 0 where
   pub going : end_of node.position ≡ None
 
 -- A row lies from the slot `first` on, beside other cells, with a leaf for each of the columns that has room.
-pub record LeavesLie (p : Position) (side : Side) (closed : Side → Position → Bool) (slots : List (Option Node)) (columns : List ℕ) (first : Option ℕ) (others : List (Cell Node)) : Type 0 where
+pub record LeavesLie (p : Position) (side : Side) (closed : Side → Position → Bool) (slots : List (Option Node)) (columns : List ℕ) (first : Option ℕ)
+    (others : List (Cell Node)) : Type 0 where
   pub row : Placed
   pub is : row_of row ≡ leaves side closed (map (after_move p) (filter (has_room p) columns))
   pub going : AreGoing (row_of row)
@@ -85,7 +88,8 @@ pub record IsExpanded (side : Side) (reach : ℕ) (old new : List (Option Node))
   pub numbers : step ≡ steps.Same → node.numbers ≡ node_numbers side node.position (leaves side (planned reach) (moves_out node.position))
 
 -- A row grew by its most-proving leaf, or there was too little room; where its first number stays, all of them do.
-pub record IsGrown (side : Side) (reach : ℕ) (old new : List (Option Node)) (at : ℕ) (proof : Bool) (least : Count) (row : Placed) (others : List (Cell Node)) (step : Step) : Type 0 where
+pub record IsGrown (side : Side) (reach : ℕ) (old new : List (Option Node)) (at : ℕ) (proof : Bool) (least : Count) (row : Placed) (others : List (Cell Node))
+    (step : Step) : Type 0 where
   pub full : step ≡ steps.Full ↔ (free_slots old < asked_in side proof least (row_of row))
   pub grown : step ≢ steps.Full → Grew side new at (updated side (planned reach) proof least (row_of row)) others
   pub numbers : step ≡ steps.Same

@@ -14,5 +14,6 @@ pub none_listed : {zones : List Instance} → zones ≡ [] → length (written_l
 none_listed none = omega (arith, ap (λ zs. length (written_list zs)) none)
 
 -- so many once those of a kind have come too
-pub more_listed : (kind : Kind) (p : Position) {most : ℕ} (before : List RuleInstance) {now : List RuleInstance} → is_board (board_of p) ≡ true → length before ≤ most → now ≡ before ++ listed kind p → length now ≤ most + most_listed kind
+pub more_listed : (kind : Kind) (p : Position) {most : ℕ} (before : List RuleInstance) {now : List RuleInstance} → is_board (board_of p) ≡ true
+    → length before ≤ most → now ≡ before ++ listed kind p → length now ≤ most + most_listed kind
 more_listed kind p before board few more = omega (arith, lists_fit kind p board, few, ap length more, length-append before (listed kind p))

@@ -52,7 +52,12 @@ pub(crate) fn list_groups(
 }
 
 /// Puts a group, with its empty squares, behind the others, where it has none of the other side's men.
-fn add_open(group: &BoardGroup, men: Mask, empties: Mask, groups: &mut ArrayVec<OpenGroup, MOST_GROUPS>)
+fn add_open(
+    group: &BoardGroup,
+    men: Mask,
+    empties: Mask,
+    groups: &mut ArrayVec<OpenGroup, MOST_GROUPS>,
+)
     requires { length groups.old.items < MOST_GROUPS }
     ensures { groups.new.items ≡ groups.old.items ++ open_part men empties group.now }
 {

@@ -12,7 +12,8 @@ pub grow_in-requires : goal.grow_in-requires
 grow_in-requires t c =
     let here = c.get-node.ensures in let proof = c.args.proof in let least = c.args.least in let next = c.unwrap-next.ensures in
     let apart = tested proof c.get-node.result.now least c.number.ensures c.same.ensures c.if-not-same.true in
-    (omega (arith, beside_less here proof least apart c.requires.row next, c.decreases), (c.requires.few, beside_asked here proof least apart c.requires.row next))
+    (omega (arith, beside_less here proof least apart c.requires.row next, c.decreases), (c.requires.few, beside_asked here proof least apart
+    c.requires.row next))
 
 pub returns-then-not-same-clause-row : goal.returns-then-not-same-clause-row
 returns-then-not-same-clause-row t c row others lies =
@@ -48,10 +49,12 @@ returns-in-Changed-clause-row t c row others lies =
     let found = tested c.args.proof c.get-node.result.now c.args.least c.number.ensures c.same.ensures c.if-not-same.false in
     let own = own_is c.args.asked.now.side c.get-node.result.now.position c.eq-own.ensures c.to_move.ensures in
     let renewed = c.renew.ensures in
-    changed_grown c.get-node.ensures c.args.proof c.args.least found own c.in-Some.is c.number-below.ensures c.grow_in-2.ensures.row lies c.in-Changed.is renewed.done renewed.renewed
+    changed_grown c.get-node.ensures c.args.proof c.args.least found own c.in-Some.is c.number-below.ensures c.grow_in-2.ensures.row lies
+    c.in-Changed.is renewed.done renewed.renewed
 
 pub returns-in_default-grow_in-clause-row : goal.returns-in_default-grow_in-clause-row
 returns-in_default-grow_in-clause-row t c row others lies =
     let found = tested c.args.proof c.get-node.result.now c.args.least c.number.ensures c.same.ensures c.if-not-same.false in
     let own = own_is c.args.asked.now.side c.get-node.result.now.position c.eq-own.ensures c.to_move.ensures in
-    same_grown c.get-node.ensures c.args.proof c.args.least found own c.in-Some.is c.number-below.ensures c.grow_in-2.ensures.row lies c.in_default-grow_in.not-Changed
+    same_grown c.get-node.ensures c.args.proof c.args.least found own c.in-Some.is c.number-below.ensures c.grow_in-2.ensures.row lies
+    c.in_default-grow_in.not-Changed

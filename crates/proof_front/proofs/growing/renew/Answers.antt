@@ -17,11 +17,14 @@ set-requires c =
 pub returns-then-same-clause-renewed : goal.returns-then-same-clause-renewed
 returns-then-same-clause-renewed c node kids others lies =
     let side = c.args.side in let kept = c.kept_below-kept.ensures in
-    renewed_again side node kids others lies c.get-node.ensures (own_is side c.get-node.result.now.position c.eq.ensures c.to_move.ensures) (c.numbers_of-numbers.ensures side kids _ (kids_lie side node kids others lies))
-    c.verdict-verdict.ensures (record { same = kept.kept; none = kept.none; freed = kept.freed }) c.set.ensures.set c.set.ensures.count (λ same. sym c.same.ensures ∙ c.if-same.true)
+    renewed_again side node kids others lies c.get-node.ensures (own_is side c.get-node.result.now.position c.eq.ensures c.to_move.ensures)
+    (c.numbers_of-numbers.ensures side kids _ (kids_lie side node kids others lies))
+    c.verdict-verdict.ensures (record { same = kept.kept; none = kept.none; freed = kept.freed }) c.set.ensures.set c.set.ensures.count
+    (λ same. sym c.same.ensures ∙ c.if-same.true)
 
 pub returns-else-same-clause-renewed : goal.returns-else-same-clause-renewed
 returns-else-same-clause-renewed c node kids others lies =
     let side = c.args.side in let kept = c.kept_below-kept.ensures in
-    renewed_again side node kids others lies c.get-node.ensures (own_is side c.get-node.result.now.position c.eq.ensures c.to_move.ensures) (c.numbers_of-numbers.ensures side kids _ (kids_lie side node kids others lies))
+    renewed_again side node kids others lies c.get-node.ensures (own_is side c.get-node.result.now.position c.eq.ensures c.to_move.ensures)
+    (c.numbers_of-numbers.ensures side kids _ (kids_lie side node kids others lies))
     c.verdict-verdict.ensures (record { same = kept.kept; none = kept.none; freed = kept.freed }) c.set.ensures.set c.set.ensures.count (λ same. cc)

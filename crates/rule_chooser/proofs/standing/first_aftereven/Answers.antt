@@ -8,5 +8,6 @@ pub returns : goal.returns
 returns c =
     ap (option_map aftereven) (
     c.first_within.ensures
-    ∙ first_aftereven c.args.p.now c.args.kept.now c.args.empty c.has_a_board.ensures.board c.requires.kept c.as_slice.result.now c.squares_below.result c.intersection-squares.result
+    ∙ first_aftereven c.args.p.now c.args.kept.now c.args.empty c.has_a_board.ensures.board c.requires.kept c.as_slice.result.now c.squares_below.result
+    c.intersection-squares.result
     (c.as_slice.ensures.value ∙ c.requires.ground.black) c.squares_below.ensures c.intersection-squares.ensures)

@@ -26,7 +26,8 @@ returns-in_err-rule c =
 
 pub returns : goal.returns
 returns c =
-    at_last _ _ _ _ (Some (specialbefore c.in_ok-rule.rule.0 c.in_ok-rule.rule.1 c.in_ok-rule.rule.2)) (ap (option_map vertical) (sym c.first_vertical.ensures ∙ c.in_default.is))
+    at_last _ _ _ _ (Some (specialbefore c.in_ok-rule.rule.0 c.in_ok-rule.rule.1 c.in_ok-rule.rule.2))
+    (ap (option_map vertical) (sym c.first_vertical.ensures ∙ c.in_default.is))
     (sym c.first_aftereven.ensures ∙ ap (option_map aftereven) c.in_default-first_aftereven.is)
     (sym c.first_before.ensures ∙ ap (option_map before) c.in_default-first_before.is)
     (sym (ap (option_map (λ x. specialbefore x.0 x.1 x.2)) c.in_ok-rule.was) ∙ c.first_specialbefore.ensures)

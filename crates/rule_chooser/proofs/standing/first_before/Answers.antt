@@ -8,5 +8,6 @@ pub returns : goal.returns
 returns c =
     ap (option_map before) (
     c.first_within.ensures
-    ∙ first_before c.args.p.now c.args.kept.now c.args.empty c.has_a_board.ensures.board c.requires.kept c.as_slice.result.now c.union.result c.lowered.result c.intersection-squares.result
+    ∙ first_before c.args.p.now c.args.kept.now c.args.empty c.has_a_board.ensures.board c.requires.kept c.as_slice.result.now c.union.result c.lowered.result
+    c.intersection-squares.result
     (c.as_slice.ensures.value ∙ c.requires.ground.black) c.requires.part c.union.ensures c.lowered.ensures c.intersection-squares.ensures)

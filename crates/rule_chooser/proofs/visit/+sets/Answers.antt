@@ -24,7 +24,8 @@ visit-visit_next-requires t c =
 
 pub visit-returns-clause-found : goal.visit-returns-clause-found
 visit-returns-clause-found t c rest =
-    goes_next c.args.set.now.items c.requires.set c.has_a_board.ensures.board c.args.left.now c.in-Some.less (omega (arith, c.in-Some.ensures)) rest (sym c.first.ensures ∙ c.in-Some-first.is)
+    goes_next c.args.set.now.items c.requires.set c.has_a_board.ensures.board c.args.left.now c.in-Some.less (omega (arith, c.in-Some.ensures)) rest
+    (sym c.first.ensures ∙ c.in-Some-first.is)
     ∙ c.visit_next.ensures.found rest
 
 -- ---- the sets that come of it
@@ -33,35 +34,44 @@ pub visit_next-zones-init : goal.visit_next-zones-init
 visit_next-zones-init t c = begins _ c.requires.ground c.requires.set c.has_a_board.ensures.board c.as_slice-zones.ensures.value c.first_with-index.ensures
 
 pub visit_next-returns-clause-found : goal.visit_next-returns-clause-found
-visit_next-returns-clause-found t c rest = ends _ c.requires.ground c.requires.set c.has_a_board.ensures.board c.as_slice-zones.ensures.value rest c.zones.invariant (omega (arith, c.zones-test.false))
+visit_next-returns-clause-found t c rest = ends rest c.zones.invariant (omega (arith, c.zones-test.false))
 
 pub visit_next-push-requires : goal.visit_next-push-requires
 visit_next-push-requires t c =
-    let at = tries _ c.requires.ground c.requires.set c.has_a_board.ensures.board c.as_slice-zones.ensures.value c.zones.invariant c.zones-test.true c.index-zones-index.is in
+    let at = tries c.zones.invariant c.zones-test.true c.index-zones-index.is in
     (lit< tt, has_room at (told at _ c.as_slice.ensures.value c.may_follow.ensures c.if-may_follow.true))
 
 pub visit_next-visit-requires : goal.visit_next-visit-requires
 visit_next-visit-requires t c =
-    let at = tries _ c.requires.ground c.requires.set c.has_a_board.ensures.board c.as_slice-zones.ensures.value c.zones.invariant c.zones-test.true c.index-zones-index.is in
-    let follows = told at _ c.as_slice.ensures.value c.may_follow.ensures c.if-may_follow.true in
-    (omega (arith, smaller at follows _ c.push.ensures.items, c.decreases), (c.requires.ground, opens_next at follows _ c.push.ensures.items c.squares.ensures c.without-still.ensures))
+    let at = tries c.zones.invariant c.zones-test.true c.index-zones-index.is in
+    let follows = told at _ c.as_slice.ensures.value c.may_follow.ensures c.if-may_follow.true in (
+      omega (arith, smaller at follows _ c.push.ensures.items, c.decreases),
+      (
+        c.requires.ground,
+        opens_next at follows _ c.push.ensures.items c.squares.ensures
+            c.without-still.ensures,
+      ),
+    )
 
 pub visit_next-zones-smaller : goal.visit_next-zones-smaller
 visit_next-zones-smaller t c =
-    further (tries _ c.requires.ground c.requires.set c.has_a_board.ensures.board c.as_slice-zones.ensures.value c.zones.invariant c.zones-test.true c.index-zones-index.is) c.next-index.ensures
+    further (tries c.zones.invariant c.zones-test.true c.index-zones-index.is) c.next-index.ensures
 
 pub visit_next-returns-in_default-clause-found : goal.visit_next-returns-in_default-clause-found
 visit_next-returns-in_default-clause-found t c rest =
-    let at = tries _ c.requires.ground c.requires.set c.has_a_board.ensures.board c.as_slice-zones.ensures.value c.zones.invariant c.zones-test.true c.index-zones-index.is in
-    decided at (told at _ c.as_slice.ensures.value c.may_follow.ensures c.if-may_follow.true) _ c.push.ensures.items _ _ _ c.visit.ensures.found rest c.in_default.not-NoPlan
+    let at = tries c.zones.invariant c.zones-test.true c.index-zones-index.is in
+    decided at (told at _ c.as_slice.ensures.value c.may_follow.ensures c.if-may_follow.true) _ c.push.ensures.items _ _ _ c.visit.ensures.found rest
+    c.in_default.not-NoPlan
 
 pub visit_next-zones-preserved : goal.visit_next-zones-preserved
 visit_next-zones-preserved t c =
-    let at = tries _ c.requires.ground c.requires.set c.has_a_board.ensures.board c.as_slice-zones.ensures.value c.zones.invariant c.zones-test.true c.index-zones-index.is in
+    let at = tries c.zones.invariant c.zones-test.true c.index-zones-index.is in
     elim c.if-may_follow.branch [
       | visit_next-then-may_follow+in-NoPlan w ↦
           let follows = told at _ c.as_slice.ensures.value c.may_follow.ensures w.if-may_follow.true in
-          tried at follows _ w.push.ensures.items _ _ _ w.visit.ensures.found c.next-index.ensures w.in-NoPlan.is w.left-is w.visit.ensures.set w.pop.ensures.rest (ap (λ v. v.items) w.set-is)
+          tried at follows _ w.push.ensures.items _ _ _ w.visit.ensures.found
+          c.next-index.ensures w.in-NoPlan.is w.left-is w.visit.ensures.set w.pop.ensures.rest (ap (λ v. v.items) w.set-is)
       | visit_next-else-may_follow w ↦
-          passed_by at c.next-index.ensures (told at _ c.as_slice.ensures.value c.may_follow.ensures w.if-may_follow.false) w.left-is (ap (λ v. v.items) w.set-is)
+          passed_by at c.next-index.ensures (told at _ c.as_slice.ensures.value c.may_follow.ensures w.if-may_follow.false) w.left-is
+          (ap (λ v. v.items) w.set-is)
     ]

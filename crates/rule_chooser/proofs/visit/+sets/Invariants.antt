@@ -9,7 +9,7 @@ abbrev pub decreases-visit_next : goal.decreases-visit_next
 decreases-visit_next l = 2 * (50 - length l.set.now.items)
 
 abbrev pub invariant-visit_next-zones : goal.invariant-visit_next-zones
-invariant-visit_next-zones l = GoesFrom l.p l.fn.set.items l.set.items l.zones l.first l.fn.left l.left l.index
+invariant-visit_next-zones l = GoesFrom l.p l.fn.set.items l.set.items l.ground.zones.list.items l.zones l.uncovered l.first l.fn.left l.left l.index
 
 abbrev pub decreases-visit_next-zones : goal.decreases-visit_next-zones
 decreases-visit_next-zones l = length l.zones - l.index

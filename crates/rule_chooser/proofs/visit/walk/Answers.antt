@@ -7,11 +7,13 @@ use Rattle.rule_chooser.proofs.visit.walk.Goals as goal
 
 pub returns-then-left-eq0-clause-found : goal.returns-then-left-eq0-clause-found
 returns-then-left-eq0-clause-found c =
-    walk_going c.args.p.now c.args.reach (sym c.is_plan_position.ensures ∙ c.if-not-is_plan_position.false) ∙ none_left c.args.p.now [] (omega (arith, c.if-left-eq0.true)) []
+    walk_going c.args.p.now c.args.reach (sym c.is_plan_position.ensures ∙ c.if-not-is_plan_position.false)
+    ∙ none_left c.args.p.now [] (omega (arith, c.if-left-eq0.true)) []
 
 pub visit-requires-clause-set : goal.visit-requires-clause-set
 visit-requires-clause-set c =
-    subst (λ zs. LeavesOpen c.args.p.now (written_list zs) c.empties.result) (sym c.clear.ensures) (opens_all (sym c.is_plan_position.ensures ∙ c.if-not-is_plan_position.false) c.empties.ensures)
+    subst (λ zs. LeavesOpen c.args.p.now (written_list zs) c.empties.result) (sym c.clear.ensures)
+    (opens_all (sym c.is_plan_position.ensures ∙ c.if-not-is_plan_position.false) c.empties.ensures)
 
 pub returns-clause-found : goal.returns-clause-found
 returns-clause-found c =

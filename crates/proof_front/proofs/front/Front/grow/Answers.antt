@@ -24,7 +24,8 @@ grow_in-requires-clause-row c = asked_root c.self.invariant c.get.result.now c.g
 pub invariant_of-self : goal.invariant_of-self
 invariant_of-self c =
     let f = c.self.invariant in
-    front_kept f c.get.result.now c.get.ensures (planned c.self.inside.asked.reach) c.grow_in.ensures.same c.grow_in.result c.grow_in.ensures.kept (c.grow_in.ensures.row f.tree [] f.lies).grown
+    front_kept f c.get.result.now c.get.ensures (planned c.self.inside.asked.reach) c.grow_in.ensures.same c.grow_in.result c.grow_in.ensures.kept
+    (c.grow_in.ensures.row f.tree [] f.lies).grown
 
 pub returns-in-Yes-clause-answer : goal.returns-in-Yes-clause-answer
 returns-in-Yes-clause-answer c =
@@ -40,13 +41,15 @@ pub returns-after-grow_in-clause-answer : goal.returns-after-grow_in-clause-answ
 returns-after-grow_in-clause-answer c =
     let f = c.self.invariant in
     subst (λ state. IsAnswer state c.match-grow_in.result) c.self.view_is
-    (says f c.get.result.now c.get.ensures Unsettled (sym c.in-Unsettled.is ∙ c.verdict.ensures) c.grow_in.result c.match-grow_in.result (answers c) (λ same. (c.grow_in.ensures.row f.tree [] f.lies).full))
+    (says f c.get.result.now c.get.ensures Unsettled (sym c.in-Unsettled.is ∙ c.verdict.ensures) c.grow_in.result c.match-grow_in.result (answers c)
+    (λ same. (c.grow_in.ensures.row f.tree [] f.lies).full))
 
 pub returns-after-grow_in-clause-expanded : goal.returns-after-grow_in-clause-expanded
 returns-after-grow_in-clause-expanded c expanded =
     let f = c.self.invariant in
     let grew = (c.grow_in.ensures.row f.tree [] f.lies).grown (expanded_not_full c.grow_in.result (sym (answers c) ∙ expanded)) in
-    grown_after f c.get.result.now c.get.ensures (planned c.self.inside.asked.reach) grew ∙ ap (λ state. grown state.side (planned state.reach) (tree_of state)) c.self.view_is
+    grown_after f c.get.result.now c.get.ensures (planned c.self.inside.asked.reach) grew
+    ∙ ap (λ state. grown state.side (planned state.reach) (tree_of state)) c.self.view_is
 
 pub returns-after-grow_in-clause-front : goal.returns-after-grow_in-clause-front
 returns-after-grow_in-clause-front c expanded p n is =
