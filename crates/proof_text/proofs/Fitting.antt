@@ -5,12 +5,12 @@ use Rattle.std.specs.Fmt.{decimal}
 use Rattle.std.proofs.lemmas.List.{length-append, length-map}
 use Rattle.std.proofs.lemmas.List.FromFn.{length-range_with_len}
 use Rattle.std.proofs.lemmas.Fmt.{length-decimal-le}
-use Rattle.std.proofs.lemmas.Bool.{cases_Bool, and_parts, leb-true, and_from, lt-ltb, le-leb, eq-eqb}
+use Rattle.std.proofs.lemmas.Bool.{cases_Bool, and_parts, leb-true}
 use Rattle.game_rules.specs.Board.{Board, is_board, is_cols, is_rows, below}
 use Rattle.game_rules.specs.Position.{Position, board_of, has_room, after_move, end_of, empty_count, is_legal, played, open_columns, height}
 use Rattle.game_rules.specs.Grammar.{letter_of, move_list}
 use Rattle.game_rules.proofs.Lists.{Among, any_gives, Among-filter, Among-filter_gives, Among-below_gives, chosen}
-use Rattle.game_rules.proofs.Moves.{empty_count_moved, cols_moved, room_column, room_height}
+use Rattle.game_rules.proofs.Moves.{empty_count_moved, cols_moved, room_column}
 use Rattle.game_rules.proofs.Values.{goes_on_room}
 use Rattle.game_rules.proofs.Ends.{legal_parts}
 use Rattle.game_rules.proofs.BoardLine.{empty_count_within}
@@ -28,7 +28,6 @@ use Rattle.proof_text.specs.declared.Verdict.TheVariants.{Win, Loss, Draw, Unkno
 use Rattle.plan_text.specs.Words.{spaced}
 use Rattle.plan_text.specs.Items.{instance_text, is_named}
 use Rattle.plan_text.specs.PlanLine.{most_members, PlanFits}
-use Rattle.game_rules.specs.Squares.{is_playable}
 use Rattle.game_rules.proofs.Squares.{playable_is}
 use Rattle.plan_rules.specs.Rules.{RuleInstance}
 use Rattle.plan_rules.specs.Plan.{IsMember, is_plan}

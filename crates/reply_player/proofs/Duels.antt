@@ -8,7 +8,7 @@ use Rattle.game_rules.specs.Position.{Position, height, has_room, lowest_empty, 
 use Rattle.game_rules.specs.declared.End.{End}
 use Rattle.game_rules.proofs.Ends.{legal_parts}
 use Rattle.plan_rules.specs.Rules.{RuleInstance}
-use Rattle.plan_rules.specs.Plan.{is_plan, plan_reply, after_turn, after_turns, duel, is_playable_list, IsAnswered}
+use Rattle.plan_rules.specs.Plan.{is_plan, plan_reply, after_turn, after_turns, duel, is_playable_list}
 use Rattle.plan_rules.proofs.MoreTurns.{turns_more, turn_made}
 use Rattle.plan_rules.proofs.Theorems.{plan_answers, plan_kept}
 use Rattle.rule_compat.specs.Planned.{Planned, members, IsReached, HasMoved}

@@ -10,7 +10,7 @@ use Rattle.game_rules.specs.declared.Side.TheVariants.{Black}
 use Rattle.game_rules.proofs.Lists.{any_same}
 use Rattle.game_rules.proofs.Squares.{any_in_same}
 use Rattle.plan_rules.specs.Rules.{RuleInstance, Facts, zone_of, reply_to}
-use Rattle.plan_rules.specs.Plan.{is_plan, plan_reply, after_turn, IsAnswered}
+use Rattle.plan_rules.specs.Plan.{is_plan, plan_reply}
 use Rattle.plan_rules.specs.Zones.{zones_from}
 use Rattle.plan_rules.proofs.Places.{find_map}
 use Rattle.plan_rules.proofs.Zones.{owner_of_zone, owner_alone}

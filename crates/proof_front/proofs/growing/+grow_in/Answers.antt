@@ -12,8 +12,8 @@ pub grow_in-requires : goal.grow_in-requires
 grow_in-requires t c =
     let here = c.get-node.ensures in let proof = c.args.proof in let least = c.args.least in let next = c.unwrap-next.ensures in
     let apart = tested proof c.get-node.result.now least c.number.ensures c.same.ensures c.if-not-same.true in
-    (omega (arith, beside_less here proof least apart c.requires.row next, c.decreases), (c.requires.few, beside_asked here proof least apart
-    c.requires.row next))
+    let fewer = beside_less here proof least apart c.requires.row next in
+    (omega (arith, fewer, c.decreases), (c.requires.few, beside_asked here proof least apart c.requires.row next))
 
 pub returns-then-not-same-clause-row : goal.returns-then-not-same-clause-row
 returns-then-not-same-clause-row t c row others lies =

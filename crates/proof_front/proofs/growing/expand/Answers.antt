@@ -14,8 +14,9 @@ renew-requires-clause-below c =
     let leaf = c.requires.leaf in
     let centre = c.as_slice-columns.ensures.value ∙ (c.centre_out-order.ensures ∙ ap (λ b. centre_out b.cols) c.size.ensures.value) in
     let first = c.place_leaves-first.ensures.placed ((c.args.at, leaf.node) ∷ leaf.others) leaf.owns in
-    record { node = leaf.node; kids = _; others = leaf.others; lies = leaves_below leaf c.get.result.now c.get.ensures
-    c.as_slice-columns.result.now centre leaf.node leaf.others leaf.owns c.args.asked.now.side c.args.asked.now.reach c.is_short.ensures first }
+    let order = c.as_slice-columns.result.now in let asked = c.args.asked.now in
+    let lies = leaves_below leaf c.get.result.now c.get.ensures order centre leaf.node leaf.others leaf.owns asked.side asked.reach c.is_short.ensures first in
+    record { node = leaf.node; kids = _; others = leaf.others; lies = lies }
 
 pub returns-clause-leaf : goal.returns-clause-leaf
 returns-clause-leaf c node others owns =
