@@ -3,7 +3,7 @@ use Rattle.std.proofs.Common.{◌≡◌, ℕ, map, List, [], ◌∷◌, ◌++◌
 use Rattle.std.proofs.lemmas.List.Concat.{flat_map-append}
 use Rattle.std.specs.Io.KnownBytes.{Appends}
 use Rattle.game_rules.specs.Position.{Position}
-use Rattle.game_rules.specs.declared.Side.{Side}
+use Rattle.game_rules.specs.declared.Question.{Question}
 use Rattle.proof_text.specs.Lemma.{Lemma}
 use Rattle.proof_text.specs.Right.{Shown, AreRight}
 use Rattle.proof_text.specs.Texts.{Entry, LemmaEntry, RemarkEntry, entry_text, entry_lines, lemmas_among}
@@ -34,9 +34,9 @@ ends_behind list ls (Some was) (Some bytes) stands ends = (
       ∙ ap (λ xs. ends.0 ++ (entry_lines list ++ xs)) (sym (entries_of ls)) ∙ ap (λ xs. ends.0 ++ xs) (sym (flat_map-append (λ entry. as_line (entry_text entry)) list (map LemmaEntry ls))),
 )
 
-pub continues : (root p : Position) (side : Side) (reach : ℕ) (list : List Entry) (shown : List Shown) (old new : Moment) (before count : ℕ) (result : Result Answer SearchStop) → EndsIn list old.bytes → FitsMoment root before list shown old
-    → Solves root p side reach shown old new count result → Continues root p side reach list shown old new count result
-continues root p side reach list shown old new before count result ends fits solves = record {
+pub continues : (root p : Position) (question : Question) (reach : ℕ) (list : List Entry) (shown : List Shown) (old new : Moment) (before count : ℕ) (result : Result Answer SearchStop) → EndsIn list old.bytes → FitsMoment root before list shown old
+    → Solves root p question reach shown old new count result → Continues root p question reach list shown old new count result
+continues root p question reach list shown old new before count result ends fits solves = record {
   more = solves.wrote.more;
   now_shown = solves.wrote.shown;
   text = solves.wrote.text;

@@ -2,7 +2,7 @@
 use Rattle.std.proofs.Common.{◌≡◌, Bool, true, List, [], ◌∷◌, ◌++◌, None, refl, sym, subst}
 use Rattle.std.specs.List.{AllByRecursion}
 use Rattle.game_rules.specs.Position.{Position}
-use Rattle.game_rules.specs.declared.Side.{Side}
+use Rattle.game_rules.specs.declared.Question.{Question}
 use Rattle.plan_text.proofs.Spaced.{all_append, all_each}
 use Rattle.position_table.specs.Table.{Entries}
 use Rattle.proof_text.specs.Right.{Shown}
@@ -17,16 +17,16 @@ apart_append P (x ∷ xs) ys once after without with' = (
   apart_append P xs ys once.1 after without.1 with',
 )
 
-pub new_nothing : (done : Bool) (side : Side) (before after : Entries) → IsNew done side [] before after
-new_nothing done side before after = record { fresh = λ now. tt; once = λ now. tt; kept = λ whole now. tt }
+pub new_nothing : (done : Bool) (question : Question) (before after : Entries) → IsNew done question [] before after
+new_nothing done question before after = record { fresh = λ now. tt; once = λ now. tt; kept = λ whole now. tt }
 
-pub new_then : (done : Bool) (side : Side) (first rest : List Shown) (before mid after : Entries) → StaysWhole before mid → StaysWhole mid after → IsNew true side first before mid → IsNew done side rest mid after
-    → IsNew done side (first ++ rest) before after
-new_then done side first rest before mid after stays more one two = record {
-  fresh = λ now. all_append (λ s. held before s.0 side ≡ None) first rest (one.fresh (more.was now))
-      (all_each (λ s. held mid s.0 side ≡ None) (λ s. held before s.0 side ≡ None) rest (λ s gone. stays.there (more.was now) s.0 side gone) (two.fresh now));
-  once = λ now. apart_append (λ p. held mid p side ≡ None) first rest (one.once (more.was now)) (two.once now) (one.kept refl (more.was now)) (two.fresh now);
-  kept = λ whole now. all_append (λ s. held after s.0 side ≡ None → ⊥) first rest
-      (all_each (λ s. held mid s.0 side ≡ None → ⊥) (λ s. held after s.0 side ≡ None → ⊥) first (λ s there gone. there (more.there now s.0 side gone)) (one.kept refl (more.was now)))
+pub new_then : (done : Bool) (question : Question) (first rest : List Shown) (before mid after : Entries) → StaysWhole before mid → StaysWhole mid after → IsNew true question first before mid → IsNew done question rest mid after
+    → IsNew done question (first ++ rest) before after
+new_then done question first rest before mid after stays more one two = record {
+  fresh = λ now. all_append (λ s. held before s.0 question ≡ None) first rest (one.fresh (more.was now))
+      (all_each (λ s. held mid s.0 question ≡ None) (λ s. held before s.0 question ≡ None) rest (λ s gone. stays.there (more.was now) s.0 question gone) (two.fresh now));
+  once = λ now. apart_append (λ p. held mid p question ≡ None) first rest (one.once (more.was now)) (two.once now) (one.kept refl (more.was now)) (two.fresh now);
+  kept = λ whole now. all_append (λ s. held after s.0 question ≡ None → ⊥) first rest
+      (all_each (λ s. held mid s.0 question ≡ None → ⊥) (λ s. held after s.0 question ≡ None → ⊥) first (λ s there gone. there (more.there now s.0 question gone)) (one.kept refl (more.was now)))
       (two.kept whole now);
 }

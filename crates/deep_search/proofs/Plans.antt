@@ -6,7 +6,10 @@ use Rattle.game_rules.specs.Value.{wins}
 use Rattle.game_rules.specs.declared.End.{End}
 use Rattle.game_rules.specs.declared.Side.{Side}
 use Rattle.game_rules.specs.declared.Side.TheVariants.{White, Black}
-use Rattle.game_rules.specs.contracts.SidePartialEq.TheImpl.{eq-value}
+use Rattle.game_rules.specs.Questions.{side_asked}
+use Rattle.game_rules.specs.declared.Question.{Question}
+use Rattle.game_rules.specs.declared.Question.TheVariants.{WhiteWins, BlackWins}
+use Rattle.game_rules.specs.contracts.QuestionPartialEq.TheImpl as question_eq
 use Rattle.plan_rules.specs.Rules.{RuleInstance}
 use Rattle.plan_rules.specs.Plan.{is_plan}
 use Rattle.game_rules.proofs.Moves.{same_side_is}
@@ -27,9 +30,10 @@ plan_none k White p h = none (choice_of p k) (sym (solved_is p k) ∙ h)
     none spent h = refl
 
 -- White's question is answered by what is chosen
-pub solved_chosen : (k : ℕ) (side : Side) (p : Position) → eq-value.it side Black ≡ false → is_given (choice_of p k) ≡ solved_within k side p
-solved_chosen k White p h = sym (solved_is p k)
-solved_chosen k Black p h = cc
+pub solved_chosen : (k : ℕ) (question : Question) (p : Position) → question_eq.eq-value.it question BlackWins ≡ false
+    → is_given (choice_of p k) ≡ solved_within k (side_asked question) p
+solved_chosen k WhiteWins p h = sym (solved_is p k)
+solved_chosen k BlackWins p h = cc
 
 -- a position is solved only where White is asked about and is to move, and the game goes on
 pub solved_white : (k : ℕ) (side : Side) (p : Position) → solved_within k side p ≡ true → side ≡ White

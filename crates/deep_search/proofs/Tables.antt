@@ -4,9 +4,8 @@ use Rattle.std.proofs.lemmas.Bool.{and_parts, ltb-true}
 use Rattle.std.specs.Map.{lookup}
 use Rattle.game_rules.specs.Position.{Position, empty_count}
 use Rattle.game_rules.specs.Value.{wins}
+use Rattle.game_rules.specs.Questions.{side_asked}
 use Rattle.game_rules.specs.declared.Question.{Question}
-use Rattle.game_rules.specs.declared.Side.{Side}
-use Rattle.game_rules.specs.declared.Side.TheVariants.{White, Black}
 use Rattle.position_table.specs.declared.table.Found.{Found}
 use Rattle.position_table.specs.Keys.{is_for}
 use Rattle.position_table.specs.Table.{Entries, used, entries_kept, whole_kept}
@@ -14,13 +13,7 @@ use Rattle.position_table.proofs.Held.{lookup_used, lookup_kept, lookup_kept_fro
 use Rattle.proof_text.specs.Lemma.{claim_for}
 use Rattle.proof_text.specs.Right.{Shown, Shows}
 use Rattle.proof_text.proofs.Append.{Shows_more, Shows_last}
-use Rattle.deep_search.specs.Tables.{asked, held, IsTrueEntry, IsTrueTable, FitsTable, OnlyBelow, HasSame, StaysWhole, IsKept}
-
-asked_one : (a b : Side) → asked a ≡ asked b → a ≡ b
-asked_one White White h = refl
-asked_one White Black h = cc
-asked_one Black White h = cc
-asked_one Black Black h = refl
+use Rattle.deep_search.specs.Tables.{held, IsTrueEntry, IsTrueTable, FitsTable, OnlyBelow, HasSame, StaysWhole, IsKept}
 
 -- ---- look-ups
 
@@ -28,13 +21,13 @@ asked_one Black Black h = refl
 pub held_used : (t after : Entries) (p : Position) (q : Question) → after ≡ record t { entries = used p q t.entries } → HasSame t after
 unfolding held
 held_used t after p q is = record {
-  entries = λ r s. ap (λ t. lookup (is_for r (asked s)) t.entries) is ∙ lookup_used (record { position = p; question = q }) (record { position = r; question = asked s }) t.entries;
+  entries = λ r s. ap (λ t. lookup (is_for r s) t.entries) is ∙ lookup_used (record { position = p; question = q }) (record { position = r; question = s }) t.entries;
   whole = ap (λ t. t.whole) is;
 }
 
-pub found_held : (t : Entries) (p : Position) (side : Side) (found : Option Found) → found ≡ lookup (is_for p (asked side)) t.entries → found ≡ held t p side
+pub found_held : (t : Entries) (p : Position) (question : Question) (found : Option Found) → found ≡ lookup (is_for p question) t.entries → found ≡ held t p question
 unfolding held
-found_held t p side found is = is
+found_held t p question found is = is
 
 -- ---- an answer that is kept
 
@@ -44,30 +37,30 @@ both_true a b h = and_parts a b h
 some_none : {X : Type 0} {x : X} → Some x ≡ None → ⊥
 some_none e = cc
 
-kept_here : (p : Position) (side : Side) (f : Found) (before after : Entries) → held before p side ≡ None → after.entries ≡ entries_kept p (asked side) f before
-    → after.whole ≡ whole_kept p (asked side) before true → IsKept p side f before after
+kept_here : (p : Position) (question : Question) (f : Found) (before after : Entries) → held before p question ≡ None → after.entries ≡ entries_kept p question f before
+    → after.whole ≡ whole_kept p question before true → IsKept p question f before after
 unfolding held
-kept_here p side f before after absent entries whole = record {
-  nothing_else = λ q s g there. elim (lookup_kept_from p (asked side) f before absent (record { position = q; question = asked s }) g (sym (ap (lookup (is_for q (asked s))) entries) ∙ there)) [
+kept_here p question f before after absent entries whole = record {
+  nothing_else = λ q s g there. elim (lookup_kept_from p question f before absent (record { position = q; question = s }) g (sym (ap (lookup (is_for q s)) entries) ∙ there)) [
     | inl was ↦ inl was
-    | inr own ↦ inr (ap (λ k. k.position) own.0, asked_one s side (ap (λ k. k.question) own.0), own.1)
+    | inr own ↦ inr (ap (λ k. k.position) own.0, ap (λ k. k.question) own.0, own.1)
   ];
   stays = record {
     was = λ now. (both_true before.whole _ (sym whole ∙ now)).0;
-    there = λ now q s gone. lookup_kept_stays p (asked side) f before absent (room now) (record { position = q; question = asked s }) (sym (ap (lookup (is_for q (asked s))) entries) ∙ gone);
+    there = λ now q s gone. lookup_kept_stays p question f before absent (room now) (record { position = q; question = s }) (sym (ap (lookup (is_for q s)) entries) ∙ gone);
   };
-  there = λ now. ap (lookup (is_for p (asked side))) entries ∙ lookup_kept p (asked side) f before absent;
+  there = λ now. ap (lookup (is_for p question)) entries ∙ lookup_kept p question f before absent;
 }
   where
     room : after.whole ≡ true → length before.entries < before.room
     room now =
-        let both = both_true before.whole (true && (is_some (lookup (is_for p (asked side)) before.entries) || nat_lt (length before.entries) before.room)) (sym whole ∙ now) in
+        let both = both_true before.whole (true && (is_some (lookup (is_for p question) before.entries) || nat_lt (length before.entries) before.room)) (sym whole ∙ now) in
         ltb-true (length before.entries) before.room (sym (ap (λ o. is_some o || nat_lt (length before.entries) before.room) absent) ∙ both.1)
 
-kept_not : (p : Position) (side : Side) (f : Found) (before after : Entries) → after.entries ≡ before.entries → after.whole ≡ whole_kept p (asked side) before false → IsKept p side f before after
+kept_not : (p : Position) (question : Question) (f : Found) (before after : Entries) → after.entries ≡ before.entries → after.whole ≡ whole_kept p question before false → IsKept p question f before after
 unfolding held
-kept_not p side f before after entries whole = record {
-  nothing_else = λ q s g there. inl (sym (ap (lookup (is_for q (asked s))) entries) ∙ there);
+kept_not p question f before after entries whole = record {
+  nothing_else = λ q s g there. inl (sym (ap (lookup (is_for q s)) entries) ∙ there);
   stays = record {
     was = λ now. (both_true before.whole false (sym whole ∙ now)).0;
     there = λ now q s gone. absurd (never now);
@@ -82,70 +75,70 @@ kept_not p side f before after entries whole = record {
         apart e = cc
 
 -- the entry was kept, or there was no memory for it
-pub kept_or_not : {A E : Type 0} (p : Position) (side : Side) (f : Found) (before after : Entries) (result : Result A E) → held before p side ≡ None → OnOk result (after.entries ≡ entries_kept p (asked side) f before)
-    → OnErr result (after.entries ≡ before.entries) → after.whole ≡ whole_kept p (asked side) before (is_ok result) → IsKept p side f before after
-kept_or_not p side f before after (Ok x) absent kept same whole = kept_here p side f before after absent kept whole
-kept_or_not p side f before after (Err e) absent kept same whole = kept_not p side f before after same whole
+pub kept_or_not : {A E : Type 0} (p : Position) (question : Question) (f : Found) (before after : Entries) (result : Result A E) → held before p question ≡ None → OnOk result (after.entries ≡ entries_kept p question f before)
+    → OnErr result (after.entries ≡ before.entries) → after.whole ≡ whole_kept p question before (is_ok result) → IsKept p question f before after
+kept_or_not p question f before after (Ok x) absent kept same whole = kept_here p question f before after absent kept whole
+kept_or_not p question f before after (Err e) absent kept same whole = kept_not p question f before after same whole
 
 -- ---- what a search may rest on
 
 -- a table without entries may be rested on
 pub true_if_empty : (t : Entries) (count : ℕ) → t.entries ≡ [] → IsTrueTable t count
 unfolding held
-true_if_empty t count empty p side f there = absurd (some_none (sym there ∙ ap (lookup (is_for p (asked side))) empty))
+true_if_empty t count empty p question f there = absurd (some_none (sym there ∙ ap (lookup (is_for p question)) empty))
 
 pub fits_if_empty : (t : Entries) (known : List Shown) → t.entries ≡ [] → FitsTable t known
 unfolding held
-fits_if_empty t known empty p side f there = absurd (some_none (sym there ∙ ap (lookup (is_for p (asked side))) empty))
+fits_if_empty t known empty p question f there = absurd (some_none (sym there ∙ ap (lookup (is_for p question)) empty))
 
 module _ (before after : Entries) (same : HasSame before after) where
   pub true_same : (count : ℕ) → IsTrueTable before count → IsTrueTable after count
-  true_same count entries p side f there = entries p side f (sym (same.entries p side) ∙ there)
+  true_same count entries p question f there = entries p question f (sym (same.entries p question) ∙ there)
 
   pub fits_same : (known : List Shown) → FitsTable before known → FitsTable after known
-  fits_same known fits p side f there = fits p side f (sym (same.entries p side) ∙ there)
+  fits_same known fits p question f there = fits p question f (sym (same.entries p question) ∙ there)
 
   pub below_same : (n : ℕ) → OnlyBelow n before after
-  below_same n p side f there = inl (sym (same.entries p side) ∙ there)
+  below_same n p question f there = inl (sym (same.entries p question) ∙ there)
 
   pub stays_same : StaysWhole before after
   stays_same = record {
     was = λ now. sym same.whole ∙ now;
-    there = λ now p side gone. sym (same.entries p side) ∙ gone;
+    there = λ now p question gone. sym (same.entries p question) ∙ gone;
   }
 
 pub true_more : (t : Entries) (count more : ℕ) → count ≤ more → IsTrueTable t count → IsTrueTable t more
-true_more t count more low entries p side f there = let is = entries p side f there in record { answer = is.answer; first = is.first; last = omega (arith, is.last, low) }
+true_more t count more low entries p question f there = let is = entries p question f there in record { answer = is.answer; first = is.first; last = omega (arith, is.last, low) }
 
-pub true_kept : (p : Position) (side : Side) (f : Found) (before after : Entries) (count : ℕ) → IsKept p side f before after → IsTrueTable before count → f.answer ≡ wins side p → f.lemma ≡ count + 1 → IsTrueTable after (count + 1)
-true_kept p side f before after count kept entries answer number q s g there = elim (kept.nothing_else q s g there) [
+pub true_kept : (p : Position) (question : Question) (f : Found) (before after : Entries) (count : ℕ) → IsKept p question f before after → IsTrueTable before count → f.answer ≡ wins (side_asked question) p → f.lemma ≡ count + 1 → IsTrueTable after (count + 1)
+true_kept p question f before after count kept entries answer number q s g there = elim (kept.nothing_else q s g there) [
   | inl was ↦ true_more before count (count + 1) (omega arith) entries q s g was
-  | inr own ↦ subst (λ g. IsTrueEntry (count + 1) q s g) (sym own.2) (subst (λ s. IsTrueEntry (count + 1) q s f) (sym own.1) (subst (λ q. IsTrueEntry (count + 1) q side f) (sym own.0) (record { answer = answer; first = omega (arith, number); last = omega (arith, number) })))
+  | inr own ↦ subst (λ g. IsTrueEntry (count + 1) q s g) (sym own.2) (subst (λ s. IsTrueEntry (count + 1) q s f) (sym own.1) (subst (λ q. IsTrueEntry (count + 1) q question f) (sym own.0) (record { answer = answer; first = omega (arith, number); last = omega (arith, number) })))
 ]
 
-pub fits_kept : (p : Position) (side : Side) (f : Found) (before after : Entries) (known : List Shown) → IsKept p side f before after → FitsTable before known → f.lemma ≡ length known + 1
-    → FitsTable after (known ++ (p, claim_for side f.answer) ∷ [])
-fits_kept p side f before after known kept fits number q s g there = elim (kept.nothing_else q s g there) [
-  | inl was ↦ Shows_more known ((p, claim_for side f.answer) ∷ []) g.lemma q (claim_for s g.answer) (fits q s g was)
-  | inr own ↦ subst (λ g. Shows all g.lemma q (claim_for s g.answer)) (sym own.2) (subst (λ s. Shows all f.lemma q (claim_for s f.answer)) (sym own.1) (subst (λ q. Shows all f.lemma q (claim_for side f.answer)) (sym own.0)
-      (subst (λ n. Shows all n p (claim_for side f.answer)) (sym number) (Shows_last known p (claim_for side f.answer)))))
+pub fits_kept : (p : Position) (question : Question) (f : Found) (before after : Entries) (known : List Shown) → IsKept p question f before after → FitsTable before known → f.lemma ≡ length known + 1
+    → FitsTable after (known ++ (p, claim_for (side_asked question) f.answer) ∷ [])
+fits_kept p question f before after known kept fits number q s g there = elim (kept.nothing_else q s g there) [
+  | inl was ↦ Shows_more known ((p, claim_for (side_asked question) f.answer) ∷ []) g.lemma q (claim_for (side_asked s) g.answer) (fits q s g was)
+  | inr own ↦ subst (λ g. Shows all g.lemma q (claim_for (side_asked s) g.answer)) (sym own.2) (subst (λ s. Shows all f.lemma q (claim_for (side_asked s) f.answer)) (sym own.1) (subst (λ q. Shows all f.lemma q (claim_for (side_asked question) f.answer)) (sym own.0)
+      (subst (λ n. Shows all n p (claim_for (side_asked question) f.answer)) (sym number) (Shows_last known p (claim_for (side_asked question) f.answer)))))
 ]
   where
     all : List Shown
-    all = known ++ (p, claim_for side f.answer) ∷ []
+    all = known ++ (p, claim_for (side_asked question) f.answer) ∷ []
 
 pub fits_more : (t : Entries) (known more : List Shown) → FitsTable t known → FitsTable t (known ++ more)
-fits_more t known more fits p side f there = Shows_more known more f.lemma p (claim_for side f.answer) (fits p side f there)
+fits_more t known more fits p question f there = Shows_more known more f.lemma p (claim_for (side_asked question) f.answer) (fits p question f there)
 
-pub below_kept : (p : Position) (side : Side) (f : Found) (before after : Entries) → IsKept p side f before after → OnlyBelow (empty_count p + 1) before after
-below_kept p side f before after kept q s g there = elim (kept.nothing_else q s g there) [
+pub below_kept : (p : Position) (question : Question) (f : Found) (before after : Entries) → IsKept p question f before after → OnlyBelow (empty_count p + 1) before after
+below_kept p question f before after kept q s g there = elim (kept.nothing_else q s g there) [
   | inl was ↦ inl was
   | inr own ↦ inr (omega (arith, ap empty_count own.0))
 ]
 
 pub below_then : (n m most : ℕ) (before mid after : Entries) → OnlyBelow n before mid → OnlyBelow m mid after → n ≤ most → m ≤ most → OnlyBelow most before after
-below_then n m most before mid after first rest low high p side f there = elim (rest p side f there) [
-  | inl was ↦ elim (first p side f was) [
+below_then n m most before mid after first rest low high p question f there = elim (rest p question f there) [
+  | inl was ↦ elim (first p question f was) [
     | inl before' ↦ inl before'
     | inr new ↦ inr (omega (arith, new, low))
   ]
@@ -153,12 +146,12 @@ below_then n m most before mid after first rest low high p side f there = elim (
 ]
 
 -- a position that wasn't there is still absent after a search below it
-pub still_absent : (p : Position) (side : Side) (before after : Entries) → OnlyBelow (empty_count p) before after → held before p side ≡ None → held after p side ≡ None
-still_absent p side before after below absent = by (held after p side) refl
+pub still_absent : (p : Position) (question : Question) (before after : Entries) → OnlyBelow (empty_count p) before after → held before p question ≡ None → held after p question ≡ None
+still_absent p question before after below absent = by (held after p question) refl
   where
-    by : (o : Option Found) → held after p side ≡ o → o ≡ None
+    by : (o : Option Found) → held after p question ≡ o → o ≡ None
     by None h = refl
-    by (Some f) h = elim (below p side f h) [
+    by (Some f) h = elim (below p question f h) [
       | inl was ↦ absurd (some_none (sym was ∙ absent))
       | inr low ↦ absurd (omega (arith, low))
     ]
@@ -166,5 +159,5 @@ still_absent p side before after below absent = by (held after p side) refl
 pub stays_then : (before mid after : Entries) → StaysWhole before mid → StaysWhole mid after → StaysWhole before after
 stays_then before mid after first rest = record {
   was = λ now. first.was (rest.was now);
-  there = λ now p side gone. first.there (rest.was now) p side (rest.there now p side gone);
+  there = λ now p question gone. first.there (rest.was now) p question (rest.there now p question gone);
 }

@@ -1,9 +1,9 @@
 //! The search as a plain recursion. What stays the same in it is made once and lent, and the lists of its positions hold
 //! no more than the columns: neither a position's plan nor the text of a lemma stands in a frame. The table is asked
 //! before all else, so a position that another path led to costs one look-up.
-ghost use Rattle.std.specs.Prelude.{◌≡◌, ◌+◌, ◌<◌, ◌≤◌, true, List, Ok, Err, Some, None, length, map, IfOk, OnOk};
-ghost use Rattle.device_rules.specs.Devices.{Rose};
-ghost use Rattle.game_rules.specs.Position.{Position as Men, played, empty_count, open_columns, same_side, side_to_move};
+ghost use Rattle.std.specs.Prelude.{◌≡◌, ◌+◌, ◌<◌, ◌≤◌, true, false, List, Ok, Err, Some, None, length, map, IfOk, IfSome, OnOk};
+ghost use Rattle.game_rules.specs.Position.{Position as Men, played, empty_count, end_of, has_room, after_move, open_columns};
+ghost use Rattle.game_rules.specs.Questions.{side_asked};
 ghost use Rattle.game_rules.specs.Value.{wins};
 ghost use Rattle.game_rules.specs.Cost.{centre_out, count};
 ghost use Rattle.plan_text.specs.PlanLine.{most_members};
@@ -15,8 +15,8 @@ ghost use Rattle.rule_compat.specs.Written.{written_list};
 ghost use Rattle.deep_search.specs.Planned.{solved_within, plan_for, plan_in};
 ghost use Rattle.proof_text.specs.Texts.{Entry};
 ghost use Rattle.deep_search.specs.Lists.{EndsIn, FitsMoment, Continues};
-ghost use Rattle.deep_search.specs.Search.{uncounted, moment, Solves, cites_from};
-ghost use Rattle.deep_search.specs.Tables.{asked, held, IsTrueTable, FitsTable, OnlyBelow, HasSame, IsKept};
+ghost use Rattle.deep_search.specs.Search.{uncounted, stand, Searched, moment, Solves, StaysOpen, cites_from};
+ghost use Rattle.deep_search.specs.Tables.{held, IsTrueTable, FitsTable, OnlyBelow, HasSame, IsKept};
 ghost use Rattle.deep_search.specs.declared.solving.SearchStop.TheVariants as stops;
 
 use arrayvec::ArrayVec;
@@ -42,18 +42,18 @@ pub enum SearchStop {
     WriteFault,
 }
 
-/// What stays the same in a search: whether the side wins is asked at each position, a plan is looked for among the first
-/// `reach` sets of zones, and the columns are visited in the order that is kept here.
+/// What stays the same in a search: the question that is asked at each position, that a plan is looked for among the first
+/// `reach` sets of zones, and the order in which the columns are visited.
 #[derive(Drop)]
 struct Aim {
-    side: Side,
+    question: Question,
     reach: u32,
     order: ArrayVec<Column, MOST_COLS>,
 }
 
-/// Asks whether the side wins at a position, with lemmas that begin there. Each position entered takes 1 from the budget.
-/// Then the table is asked; where it has an answer, that is taken. Elsewhere the position has its lemma put behind those
-/// that it cites, and its answer is kept in the table. While the table is whole, no position has two lemmas. Want of
+/// Asks whether the question's side wins at a position, with lemmas that begin there. Each position entered takes 1 from the
+/// budget. Then the table is asked; where it has an answer, that is taken. Elsewhere the position has its lemma put behind
+/// those that it cites, and its answer is kept in the table. While the table is whole, no position has two lemmas. Want of
 /// memory for the table is no fault. At a position with White to move, White is found not to win where
 /// one of the first `reach` sets of zones gives a plan of Black's, which the lemma then rests on; `reach` is from 0, which
 /// looks for no plan, and the chooser is lent for that alone.
@@ -62,7 +62,7 @@ struct Aim {
 /// `WriteFault` comes only where the sink's count of faults rose.
 pub fn search<O: Sink>(
     position: &Position,
-    side: Side,
+    question: Question,
     reach: u32,
     budget: &mut u32,
     table: &mut Table,
@@ -72,22 +72,22 @@ pub fn search<O: Sink>(
 ) -> Result<Answer, SearchStop>
     requires room { lemmas.old + budget.old ≤ greatest_number }
     requires entries { IsTrueTable table.old lemmas.old }
-    ensures answer { IfOk result (λ answer. answer.yes ≡ wins side position.now) }
+    ensures answer { IfOk result (λ answer. answer.yes ≡ wins (side_asked question) position.now) }
     ensures fell { OnOk result (budget.new < budget.old) }
-    ensures left { OnOk result (budget.old ≤ budget.new + count (solved_within reach) side position.now) }
-    ensures spent { result ≡ Err stops.Spent → budget.old < count (solved_within reach) side position.now }
-    ensures few { lemmas.new + uncounted result + budget.new ≤ lemmas.old + budget.old }
-    ensures more { lemmas.old ≤ lemmas.new }
+    ensures left { OnOk result (budget.old ≤ budget.new + count (solved_within reach) (side_asked question) position.now) }
+    ensures spent { result ≡ Err stops.Spent → budget.old < count (solved_within reach) (side_asked question) position.now }
+    ensures searched { Searched (stand budget.old lemmas.old (O.faults out.old)) (stand budget.new lemmas.new (O.faults out.new)) result }
     ensures entries { IsTrueTable table.new lemmas.new }
-    ensures later { O.faults out.old ≤ O.faults out.new }
-    ensures fault { result ≡ Err stops.WriteFault → Rose (O.faults out.old) (O.faults out.new) }
     ensures wrote { (known : List Shown) → length known ≡ lemmas.old → FitsTable table.old known
-        → Solves position.now position.now side reach known (moment table.old (O.written out.old)) (moment table.new (O.written out.new)) lemmas.new result }
-    ensures lists { (list : List Entry) (known : List Shown) → EndsIn list (O.written out.old) → FitsMoment position.now lemmas.old list known (moment table.old (O.written out.old))
-        → Continues position.now position.now side reach list known (moment table.old (O.written out.old)) (moment table.new (O.written out.new)) lemmas.new result }
+        → Solves position.now position.now question reach known
+          (moment table.old (O.written out.old)) (moment table.new (O.written out.new)) lemmas.new result }
+    ensures lists { (list : List Entry) (known : List Shown) → EndsIn list (O.written out.old)
+        → FitsMoment position.now lemmas.old list known (moment table.old (O.written out.old))
+        → Continues position.now position.now question reach list known
+          (moment table.old (O.written out.old)) (moment table.new (O.written out.new)) lemmas.new result }
 {
     let aim = Aim {
-        side,
+        question,
         reach,
         order: centre_out(position.size()),
     };
@@ -98,6 +98,7 @@ pub fn search<O: Sink>(
 }
 
 /// Asks the question at a position, to which `path` leads from the root.
+#[cycle(solve)]
 fn solve<O: Sink>(
     position: &Position,
     aim: &Aim,
@@ -112,56 +113,76 @@ fn solve<O: Sink>(
     requires deep { length path.old.items + empty_count position.now ≤ longest_path }
     requires room { lemmas.old + budget.old ≤ greatest_number }
     requires entries { IsTrueTable table.old lemmas.old }
-    ensures answer { IfOk result (λ answer. answer.yes ≡ wins aim.now.side position.now) }
+    ensures answer { IfOk result (λ answer. answer.yes ≡ wins (side_asked aim.now.question) position.now) }
     ensures fell { OnOk result (budget.new < budget.old) }
-    ensures left { OnOk result (budget.old ≤ budget.new + count (solved_within aim.now.reach) aim.now.side position.now) }
-    ensures spent { result ≡ Err stops.Spent → budget.old < count (solved_within aim.now.reach) aim.now.side position.now }
+    ensures left { OnOk result (budget.old ≤ budget.new + count (solved_within aim.now.reach) (side_asked aim.now.question) position.now) }
+    ensures spent { result ≡ Err stops.Spent → budget.old < count (solved_within aim.now.reach) (side_asked aim.now.question) position.now }
     ensures path { path.new.items ≡ path.old.items }
     ensures below { OnlyBelow (empty_count position.now + 1) table.old table.new }
-    ensures few { lemmas.new + uncounted result + budget.new ≤ lemmas.old + budget.old }
-    ensures more { lemmas.old ≤ lemmas.new }
+    ensures searched { Searched (stand budget.old lemmas.old (O.faults out.old)) (stand budget.new lemmas.new (O.faults out.new)) result }
     ensures entries { IsTrueTable table.new lemmas.new }
-    ensures later { O.faults out.old ≤ O.faults out.new }
-    ensures fault { result ≡ Err stops.WriteFault → Rose (O.faults out.old) (O.faults out.new) }
-    ensures wrote { (root : Men) (known : List Shown) → played root path.old.items ≡ Some position.now → length known ≡ lemmas.old → FitsTable table.old known
-        → Solves root position.now aim.now.side aim.now.reach known (moment table.old (O.written out.old)) (moment table.new (O.written out.new)) lemmas.new result }
+    ensures wrote { (root : Men) (known : List Shown) → played root path.old.items ≡ Some position.now
+        → length known ≡ lemmas.old → FitsTable table.old known
+        → Solves root position.now aim.now.question aim.now.reach known
+          (moment table.old (O.written out.old)) (moment table.new (O.written out.new)) lemmas.new result }
 {
     let Some(left) = budget.checked_sub(1) else {
         return Err(SearchStop::Spent);
     };
     *budget = left;
-    let side = aim.side;
-    if let Some(kept) = look_up(table, position, side) {
-        return Ok(Answer {
-            yes: kept.answer,
-            lemma: kept.lemma,
-        });
+    if let Some(found) = closed_here(position, path, aim, table, chooser, lemmas, out) {
+        return found;
     }
-    if let Some(end) = position.ended() {
-        let yes = side.win() == end;
-        let ended = Reason::Ended;
-        return put_lemma(position, path, aim, yes, &ended, table, lemmas, out);
-    }
-    let own = side == position.to_move();
-    if is_planned(position, aim, own, chooser) {
-        let plan = Reason::Plan(chooser.plan());
-        return put_lemma(position, path, aim, false, &plan, table, lemmas, out);
-    }
+    solve_by_moves(position, aim, path, budget, table, chooser, lemmas, out)
+}
+
+/// Asks the question at a position where no answer comes without a move: after each move, up to the first that decides.
+/// What the position itself takes from the budget is already taken.
+#[cycle(solve)]
+#[inline(always)]
+fn solve_by_moves<O: Sink>(
+    position: &Position,
+    aim: &Aim,
+    path: &mut ArrayVec<Column, MOST_SQUARES>,
+    budget: &mut u32,
+    table: &mut Table,
+    chooser: &mut Chooser,
+    lemmas: &mut LemmaOut,
+    out: &mut O,
+) -> Result<Answer, SearchStop>
+    requires order { aim.now.order.items ≡ centre_out (length position.now.columns) }
+    requires deep { length path.old.items + empty_count position.now ≤ longest_path }
+    requires room { lemmas.old + budget.old < greatest_number }
+    requires entries { IsTrueTable table.old lemmas.old }
+    requires going { end_of position.now ≡ None }
+    requires unsolved { solved_within aim.now.reach (side_asked aim.now.question) position.now ≡ false }
+    requires absent { held table.old position.now aim.now.question ≡ None }
+    ensures answer { IfOk result (λ answer. answer.yes ≡ wins (side_asked aim.now.question) position.now) }
+    ensures fell { OnOk result (budget.new ≤ budget.old) }
+    ensures left { OnOk result (budget.old + 1 ≤ budget.new + count (solved_within aim.now.reach) (side_asked aim.now.question) position.now) }
+    ensures spent { result ≡ Err stops.Spent → budget.old + 1 < count (solved_within aim.now.reach) (side_asked aim.now.question) position.now }
+    ensures path { path.new.items ≡ path.old.items }
+    ensures below { OnlyBelow (empty_count position.now + 1) table.old table.new }
+    ensures searched { Searched (stand (budget.old + 1) lemmas.old (O.faults out.old)) (stand budget.new lemmas.new (O.faults out.new)) result }
+    ensures entries { IsTrueTable table.new lemmas.new }
+    ensures wrote { (root : Men) (known : List Shown) → played root path.old.items ≡ Some position.now
+        → length known ≡ lemmas.old → FitsTable table.old known
+        → Solves root position.now aim.now.question aim.now.reach known
+          (moment table.old (O.written out.old)) (moment table.new (O.written out.new)) lemmas.new result }
+{
+    let own = aim.question.side() == position.to_move();
     let order = aim.order.as_slice();
     let mut numbers = [0; MOST_COLS];
     for column in order {
         if position.has_room(*column) {
-            let next = position.after(*column);
-            path.push(*column);
-            let found = solve(&next, aim, path, budget, table, chooser, lemmas, out);
-            path.pop();
-            let found = found?;
+            let found = solve_after(
+                position, *column, aim, path, budget, table, chooser, lemmas, out,
+            )?;
             if found.yes == own {
-                let cite = Cite {
+                let one = Reason::One(Cite {
                     column: *column,
                     lemma: found.lemma,
-                };
-                let one = Reason::One(cite);
+                });
                 return put_lemma(position, path, aim, own, &one, table, lemmas, out);
             }
             numbers[column.index() as usize] = found.lemma;
@@ -172,45 +193,124 @@ fn solve<O: Sink>(
     put_lemma(position, path, aim, !own, &all, table, lemmas, out)
 }
 
-/// The question whether the side wins.
+/// Asks the question after a move into a column that has room.
+#[cycle(solve)]
 #[inline(always)]
-fn asked(side: Side) -> Question
-    ensures { result ≡ asked side }
+fn solve_after<O: Sink>(
+    position: &Position,
+    column: Column,
+    aim: &Aim,
+    path: &mut ArrayVec<Column, MOST_SQUARES>,
+    budget: &mut u32,
+    table: &mut Table,
+    chooser: &mut Chooser,
+    lemmas: &mut LemmaOut,
+    out: &mut O,
+) -> Result<Answer, SearchStop>
+    requires order { aim.now.order.items ≡ centre_out (length position.now.columns) }
+    requires deep { length path.old.items + empty_count position.now ≤ longest_path }
+    requires room { lemmas.old + budget.old ≤ greatest_number }
+    requires entries { IsTrueTable table.old lemmas.old }
+    requires going { end_of position.now ≡ None }
+    requires open { has_room position.now column ≡ true }
+    ensures answer { IfOk result (λ answer. answer.yes ≡ wins (side_asked aim.now.question) (after_move position.now column)) }
+    ensures fell { OnOk result (budget.new < budget.old) }
+    ensures left { OnOk result (budget.old ≤ budget.new
+        + count (solved_within aim.now.reach) (side_asked aim.now.question) (after_move position.now column)) }
+    ensures spent { result ≡ Err stops.Spent
+        → budget.old < count (solved_within aim.now.reach) (side_asked aim.now.question) (after_move position.now column) }
+    ensures path { path.new.items ≡ path.old.items }
+    ensures below { OnlyBelow (empty_count position.now) table.old table.new }
+    ensures searched { Searched (stand budget.old lemmas.old (O.faults out.old)) (stand budget.new lemmas.new (O.faults out.new)) result }
+    ensures entries { IsTrueTable table.new lemmas.new }
+    ensures wrote { (root : Men) (known : List Shown) → played root path.old.items ≡ Some position.now
+        → length known ≡ lemmas.old → FitsTable table.old known
+        → Solves root (after_move position.now column) aim.now.question aim.now.reach known
+          (moment table.old (O.written out.old)) (moment table.new (O.written out.new)) lemmas.new result }
 {
-    match side {
-        Side::White => Question::WhiteWins,
-        Side::Black => Question::BlackWins,
-    }
+    let next = position.after(column);
+    path.push(column);
+    let found = solve(&next, aim, path, budget, table, chooser, lemmas, out);
+    path.pop();
+    found
 }
 
-/// What the table has for whether the side wins at the position.
+/// What answers the question at a position without a move: the table, or else the end of the game or a plan, whose lemma
+/// is then put. `None` comes only where there is none of these, and then nothing was put.
+#[inline(always)]
+fn closed_here<O: Sink>(
+    position: &Position,
+    path: &[Column],
+    aim: &Aim,
+    table: &mut Table,
+    chooser: &mut Chooser,
+    lemmas: &mut LemmaOut,
+    out: &mut O,
+) -> Option<Result<Answer, SearchStop>>
+    requires deep { length path.now ≤ longest_path }
+    requires room { lemmas.old < greatest_number }
+    requires entries { IsTrueTable table.old lemmas.old }
+    ensures answer { IfSome result (λ found. IfOk found (λ answer. answer.yes ≡ wins (side_asked aim.now.question) position.now)) }
+    ensures unspent { IfSome result (λ found. found ≡ Err stops.Spent → ⊥) }
+    ensures below { OnlyBelow (empty_count position.now + 1) table.old table.new }
+    ensures searched { IfSome result (λ found. Searched (stand 1 lemmas.old (O.faults out.old)) (stand 0 lemmas.new (O.faults out.new)) found) }
+    ensures entries { IsTrueTable table.new lemmas.new }
+    ensures open { result ≡ None → StaysOpen position.now aim.now.question aim.now.reach table.old table.new }
+    ensures none { result ≡ None → (lemmas.new ≡ lemmas.old) × (out.new ≡ out.old) }
+    ensures wrote { (root : Men) (known : List Shown) → played root path.now ≡ Some position.now
+        → length known ≡ lemmas.old → FitsTable table.old known
+        → IfSome result (λ found. Solves root position.now aim.now.question aim.now.reach known
+          (moment table.old (O.written out.old)) (moment table.new (O.written out.new)) lemmas.new found) }
+{
+    if let Some(kept) = look_up(table, position, aim.question) {
+        return Some(Ok(Answer {
+            yes: kept.answer,
+            lemma: kept.lemma,
+        }));
+    }
+    if let Some(end) = position.ended() {
+        let yes = aim.question.side().win() == end;
+        let ended = Reason::Ended;
+        return Some(put_lemma(
+            position, path, aim, yes, &ended, table, lemmas, out,
+        ));
+    }
+    if is_planned(position, aim, chooser) {
+        let plan = Reason::Plan(chooser.plan());
+        return Some(put_lemma(
+            position, path, aim, false, &plan, table, lemmas, out,
+        ));
+    }
+    None
+}
+
+/// What the table has at the position for the question.
 #[inline(always)]
 #[tactic(auto, using(crate::proofs::Tables::found_held))]
-fn look_up(table: &mut Table, position: &Position, side: Side) -> Option<Found>
-    ensures found { result ≡ held table.old position.now side }
+fn look_up(table: &mut Table, position: &Position, question: Question) -> Option<Found>
+    ensures found { result ≡ held table.old position.now question }
     ensures same { HasSame table.old table.new }
 {
-    table.find(position, asked(side))
+    table.find(position, question)
 }
 
 /// Keeps an answer in the table, where memory is found for it.
 #[inline(always)]
 #[tactic(auto, using(crate::proofs::Tables::kept_or_not))]
-fn keep(table: &mut Table, position: &Position, side: Side, found: Found)
-    requires absent { held table.old position.now side ≡ None }
-    ensures { IsKept position.now side found table.old table.new }
+fn keep(table: &mut Table, position: &Position, question: Question, found: Found)
+    requires absent { held table.old position.now question ≡ None }
+    ensures { IsKept position.now question found table.old table.new }
 {
-    let _memory = table.keep(position, asked(side), found);
+    let _memory = table.keep(position, question, found);
 }
 
-/// Whether a plan answers the question at a position, where the side is `own` to move: the chooser then has it.
+/// Whether a plan answers the question at a position: the chooser then has it.
 #[inline(always)]
-fn is_planned(position: &Position, aim: &Aim, own: bool, chooser: &mut Chooser) -> bool
-    requires own { own ≡ same_side aim.now.side (side_to_move position.now) }
-    ensures solved { result ≡ solved_within aim.now.reach aim.now.side position.now }
-    ensures plan { result ≡ true → plan_for aim.now.reach aim.now.side position.now ≡ Some (written_list chooser.new) }
+fn is_planned(position: &Position, aim: &Aim, chooser: &mut Chooser) -> bool
+    ensures solved { result ≡ solved_within aim.now.reach (side_asked aim.now.question) position.now }
+    ensures plan { result ≡ true → plan_for aim.now.reach (side_asked aim.now.question) position.now ≡ Some (written_list chooser.new) }
 {
-    if !own || aim.side == Side::Black || aim.reach == 0 {
+    if aim.reach == 0 || aim.question == Question::BlackWins || position.to_move() == Side::Black {
         return false;
     }
     chooser.give(position, aim.reach)
@@ -228,29 +328,28 @@ fn put_lemma<O: Sink>(
     lemmas: &mut LemmaOut,
     out: &mut O,
 ) -> Result<Answer, SearchStop>
-    requires true_now { yes ≡ wins aim.now.side position.now }
-    requires planned { plan_in (reason_viewed reason.now) ≡ plan_for aim.now.reach aim.now.side position.now }
-    requires absent { held table.old position.now aim.now.side ≡ None }
+    requires true_now { yes ≡ wins (side_asked aim.now.question) position.now }
+    requires planned { plan_in (reason_viewed reason.now) ≡ plan_for aim.now.reach (side_asked aim.now.question) position.now }
+    requires absent { held table.old position.now aim.now.question ≡ None }
     requires entries { IsTrueTable table.old lemmas.old }
     requires room { lemmas.old < greatest_number }
     requires deep { length path.now ≤ longest_path }
     requires short { length (members_in (reason_viewed reason.now)) ≤ most_members }
-    ensures answer { IfOk result (λ answer. answer.yes ≡ wins aim.now.side position.now) }
-    ensures spent { result ≡ Err stops.Spent → ⊥ }
-    ensures few { lemmas.new + uncounted result ≤ lemmas.old + 1 }
-    ensures more { lemmas.old ≤ lemmas.new }
+    ensures answer { IfOk result (λ answer. answer.yes ≡ wins (side_asked aim.now.question) position.now) }
+    ensures unspent { result ≡ Err stops.Spent → ⊥ }
+    ensures searched { Searched (stand 1 lemmas.old (O.faults out.old)) (stand 0 lemmas.new (O.faults out.new)) result }
     ensures entries { IsTrueTable table.new lemmas.new }
     ensures below { OnlyBelow (empty_count position.now + 1) table.old table.new }
-    ensures later { O.faults out.old ≤ O.faults out.new }
-    ensures fault { result ≡ Err stops.WriteFault → Rose (O.faults out.old) (O.faults out.new) }
-    ensures wrote { (root : Men) (known : List Shown) → played root path.now ≡ Some position.now → length known ≡ lemmas.old → FitsTable table.old known
-        → HasReason known position.now (claim_for aim.now.side yes) (reason_viewed reason.now)
-        → Solves root position.now aim.now.side aim.now.reach known (moment table.old (O.written out.old)) (moment table.new (O.written out.new)) lemmas.new result }
+    ensures wrote { (root : Men) (known : List Shown) → played root path.now ≡ Some position.now
+        → length known ≡ lemmas.old → FitsTable table.old known
+        → HasReason known position.now (claim_for (side_asked aim.now.question) yes) (reason_viewed reason.now)
+        → Solves root position.now aim.now.question aim.now.reach known
+          (moment table.old (O.written out.old)) (moment table.new (O.written out.new)) lemmas.new result }
 {
-    match lemmas.put_view(out, path, Claim::of(aim.side, yes), reason) {
+    match lemmas.put_view(out, path, Claim::of(aim.question.side(), yes), reason) {
         Ok(lemma) => {
             let found = Found { lemma, answer: yes };
-            keep(table, position, aim.side, found);
+            keep(table, position, aim.question, found);
             Ok(Answer { yes, lemma })
         }
         Err(Failed) => Err(SearchStop::WriteFault),

@@ -8,6 +8,8 @@ use Rattle.game_rules.specs.Cost.{count}
 use Rattle.game_rules.specs.Position.{Position, same_side, side_to_move, other}
 use Rattle.game_rules.specs.Value.{wins}
 use Rattle.game_rules.proofs.Moves.{same_side_is, other_side, other_other}
+use Rattle.game_rules.specs.Questions.{side_asked}
+use Rattle.game_rules.specs.declared.Question.{Question}
 use Rattle.game_rules.specs.declared.Side.{Side}
 use Rattle.game_rules.specs.declared.Side.TheVariants.{White, Black}
 use Rattle.proof_text.specs.Lemma.{claim_for, Lemma}
@@ -66,10 +68,12 @@ together b old held new remark lemmas also more first second =
 
 -- ---- one question
 
-module _ (root : Position) (side : Side) (reach : ℕ) (slots : Option ℕ) (known : List Shown) (most : ℕ) (before after : Entries) (old mid new : Option (List ℕ)) (total : ℕ) where
+module _ (root : Position) (question : Question) (reach : ℕ) (slots : Option ℕ) (known : List Shown) (most : ℕ) (before after : Entries)
+    (old mid new : Option (List ℕ)) (total : ℕ) where
   -- its remark, and behind it what its search wrote
-  pub asks_side : (result : Result Answer SearchStop) → LeavesRemark slots reach root side true old mid → Solves root root side reach known (moment before mid) (moment after new) total result → total + uncounted result ≤ most
-      → AsksSide root side reach slots known most (moment before old) (moment after new) total result
+  pub asks_side : (result : Result Answer SearchStop) → LeavesRemark slots reach root (side_asked question) true old mid
+      → Solves root root question reach known (moment before mid) (moment after new) total result → total + uncounted result ≤ most
+      → AsksSide root (side_asked question) reach slots known most (moment before old) (moment after new) total result
   asks_side result remarks solves few = record {
     remark = remarks.remark;
     lemmas = solves.wrote.more;

@@ -3,6 +3,7 @@
 ghost use Rattle.std.specs.Prelude.{◌≡◌, ◌+◌, ◌<◌, ◌≤◌, List, [], length, Err, IfOk, OnOk};
 ghost use Rattle.device_rules.specs.Devices.{Rose};
 ghost use Rattle.game_rules.specs.Cost.{cost, count};
+ghost use Rattle.game_rules.specs.Questions.{side_asked};
 ghost use Rattle.game_rules.specs.Value.{wins};
 ghost use Rattle.game_rules.specs.declared.Side.TheVariants as sides;
 ghost use Rattle.proof_text.specs.Right.{Shown};
@@ -15,7 +16,7 @@ ghost use Rattle.victor_run.specs.Questions.{AsksSide, Asks, won_by};
 ghost use Rattle.victor_run.specs.SizedFronts.{slots_of, IsAfter, IsAfterSome};
 
 use crate::fronts::{SizedFront, turn_to_black, write_remark};
-use board_bits::{Position, Side};
+use board_bits::{Position, Question, Side};
 use cert_format::{LemmaOut, Verdict};
 use deep_search::{Answer, SearchStop, search};
 use io_ports::Sink;
@@ -47,7 +48,7 @@ pub(crate) fn ask<O: Sink>(
     let mut lemmas = LemmaOut::new();
     let white = ask_side(
         position,
-        Side::White,
+        Question::WhiteWins,
         reach,
         &mut budget,
         table,
@@ -62,7 +63,7 @@ pub(crate) fn ask<O: Sink>(
     turn_to_black(front, position, chooser);
     let black = ask_side(
         position,
-        Side::Black,
+        Question::BlackWins,
         reach,
         &mut budget,
         table,
@@ -77,11 +78,11 @@ pub(crate) fn ask<O: Sink>(
     Ok(Verdict::Draw(white.lemma, black.lemma))
 }
 
-/// Asks whether a side wins, within the budget: first the front grows, where there is one, and its remark is written, and
+/// Asks a question within the budget: first the front grows, where there is one, and its remark is written, and
 /// then the search goes on behind the lemmas that stand already.
 fn ask_side<O: Sink>(
     position: &Position,
-    side: Side,
+    question: Question,
     reach: u32,
     budget: &mut u32,
     table: &mut Table,
@@ -92,23 +93,26 @@ fn ask_side<O: Sink>(
 ) -> Result<Answer, SearchStop>
     requires room { lemmas.old + budget.old ≤ greatest_number }
     requires entries { IsTrueTable table.old lemmas.old }
-    requires front { IsAfter position.now side reach 0 front.old }
-    ensures answer { IfOk result (λ answer. answer.yes ≡ wins side position.now) }
-    ensures left { OnOk result (budget.old ≤ budget.new + count (solved_within reach) side position.now) }
-    ensures spent { result ≡ Err stops.Spent → budget.old < count (solved_within reach) side position.now }
+    requires front { IsAfter position.now (side_asked question) reach 0 front.old }
+    ensures answer { IfOk result (λ answer. answer.yes ≡ wins (side_asked question) position.now) }
+    ensures left { OnOk result (budget.old ≤ budget.new + count (solved_within reach) (side_asked question) position.now) }
+    ensures spent { result ≡ Err stops.Spent → budget.old < count (solved_within reach) (side_asked question) position.now }
     ensures few { OnOk result (lemmas.new + budget.new ≤ lemmas.old + budget.old) }
     ensures entries { IsTrueTable table.new lemmas.new }
-    ensures front { IsAfterSome position.now side reach front.new }
+    ensures front { IsAfterSome position.now (side_asked question) reach front.new }
     ensures slots { slots_of front.new ≡ slots_of front.old }
     ensures later { O.faults out.old ≤ O.faults out.new }
     ensures fault { result ≡ Err stops.WriteFault → Rose (O.faults out.old) (O.faults out.new) }
     ensures asked { (known : List Shown) → length known ≡ lemmas.old → FitsTable table.old known
-        → AsksSide position.now side reach (slots_of front.old) known (lemmas.old + budget.old) (moment table.old (O.written out.old)) (moment table.new (O.written out.new)) lemmas.new result }
+        → AsksSide position.now (side_asked question) reach (slots_of front.old) known (lemmas.old + budget.old)
+          (moment table.old (O.written out.old)) (moment table.new (O.written out.new)) lemmas.new result }
 {
-    let Ok(()) = write_remark(front, side, chooser, out) else {
+    let Ok(()) = write_remark(front, question.side(), chooser, out) else {
         return Err(SearchStop::WriteFault);
     };
-    search(position, side, reach, budget, table, chooser, lemmas, out)
+    search(
+        position, question, reach, budget, table, chooser, lemmas, out,
+    )
 }
 
 /// The verdict for the side to move where a side wins by this lemma.

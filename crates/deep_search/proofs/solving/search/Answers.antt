@@ -9,5 +9,5 @@ solve-requires-clause-deep g c = omega (arith, ap length c.new-path.ensures, emp
 
 pub returns-clause-lists : goal.returns-clause-lists
 returns-clause-lists g c list known ends fits =
-    continues c.args.position.now c.args.position.now c.args.side c.args.reach list known _ _ c.args.lemmas.now c.solve.new.lemmas c.solve.result ends fits
+    continues c.args.position.now c.args.position.now c.args.question c.args.reach list known _ _ c.args.lemmas.now c.solve.new.lemmas c.solve.result ends fits
     (c.solve.ensures.wrote c.args.position.now known (ap (played c.args.position.now) c.new-path.ensures) fits.counted fits.table)
