@@ -44,8 +44,10 @@ pub enum Reason<C = ArrayVec<Cite, MOST_CITES>, P = ArrayVec<Instance, MOST_MEMB
 }
 
 /// A reason whose cites and instances stay where they are, so that a reason is small to hand on.
-pub type ReasonView<'a> =
-    Reason<&'a ArrayVec<Cite, MOST_CITES>, &'a ArrayVec<Instance, MOST_MEMBERS>>;
+pub type ReasonView<'a> = Reason<
+    &'a ArrayVec<Cite, MOST_CITES>,
+    &'a ArrayVec<Instance, MOST_MEMBERS>,
+>;
 
 /// Which reason it is. Its cites, or the instances of its plan, are elsewhere.
 pub(crate) type ReasonKind = Reason<(), ()>;

@@ -396,14 +396,14 @@ module _ (root p : Position) (question : Question) (reach : ℕ) (own : Bool) (k
   pub closed_by_one : (next new : Moment) (counted last c : ℕ) (found : Answer) (child result : Result Answer SearchStop) → child ≡ Ok found → has_room p c ≡ true
       → found.yes ≡ own → Solves root (after_move p c) question reach (known ++ so_far.wrote.shown) mid next counted child
       → ((also : List Shown) → length also ≡ counted → FitsTable next.table also
-          → HasReason also p (claim_for (side_asked question) own) (ByOne (record { column = c; lemma = found.lemma }))
-          → Solves root p question reach also next new last result)
+      → HasReason also p (claim_for (side_asked question) own) (ByOne (record { column = c; lemma = found.lemma }))
+      → Solves root p question reach also next new last result)
       → Solves root p question reach known old new last result
   closed_by_one next new counted last c found child result was room same solves tell =
       let fewer : empty_count (after_move p c) + 1 ≡ empty_count p = empty_count_moved p c room in
       let all = then_solves root question reach known old mid next count so_far.wrote (after_move p c) counted (Ok found)
-          (below_raised (empty_count p) (empty_count (after_move p c) + 1) so_far.wrote.shown (omega (arith, fewer)) so_far.below)
-          (subst (λ r. Solves root (after_move p c) question reach (known ++ so_far.wrote.shown) mid next counted r) was solves) in
+      (below_raised (empty_count p) (empty_count (after_move p c) + 1) so_far.wrote.shown (omega (arith, fewer)) so_far.below)
+      (subst (λ r. Solves root (after_move p c) question reach (known ++ so_far.wrote.shown) mid next counted r) was solves) in
       let also = known ++ all.wrote.shown in
       let shown : Shows also found.lemma (after_move p c) (claim_for (side_asked question) own) =
       subst (λ won. Shows also found.lemma (after_move p c) (claim_for (side_asked question) won)) same all.named in

@@ -80,11 +80,11 @@ pub fn search<O: Sink>(
     ensures entries { IsTrueTable table.new lemmas.new }
     ensures wrote { (known : List Shown) → length known ≡ lemmas.old → FitsTable table.old known
         → Solves position.now position.now question reach known
-          (moment table.old (O.written out.old)) (moment table.new (O.written out.new)) lemmas.new result }
+        (moment table.old (O.written out.old)) (moment table.new (O.written out.new)) lemmas.new result }
     ensures lists { (list : List Entry) (known : List Shown) → EndsIn list (O.written out.old)
         → FitsMoment position.now lemmas.old list known (moment table.old (O.written out.old))
         → Continues position.now position.now question reach list known
-          (moment table.old (O.written out.old)) (moment table.new (O.written out.new)) lemmas.new result }
+        (moment table.old (O.written out.old)) (moment table.new (O.written out.new)) lemmas.new result }
 {
     let aim = Aim {
         question,
@@ -124,7 +124,7 @@ fn solve<O: Sink>(
     ensures wrote { (root : Men) (known : List Shown) → played root path.old.items ≡ Some position.now
         → length known ≡ lemmas.old → FitsTable table.old known
         → Solves root position.now aim.now.question aim.now.reach known
-          (moment table.old (O.written out.old)) (moment table.new (O.written out.new)) lemmas.new result }
+        (moment table.old (O.written out.old)) (moment table.new (O.written out.new)) lemmas.new result }
 {
     let Some(left) = budget.checked_sub(1) else {
         return Err(SearchStop::Spent);
@@ -168,7 +168,7 @@ fn solve_by_moves<O: Sink>(
     ensures wrote { (root : Men) (known : List Shown) → played root path.old.items ≡ Some position.now
         → length known ≡ lemmas.old → FitsTable table.old known
         → Solves root position.now aim.now.question aim.now.reach known
-          (moment table.old (O.written out.old)) (moment table.new (O.written out.new)) lemmas.new result }
+        (moment table.old (O.written out.old)) (moment table.new (O.written out.new)) lemmas.new result }
 {
     let own = aim.question.side() == position.to_move();
     let order = aim.order.as_slice();
@@ -226,7 +226,7 @@ fn solve_after<O: Sink>(
     ensures wrote { (root : Men) (known : List Shown) → played root path.old.items ≡ Some position.now
         → length known ≡ lemmas.old → FitsTable table.old known
         → Solves root (after_move position.now column) aim.now.question aim.now.reach known
-          (moment table.old (O.written out.old)) (moment table.new (O.written out.new)) lemmas.new result }
+        (moment table.old (O.written out.old)) (moment table.new (O.written out.new)) lemmas.new result }
 {
     let next = position.after(column);
     path.push(column);
@@ -260,7 +260,7 @@ fn closed_here<O: Sink>(
     ensures wrote { (root : Men) (known : List Shown) → played root path.now ≡ Some position.now
         → length known ≡ lemmas.old → FitsTable table.old known
         → IfSome result (λ found. Solves root position.now aim.now.question aim.now.reach known
-          (moment table.old (O.written out.old)) (moment table.new (O.written out.new)) lemmas.new found) }
+        (moment table.old (O.written out.old)) (moment table.new (O.written out.new)) lemmas.new found) }
 {
     if let Some(kept) = look_up(table, position, aim.question) {
         return Some(Ok(Answer {
@@ -271,15 +271,11 @@ fn closed_here<O: Sink>(
     if let Some(end) = position.ended() {
         let yes = aim.question.side().win() == end;
         let ended = Reason::Ended;
-        return Some(put_lemma(
-            position, path, aim, yes, &ended, table, lemmas, out,
-        ));
+        return Some(put_lemma(position, path, aim, yes, &ended, table, lemmas, out));
     }
     if is_planned(position, aim, chooser) {
         let plan = Reason::Plan(chooser.plan());
-        return Some(put_lemma(
-            position, path, aim, false, &plan, table, lemmas, out,
-        ));
+        return Some(put_lemma(position, path, aim, false, &plan, table, lemmas, out));
     }
     None
 }
@@ -344,7 +340,7 @@ fn put_lemma<O: Sink>(
         → length known ≡ lemmas.old → FitsTable table.old known
         → HasReason known position.now (claim_for (side_asked aim.now.question) yes) (reason_viewed reason.now)
         → Solves root position.now aim.now.question aim.now.reach known
-          (moment table.old (O.written out.old)) (moment table.new (O.written out.new)) lemmas.new result }
+        (moment table.old (O.written out.old)) (moment table.new (O.written out.new)) lemmas.new result }
 {
     match lemmas.put_view(out, path, Claim::of(aim.question.side(), yes), reason) {
         Ok(lemma) => {

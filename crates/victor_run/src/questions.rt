@@ -105,7 +105,7 @@ fn ask_side<O: Sink>(
     ensures fault { result ≡ Err stops.WriteFault → Rose (O.faults out.old) (O.faults out.new) }
     ensures asked { (known : List Shown) → length known ≡ lemmas.old → FitsTable table.old known
         → AsksSide position.now (side_asked question) reach (slots_of front.old) known (lemmas.old + budget.old)
-          (moment table.old (O.written out.old)) (moment table.new (O.written out.new)) lemmas.new result }
+        (moment table.old (O.written out.old)) (moment table.new (O.written out.new)) lemmas.new result }
 {
     let Ok(()) = write_remark(front, question.side(), chooser, out) else {
         return Err(SearchStop::WriteFault);

@@ -33,5 +33,5 @@ invariant-solve_by_moves-loop-column g l = record {
   later : g.O.Sink.faults l.fn.out ≤ g.O.Sink.faults l.out;
   wrote : (root : Position) (known : List Shown) → played root l.fn.path.items ≡ Some l.position → length known ≡ l.fn.lemmas → FitsTable l.fn.table known
       → SoFar root l.position l.aim.question l.aim.reach l.own known (moment l.fn.table (g.O.Sink.written l.fn.out)) (moment l.table (g.O.Sink.written l.out))
-        l.lemmas l.numbers l.order l.column-index;
+      l.lemmas l.numbers l.order l.column-index;
 }
