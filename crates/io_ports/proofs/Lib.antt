@@ -1,4 +1,5 @@
 pub mod Prefixes
 pub mod LineLemmas
+pub mod Reading
 pub mod Windows
 pub mod FirstByte

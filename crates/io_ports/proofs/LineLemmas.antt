@@ -7,7 +7,7 @@ use Rattle.std.proofs.lemmas.Bool.{eqb-true, eq-eqb, lt-ltb, le-ltb, ltb-false, 
 use Rattle.std.specs.Io.KnownBytes.{IsAtEnd}
 use Rattle.bstr.specs.Find.{IsFirstByte, is_byte}
 use Rattle.io_ports.proofs.FirstByte.{first_none, first_found}
-use Rattle.io_ports.specs.Lines.{Cut, line_len, next_line, IsCut, EachTextIsCut, Gives, Takes, Moves, is_end}
+use Rattle.io_ports.specs.Lines.{Cut, line_len, next_line, IsCut, EachTextIsCut, Gives, Takes, Moves, IsUndecided, IsWithinRead, is_end}
 use Rattle.io_ports.specs.declared.line_reader.LineGot.TheVariants.{Line, Long, Done, Failed}
 
 fails : (b : Bool) → (b ≡ true → ⊥) → b ≡ false
@@ -219,6 +219,15 @@ module _ (old new : Option (List ℕ)) (before held : List ℕ) (moves : Moves o
 
   pub Takes-failed : Takes (is_end Failed false) old new (λ bytes rest. Gives (before ++ bytes) (held ++ rest) Failed [] false)
   Takes-failed = record { taken = moves.taken; gave = moves.gave; last = λ never. cc; fact = λ later none. joined_later later }
+
+-- ---- how much is held
+
+-- bytes of which no whole line stood there were taken behind what was held
+pub within_filled : (a b : Option (List ℕ)) (old new : List ℕ) (n last : ℕ) → Moves a b old new → IsUndecided old → length new ≡ length old + n → last ≡ n
+    → IsWithinRead last new
+within_filled a b old new n last moves undecided grown is =
+    let more : line_len old ≤ line_len new = subst (λ l. line_len old ≤ line_len l) (sym moves.grown) (line_len-prefix old moves.taken) in
+    omega (arith, more, undecided.0, undecided.1, grown, is)
 
 -- ---- a search that goes on behind what was searched
 

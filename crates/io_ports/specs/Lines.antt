@@ -1,5 +1,5 @@
 -- The lines of an input: what the next one is, as a function of the bytes that were not given yet.
-use Rattle.std.specs.Prelude.{◌≡◌, ◌≢◌, ℕ, zero, suc, ◌+◌, ◌<◌, ◌≤◌, ◌==◌, ◌++◌, Bool, true, false, not, if◌then◌else◌, nat_lt, List, [], ◌∷◌, length, take, drop, Option, All}
+use Rattle.std.specs.Prelude.{◌≡◌, ◌≢◌, ℕ, zero, suc, ◌+◌, ◌<◌, ◌≤◌, ◌==◌, ◌++◌, Bool, true, false, not, if◌then◌else◌, min, nat_lt, List, [], ◌∷◌, length, take, drop, Option, All}
 use Rattle.std.specs.Io.KnownBytes.{Consumes, IsAtEnd}
 use Rattle.std.specs.List.{position_or_len}
 use Rattle.io_ports.specs.declared.line_reader.LineGot.{LineGot}
@@ -90,6 +90,23 @@ behind_lines (suc n) bytes = behind_lines n (next_line bytes).rest
 abbrev pub IsUndecided : List ℕ → Type 0
 IsUndecided bytes = (line_len bytes ≡ length bytes) × (length bytes ≤ longest_line)
 
+-- What a reader of lines holds behind what a call gave, where the source's last read gave so many bytes: behind a line, at
+-- most these; where the next line is too long, the longest that a line may be besides; at the end of the input nothing; and
+-- where the source failed, no whole line.
+abbrev pub IsAhead : LineGot → ℕ → List ℕ → Type 0
+IsAhead Line last bytes = length bytes ≤ last
+IsAhead Long last bytes = (longest_line < line_len bytes) × (length bytes ≤ longest_line + last)
+IsAhead Done last bytes = bytes ≡ []
+IsAhead Failed last bytes = IsUndecided bytes
+
+-- one of these
+abbrev pub HoldsFew : ℕ → List ℕ → Type 0
+HoldsFew last bytes = (got : LineGot) × IsAhead got last bytes
+
+-- The same by one number: the part of the next line that may be read, and the bytes of the last read.
+abbrev pub IsWithinRead : ℕ → List ℕ → Type 0
+IsWithinRead last bytes = length bytes ≤ min (line_len bytes) longest_line + last
+
 -- bytes went from the source behind those that are held
 pub record Moves (old new : Option (List ℕ)) (held longer : List ℕ) : Type 0 where
   pub taken : List ℕ
@@ -100,8 +117,10 @@ pub record Moves (old new : Option (List ℕ)) (held longer : List ℕ) : Type 0
 abbrev pub most_held : ℕ
 most_held = 16384
 
--- What a reader of lines holds: the bytes that it took from the source and hasn't given, and the line that it lends.
+-- What a reader of lines holds: whether it came to the end of the input, the bytes that it took from the source and hasn't
+-- given, and the line that it lends.
 pub record Cutting : Type 0 where
+  pub ended : Bool
   pub ahead : List ℕ
   pub text : List ℕ
   pub fed : Bool

@@ -13,10 +13,11 @@ pub record Numbered : Type 0 where
   pub made : ℕ
   pub faults : ℕ
 
--- A source: the bytes that are left, how many of them a read gives at most, and its calls.
+-- A source: the bytes that are left, how many of them a read gives at most, how many the last read gave, and its calls.
 pub record Supply : Type 0 where
   pub left : List ℕ
   pub piece : ℕ
+  pub last_read : ℕ
   pub calls : Numbered
 
 -- A sink: the bytes that were written, how many more it has room for, and its calls.
@@ -49,7 +50,7 @@ write_count store len = min len store.room
 
 -- A source that has given n bytes, and a sink that has taken these.
 abbrev pub after_read : Supply → ℕ → Supply
-after_read supply n = record supply { left = drop n supply.left; calls = made supply.calls }
+after_read supply n = record supply { left = drop n supply.left; last_read = n; calls = made supply.calls }
 
 abbrev pub after_write : Store → List ℕ → Store
 after_write store bytes = record { written = store.written ++ bytes; room = store.room - length bytes; calls = made store.calls }

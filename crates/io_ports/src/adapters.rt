@@ -3,7 +3,7 @@
 ghost use Rattle.std.specs.Prelude.{◌≡◌, [], length, ◌<◌, ◌≤◌, IfOk, OnOk};
 ghost use Rattle.std.specs.Io.KnownBytes.{ReadConsumes, WriteAppends, Keeps};
 ghost use Rattle.std.specs.Io.Buffered.{writer_buffer, writer_contents};
-ghost use Rattle.device_rules.specs.Devices.{HasCause, Rose};
+ghost use Rattle.device_rules.specs.Devices.{CountsRead, HasCause, Rose};
 ghost use Rattle.io_ports.specs.Counts.{CountsErr, one_more};
 
 use crate::{Failed, Sink, Source};
@@ -14,6 +14,7 @@ use std::io::{BufWriter, Read, Write};
 pub struct StdSource<R: Read> {
     inner: R,
     faults: u64,
+    last_read: usize,
 }
 
 impl<R: Read> StdSource<R> {
@@ -21,8 +22,13 @@ impl<R: Read> StdSource<R> {
     pub fn new(inner: R) -> StdSource<R>
         ensures inner { result.inner ≡ inner }
         ensures faults { result.faults ≡ 0 }
+        ensures last_read { result.last_read ≡ 0 }
     {
-        StdSource { inner, faults: 0 }
+        StdSource {
+            inner,
+            faults: 0,
+            last_read: 0,
+        }
     }
 }
 
@@ -31,16 +37,22 @@ impl<R: Read> Source for StdSource<R> {
 
     ghost faults = { λ source. source.faults };
 
+    ghost last_read = { λ source. source.last_read };
+
     fn read(&mut self, buf: &mut [u8]) -> Result<usize, Failed>
         requires { 0 < length buf.old }
         ensures within { IfOk result (λ n. n ≤ length buf.new) }
         ensures bytes { ReadConsumes (R.remaining self.old.inner) (R.remaining self.new.inner)
             result buf.new }
         ensures cause { HasCause self.old.faults self.new.faults result }
+        ensures last_read { CountsRead self.old.last_read self.new.last_read result }
         ensures counted { CountsErr self.old.faults self.new.faults result }
     {
         match self.inner.read(buf) {
-            Ok(count) => Ok(count),
+            Ok(count) => {
+                self.last_read = count;
+                Ok(count)
+            }
             Err(_) => {
                 self.faults = self.faults.saturating_add(1);
                 Err(Failed)

@@ -3,7 +3,7 @@
 ghost use Rattle.std.specs.Prelude.{◌≡◌, [], ◌+◌, ◌<◌, ◌≤◌, length, drop, IfOk, OnErr};
 ghost use Rattle.std.specs.Io.KnownBytes.{IsAtEnd};
 ghost use Rattle.io_ports.specs.Lines.{Moves};
-ghost use Rattle.device_rules.specs.Devices.{HasCause};
+ghost use Rattle.device_rules.specs.Devices.{CountsRead, HasCause};
 
 use crate::{Failed, Source};
 use std::marker::Model;
@@ -68,6 +68,7 @@ impl Ahead {
         requires { length self.old ≤ LONGEST }
         ensures moves { Moves (S.left source.old) (S.left source.new) self.old self.new }
         ensures count { IfOk result (λ n. length self.new ≡ length self.old + n) }
+        ensures last_read { CountsRead (S.last_read source.old) (S.last_read source.new) result }
         ensures end { IfOk result (λ n. n ≡ 0 → IsAtEnd (S.left source.new)) }
         ensures refused { OnErr result (self.new ≡ self.old) }
         ensures held { length self.new ≤ CAPACITY }

@@ -1,10 +1,11 @@
 //! The lines of a source, one at a time, in buffers of fixed size: an input of any length is read in the memory that
 //! the reader itself has. What the next line is depends on the bytes alone and not on how the source cuts them, and a
 //! fault of the source loses none of them.
-ghost use Rattle.std.specs.Prelude.{◌≡◌, ◌≢◌, ◌≤◌, [], ◌++◌, false, length, All, IfOk, OnErr};
+ghost use Rattle.std.specs.Prelude.{◌≡◌, ◌≢◌, ◌≤◌, [], ◌++◌, false, length, All, IfOk, OnErr, OnOk};
 ghost use Rattle.std.specs.Io.KnownBytes.{IsAtEnd};
 ghost use Rattle.device_rules.specs.Devices.{HasCause, Rose};
-ghost use Rattle.io_ports.specs.Lines.{EachTextIsCut, Gives, Takes, Moves, IsUndecided, is_end, line_len, longest_line, most_held};
+ghost use Rattle.io_ports.specs.Lines.{EachTextIsCut, Gives, Takes, Moves, HoldsFew, IsAhead, IsUndecided, IsWithinRead, is_end, line_len, longest_line, most_held};
+ghost use Rattle.io_ports.specs.Reading.{Reads, pending};
 
 use crate::ahead::{Ahead, LONGEST};
 use crate::{Failed, Source};
@@ -24,50 +25,86 @@ pub enum LineGot {
     Failed,
 }
 
-/// A reader of lines.
+/// A reader of the lines of an input, up to its end. A terminal may give more behind what it called its end; what was
+/// taken by then decides, so nothing is read behind it.
 #[derive(Drop)]
 pub struct Lines {
     ahead: Ahead,
     given: usize,
     text: usize,
     fed: bool,
+    ended: bool,
 }
 
 impl Model for Lines {
-    ghost use Rattle.std.specs.Prelude.{◌≤◌, length, take, drop};
+    ghost use Rattle.std.specs.Prelude.{◌≡◌, ◌≤◌, true, [], length, take, drop};
     ghost use Rattle.io_ports.specs.Lines.{Cutting};
 
     ghost Value = { Cutting };
 
     ghost view = { λ lines. record {
+      ended = lines.ended;
       ahead = drop lines.given lines.ahead;
       text = take lines.text lines.ahead;
       fed = lines.fed;
     } };
 
-    ghost invariant = { λ lines. (lines.given ≤ length lines.ahead) × (lines.text ≤ length lines.ahead) };
+    ghost invariant = { λ lines. (lines.given ≤ length lines.ahead) × (lines.text ≤ length lines.ahead)
+        × (lines.ended ≡ true → drop lines.given lines.ahead ≡ []) };
 }
 
 impl Lines {
     /// A reader that has taken nothing yet.
     pub fn new() -> Lines
-        ensures { result ≡ record { ahead = []; text = []; fed = false } }
+        ensures { result ≡ record { ended = false; ahead = []; text = []; fed = false } }
     {
         Lines {
             ahead: Ahead::new(),
             given: 0,
             text: 0,
             fed: false,
+            ended: false,
         }
     }
 
     /// Gets the next line of the source: `text` lends it, and `fed` says whether a line feed ended it. After `Done` and
     /// after `Failed`, which comes only where the source's count of faults rose, `text` lends no byte. The source is asked
-    /// only while what is held doesn't decide the next line: no whole line waits for more of the input.
+    /// only while what is held doesn't decide the next line: no whole line waits for more of the input, and behind a line
+    /// that was read no more is held than what the last read gave. Behind the end of the input, which is the last line
+    /// without a line feed, or `Done`, there is no line, and nothing is read.
     pub fn next<S: Source>(&mut self, source: &mut S) -> LineGot
+        ensures gives { Reads (pending self.old (S.left source.old) (S.last_read source.old))
+            (pending self.new (S.left source.new) (S.last_read source.new))
+            (λ bytes rest. Gives bytes rest result self.new.text self.new.fed) }
+        ensures ended { self.new.ended ≡ is_end result self.new.fed }
+        ensures held { length self.new.ahead ≤ most_held }
+        ensures few { HoldsFew (S.last_read source.old) self.old.ahead → IsAhead result (S.last_read source.new) self.new.ahead }
+        ensures done { result ≡ LineGot.Done → self.new.text ≡ [] }
+        ensures kept { result ≡ LineGot.Failed → (self.new.text ≡ []) × (self.new.fed ≡ false) }
+        ensures waiting { result ≡ LineGot.Failed → IsUndecided self.new.ahead }
+        ensures short { length self.new.text ≤ longest_line }
+        ensures no_feed { All (λ b. b ≢ 10) self.new.text }
+        ensures later { S.faults source.old ≤ S.faults source.new }
+        ensures failed { result ≡ LineGot.Failed → Rose (S.faults source.old) (S.faults source.new) }
+    {
+        if self.ended {
+            self.text = 0;
+            self.fed = false;
+            return LineGot::Done;
+        }
+        let got = self.cut(source);
+        self.ended = is_end(got, self.fed);
+        got
+    }
+
+    /// Gets the next line where the end of the input wasn't reached.
+    fn cut<S: Source>(&mut self, source: &mut S) -> LineGot
+        requires going { self.old.ended ≡ false }
         ensures gives { Takes (is_end result self.new.fed) (S.left source.old) (S.left source.new)
             (λ bytes rest. Gives (self.old.ahead ++ bytes) (self.new.ahead ++ rest) result self.new.text self.new.fed) }
+        ensures going { self.new.ended ≡ false }
         ensures held { length self.new.ahead ≤ most_held }
+        ensures few { HoldsFew (S.last_read source.old) self.old.ahead → IsAhead result (S.last_read source.new) self.new.ahead }
         ensures done { result ≡ LineGot.Done → self.new.text ≡ [] }
         ensures kept { result ≡ LineGot.Failed → (self.new.text ≡ []) × (self.new.fed ≡ false) }
         ensures waiting { result ≡ LineGot.Failed → IsUndecided self.new.ahead }
@@ -113,6 +150,17 @@ impl Lines {
     }
 }
 
+/// Whether what was got ends the input: no line, or one that no line feed ended.
+fn is_end(got: LineGot, fed: bool) -> bool
+    ensures { result ≡ is_end got fed }
+{
+    match got {
+        LineGot::Line => !fed,
+        LineGot::Done => true,
+        LineGot::Long | LineGot::Failed => false,
+    }
+}
+
 /// Reads until what is held decides the next line: a line feed stands in it, it is too long for a line, or it is all
 /// that is left. The answer is how many bytes stand before the line feed, or in all.
 fn gather<S: Source>(ahead: &mut Ahead, source: &mut S) -> Result<usize, Failed>
@@ -121,6 +169,7 @@ fn gather<S: Source>(ahead: &mut Ahead, source: &mut S) -> Result<usize, Failed>
     ensures moves { Moves (S.left source.old) (S.left source.new) ahead.old ahead.new }
     ensures waiting { OnErr result (IsUndecided ahead.new) }
     ensures held { length ahead.new ≤ most_held }
+    ensures few { OnOk result (IsWithinRead (S.last_read source.old) ahead.old → IsWithinRead (S.last_read source.new) ahead.new) }
     ensures cause { HasCause (S.faults source.old) (S.faults source.new) result }
 {
     let mut searched = 0;

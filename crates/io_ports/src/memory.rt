@@ -3,7 +3,7 @@
 //! as one record: what is left or written, and the numbered calls.
 ghost use Rattle.std.specs.Prelude.{◌≡◌, [], ◌++◌, Some, length, take, drop, ◌<◌, ◌≤◌, IfOk, OnOk, OnErr, is_err};
 ghost use Rattle.std.specs.Io.KnownBytes.{ReadConsumes, WriteAppends, Keeps};
-ghost use Rattle.device_rules.specs.Devices.{HasCause};
+ghost use Rattle.device_rules.specs.Devices.{CountsRead, HasCause};
 ghost use Rattle.io_ports.specs.Memory.{fresh, next_fails, made, failed, read_count, write_count, after_read, after_write, write_fails};
 
 use crate::calls::Calls;
@@ -17,6 +17,7 @@ pub struct MemSource {
     bytes: Vec<u8>,
     at: usize,
     piece: usize,
+    last_read: usize,
     calls: Calls,
 }
 
@@ -29,6 +30,7 @@ impl Model for MemSource {
     ghost view = { λ source. record {
       left = drop source.at source.bytes.items;
       piece = source.piece;
+      last_read = source.last_read;
       calls = record { failing = source.calls.failing.items; made = source.calls.made; faults = source.calls.faults };
     } };
 
@@ -46,12 +48,13 @@ impl MemSource {
     ) -> Result<MemSource, AllocError>
         requires { 1 ≤ piece }
         ensures { IfOk result (λ source. source ≡
-            record { left = bytes.now; piece = piece; calls = fresh fail.now }) }
+            record { left = bytes.now; piece = piece; last_read = 0; calls = fresh fail.now }) }
     {
         Ok(MemSource {
             bytes: Vec::from_slice(alloc, bytes)?,
             at: 0,
             piece,
+            last_read: 0,
             calls: Calls::new(alloc, fail)?,
         })
     }
@@ -62,12 +65,15 @@ impl Source for MemSource {
 
     ghost faults = { λ source. source.calls.faults };
 
+    ghost last_read = { λ source. source.last_read };
+
     fn read(&mut self, buf: &mut [u8]) -> Result<usize, Failed>
         requires { 0 < length buf.old }
         ensures within { IfOk result (λ n. n ≤ length buf.new) }
         ensures bytes { ReadConsumes (Some self.old.left) (Some self.new.left) result buf.new }
         ensures cause { HasCause self.old.calls.faults self.new.calls.faults result }
         ensures fails { is_err result ≡ next_fails self.old.calls }
+        ensures last_read { CountsRead self.old.last_read self.new.last_read result }
         ensures count { IfOk result (λ n. n ≡ read_count self.old (length buf.old)) }
         ensures given { IfOk result (λ n. self.new ≡ after_read self.old n) }
         ensures filled { IfOk result (λ n. buf.new ≡ take n self.old.left ++ drop n buf.old) }
@@ -82,6 +88,7 @@ impl Source for MemSource {
         let count = self.piece.min(buf.len()).min(left.len());
         buf[..count].copy_from_slice(&left[..count]);
         self.at += count;
+        self.last_read = count;
         Ok(count)
     }
 }

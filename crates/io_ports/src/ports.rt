@@ -2,7 +2,7 @@
 //! serves a device that tells its bytes, as those in memory do, and one that can't, as a terminal.
 ghost use Rattle.std.specs.Prelude.{ℕ, List, Option, length, ◌<◌, ◌≤◌, IfOk};
 ghost use Rattle.std.specs.Io.KnownBytes.{ReadConsumes, WriteAppends, Keeps};
-ghost use Rattle.device_rules.specs.Devices.{HasCause};
+ghost use Rattle.device_rules.specs.Devices.{CountsRead, HasCause};
 
 /// The answer of a device that failed.
 #[derive(Clone, Copy, Debug, PartialEq, Eq)]
@@ -16,13 +16,17 @@ pub trait Source {
     /// How often it has failed.
     ghost faults: { Self → ℕ };
 
+    /// How many bytes its last read gave that didn't fail.
+    ghost last_read: { Self → ℕ };
+
     /// Puts the next bytes at the start of the buffer, and answers how many: none only where no byte is left, which
     /// is the end of the input. `Failed` is answered only where the count of faults rose, and no byte is taken then.
     fn read(&mut self, buf: &mut [u8]) -> Result<usize, Failed>
         requires { 0 < length buf.old }
         ensures within { IfOk result (λ n. n ≤ length buf.new) }
         ensures bytes { ReadConsumes (left self.old) (left self.new) result buf.new }
-        ensures cause { HasCause (faults self.old) (faults self.new) result };
+        ensures cause { HasCause (faults self.old) (faults self.new) result }
+        ensures last_read { CountsRead (last_read self.old) (last_read self.new) result };
 }
 
 /// A sink of bytes.

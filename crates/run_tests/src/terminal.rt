@@ -46,12 +46,15 @@ struct Player<'a> {
     lines: [&'static [u8]; 5],
     seen: [usize; 6],
     asked: usize,
+    last_read: usize,
 }
 
 impl Source for Player<'_> {
     ghost left = { λ _. None };
 
     ghost faults = { λ _. 0 };
+
+    ghost last_read = { λ player. player.last_read };
 
     fn read(&mut self, buf: &mut [u8]) -> Result<usize, Failed> {
         let call = self.asked;
@@ -63,6 +66,7 @@ impl Source for Player<'_> {
         let line = self.lines.get(call).copied().unwrap_or_default();
         let count = line.len().min(buf.len());
         buf[..count].copy_from_slice(&line[..count]);
+        self.last_read = count;
         Ok(count)
     }
 }
@@ -86,6 +90,7 @@ fn each_answer_of_play_is_flushed_before_the_next_line_is_read(
         ],
         seen: [0; 6],
         asked: 0,
+        last_read: 0,
     };
     let mut out = Printer { screen: &screen };
     let words = words_of(rt.alloc(), &["play"])?;

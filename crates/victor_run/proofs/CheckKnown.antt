@@ -18,7 +18,7 @@ use Rattle.proof_text.specs.Lemma.{Lemma, Line as Said, ALemma, ARemark, AVerdic
 use Rattle.cert_checker.specs.Checking.{why_of, IsLemma}
 use Rattle.victor_run.specs.Check.{IsRightInput}
 use Rattle.victor_run.specs.CheckSteps.{lines_from, IsNextLemma, LinesReach, AtHead, AtGame, AtLine, GoesOn, StopsBy, StopsAtLine}
-use Rattle.victor_run.specs.Reading.{Pending, Reads, PassesLines}
+use Rattle.io_ports.specs.Reading.{Pending, Reads, PassesLines}
 use Rattle.victor_run.proofs.GameRead.{given, by_line}
 use Rattle.victor_run.proofs.CheckLines.{head_named, head_reaches, head_other, line_refused, line_stands, line_reaches, lemma_reached, long_got, none_got}
 use Rattle.victor_run.specs.declared.check.Stop.{Stop}

@@ -7,7 +7,7 @@ use Rattle.std.proofs.lemmas.Bool.{cases_lt, ne_eqb}
 use Rattle.io_ports.specs.Lines.{Cut, next_line, feed, IsLine, IsLong, IsCut}
 use Rattle.io_ports.specs.declared.line_reader.LineGot.{LineGot}
 use Rattle.io_ports.specs.declared.line_reader.LineGot.TheVariants.{Line, Long, Done, Failed}
-use Rattle.io_ports.proofs.LineLemmas.{each_text_is_cut}
+use Rattle.io_ports.proofs.Reading.{is_cut, line_is_cut, long_is_cut, none_is_cut}
 use Rattle.game_rules.specs.Position.{Position}
 use Rattle.game_rules.specs.Text.{game_at}
 use Rattle.game_rules.proofs.Prefix.{same_prefix, game_short}
@@ -68,19 +68,6 @@ long_pieces bytes text rest long =
         long.no_feed (length first) 0 here (get_or-take 8193 bytes (length first) 0 within ∙ ap (λ xs. get_or xs (length first) 0) cut ∙ at_seam first tail 10)
 
 -- ---- what was got
-
--- what was got is cut from the bytes
-is_cut : (bytes : List ℕ) (line : Cut) → line ≡ next_line bytes → IsCut bytes line.got line.text line.fed line.rest
-is_cut bytes line is = let P : Cut → Type 0 = λ cut. IsCut bytes cut.got cut.text cut.fed cut.rest in subst P (sym is) (each_text_is_cut bytes)
-
-pub line_is_cut : (bytes : List ℕ) (line : Cut) → line ≡ next_line bytes → line.got ≡ Line → IsLine bytes line.text line.fed line.rest
-line_is_cut bytes line is got = let P : LineGot → Type 0 = λ got. IsCut bytes got line.text line.fed line.rest in subst P got (is_cut bytes line is)
-
-pub long_is_cut : (bytes : List ℕ) (line : Cut) → line ≡ next_line bytes → line.got ≡ Long → IsLong bytes line.text line.rest
-long_is_cut bytes line is got = let P : LineGot → Type 0 = λ got. IsCut bytes got line.text line.fed line.rest in subst P got (is_cut bytes line is)
-
-pub none_is_cut : (bytes : List ℕ) (line : Cut) → line ≡ next_line bytes → line.got ≡ Done → (bytes ≡ []) × (line.text ≡ []) × (line.rest ≡ [])
-none_is_cut bytes line is got = let P : LineGot → Type 0 = λ got. IsCut bytes got line.text line.fed line.rest in subst P got (is_cut bytes line is)
 
 -- A line that a line feed ended; a last one, which may have no byte; or the prefix of one that is too long.
 pub by_piece : (bytes : List ℕ) (line : Cut) (P : Type 0) → line ≡ next_line bytes

@@ -1,7 +1,7 @@
 -- What an input that was read to its end, or to 256 bytes, says of the whole, and how `prove` ends on it.
 use Rattle.std.proofs.Common.{◌≡◌, ℕ, ◌<◌, ◌≤◌, List, Option, Some, None, Result, Ok, Err, IfSome, length, refl, ap, ◌∙◌, inl, inr, arith}
-use Rattle.std.specs.Io.KnownBytes.{Consumes, Keeps, IsAtEnd}
-use Rattle.std.proofs.KnownBytes.{Consumes-whole, Keeps-refl}
+use Rattle.std.specs.Io.KnownBytes.{Consumes, IsAtEnd}
+use Rattle.std.proofs.KnownBytes.{Consumes-whole}
 use Rattle.std.proofs.lemmas.Bool.{cases_lt}
 use Rattle.game_rules.specs.Position.{Position}
 use Rattle.game_rules.specs.Cost.{cost}
@@ -52,10 +52,10 @@ proves_game nodes reach slots s p heard ended game (Ok verdicts.Unknown) h short
 proves_game nodes reach slots s p heard ended game (Err failed) h short = (record { position = p; game = game; text = h.0; stands = h.1; written = h.2 }, ended)
 
 -- where no game was read, a run keeps what it promises of a fault and of a source that failed
-pub no_game : (input left out : Option (List ℕ)) (Holds : List ℕ → Ending → Type 0)
-    → ((taken : List ℕ) (fault : InputFault) → game_at taken ≡ Err fault → IfSome input (λ bytes. game_at bytes ≡ Err fault) → Keeps out out → Holds taken (endings.Input fault))
-    → ((taken : List ℕ) → Keeps out out → Holds taken endings.Read)
-    → (stop : InputStop) → TakesGame input left (Err stop) → Took (record { input = input; left = left; old = out; new = out }) 256 (λ taken. Holds taken (input_ending stop))
-no_game input left out Holds faulty failed (NoGame fault) takes =
-    record { taken = takes.0; gave = takes.1.gave; few = takes.1.few; holds = faulty takes.0 fault takes.2 takes.3 (Keeps-refl out) }
-no_game input left out Holds faulty failed Read takes = record { taken = takes.0; gave = takes.1.gave; few = takes.1.few; holds = failed takes.0 (Keeps-refl out) }
+pub no_game : (s : Streams) (Holds : List ℕ → Ending → Type 0)
+    → ((taken : List ℕ) (fault : InputFault) → game_at taken ≡ Err fault → IfSome s.input (λ bytes. game_at bytes ≡ Err fault) → Holds taken (endings.Input fault))
+    → ((taken : List ℕ) → Holds taken endings.Read)
+    → (stop : InputStop) → TakesGame s.input s.left (Err stop) → Took s 256 (λ taken. Holds taken (input_ending stop))
+no_game s Holds faulty failed (NoGame fault) takes =
+    record { taken = takes.0; gave = takes.1.gave; few = takes.1.few; holds = faulty takes.0 fault takes.2 takes.3 }
+no_game s Holds faulty failed Read takes = record { taken = takes.0; gave = takes.1.gave; few = takes.1.few; holds = failed takes.0 }

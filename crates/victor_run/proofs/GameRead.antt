@@ -10,11 +10,12 @@ use Rattle.game_rules.specs.Position.{Position}
 use Rattle.game_rules.specs.Text.{game_at}
 use Rattle.game_rules.specs.declared.InputFault.{InputFault}
 use Rattle.proof_text.specs.Texts.{pieces, lines_in, game_prefix, game_of, behind_game}
-use Rattle.victor_run.specs.Reading.{Pending, Reads, PassesLines, kept_of, KeepsLine, StopsGame}
+use Rattle.io_ports.specs.Reading.{Pending, Reads, PassesLines}
+use Rattle.victor_run.specs.Reading.{kept_of, KeepsLine, StopsGame}
 use Rattle.victor_run.specs.declared.game_lines.GameStop.{GameStop}
 use Rattle.victor_run.specs.declared.game_lines.GameStop.TheVariants as stops
 use Rattle.victor_run.proofs.Cuts.{game_kept, game_left}
-use Rattle.victor_run.proofs.Reading.{Reads_more, Reads_then, passes_then, passes_most, passes_line}
+use Rattle.io_ports.proofs.Reading.{Reads_more, Reads_then, passes_then, passes_most, passes_line}
 
 -- what a reader of lines gives, unless its source failed
 pub given : (bytes rest text : List ℕ) (got : LineGot) (fed : Bool) → Gives bytes rest got text fed → (got ≡ Failed → ⊥)

@@ -2,7 +2,6 @@
 use Rattle.std.proofs.Common.{◌≡◌, ℕ, ◌+◌, ◌-◌, ◌≤◌, true, false, List, length, Option, Some, Ok, Err, sym, ap, ◌∙◌, subst, arith}
 use Rattle.std.specs.Io.KnownBytes.{Keeps, Appends}
 use Rattle.device_rules.specs.Devices.{AppendsPrefix}
-use Rattle.io_ports.specs.Lines.{most_held}
 use Rattle.game_rules.specs.Position.{Position}
 use Rattle.proof_text.specs.Checked.{CheckerState}
 use Rattle.proof_text.specs.Texts as answers
@@ -14,12 +13,12 @@ use Rattle.victor_run.specs.Outcome.{Outcome}
 use Rattle.victor_words.specs.declared.form.Form.TheVariants.{Check}
 use Rattle.victor_run.specs.declared.ending.Ending.TheVariants as endings
 use Rattle.victor_run.specs.CheckSteps.{StopsBy, Judges, Place, AtHead, AtGame, AtLine, GoesOn, lines_from, lines_read_until, ending_of}
-use Rattle.victor_run.specs.Reading.{Pending, Reads, PassesLines}
+use Rattle.io_ports.specs.Reading.{Pending, Reads, PassesLines}
 use Rattle.victor_run.specs.declared.check.Stop.{Stop}
 use Rattle.victor_run.specs.declared.check.Stop.TheVariants as stops
 use Rattle.victor_run.proofs.CheckKnown.{right_input}
 use Rattle.victor_run.proofs.Passing.{takes_bytes}
-use Rattle.victor_run.proofs.Reading.{Reads_then, passes_then, passes_most}
+use Rattle.io_ports.proofs.Reading.{Reads_then, passes_then, passes_most}
 use Rattle.victor_run.proofs.Taken.{fresh, of_taken, of_input, of_lines}
 
 -- from one place to the next but one
@@ -73,66 +72,66 @@ module _ (a b c : Pending) (root : Position) (s t : CheckerState) (began : s ≡
 
 -- ---- how it was judged
 
-pub judged_stop : (old : Option (List ℕ)) (last : Pending) (n before after : ℕ) (stop : Stop)
-    → Reads (fresh old) last (λ bytes rest. PassesLines n bytes rest × StopsBy AtHead bytes before after stop)
-    → length last.ahead ≤ most_held → n ≤ lines_read_until stop → n ≤ most_lines_read → Judges old last.left before after (Err stop)
-judged_stop old last n before after stop reads held few all =
+pub judged_stop : (old : Option (List ℕ)) (begun : ℕ) (last : Pending) (n before after : ℕ) (stop : Stop)
+    → Reads (fresh old begun) last (λ bytes rest. PassesLines n bytes rest × StopsBy AtHead bytes before after stop)
+    → n ≤ lines_read_until stop → n ≤ most_lines_read → Judges old last.left last.last_read before after (Err stop)
+judged_stop old begun last n before after stop reads few all =
     let Stopped : List ℕ → Type 0 = λ bytes. StopsBy AtHead bytes before after stop in
     record {
       taken = reads.taken;
       gave = reads.gave;
-      answer = (of_taken old last n most_lines_read Stopped reads, of_input old last n most_lines_read Stopped reads, of_lines old last n (lines_read_until stop) Stopped reads held few);
-      lines = of_lines old last n most_lines_read Stopped reads held all;
+      answer = (of_taken old begun last n most_lines_read Stopped reads, of_input old begun last n most_lines_read Stopped reads, of_lines old begun last n (lines_read_until stop) Stopped reads few);
+      lines = of_lines old begun last n most_lines_read Stopped reads all;
     }
 
-pub judged_right : (old : Option (List ℕ)) (last : Pending) (n before after : ℕ) (accepted : Accepted) → Reads (fresh old) last (λ bytes rest. PassesLines n bytes rest × (check_of bytes ≡ answers.Accepted accepted.verdict accepted.lemmas))
-    → last.ended ≡ true → length last.ahead ≤ most_held → n ≤ most_lines_read → Judges old last.left before after (Ok accepted)
-judged_right old last n before after accepted reads ended held all =
+pub judged_right : (old : Option (List ℕ)) (begun : ℕ) (last : Pending) (n before after : ℕ) (accepted : Accepted) → Reads (fresh old begun) last (λ bytes rest. PassesLines n bytes rest × (check_of bytes ≡ answers.Accepted accepted.verdict accepted.lemmas))
+    → last.ended ≡ true → n ≤ most_lines_read → Judges old last.left last.last_read before after (Ok accepted)
+judged_right old begun last n before after accepted reads ended all =
     let Right : List ℕ → Type 0 = λ bytes. check_of bytes ≡ answers.Accepted accepted.verdict accepted.lemmas in
     record {
       taken = reads.taken;
       gave = reads.gave;
-      answer = right_input reads.taken last.left accepted.verdict accepted.lemmas (of_taken old last n most_lines_read Right reads) (reads.last (λ never. absurd (cc never)) ended);
-      lines = of_lines old last n most_lines_read Right reads held all;
+      answer = right_input reads.taken last.left accepted.verdict accepted.lemmas (of_taken old begun last n most_lines_read Right reads) (reads.last (λ never. absurd (cc never)) ended);
+      lines = of_lines old begun last n most_lines_read Right reads all;
     }
 
 -- ---- what `check` promises then
 
 module _ (s : Streams) (before after : ℕ) where
-  pub checks_done : (accepted : Accepted) → Judges s.input s.left before after (Ok accepted) → Appends s.old s.new (accepted_line accepted.verdict accepted.lemmas) → Outcome (Some Check) s endings.Done
+  pub checks_done : (accepted : Accepted) → Judges s.input s.left s.last_read before after (Ok accepted) → Appends s.old s.new (accepted_line accepted.verdict accepted.lemmas) → Outcome (Some Check) s endings.Done
   checks_done accepted judged put = record {
     taken = judged.taken;
     gave = judged.gave;
-    few = takes_bytes most_lines_read judged.taken judged.lines;
+    few = takes_bytes most_lines_read s.last_read judged.taken judged.lines;
     holds = ((accepted.verdict, accepted.lemmas, judged.answer, put), judged.lines);
   }
 
-  pub checks_cut : (accepted : Accepted) → Judges s.input s.left before after (Ok accepted) → AppendsPrefix false s.old s.new (accepted_line accepted.verdict accepted.lemmas)
+  pub checks_cut : (accepted : Accepted) → Judges s.input s.left s.last_read before after (Ok accepted) → AppendsPrefix false s.old s.new (accepted_line accepted.verdict accepted.lemmas)
       → Outcome (Some Check) s endings.Write
   checks_cut accepted judged put = record {
     taken = judged.taken;
     gave = judged.gave;
-    few = takes_bytes most_lines_read judged.taken judged.lines;
+    few = takes_bytes most_lines_read s.last_read judged.taken judged.lines;
     holds = ((accepted.verdict, accepted.lemmas, judged.answer, put), judged.lines);
   }
 
-  pub checks_stop : (stop : Stop) → Judges s.input s.left before after (Err stop) → Keeps s.old s.new → Outcome (Some Check) s (ending_of stop)
+  pub checks_stop : (stop : Stop) → Judges s.input s.left s.last_read before after (Err stop) → Keeps s.old s.new → Outcome (Some Check) s (ending_of stop)
   checks_stop (stops.Input fault) judged kept = record {
     taken = judged.taken;
     gave = judged.gave;
-    few = takes_bytes most_lines_read judged.taken judged.lines;
+    few = takes_bytes most_lines_read s.last_read judged.taken judged.lines;
     holds = (((judged.answer.0, judged.answer.1), kept, judged.answer.2), judged.lines);
   }
   checks_stop (stops.Refused r) judged kept = record {
     taken = judged.taken;
     gave = judged.gave;
-    few = takes_bytes most_lines_read judged.taken judged.lines;
+    few = takes_bytes most_lines_read s.last_read judged.taken judged.lines;
     holds = (((judged.answer.0, judged.answer.1), kept, judged.answer.2), judged.lines);
   }
-  checks_stop stops.Read judged kept = record { taken = judged.taken; gave = judged.gave; few = takes_bytes most_lines_read judged.taken judged.lines; holds = (kept, judged.lines) }
+  checks_stop stops.Read judged kept = record { taken = judged.taken; gave = judged.gave; few = takes_bytes most_lines_read s.last_read judged.taken judged.lines; holds = (kept, judged.lines) }
   checks_stop stops.Memory judged kept = record {
     taken = judged.taken;
     gave = judged.gave;
-    few = takes_bytes most_lines_read judged.taken judged.lines;
+    few = takes_bytes most_lines_read s.last_read judged.taken judged.lines;
     holds = ((judged.answer.0, judged.answer.1, kept), judged.lines);
   }

@@ -11,7 +11,6 @@ pub mod GameRead
 pub mod PlayRead
 pub mod CheckKnown
 pub mod Passing
-pub mod Reading
 pub mod Taken
 pub mod Judging
 pub mod PlayJudged

@@ -1,10 +1,10 @@
 -- How many bytes some lines are.
 use Rattle.std.proofs.Common.{◌≡◌, ℕ, zero, suc, ◌+◌, ◌*◌, ◌≤◌, List, [], ◌++◌, length, Bool, true, false, refl, sym, ap, ◌∙◌, arith, append_assoc, length-append}
-use Rattle.io_ports.specs.Lines.{next_line, behind_lines, feed, IsCut}
+use Rattle.io_ports.specs.Lines.{next_line, behind_lines, feed, most_held, IsCut}
 use Rattle.io_ports.specs.declared.line_reader.LineGot.{LineGot}
 use Rattle.io_ports.specs.declared.line_reader.LineGot.TheVariants.{Line, Long, Done, Failed}
 use Rattle.io_ports.proofs.LineLemmas.{each_text_is_cut}
-use Rattle.victor_run.specs.Streams.{TakesLines, most_ahead}
+use Rattle.victor_run.specs.Streams.{TakesLines}
 
 -- a line with its line feed has at most 8,193 bytes
 record HasPrefix (most : ℕ) (bytes rest : List ℕ) : Type 0 where
@@ -38,7 +38,7 @@ lines_prefix (suc n) bytes =
       whole = first.whole ∙ ap (λ l. first.prefix ++ l) more.whole ∙ sym (append_assoc first.prefix more.prefix (behind_lines n cut.rest));
     }
 
-pub takes_bytes : (most : ℕ) (taken : List ℕ) → TakesLines most taken → length taken ≤ most * 8193 + most_ahead
-takes_bytes most taken takes =
+pub takes_bytes : (most last_read : ℕ) (taken : List ℕ) → TakesLines most last_read taken → length taken ≤ most * 8193 + most_held
+takes_bytes most last_read taken takes =
     let passed = lines_prefix takes.0 taken in
-    omega (arith, ap length passed.whole, length-append passed.prefix (behind_lines takes.0 taken), passed.short, takes.1, takes.2)
+    omega (arith, ap length passed.whole, length-append passed.prefix (behind_lines takes.0 taken), passed.short, takes.1, takes.3)

@@ -7,8 +7,8 @@ use Rattle.std.proofs.KnownBytes.{Appends-nil}
 use Rattle.std.proofs.lemmas.Grind.{flat_map-append}
 use Rattle.device_rules.specs.Devices.{AppendsPrefix}
 use Rattle.device_rules.proofs.DeviceLaws.{AppendsPrefix_all, AppendsPrefix_more}
-use Rattle.io_ports.specs.Lines.{Gives, IsUndecided, most_held}
-use Rattle.io_ports.specs.declared.line_reader.LineGot.TheVariants.{Line}
+use Rattle.io_ports.specs.Lines.{Gives, IsUndecided}
+use Rattle.io_ports.specs.declared.line_reader.LineGot.TheVariants.{Failed, Line}
 use Rattle.game_rules.specs.Position.{Position}
 use Rattle.proof_text.specs.Texts.{pieces, lines_in}
 use Rattle.rule_compat.specs.Planned.{members}
@@ -19,7 +19,7 @@ use Rattle.play_text.specs.Play.{PlayEnd, Played, behind, play_from, play_of, te
 use Rattle.play_text.specs.Told.{IsTold}
 use Rattle.play_text.proofs.Steps.{behind_more, told}
 use Rattle.victor_run.specs.Streams.{Streams, TakesLines, WaitsBehind}
-use Rattle.victor_run.specs.Reading.{Pending, Reads, PassesLines}
+use Rattle.io_ports.specs.Reading.{Pending, Reads, PassesLines}
 use Rattle.victor_run.specs.PlayPromise.{IsPlayed, BeginsPlay}
 use Rattle.victor_run.specs.PlaySteps.{played_at, played_from, end_by, EndsSo, StopsPlay, lines_besides, PassesMoves, IsWaiting, TakesUntil, IsNoMove, IsCaused, HasPlayCause, is_whole, PlayStep, PlaysNext, PlaysMoves, PlaysInput, play_ending}
 use Rattle.victor_run.specs.Outcome.{Outcome}
@@ -29,7 +29,7 @@ use Rattle.victor_run.specs.declared.play.PlayStop.{PlayStop}
 use Rattle.victor_run.specs.declared.play.PlayStop.TheVariants as stops
 use Rattle.victor_run.proofs.Passing.{takes_bytes}
 use Rattle.victor_run.proofs.PlayRead.{moves_got}
-use Rattle.victor_run.proofs.Reading.{Reads_more, Reads_start, Reads_then, passes_none, passes_then, passes_most}
+use Rattle.io_ports.proofs.Reading.{Reads_more, Reads_start, Reads_then, passes_none, passes_then, passes_most}
 use Rattle.victor_run.proofs.Taken.{fresh, of_taken, of_input, of_lines, of_waiting}
 
 -- ---- one line
@@ -177,10 +177,10 @@ module _ (a b c : Pending) (s : Playing) (lines : List (List ℕ)) (start : Read
 
 -- ---- all of an input
 
-module _ {X : Type 0} (old : Option (List ℕ)) (last : Pending) (o n : Option (List ℕ)) (lines : List (List ℕ)) (few : length lines ≤ 50) (held : length last.ahead ≤ most_held) where
+module _ {X : Type 0} (old : Option (List ℕ)) (begun : ℕ) (last : Pending) (o n : Option (List ℕ)) (lines : List (List ℕ)) (few : length lines ≤ 50) where
   pub input_stops : (stop : PlayStop) (m : ℕ) → m ≤ lines_besides stop + length lines → IsWaiting last.ahead stop
       → AppendsPrefix (is_whole {X = X} (Err stop)) o n (text_of lines)
-      → Reads (fresh old) last (λ bytes rest. PassesLines m bytes rest × StopsPlay (play_of bytes) lines stop) → PlaysInput {X = X} old last.left o n (Err stop)
+      → Reads (fresh old begun) last (λ bytes rest. PassesLines m bytes rest × StopsPlay (play_of bytes) lines stop) → PlaysInput {X = X} old last.left last.last_read o n (Err stop)
   input_stops stop m until waits put reads =
       let Stopped : List ℕ → Type 0 = λ bytes. StopsPlay (play_of bytes) lines stop in
       let most = lines_besides stop + length lines in
@@ -190,12 +190,12 @@ module _ {X : Type 0} (old : Option (List ℕ)) (last : Pending) (o n : Option (
         lines = lines;
         few = few;
         written = put;
-        played = (of_taken old last m most Stopped reads, of_input old last m most Stopped reads);
-        passed = takes_until stop (λ waits. of_waiting old last m most Stopped reads waits until) (of_lines old last m most Stopped reads held until) waits;
+        played = (of_taken old begun last m most Stopped reads, of_input old begun last m most Stopped reads);
+        passed = takes_until stop (λ waits. of_waiting old begun last m most Stopped reads waits until) (of_lines old begun last m most Stopped reads until) waits;
       }
     where
       takes_until : (stop : PlayStop) → (IsUndecided last.ahead → WaitsBehind (lines_besides stop + length lines) reads.taken)
-          → TakesLines (lines_besides stop + length lines) reads.taken → IsWaiting last.ahead stop → TakesUntil stop (length lines) reads.taken
+          → TakesLines (lines_besides stop + length lines) last.last_read reads.taken → IsWaiting last.ahead stop → TakesUntil stop (length lines) last.last_read reads.taken
       takes_until stops.Read undecided takes waits = undecided waits
       takes_until stops.Write undecided takes waits = takes
       takes_until (stops.Input fault) undecided takes waits = takes
@@ -204,7 +204,7 @@ module _ {X : Type 0} (old : Option (List ℕ)) (last : Pending) (o n : Option (
       takes_until (stops.NoMove fault) undecided takes waits = takes
 
   pub input_played : (x : X) → Appends o n (text_of lines) → last.ended ≡ true
-      → Reads (fresh old) last (λ bytes rest. PassesLines (4 + length lines) bytes rest × (play_of bytes ≡ record { lines = lines; end = ends.AllPlayed })) → PlaysInput {X = X} old last.left o n (Ok x)
+      → Reads (fresh old begun) last (λ bytes rest. PassesLines (4 + length lines) bytes rest × (play_of bytes ≡ record { lines = lines; end = ends.AllPlayed })) → PlaysInput {X = X} old last.left last.last_read o n (Ok x)
   input_played x put end reads =
       let All : List ℕ → Type 0 = λ bytes. play_of bytes ≡ record { lines = lines; end = ends.AllPlayed } in
       record {
@@ -213,21 +213,21 @@ module _ {X : Type 0} (old : Option (List ℕ)) (last : Pending) (o n : Option (
         lines = lines;
         few = few;
         written = put;
-        played = (of_taken old last (4 + length lines) (4 + length lines) All reads, of_input old last (4 + length lines) (4 + length lines) All reads, reads.last (λ never. absurd (cc never)) end);
-        passed = of_lines old last (4 + length lines) (4 + length lines) All reads held (omega arith);
+        played = (of_taken old begun last (4 + length lines) (4 + length lines) All reads, of_input old begun last (4 + length lines) (4 + length lines) All reads, reads.last (λ never. absurd (cc never)) end);
+        passed = of_lines old begun last (4 + length lines) (4 + length lines) All reads (omega arith);
       }
 
 -- what was played of all lines behind the plan
-pub input_moves : {X : Type 0} (old : Option (List ℕ)) (mid last : Pending) (o n : Option (List ℕ)) (s : Playing) (before after : ℕ) (result : Result X PlayStop)
-    → Reads (fresh old) mid (λ bytes rest. PassesLines 3 bytes rest × (play_of bytes ≡ played_from s first_move rest))
+pub input_moves : {X : Type 0} (old : Option (List ℕ)) (begun : ℕ) (mid last : Pending) (o n : Option (List ℕ)) (s : Playing) (before after : ℕ) (result : Result X PlayStop)
+    → Reads (fresh old begun) mid (λ bytes rest. PassesLines 3 bytes rest × (play_of bytes ≡ played_from s first_move rest))
     → PlayStep mid last o n (is_whole result) before after (PlaysMoves s first_move result) → before ≤ 100
-    → (OnOk result (last.ended ≡ true)) → IfErr result (IsWaiting last.ahead) → length last.ahead ≤ most_held
-    → PlaysInput old last.left o n result
-input_moves old mid last o n s before after (Ok x) start step men end waits held =
-    input_played old last o n step.lines (omega (arith, step.few)) held x step.written end (moves_played (fresh old) mid last s step.lines start step.reads)
-input_moves {X} old mid last o n s before after (Err stop) start step men end waits held =
-    input_stops old last o n step.lines (omega (arith, step.few)) held stop (lines_besides stop + length step.lines) (omega arith) waits step.written
-    (moves_stop (fresh old) mid last s step.lines start stop step.reads)
+    → (OnOk result (last.ended ≡ true)) → IfErr result (IsWaiting last.ahead)
+    → PlaysInput old last.left last.last_read o n result
+input_moves old begun mid last o n s before after (Ok x) start step men end waits =
+    input_played old begun last o n step.lines (omega (arith, step.few)) x step.written end (moves_played (fresh old begun) mid last s step.lines start step.reads)
+input_moves {X} old begun mid last o n s before after (Err stop) start step men end waits =
+    input_stops old begun last o n step.lines (omega (arith, step.few)) stop (lines_besides stop + length step.lines) (omega arith) waits step.written
+    (moves_stop (fresh old begun) mid last s step.lines start stop step.reads)
 
 -- ---- what `play` promises then
 
@@ -248,63 +248,64 @@ IfSome_each : (input : Option (List ℕ)) (P Q : List ℕ → Type 0) → ((byte
 IfSome_each None P Q more h = tt
 IfSome_each (Some bytes) P Q more h = more bytes h
 
-takes_few : (most : ℕ) (lines : List (List ℕ)) (taken : List ℕ) → most ≤ 4 → length lines ≤ 50 → TakesLines (most + length lines) taken
+takes_few : (most last_read : ℕ) (lines : List (List ℕ)) (taken : List ℕ) → most ≤ 4 → length lines ≤ 50 → TakesLines (most + length lines) last_read taken
     → length taken ≤ 54 * 8193 + 16384
-takes_few most lines taken few begun takes = takes_bytes 54 taken (takes.0, omega (arith, takes.1, few, begun), takes.2)
+takes_few most last_read lines taken few begun takes = takes_bytes 54 last_read taken (takes.0, omega (arith, takes.1, few, begun), takes.2, takes.3)
 
 -- no line was begun
-takes_first : (most : ℕ) (lines : List (List ℕ)) (taken : List ℕ) → lines ≡ [] → TakesLines (most + length lines) taken → TakesLines most taken
-takes_first most lines taken none takes = (takes.0, omega (arith, takes.1, ap length none), takes.2)
+takes_first : (most last_read : ℕ) (lines : List (List ℕ)) (taken : List ℕ) → lines ≡ [] → TakesLines (most + length lines) last_read taken
+    → TakesLines most last_read taken
+takes_first most last_read lines taken none takes = (takes.0, omega (arith, takes.1, ap length none), takes.2, takes.3)
 
 module _ {X : Type 0} (s : Streams) where
-  pub plays_all : (x : X) → PlaysInput s.input s.left s.old s.new (Ok x) → Outcome (Some Play) s endings.Done
+  pub plays_all : (x : X) → PlaysInput s.input s.left s.last_read s.old s.new (Ok x) → Outcome (Some Play) s endings.Done
   plays_all x input = record {
     taken = input.taken;
     gave = input.gave;
-    few = takes_few 4 input.lines input.taken (omega arith) input.few input.passed;
+    few = takes_few 4 s.last_read input.lines input.taken (omega arith) input.few input.passed;
     holds = (input.lines, (input.played.0, input.played.1), told_by input.taken input.lines ends.AllPlayed input.played.0, input.written, input.played.2, input.passed);
   }
 
-  pub plays_stop : (stop : PlayStop) → PlaysInput {X = X} s.input s.left s.old s.new (Err stop) → Outcome (Some Play) s (play_ending stop)
+  pub plays_stop : (stop : PlayStop) → PlaysInput {X = X} s.input s.left s.last_read s.old s.new (Err stop) → Outcome (Some Play) s (play_ending stop)
   plays_stop (stops.Input fault) input =
       let none = told_by input.taken input.lines (ends.NoGame fault) input.played.0 in
       record {
         taken = input.taken;
         gave = input.gave;
-        few = takes_few 2 input.lines input.taken (omega arith) input.few input.passed;
-        holds = (subst (λ lines. IsPlayed input.taken s.input lines (ends.NoGame fault)) none (input.played.0, input.played.1), kept_from s.old s.new input.lines none input.written, takes_first 2 input.lines input.taken none input.passed);
+        few = takes_few 2 s.last_read input.lines input.taken (omega arith) input.few input.passed;
+        holds = (subst (λ lines. IsPlayed input.taken s.input lines (ends.NoGame fault)) none (input.played.0, input.played.1), kept_from s.old s.new input.lines none input.written, takes_first 2 s.last_read input.lines input.taken none input.passed);
       }
   plays_stop stops.NoPlanLine input =
       let none = told_by input.taken input.lines ends.NoPlanLine input.played.0 in
       record {
         taken = input.taken;
         gave = input.gave;
-        few = takes_few 3 input.lines input.taken (omega arith) input.few input.passed;
-        holds = (refl, refl, subst (λ lines. IsPlayed input.taken s.input lines ends.NoPlanLine) none (input.played.0, input.played.1), kept_from s.old s.new input.lines none input.written, takes_first 3 input.lines input.taken none input.passed);
+        few = takes_few 3 s.last_read input.lines input.taken (omega arith) input.few input.passed;
+        holds = (refl, refl, subst (λ lines. IsPlayed input.taken s.input lines ends.NoPlanLine) none (input.played.0, input.played.1), kept_from s.old s.new input.lines none input.written, takes_first 3 s.last_read input.lines input.taken none input.passed);
       }
   plays_stop (stops.NoPlan fault) input =
       let none = told_by input.taken input.lines (ends.NoPlan (fault_of fault)) input.played.0 in
       record {
         taken = input.taken;
         gave = input.gave;
-        few = takes_few 3 input.lines input.taken (omega arith) input.few input.passed;
-        holds = (subst (λ lines. IsPlayed input.taken s.input lines (ends.NoPlan (fault_of fault))) none (input.played.0, input.played.1), kept_from s.old s.new input.lines none input.written, takes_first 3 input.lines input.taken none input.passed);
+        few = takes_few 3 s.last_read input.lines input.taken (omega arith) input.few input.passed;
+        holds = (subst (λ lines. IsPlayed input.taken s.input lines (ends.NoPlan (fault_of fault))) none (input.played.0, input.played.1), kept_from s.old s.new input.lines none input.written, takes_first 3 s.last_read input.lines input.taken none input.passed);
       }
   plays_stop (stops.NoMove fault) input = record {
     taken = input.taken;
     gave = input.gave;
-    few = takes_few 4 input.lines input.taken (omega arith) input.few input.passed;
+    few = takes_few 4 s.last_read input.lines input.taken (omega arith) input.few input.passed;
     holds = (input.lines, (input.played.0, input.played.1), told_by input.taken input.lines (ends.NoMove fault) input.played.0, input.written, input.passed);
   }
   plays_stop stops.Read input = record {
     taken = input.taken;
     gave = input.gave;
-    few = takes_few 3 input.lines input.taken (omega arith) input.few (input.passed.0, input.passed.1, omega (arith, input.passed.2.1));
+    few = takes_few 3 s.last_read input.lines input.taken (omega arith) input.few (input.passed.0, input.passed.1, (Failed, input.passed.2), omega (arith, input.passed.2.1));
     holds = (input.lines, (begun input.taken input.lines input.played.0, IfSome_each s.input _ (BeginsPlay input.lines) (λ bytes. begun bytes input.lines) input.played.1), input.written, input.passed);
   }
   plays_stop stops.Write input = record {
     taken = input.taken;
     gave = input.gave;
-    few = takes_few 3 input.lines input.taken (omega arith) input.few input.passed;
+    few = takes_few 3 s.last_read input.lines input.taken (omega arith) input.few input.passed;
     holds = (input.lines, (begun input.taken input.lines input.played.0, IfSome_each s.input _ (BeginsPlay input.lines) (λ bytes. begun bytes input.lines) input.played.1), input.written, input.passed);
   }

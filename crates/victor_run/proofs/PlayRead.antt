@@ -22,12 +22,12 @@ use Rattle.reply_player.specs.declared.session.Reply.{Reply}
 use Rattle.play_text.specs.Play.{NoGame, NoPlanLine, NoMove, AllPlayed, Played, ended, behind, end_text, turn_text, column_in, play_from, play_list, play_lines, play_game, plan_in, play_of, first_move}
 use Rattle.play_text.specs.declared.PlayKind.TheVariants.{BadMove}
 use Rattle.play_text.proofs.Turns.{line_played}
-use Rattle.victor_run.specs.Reading.{Pending, Reads, PassesLines}
+use Rattle.io_ports.specs.Reading.{Pending, Reads, PassesLines}
 use Rattle.victor_run.specs.PlaySteps.{reply_column, reply_end, answered_line, played_at, played_from, StopsPlay}
 use Rattle.victor_run.specs.declared.play.PlayStop.{PlayStop}
 use Rattle.victor_run.proofs.Cuts.{line_first, long_first, none_left}
 use Rattle.victor_run.proofs.GameRead.{by_line}
-use Rattle.victor_run.proofs.Reading.{Reads_more}
+use Rattle.io_ports.proofs.Reading.{Reads_more}
 
 -- ---- the game
 

@@ -2,16 +2,17 @@
 use Rattle.std.proofs.Common.{◌≡◌, ℕ, ◌≤◌, true, false, List, [], ◌++◌, length, Option, Some, None, IfSome, refl, sym, ap, ◌∙◌, subst, arith}
 use Rattle.std.specs.Io.KnownBytes.{Consumes, IsAtEnd}
 use Rattle.std.proofs.lemmas.List.{append-nil}
-use Rattle.io_ports.specs.Lines.{IsUndecided, behind_lines, most_held}
+use Rattle.io_ports.specs.Lines.{HoldsFew, IsUndecided, behind_lines}
+use Rattle.io_ports.specs.declared.line_reader.LineGot.TheVariants.{Done}
 use Rattle.victor_run.specs.Streams.{TakesLines, WaitsBehind}
-use Rattle.victor_run.specs.Reading.{Pending, Reads, PassesLines}
+use Rattle.io_ports.specs.Reading.{Pending, Reads, PassesLines}
 
 -- nothing was read yet
-abbrev pub fresh : Option (List ℕ) → Pending
-fresh left = record { ended = false; ahead = []; left = left }
+abbrev pub fresh : Option (List ℕ) → ℕ → Pending
+fresh left last_read = record { ended = false; ahead = []; left = left; last_read = last_read }
 
-module _ (old : Option (List ℕ)) (last : Pending) (n most : ℕ) (Holds : List ℕ → Type 0)
-    (reads : Reads (fresh old) last (λ bytes rest. PassesLines n bytes rest × Holds bytes)) where
+module _ (old : Option (List ℕ)) (begun : ℕ) (last : Pending) (n most : ℕ) (Holds : List ℕ → Type 0)
+    (reads : Reads (fresh old begun) last (λ bytes rest. PassesLines n bytes rest × Holds bytes)) where
   pub of_taken : Holds reads.taken
   of_taken = subst Holds (append-nil reads.taken) (reads.fact [] (λ _. refl)).1
 
@@ -30,8 +31,13 @@ module _ (old : Option (List ℕ)) (last : Pending) (n most : ℕ) (Holds : List
       let passed = (reads.fact [] (λ _. refl)).0 in
       (passed.0, passed.1, sym (append-nil last.ahead) ∙ passed.2 ∙ ap (behind_lines passed.0) (append-nil reads.taken))
 
-  pub of_lines : length last.ahead ≤ most_held → n ≤ most → TakesLines most reads.taken
-  of_lines held few = (of_passed.0, omega (arith, of_passed.1, few), omega (arith, ap length of_passed.2, held))
+  pub of_lines : n ≤ most → TakesLines most last.last_read reads.taken
+  of_lines few = (
+    of_passed.0,
+    omega (arith, of_passed.1, few),
+    subst (HoldsFew last.last_read) of_passed.2 (reads.few (Done, refl)),
+    omega (arith, ap length of_passed.2, reads.held (omega arith)),
+  )
 
   pub of_waiting : IsUndecided last.ahead → n ≤ most → WaitsBehind most reads.taken
   of_waiting waits few = (of_passed.0, omega (arith, of_passed.1, few), subst IsUndecided of_passed.2 waits)

@@ -65,8 +65,8 @@ most_lines_read = most_lines + 1
 abbrev pub Checks : List ℕ → Streams → Ending → Type 0
 Checks taken s endings.Done = (v : Verdict) × (count : ℕ) × IsRightInput taken s.left v count × Appends s.old s.new (accepted_line v count)
 Checks taken s endings.Write = (v : Verdict) × (count : ℕ) × IsRightInput taken s.left v count × AppendsPrefix false s.old s.new (accepted_line v count)
-Checks taken s (endings.Input fault) = IsAnswer taken s.input (NoGame fault) × Keeps s.old s.new × TakesLines 3 taken
-Checks taken s (endings.Refused r) = IsAnswer taken s.input (Refused r.at (why_of r.why)) × Keeps s.old s.new × TakesLines r.at taken
+Checks taken s (endings.Input fault) = IsAnswer taken s.input (NoGame fault) × Keeps s.old s.new × TakesLines 3 s.last_read taken
+Checks taken s (endings.Refused r) = IsAnswer taken s.input (Refused r.at (why_of r.why)) × Keeps s.old s.new × TakesLines r.at s.last_read taken
 Checks taken s endings.Read = Keeps s.old s.new
 Checks taken s endings.Memory = BeginsProof taken × IfSome s.input BeginsProof × Keeps s.old s.new
 Checks taken s endings.Usage = ⊥

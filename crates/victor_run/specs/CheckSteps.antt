@@ -104,10 +104,10 @@ ending_of stops.Memory = endings.Memory
 
 -- What was read of a proof, to its end or to what stopped the reading: the bytes that were taken are right, or they stopped
 -- it; and so did all of the input, where the source tells it.
-pub record Judges (input left : Option (List ℕ)) (before after : ℕ) (result : Result Accepted Stop) : Type 0 where
+pub record Judges (input left : Option (List ℕ)) (last_read before after : ℕ) (result : Result Accepted Stop) : Type 0 where
   pub taken : List ℕ
   pub gave : Consumes input left taken
   pub answer : MatchResult result (λ accepted. IsRightInput taken left accepted.verdict accepted.lemmas)
       (λ stop. StopsBy AtHead taken before after stop × IfSome input (λ bytes. StopsBy AtHead bytes before after stop)
-      × TakesLines (lines_read_until stop) taken)
-  pub lines : TakesLines most_lines_read taken
+      × TakesLines (lines_read_until stop) last_read taken)
+  pub lines : TakesLines most_lines_read last_read taken

@@ -13,4 +13,3 @@ pub mod PlaySteps
 pub mod ExplainPromise
 pub mod DrillPromise
 pub mod GameInput
-pub mod InputState

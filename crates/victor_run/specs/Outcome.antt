@@ -11,13 +11,14 @@ use Rattle.proof_text.specs.declared.Verdict.TheVariants as verdicts
 use Rattle.proof_text.specs.Texts.{longest_line}
 use Rattle.drill_games.specs.Games.{games_from}
 use Rattle.deep_search.specs.Planned.{solved_within}
+use Rattle.io_ports.specs.Lines.{most_held}
 use Rattle.io_ports.specs.declared.ports.Failed.{Failed}
 use Rattle.victor_run.specs.Check.{Checks, most_lines_read}
 use Rattle.victor_run.specs.PlayPromise.{Plays, most_play_lines}
 use Rattle.victor_run.specs.ExplainPromise.{Explains}
 use Rattle.victor_run.specs.DrillPromise.{Drills}
 use Rattle.victor_run.specs.Proof.{IsProofOf, MayStandFor}
-use Rattle.victor_run.specs.Streams.{Streams, Took, TakesLines, most_ahead}
+use Rattle.victor_run.specs.Streams.{Streams, Took, TakesLines}
 use Rattle.victor_words.specs.declared.form.Form.{Form}
 use Rattle.victor_words.specs.declared.form.Form.TheVariants.{Prove, Check, Play, Explain, Drill}
 use Rattle.victor_run.specs.declared.ending.Ending.{Ending}
@@ -94,8 +95,8 @@ Proves nodes reach slots taken s Memory = IsGame taken × IsAtEnd s.left × Keep
 abbrev pub most_taken : Option Form → ℕ
 most_taken None = 0
 most_taken (Some (Prove nodes reach front table)) = 256
-most_taken (Some Check) = most_lines_read * (longest_line + 1) + most_ahead
-most_taken (Some Play) = most_play_lines * (longest_line + 1) + most_ahead
+most_taken (Some Check) = most_lines_read * (longest_line + 1) + most_held
+most_taken (Some Play) = most_play_lines * (longest_line + 1) + most_held
 most_taken (Some (Explain reach)) = 256
 most_taken (Some (Drill size moves seed games nodes reach)) = 0
 
@@ -103,7 +104,7 @@ most_taken (Some (Drill size moves seed games nodes reach)) = 0
 abbrev pub Promise : Option Form → Streams → Ending → List ℕ → Type 0
 Promise None s ending taken = (ending ≡ Usage) × Keeps s.old s.new
 Promise (Some (Prove nodes reach front table)) s ending taken = Proves nodes reach front taken s ending
-Promise (Some Check) s ending taken = Checks taken s ending × TakesLines most_lines_read taken
+Promise (Some Check) s ending taken = Checks taken s ending × TakesLines most_lines_read s.last_read taken
 Promise (Some Play) s ending taken = Plays taken s ending
 Promise (Some (Explain reach)) s ending taken = Explains reach taken s ending
 Promise (Some (Drill size moves seed games nodes reach)) s ending taken = Drills (games_from games size moves seed) nodes reach s ending

@@ -30,14 +30,14 @@ HasBegun taken input lines = BeginsPlay lines taken × IfSome input (BeginsPlay 
 -- line of White's that was taken by then has its answer.
 abbrev pub Plays : List ℕ → Streams → Ending → Type 0
 Plays taken s endings.Done =
-    (lines : List (List ℕ)) × IsPlayed taken s.input lines ends.AllPlayed × TellsPlay taken lines × Appends s.old s.new (text_of lines) × IsAtEnd s.left × TakesLines (4 + length lines) taken
+    (lines : List (List ℕ)) × IsPlayed taken s.input lines ends.AllPlayed × TellsPlay taken lines × Appends s.old s.new (text_of lines) × IsAtEnd s.left × TakesLines (4 + length lines) s.last_read taken
 Plays taken s (endings.NoMove fault) =
-    (lines : List (List ℕ)) × IsPlayed taken s.input lines (ends.NoMove fault) × TellsPlay taken lines × Appends s.old s.new (text_of lines) × TakesLines (4 + length lines) taken
-Plays taken s (endings.Input fault) = IsPlayed taken s.input [] (ends.NoGame fault) × Keeps s.old s.new × TakesLines 2 taken
-Plays taken s (endings.Refused r) = (r.at ≡ 3) × (r.why ≡ BadLine) × IsPlayed taken s.input [] ends.NoPlanLine × Keeps s.old s.new × TakesLines 3 taken
-Plays taken s (endings.NoPlan fault) = IsPlayed taken s.input [] (ends.NoPlan (fault_of fault)) × Keeps s.old s.new × TakesLines 3 taken
+    (lines : List (List ℕ)) × IsPlayed taken s.input lines (ends.NoMove fault) × TellsPlay taken lines × Appends s.old s.new (text_of lines) × TakesLines (4 + length lines) s.last_read taken
+Plays taken s (endings.Input fault) = IsPlayed taken s.input [] (ends.NoGame fault) × Keeps s.old s.new × TakesLines 2 s.last_read taken
+Plays taken s (endings.Refused r) = (r.at ≡ 3) × (r.why ≡ BadLine) × IsPlayed taken s.input [] ends.NoPlanLine × Keeps s.old s.new × TakesLines 3 s.last_read taken
+Plays taken s (endings.NoPlan fault) = IsPlayed taken s.input [] (ends.NoPlan (fault_of fault)) × Keeps s.old s.new × TakesLines 3 s.last_read taken
 Plays taken s endings.Read = (lines : List (List ℕ)) × HasBegun taken s.input lines × Appends s.old s.new (text_of lines) × WaitsBehind (3 + length lines) taken
-Plays taken s endings.Write = (lines : List (List ℕ)) × HasBegun taken s.input lines × AppendsPrefix false s.old s.new (text_of lines) × TakesLines (3 + length lines) taken
+Plays taken s endings.Write = (lines : List (List ℕ)) × HasBegun taken s.input lines × AppendsPrefix false s.old s.new (text_of lines) × TakesLines (3 + length lines) s.last_read taken
 Plays taken s endings.Usage = ⊥
 Plays taken s endings.Unknown = ⊥
 Plays taken s endings.Memory = ⊥

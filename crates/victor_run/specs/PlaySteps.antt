@@ -16,7 +16,7 @@ use Rattle.reply_player.specs.declared.session.Reply.{Reply}
 use Rattle.reply_player.specs.declared.session.Reply.TheVariants.{BlackWon, Filled, Move}
 use Rattle.play_text.specs.Play as ends
 use Rattle.play_text.specs.Play.{PlayEnd, Played, behind, play_from, play_lines, play_of, text_of}
-use Rattle.victor_run.specs.Reading.{Pending, Reads, PassesLines}
+use Rattle.io_ports.specs.Reading.{Pending, Reads, PassesLines}
 use Rattle.victor_run.specs.Streams.{TakesLines, WaitsBehind}
 use Rattle.victor_run.specs.declared.ending.Ending.{Ending}
 use Rattle.victor_run.specs.declared.ending.Ending.TheVariants as endings
@@ -89,13 +89,13 @@ IsWaiting ahead (NoPlan fault) = ⊤
 IsWaiting ahead (NoMove fault) = ⊤
 
 -- what was taken in all, where so many lines were begun
-abbrev pub TakesUntil : PlayStop → ℕ → List ℕ → Type 0
-TakesUntil Read begun taken = WaitsBehind (3 + begun) taken
-TakesUntil Write begun taken = TakesLines (3 + begun) taken
-TakesUntil (Input fault) begun taken = TakesLines (2 + begun) taken
-TakesUntil NoPlanLine begun taken = TakesLines (3 + begun) taken
-TakesUntil (NoPlan fault) begun taken = TakesLines (3 + begun) taken
-TakesUntil (NoMove fault) begun taken = TakesLines (4 + begun) taken
+abbrev pub TakesUntil : PlayStop → ℕ → ℕ → List ℕ → Type 0
+TakesUntil Read begun last_read taken = WaitsBehind (3 + begun) taken
+TakesUntil Write begun last_read taken = TakesLines (3 + begun) last_read taken
+TakesUntil (Input fault) begun last_read taken = TakesLines (2 + begun) last_read taken
+TakesUntil NoPlanLine begun last_read taken = TakesLines (3 + begun) last_read taken
+TakesUntil (NoPlan fault) begun last_read taken = TakesLines (3 + begun) last_read taken
+TakesUntil (NoMove fault) begun last_read taken = TakesLines (4 + begun) last_read taken
 
 -- ---- steps
 
@@ -181,7 +181,7 @@ play_ending Read = endings.Read
 play_ending Write = endings.Write
 
 -- What was played by the bytes that were taken, and by all of the input, where the source tells it.
-pub record PlaysInput {X : Type 0} (input left old new : Option (List ℕ)) (result : Result X PlayStop) : Type 0 where
+pub record PlaysInput {X : Type 0} (input left : Option (List ℕ)) (last_read : ℕ) (old new : Option (List ℕ)) (result : Result X PlayStop) : Type 0 where
   pub taken : List ℕ
   pub gave : Consumes input left taken
   pub lines : List (List ℕ)
@@ -189,4 +189,4 @@ pub record PlaysInput {X : Type 0} (input left old new : Option (List ℕ)) (res
   pub written : AppendsPrefix (is_whole result) old new (text_of lines)
   pub played : MatchResult result (λ x. (play_of taken ≡ record { lines = lines; end = ends.AllPlayed }) × IfSome input (λ bytes. play_of bytes ≡ record { lines = lines; end = ends.AllPlayed }) × IsAtEnd left)
       (λ stop. StopsPlay (play_of taken) lines stop × IfSome input (λ bytes. StopsPlay (play_of bytes) lines stop))
-  pub passed : MatchResult result (λ x. TakesLines (4 + length lines) taken) (λ stop. TakesUntil stop (length lines) taken)
+  pub passed : MatchResult result (λ x. TakesLines (4 + length lines) last_read taken) (λ stop. TakesUntil stop (length lines) last_read taken)

@@ -1,11 +1,13 @@
--- What the source has left and what the sink held, before and after a run, and the bytes that a run took.
+-- What the source has left and what the sink held, before and after a run, how many bytes the source's last read gave, and the
+-- bytes that a run took.
 use Rattle.std.specs.Prelude.{ℕ, ◌≤◌, List, Option, length}
 use Rattle.std.specs.Io.KnownBytes.{Consumes}
-use Rattle.io_ports.specs.Lines.{IsUndecided, behind_lines}
+use Rattle.io_ports.specs.Lines.{HoldsFew, IsUndecided, behind_lines, most_held}
 
 pub record Streams : Type 0 where
   pub input : Option (List ℕ)
   pub left : Option (List ℕ)
+  pub last_read : ℕ
   pub old : Option (List ℕ)
   pub new : Option (List ℕ)
 
@@ -17,13 +19,12 @@ pub record Took (s : Streams) (most : ℕ) (Holds : List ℕ → Type 0) : Type 
   pub few : length taken ≤ most
   pub holds : Holds taken
 
--- how many bytes may be taken behind the last line that is read: a source gives what it has, and not a line
-abbrev pub most_ahead : ℕ
-most_ahead = 16384
-
--- behind at most so many lines of the bytes that were taken, there are no more than those
-abbrev pub TakesLines : ℕ → List ℕ → Type 0
-TakesLines most taken = (n : ℕ) × (n ≤ most) × (length (behind_lines n taken) ≤ most_ahead)
+-- Behind at most so many lines of the bytes that were taken stand few bytes, since a source gives what it has, and not a line:
+-- no more than its last read gave, or the longest that a line may be and no more than that, or the beginning of a line; and
+-- no more than a reader holds.
+abbrev pub TakesLines : ℕ → ℕ → List ℕ → Type 0
+TakesLines most last_read taken =
+    (n : ℕ) × (n ≤ most) × HoldsFew last_read (behind_lines n taken) × (length (behind_lines n taken) ≤ most_held)
 
 -- Behind at most so many lines of the bytes that were taken there is no whole line: what stands there, if anything, begins one.
 abbrev pub WaitsBehind : ℕ → List ℕ → Type 0

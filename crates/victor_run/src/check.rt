@@ -6,10 +6,9 @@ ghost use Rattle.device_rules.specs.Devices.{Rose, HasCause, AppendsPrefix};
 ghost use Rattle.arrayvec.specs.ArrayVec.{array_vec_len};
 ghost use Rattle.game_rules.specs.Position.{board_of};
 ghost use Rattle.proof_text.specs.Texts.{first_number, bytes_refusal, with_bytes, start, verdict_answer};
-ghost use Rattle.io_ports.specs.Lines.{most_held};
 ghost use Rattle.victor_run.specs.Check.{accepted_line, most_lines_read};
 ghost use Rattle.victor_run.specs.CheckSteps.{lines_from, AtHead, AtGame, AtLine, GoesOn, Adds, StopsBy, StopsAtLine, lines_read_until, ending_of, Judges};
-ghost use Rattle.victor_run.specs.Reading.{pending, Reads, PassesLines, KeepsLine};
+ghost use Rattle.io_ports.specs.Reading.{pending, Reads, PassesLines};
 ghost use Rattle.victor_run.specs.Outcome.{Outcome};
 ghost use Rattle.victor_words.specs.declared.form.Form.TheVariants as forms;
 ghost use Rattle.victor_run.specs.declared.ending.Ending.TheVariants as endings;
@@ -18,12 +17,11 @@ ghost use Rattle.proof_text.specs.declared.Why.TheVariants as whys;
 
 use crate::ending::Ending;
 use crate::game_lines::{GameStop, read_game_lines};
-use crate::input_lines::InputLines;
 use crate::output::put_line;
 use board_bits::{InputFault, Position, Size};
 use cert_checker::{Accepted, AddStop, Checker, Refusal, Why};
 use cert_format::{FIRST_LINE, LineBuffer};
-use io_ports::{Failed, LineGot, Sink, Source};
+use io_ports::{Failed, LineGot, Lines, Sink, Source};
 use std::alloc::Global;
 use text_words::{LineText, push_number, push_text};
 
@@ -60,7 +58,13 @@ impl Stop {
 /// failed, which comes only where its count of faults rose, or memory ran out.
 pub(crate) fn check<S: Source, O: Sink>(alloc: Global, source: &mut S, out: &mut O) -> Ending
     ensures outcome { Outcome (Some forms.Check)
-        (record { input = S.left source.old; left = S.left source.new; old = O.written out.old; new = O.written out.new }) result }
+        (record {
+          input = S.left source.old;
+          left = S.left source.new;
+          last_read = S.last_read source.new;
+          old = O.written out.old;
+          new = O.written out.new;
+        }) result }
     ensures read_fault { result ≡ endings.Read → Rose (S.faults source.old) (S.faults source.new) }
     ensures write_fault { result ≡ endings.Write → Rose (O.faults out.old) (O.faults out.new) }
 {
@@ -75,9 +79,9 @@ pub(crate) fn check<S: Source, O: Sink>(alloc: Global, source: &mut S, out: &mut
 
 /// Reads a proof to its end, or to what stops the reading.
 fn judge<S: Source>(alloc: Global, source: &mut S) -> Result<Accepted, Stop>
-    ensures { Judges (S.left source.old) (S.left source.new) (S.faults source.old) (S.faults source.new) result }
+    ensures { Judges (S.left source.old) (S.left source.new) (S.last_read source.new) (S.faults source.old) (S.faults source.new) result }
 {
-    let mut lines = InputLines::new();
+    let mut lines = Lines::new();
     read_head(&mut lines, source)?;
     let root = read_root(&mut lines, source)?;
     let size = root.size();
@@ -90,11 +94,11 @@ fn judge<S: Source>(alloc: Global, source: &mut S) -> Result<Accepted, Stop>
 }
 
 /// Reads the line that names the format.
-fn read_head<S: Source>(lines: &mut InputLines, source: &mut S) -> Result<(), Stop>
-    ensures answer { Reads (pending lines.old (S.left source.old)) (pending lines.new (S.left source.new))
+fn read_head<S: Source>(lines: &mut Lines, source: &mut S) -> Result<(), Stop>
+    ensures answer { Reads (pending lines.old (S.left source.old) (S.last_read source.old))
+        (pending lines.new (S.left source.new) (S.last_read source.new))
         (λ bytes rest. PassesLines 1 bytes rest × MatchResult result (λ _. GoesOn AtHead bytes AtGame rest)
         (StopsBy AtHead bytes (S.faults source.old) (S.faults source.new))) }
-    ensures held { length lines.new.ahead ≤ most_held }
     ensures stops { IfErr result (λ stop. 1 ≤ lines_read_until stop) }
     ensures later { S.faults source.old ≤ S.faults source.new }
 {
@@ -109,11 +113,11 @@ fn read_head<S: Source>(lines: &mut InputLines, source: &mut S) -> Result<(), St
 }
 
 /// Reads the two lines of the game, and answers its position.
-fn read_root<S: Source>(lines: &mut InputLines, source: &mut S) -> Result<Position, Stop>
-    ensures answer { Reads (pending lines.old (S.left source.old)) (pending lines.new (S.left source.new))
+fn read_root<S: Source>(lines: &mut Lines, source: &mut S) -> Result<Position, Stop>
+    ensures answer { Reads (pending lines.old (S.left source.old) (S.last_read source.old))
+        (pending lines.new (S.left source.new) (S.last_read source.new))
         (λ bytes rest. PassesLines 2 bytes rest × MatchResult result (λ root. GoesOn AtGame bytes (AtLine (start root) first_number) rest)
         (StopsBy AtGame bytes (S.faults source.old) (S.faults source.new))) }
-    ensures held { length lines.new.ahead ≤ most_held }
     ensures stops { IfErr result (λ stop. 3 ≤ lines_read_until stop) }
     ensures later { S.faults source.old ≤ S.faults source.new }
 {
@@ -128,18 +132,18 @@ fn read_root<S: Source>(lines: &mut InputLines, source: &mut S) -> Result<Positi
 fn add_lines<S: Source>(
     checker: &mut Checker,
     size: Size,
-    lines: &mut InputLines,
+    lines: &mut Lines,
     source: &mut S,
 ) -> Result<u64, Stop>
     requires { board_of checker.old.root ≡ size }
-    ensures answer { Reads (pending lines.old (S.left source.old)) (pending lines.new (S.left source.new))
+    ensures answer { Reads (pending lines.old (S.left source.old) (S.last_read source.old))
+        (pending lines.new (S.left source.new) (S.last_read source.new))
         (λ bytes rest. MatchResult result
         (λ end. PassesLines (end - 3) bytes rest × (lines_from checker.old first_number bytes ≡ verdict_answer end (length checker.new.known) checker.new.verdict))
         (λ stop. PassesLines (lines_read_until stop - 3) bytes rest
         × StopsBy (AtLine checker.old first_number) bytes (S.faults source.old) (S.faults source.new) stop)) }
     ensures few { MatchResult result (λ end. (FIRST_NUMBER ≤ end) × (end ≤ most_lines_read)) (λ stop. (3 ≤ lines_read_until stop) × (lines_read_until stop ≤ most_lines_read)) }
     ensures ended { OnOk result (lines.new.ended ≡ true) }
-    ensures held { length lines.new.ahead ≤ most_held }
     ensures later { S.faults source.old ≤ S.faults source.new }
 {
     let mut room = LineBuffer::new();
@@ -156,17 +160,17 @@ fn add_next<S: Source>(
     room: &mut LineBuffer,
     size: Size,
     at: u64,
-    lines: &mut InputLines,
+    lines: &mut Lines,
     source: &mut S,
 ) -> Result<bool, Stop>
     requires { board_of checker.old.root ≡ size }
-    ensures answer { Reads (pending lines.old (S.left source.old)) (pending lines.new (S.left source.new))
+    ensures answer { Reads (pending lines.old (S.left source.old) (S.last_read source.old))
+        (pending lines.new (S.left source.new) (S.last_read source.new))
         (λ bytes rest. PassesLines 1 bytes rest × MatchResult result (λ more. Adds checker.old checker.new at more bytes rest)
         (StopsBy (AtLine checker.old at) bytes (S.faults source.old) (S.faults source.new))) }
     ensures few { result ≡ Ok true → at ≤ MOST_LINES }
     ensures root { OnOk result (checker.new.root ≡ checker.old.root) }
     ensures ended { result ≡ Ok false → lines.new.ended ≡ true }
-    ensures held { length lines.new.ahead ≤ most_held }
     ensures stops { at ≤ most_lines_read → IfErr result (λ stop. (at ≤ lines_read_until stop) × (lines_read_until stop ≤ most_lines_read)) }
     ensures later { S.faults source.old ≤ S.faults source.new }
 {

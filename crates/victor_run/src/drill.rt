@@ -40,8 +40,8 @@ pub(crate) fn drill<O: Sink>(
     out: &mut O,
 ) -> Ending
     requires nodes { nodes ≤ greatest_number }
-    ensures drills { (input left : Option (List ℕ)) → Drills (games_from games size moves seed) nodes reach
-        (record { input = input; left = left; old = O.written out.old; new = O.written out.new }) result }
+    ensures drills { (input left : Option (List ℕ)) (last_read : ℕ) → Drills (games_from games size moves seed) nodes reach
+        (record { input = input; left = left; last_read = last_read; old = O.written out.old; new = O.written out.new }) result }
     ensures no_read { result ≡ endings.Read → ⊥ }
     ensures write_fault { result ≡ endings.Write → Rose (O.faults out.old) (O.faults out.new) }
 {

@@ -5,14 +5,14 @@ ghost use Rattle.device_rules.specs.Devices.{Rose};
 ghost use Rattle.arrayvec.specs.ArrayVec.{array_vec_len};
 ghost use Rattle.game_rules.specs.Text.{game_at};
 ghost use Rattle.proof_text.specs.Texts.{pieces, lines_in, game_of, behind_game};
-ghost use Rattle.io_ports.specs.Lines.{IsUndecided, most_held};
-ghost use Rattle.victor_run.specs.Reading.{pending, Reads, PassesLines, KeepsLine, StopsGame};
+ghost use Rattle.io_ports.specs.Lines.{IsUndecided};
+ghost use Rattle.io_ports.specs.Reading.{pending, Reads, PassesLines};
+ghost use Rattle.victor_run.specs.Reading.{KeepsLine, StopsGame};
 ghost use Rattle.victor_run.specs.declared.game_lines.GameStop.TheVariants as stops;
 
-use crate::input_lines::InputLines;
 use arrayvec::ArrayVec;
 use board_bits::{InputFault, Position, read_game};
-use io_ports::{LineGot, Source};
+use io_ports::{LineGot, Lines, Source};
 use text_words::push_text;
 
 /// How much of a line of the game is kept. The lines of a game are shorter.
@@ -30,15 +30,15 @@ pub(crate) enum GameStop {
 
 /// Reads the two lines of a game, and answers its position.
 pub(crate) fn read_game_lines<S: Source>(
-    lines: &mut InputLines,
+    lines: &mut Lines,
     source: &mut S,
 ) -> Result<Position, GameStop>
-    ensures answer { Reads (pending lines.old (S.left source.old)) (pending lines.new (S.left source.new))
+    ensures answer { Reads (pending lines.old (S.left source.old) (S.last_read source.old))
+        (pending lines.new (S.left source.new) (S.last_read source.new))
         (λ bytes rest. PassesLines 2 bytes rest × MatchResult result
         (λ root. (game_at (game_of (pieces bytes)) ≡ Ok root) × (behind_game (pieces bytes) ≡ lines_in (pieces rest)))
         (StopsGame (game_at (game_of (pieces bytes))) (S.faults source.old) (S.faults source.new))) }
     ensures waiting { result ≡ Err stops.Read → IsUndecided lines.new.ahead }
-    ensures held { length lines.new.ahead ≤ most_held }
     ensures later { S.faults source.old ≤ S.faults source.new }
 {
     let mut text = ArrayVec::new();
@@ -53,16 +53,16 @@ pub(crate) fn read_game_lines<S: Source>(
 /// Puts the prefix of the next line behind the text, and the line feed that ended it.
 fn keep_line<S: Source>(
     text: &mut ArrayVec<u8, MOST_KEPT>,
-    lines: &mut InputLines,
+    lines: &mut Lines,
     source: &mut S,
 ) -> Result<(), GameStop>
     requires { array_vec_len text.old + GAME_PREFIX + 1 ≤ MOST_KEPT }
-    ensures kept { Reads (pending lines.old (S.left source.old)) (pending lines.new (S.left source.new))
+    ensures kept { Reads (pending lines.old (S.left source.old) (S.last_read source.old))
+        (pending lines.new (S.left source.new) (S.last_read source.new))
         (λ bytes rest. PassesLines 1 bytes rest × IfOk result (λ _. KeepsLine text.old.items text.new.items bytes rest)) }
     ensures waiting { IfErr result (λ _. IsUndecided lines.new.ahead) }
     ensures failed { IfErr result (λ stop. (stop ≡ stops.Read) × Rose (S.faults source.old) (S.faults source.new)) }
     ensures bound { array_vec_len text.new ≤ array_vec_len text.old + GAME_PREFIX + 1 }
-    ensures held { length lines.new.ahead ≤ most_held }
     ensures later { S.faults source.old ≤ S.faults source.new }
 {
     if let LineGot::Failed = lines.next(source) {

@@ -10,7 +10,6 @@ mod explain;
 mod fronts;
 mod game_input;
 mod game_lines;
-mod input_lines;
 mod output;
 mod play;
 mod prove;

@@ -4,14 +4,14 @@
 ghost use Rattle.std.specs.Prelude.{◌≡◌, ◌+◌, ◌*◌, ◌≤◌, ◌<◌, ℕ, List, [], ◌∷◌, ◌++◌, true, false, length, Ok, Err, Some, MatchResult, IfOk, IfErr, OnOk};
 ghost use Rattle.arrayvec.specs.ArrayVec.{array_vec_len};
 ghost use Rattle.device_rules.specs.Devices.{Rose};
-ghost use Rattle.io_ports.specs.Lines.{most_held, longest_line};
+ghost use Rattle.io_ports.specs.Lines.{longest_line};
 ghost use Rattle.game_rules.specs.Board.{on_board};
 ghost use Rattle.game_rules.specs.Position.{board_of, height, empty_count};
 ghost use Rattle.plan_text.specs.Items.{square_text};
 ghost use Rattle.text_words.specs.Lines.{line_room};
 ghost use Rattle.rule_compat.specs.Planned.{members};
 ghost use Rattle.play_text.specs.Play.{behind, column_in, play_from, play_lines, play_of, first_move};
-ghost use Rattle.victor_run.specs.Reading.{pending, Reads, PassesLines};
+ghost use Rattle.io_ports.specs.Reading.{pending, Reads, PassesLines};
 ghost use Rattle.victor_run.specs.PlaySteps.{reply_column, reply_end, answered_line, played_at, played_from, StopsPlay, lines_besides, IsWaiting, IsNoMove, IsNoPlan, is_whole, PlayStep, PlaysNext, PlaysMoves, PlaysInput, StopsReading, HasPlayCause, play_ending};
 ghost use Rattle.victor_run.specs.Outcome.{Outcome};
 ghost use Rattle.victor_words.specs.declared.form.Form.TheVariants as forms;
@@ -20,12 +20,11 @@ ghost use Rattle.victor_run.specs.declared.play.PlayStop.TheVariants as stops;
 
 use crate::ending::Ending;
 use crate::game_lines::{GameStop, read_game_lines};
-use crate::input_lines::InputLines;
 use crate::output::put_line;
 use board_bits::{Column, InputFault, MoveFault, Position, Size};
 use cert_checker::{PlanFault, Refusal, Why};
 use cert_format::{push_square, read_plan};
-use io_ports::{Failed, LineGot, Sink, Source};
+use io_ports::{Failed, LineGot, Lines, Sink, Source};
 use play_text::{PlayFault, PlayKind};
 use reply_player::{Reply, Session};
 use rule_compat::Plan;
@@ -71,7 +70,13 @@ impl PlayStop {
 /// unless a stream failed, which comes only where its count of faults rose.
 pub(crate) fn play<S: Source, O: Sink>(source: &mut S, out: &mut O) -> Ending
     ensures outcome { Outcome (Some forms.Play)
-        (record { input = S.left source.old; left = S.left source.new; old = O.written out.old; new = O.written out.new }) result }
+        (record {
+          input = S.left source.old;
+          left = S.left source.new;
+          last_read = S.last_read source.new;
+          old = O.written out.old;
+          new = O.written out.new;
+        }) result }
     ensures read_fault { result ≡ endings.Read → Rose (S.faults source.old) (S.faults source.new) }
     ensures write_fault { result ≡ endings.Write → Rose (O.faults out.old) (O.faults out.new) }
 {
@@ -83,21 +88,21 @@ pub(crate) fn play<S: Source, O: Sink>(source: &mut S, out: &mut O) -> Ending
 
 /// Plays to the end of the input, or to what stops play.
 fn play_all<S: Source, O: Sink>(source: &mut S, out: &mut O) -> Result<(), PlayStop>
-    ensures plays { PlaysInput (S.left source.old) (S.left source.new) (O.written out.old) (O.written out.new) result }
+    ensures plays { PlaysInput (S.left source.old) (S.left source.new) (S.last_read source.new) (O.written out.old) (O.written out.new) result }
     ensures cause { HasPlayCause (S.faults source.old) (S.faults source.new) (O.faults out.old) (O.faults out.new) result }
 {
-    let mut lines = InputLines::new();
+    let mut lines = Lines::new();
     let root = read_root(&mut lines, source)?;
     let plan = read_plan_line(&root, &mut lines, source)?;
     play_moves(&mut Session::new(plan), &mut lines, source, out)
 }
 
 /// Reads the two lines of the game, and answers its position.
-fn read_root<S: Source>(lines: &mut InputLines, source: &mut S) -> Result<Position, PlayStop>
-    ensures answer { Reads (pending lines.old (S.left source.old)) (pending lines.new (S.left source.new))
+fn read_root<S: Source>(lines: &mut Lines, source: &mut S) -> Result<Position, PlayStop>
+    ensures answer { Reads (pending lines.old (S.left source.old) (S.last_read source.old))
+        (pending lines.new (S.left source.new) (S.last_read source.new))
         (λ bytes rest. PassesLines 2 bytes rest × MatchResult result (λ root. play_of bytes ≡ played_at root rest) (StopsPlay (play_of bytes) [])) }
     ensures waiting { IfErr result (IsWaiting lines.new.ahead) }
-    ensures held { length lines.new.ahead ≤ most_held }
     ensures stops { IfErr result (λ stop. 2 ≤ lines_besides stop) }
     ensures later { S.faults source.old ≤ S.faults source.new }
     ensures caused { IfErr result (λ stop. StopsReading (S.faults source.old) (S.faults source.new) stop) }
@@ -112,16 +117,16 @@ fn read_root<S: Source>(lines: &mut InputLines, source: &mut S) -> Result<Positi
 /// Reads the line of the plan, which has to be one at this position.
 fn read_plan_line<S: Source>(
     root: &Position,
-    lines: &mut InputLines,
+    lines: &mut Lines,
     source: &mut S,
 ) -> Result<Plan, PlayStop>
-    ensures answer { Reads (pending lines.old (S.left source.old)) (pending lines.new (S.left source.new))
+    ensures answer { Reads (pending lines.old (S.left source.old) (S.last_read source.old))
+        (pending lines.new (S.left source.new) (S.last_read source.new))
         (λ bytes rest. PassesLines 1 bytes rest × MatchResult result
         (λ plan. played_at root.now bytes ≡ played_from (record { plan = plan; stands = root.now }) first_move rest)
         (StopsPlay (played_at root.now bytes) [])) }
     ensures at { IfOk result (λ plan. (plan.at ≡ root.now) × (empty_count root.now ≤ 100)) }
     ensures waiting { IfErr result (IsWaiting lines.new.ahead) }
-    ensures held { length lines.new.ahead ≤ most_held }
     ensures stops { IfErr result (λ stop. 3 ≤ lines_besides stop) }
     ensures later { S.faults source.old ≤ S.faults source.new }
     ensures caused { IfErr result (λ stop. StopsReading (S.faults source.old) (S.faults source.new) stop) }
@@ -154,16 +159,17 @@ fn plan_of(root: &Position, bytes: &[u8]) -> Result<Plan, PlayStop>
 /// Plays White's lines to the end of the input.
 fn play_moves<S: Source, O: Sink>(
     session: &mut Session,
-    lines: &mut InputLines,
+    lines: &mut Lines,
     source: &mut S,
     out: &mut O,
 ) -> Result<(), PlayStop>
     requires { empty_count session.old.stands ≤ 100 }
-    ensures plays { PlayStep (pending lines.old (S.left source.old)) (pending lines.new (S.left source.new)) (O.written out.old) (O.written out.new) (is_whole result)
+    ensures plays { PlayStep (pending lines.old (S.left source.old) (S.last_read source.old))
+        (pending lines.new (S.left source.new) (S.last_read source.new))
+        (O.written out.old) (O.written out.new) (is_whole result)
         (empty_count session.old.stands) (empty_count session.new.stands) (PlaysMoves session.old first_move result) }
     ensures ended { OnOk result (lines.new.ended ≡ true) }
     ensures waiting { IfErr result (IsWaiting lines.new.ahead) }
-    ensures held { length lines.new.ahead ≤ most_held }
     ensures cause { HasPlayCause (S.faults source.old) (S.faults source.new) (O.faults out.old) (O.faults out.new) result }
 {
     let mut at = FIRST_MOVE;
@@ -177,16 +183,17 @@ fn play_moves<S: Source, O: Sink>(
 fn play_next<S: Source, O: Sink>(
     session: &mut Session,
     at: u64,
-    lines: &mut InputLines,
+    lines: &mut Lines,
     source: &mut S,
     out: &mut O,
 ) -> Result<bool, PlayStop>
-    ensures plays { PlayStep (pending lines.old (S.left source.old)) (pending lines.new (S.left source.new)) (O.written out.old) (O.written out.new) (is_whole result)
+    ensures plays { PlayStep (pending lines.old (S.left source.old) (S.last_read source.old))
+        (pending lines.new (S.left source.new) (S.last_read source.new))
+        (O.written out.old) (O.written out.new) (is_whole result)
         (empty_count session.old.stands) (empty_count session.new.stands) (PlaysNext session.old session.new at result) }
     ensures fewer { result ≡ Ok true → empty_count session.new.stands < empty_count session.old.stands }
     ensures ended { result ≡ Ok false → lines.new.ended ≡ true }
     ensures waiting { IfErr result (IsWaiting lines.new.ahead) }
-    ensures held { length lines.new.ahead ≤ most_held }
     ensures cause { HasPlayCause (S.faults source.old) (S.faults source.new) (O.faults out.old) (O.faults out.new) result }
 {
     match lines.next(source) {

@@ -45,7 +45,13 @@ pub(crate) fn prove<S: Source, O: Sink>(
     requires slots { IfSome slots AreSlots }
     requires room { IsRoom table }
     ensures outcome { Outcome (Some (forms.Prove nodes reach slots table))
-        (record { input = S.left source.old; left = S.left source.new; old = O.written out.old; new = O.written out.new }) result }
+        (record {
+          input = S.left source.old;
+          left = S.left source.new;
+          last_read = S.last_read source.new;
+          old = O.written out.old;
+          new = O.written out.new;
+        }) result }
     ensures read_fault { result ≡ endings.Read → Rose (S.faults source.old) (S.faults source.new) }
     ensures write_fault { result ≡ endings.Write → Rose (O.faults out.old) (O.faults out.new) }
 {
@@ -68,8 +74,8 @@ fn prove_game<O: Sink>(
     requires nodes { nodes ≤ greatest_number }
     requires slots { IfSome slots AreSlots }
     requires room { IsRoom table }
-    ensures proves { (text : List ℕ) (input left : Option (List ℕ)) → IsTextOf text game.now → IsAtEnd left → Proves nodes reach slots text
-        (record { input = input; left = left; old = O.written out.old; new = O.written out.new }) result }
+    ensures proves { (text : List ℕ) (input left : Option (List ℕ)) (last_read : ℕ) → IsTextOf text game.now → IsAtEnd left → Proves nodes reach slots text
+        (record { input = input; left = left; last_read = last_read; old = O.written out.old; new = O.written out.new }) result }
     ensures no_read { result ≡ endings.Read → ⊥ }
     ensures write_fault { result ≡ endings.Write → Rose (O.faults out.old) (O.faults out.new) }
 {

@@ -2,9 +2,9 @@ use Rattle.std.proofs.Common.{◌+◌, ◌-◌, Bool, Ok, refl, ap, ◌∙◌, s
 use Rattle.game_rules.specs.Position.{board_of}
 use Rattle.std.proofs.lemmas.Result.{err_from_is_err_and}
 use Rattle.victor_run.specs.CheckSteps.{Adds, lines_read_until}
-use Rattle.victor_run.specs.Reading.{pending, Reads, PassesLines}
+use Rattle.io_ports.specs.Reading.{pending, Reads, PassesLines}
 use Rattle.victor_run.proofs.Judging.{goes_then, stops_earlier}
-use Rattle.victor_run.proofs.Reading.{Reads_start, Reads_then, passes_none, passes_then, passes_most}
+use Rattle.io_ports.proofs.Reading.{Reads_start, Reads_then, passes_none, passes_then, passes_most}
 use Rattle.victor_run.proofs.check.add_lines.Goals as goal
 
 pub returns-in_err-add_next-clause-answer : goal.returns-in_err-add_next-clause-answer
@@ -21,7 +21,7 @@ returns-in_err-add_next-clause-answer g c =
 pub returns-clause-answer : goal.returns-clause-answer
 returns-clause-answer g c =
     let before = c.loop-at.invariant in
-    let P : Bool → Type 0 = λ more. Reads (pending c.loop-at.lines (g.S.Source.left c.loop-at.source)) (pending c.add_next.new.lines (g.S.Source.left c.add_next.new.source))
+    let P : Bool → Type 0 = λ more. Reads (pending c.loop-at.lines (g.S.Source.left c.loop-at.source) (g.S.Source.last_read c.loop-at.source)) (pending c.add_next.new.lines (g.S.Source.left c.add_next.new.source) (g.S.Source.last_read c.add_next.new.source))
     (λ bytes rest. PassesLines 1 bytes rest × Adds c.loop-at.checker c.add_next.new.checker c.loop-at.at more bytes rest) in
     Reads_then _ _ _ _ _ _ before.goes (subst P c.if-branch.false c.in_ok-add_next.ensures.answer) (λ bytes mid rest p q. (
       passes_most (c.loop-at.at - 4 + 1) (c.loop-at.at - 3) bytes rest (omega (arith, before.from)) (passes_then (c.loop-at.at - 4) 1 bytes mid rest p.0 q.0),
@@ -40,7 +40,7 @@ loop-at-init g c = record {
 pub loop-at-preserved : goal.loop-at-preserved
 loop-at-preserved g c =
     let before = c.loop-at.invariant in
-    let P : Bool → Type 0 = λ more. Reads (pending c.loop-at.lines (g.S.Source.left c.loop-at.source)) (pending c.add_next.new.lines (g.S.Source.left c.add_next.new.source))
+    let P : Bool → Type 0 = λ more. Reads (pending c.loop-at.lines (g.S.Source.left c.loop-at.source) (g.S.Source.last_read c.loop-at.source)) (pending c.add_next.new.lines (g.S.Source.left c.add_next.new.source) (g.S.Source.last_read c.add_next.new.source))
     (λ bytes rest. PassesLines 1 bytes rest × Adds c.loop-at.checker c.add_next.new.checker c.loop-at.at more bytes rest) in
     record {
       goes = Reads_then _ _ _ _ _ _ before.goes (subst P c.if-branch.true c.in_ok-add_next.ensures.answer) (λ bytes mid rest p q. (

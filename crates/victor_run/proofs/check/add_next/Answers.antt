@@ -2,14 +2,14 @@ use Rattle.std.proofs.Common.{List, ℕ, sym, ap, ◌∙◌, subst}
 use Rattle.std.proofs.lemmas.Result.{err_from_is_err_and}
 use Rattle.io_ports.specs.Lines.{Gives}
 use Rattle.io_ports.specs.declared.line_reader.LineGot.TheVariants.{Line}
-use Rattle.victor_run.specs.Reading.{pending, Reads}
+use Rattle.io_ports.specs.Reading.{pending, Reads}
 use Rattle.victor_run.proofs.CheckKnown.{line_known, line_stops, long_stops, none_known, with_bytes_root}
 use Rattle.victor_run.proofs.check.add_next.Goals as goal
 
 pub returns-in_err-add_line-in-Line-clause-answer : goal.returns-in_err-add_line-in-Line-clause-answer
 returns-in_err-add_line-in-Line-clause-answer g c =
-    let a = pending c.args.lines.now (g.S.Source.left c.args.source.now) in
-    let b = pending c.next.new.self (g.S.Source.left c.next.new.source) in
+    let a = pending c.args.lines.now (g.S.Source.left c.args.source.now) (g.S.Source.last_read c.args.source.now) in
+    let b = pending c.next.new.self (g.S.Source.left c.next.new.source) (g.S.Source.last_read c.next.new.source) in
     let P : List ℕ → Type 0 = λ text. Reads a b (λ bytes rest. Gives bytes rest Line text c.next.new.self.fed) in
     let stop = err_from_is_err_and c.from_residual.result c.from_residual.ensures.1 in
     rw (stop.1, stop.2) (
@@ -19,8 +19,8 @@ returns-in_err-add_line-in-Line-clause-answer g c =
 
 pub returns-in_ok-add_line-in-Line-clause-answer : goal.returns-in_ok-add_line-in-Line-clause-answer
 returns-in_ok-add_line-in-Line-clause-answer g c =
-    let a = pending c.args.lines.now (g.S.Source.left c.args.source.now) in
-    let b = pending c.next.new.self (g.S.Source.left c.next.new.source) in
+    let a = pending c.args.lines.now (g.S.Source.left c.args.source.now) (g.S.Source.last_read c.args.source.now) in
+    let b = pending c.next.new.self (g.S.Source.left c.next.new.source) (g.S.Source.last_read c.next.new.source) in
     let P : List ℕ → Type 0 = λ text. Reads a b (λ bytes rest. Gives bytes rest Line text c.next.new.self.fed) in
     let added = c.in_ok-add_line-in-Line.ensures.answer in
     line_known a b c.text.result.now c.next.new.self.fed c.args.checker.now c.args.at (subst P (sym c.text.ensures) c.in-Line.ensures.gives) added.0 c.add_line.new.checker added.1

@@ -3,7 +3,9 @@ use Rattle.device_rules.specs.Devices.{AppendsPrefix}
 use Rattle.game_rules.proofs.Games.{game_is_read}
 use Rattle.walk_rules.specs.Walk.{solved}
 use Rattle.explain_text.specs.Explanation.{explanation}
+use Rattle.std.proofs.KnownBytes.{Keeps-refl}
 use Rattle.victor_run.specs.ExplainPromise.{Explains}
+use Rattle.victor_run.specs.Streams.{Streams}
 use Rattle.victor_run.proofs.Ends.{no_game}
 use Rattle.victor_run.proofs.Explaining.{explains_game}
 use Rattle.victor_run.proofs.explain.explain.Goals as goal
@@ -11,6 +13,11 @@ use Rattle.victor_run.proofs.explain.explain.Goals as goal
 pub returns-in-Ok-clause-outcome : goal.returns-in-Ok-clause-outcome
 returns-in-Ok-clause-outcome g c =
     let takes = c.in-Ok.ensures.takes in
+    let input = g.S.Source.left c.args.source.now in
+    let left = g.S.Source.left c.read_game_input.new.source in
+    let last_read = g.S.Source.last_read c.read_game_input.new.source in
+    let old = g.O.Sink.written c.args.out.now in
+    let s : Streams = record { input = input; left = left; last_read = last_read; old = old; new = g.O.Sink.written c.write_choice.new.out } in
     let game = c.in-Ok.game in
     let found = subst (λ p. IfOk c.write_choice.result (λ found. found ≡ solved p c.args.reach)) c.position.ensures.position c.write_choice.ensures.found in
     let written = subst (λ p. AppendsPrefix (is_ok c.write_choice.result) (g.O.Sink.written c.args.out.now) (g.O.Sink.written c.write_choice.new.out)
@@ -19,12 +26,17 @@ returns-in-Ok-clause-outcome g c =
       taken = takes.0;
       gave = takes.1.gave;
       few = takes.1.few;
-      holds = rw c.explained_ending.ensures (explains_game c.args.reach _ _ game.position takes.3 (game_is_read takes.0 game takes.2)
-        c.write_choice.result found written);
+      holds = rw c.explained_ending.ensures (explains_game c.args.reach s _ game.position takes.3 (game_is_read takes.0 game takes.2)
+          c.write_choice.result found written);
     }
 
 pub returns-in-Err-clause-outcome : goal.returns-in-Err-clause-outcome
 returns-in-Err-clause-outcome g c =
-    rw c.ending.ensures (no_game (g.S.Source.left c.args.source.now) (g.S.Source.left c.read_game_input.new.source) (g.O.Sink.written c.args.out.now)
-    (λ taken ending. Explains c.args.reach taken (record { input = g.S.Source.left c.args.source.now; left = g.S.Source.left c.read_game_input.new.source; old = g.O.Sink.written c.args.out.now; new = g.O.Sink.written c.args.out.now }) ending)
-    (λ taken fault at whole keeps. (at, whole, keeps)) (λ taken keeps. keeps) c.in-Err.stop c.in-Err.ensures.takes)
+    let input = g.S.Source.left c.args.source.now in
+    let left = g.S.Source.left c.read_game_input.new.source in
+    let last_read = g.S.Source.last_read c.read_game_input.new.source in
+    let out = g.O.Sink.written c.args.out.now in
+    let s : Streams = record { input = input; left = left; last_read = last_read; old = out; new = out } in
+    let keeps = Keeps-refl out in
+    rw c.ending.ensures (no_game s (λ taken ending. Explains c.args.reach taken s ending)
+    (λ taken fault at whole. (at, whole, keeps)) (λ taken. keeps) c.in-Err.stop c.in-Err.ensures.takes)

@@ -2,9 +2,10 @@ use Rattle.std.specs.Prelude.{⊤}
 use Rattle.std.proofs.Common.{List, ℕ, sym, ap, ◌∙◌, subst, arith}
 use Rattle.std.proofs.lemmas.Result.{err_from_is_err_and}
 use Rattle.game_rules.specs.Text.{game_at}
-use Rattle.victor_run.specs.Reading.{pending, Reads, PassesLines, KeepsLine}
+use Rattle.io_ports.specs.Reading.{pending, Reads, PassesLines}
+use Rattle.victor_run.specs.Reading.{KeepsLine}
 use Rattle.victor_run.proofs.GameRead.{game_known, game_stops, game_unread}
-use Rattle.victor_run.proofs.Reading.{Reads_then, passes_then}
+use Rattle.io_ports.proofs.Reading.{Reads_then, passes_then}
 use Rattle.victor_run.proofs.game_lines.read_game_lines.Goals as goal
 
 pub returns-in_err-keep_line-clause-answer : goal.returns-in_err-keep_line-clause-answer
@@ -22,15 +23,15 @@ returns-in_err-keep_line-2-clause-answer g c =
 pub returns-in-Ok-clause-answer : goal.returns-in-Ok-clause-answer
 returns-in-Ok-clause-answer g c =
     let one = c.keep_line.new.text.items in
-    let a = pending c.args.lines.now (g.S.Source.left c.args.source.now) in
-    let b = pending c.keep_line.new.lines (g.S.Source.left c.keep_line.new.source) in
+    let a = pending c.args.lines.now (g.S.Source.left c.args.source.now) (g.S.Source.last_read c.args.source.now) in
+    let b = pending c.keep_line.new.lines (g.S.Source.left c.keep_line.new.source) (g.S.Source.last_read c.keep_line.new.source) in
     let P : List ℕ → Type 0 = λ text. Reads a b (λ bytes rest. PassesLines 1 bytes rest × KeepsLine text one bytes rest) in
     game_known a b _ one c.keep_line-2.new.text.items (subst P c.new-text.ensures c.in_ok-keep_line.ensures.kept) c.in_ok-keep_line-2.ensures.kept c.in-Ok.root (ap game_at (sym c.as_slice.ensures.value) ∙ sym c.in-Ok.ensures)
 
 pub returns-in-Err-clause-answer : goal.returns-in-Err-clause-answer
 returns-in-Err-clause-answer g c =
     let one = c.keep_line.new.text.items in
-    let a = pending c.args.lines.now (g.S.Source.left c.args.source.now) in
-    let b = pending c.keep_line.new.lines (g.S.Source.left c.keep_line.new.source) in
+    let a = pending c.args.lines.now (g.S.Source.left c.args.source.now) (g.S.Source.last_read c.args.source.now) in
+    let b = pending c.keep_line.new.lines (g.S.Source.left c.keep_line.new.source) (g.S.Source.last_read c.keep_line.new.source) in
     let P : List ℕ → Type 0 = λ text. Reads a b (λ bytes rest. PassesLines 1 bytes rest × KeepsLine text one bytes rest) in
     game_stops a b _ one c.keep_line-2.new.text.items (subst P c.new-text.ensures c.in_ok-keep_line.ensures.kept) c.in_ok-keep_line-2.ensures.kept c.in-Err.fault (ap game_at (sym c.as_slice.ensures.value) ∙ sym c.in-Err.ensures)

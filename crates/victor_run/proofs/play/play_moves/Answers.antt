@@ -1,7 +1,7 @@
 use Rattle.std.proofs.Common.{Bool, Ok, ap, subst, arith}
 use Rattle.std.proofs.lemmas.Result.{err_from_is_err_and}
 use Rattle.game_rules.specs.Position.{empty_count}
-use Rattle.victor_run.specs.Reading.{pending}
+use Rattle.io_ports.specs.Reading.{pending}
 use Rattle.victor_run.specs.PlaySteps.{is_whole, PlayStep, PlaysNext}
 use Rattle.victor_run.proofs.PlayJudged.{step_then, goes_none, goes_next, goes_all, goes_stop}
 use Rattle.victor_run.proofs.play.play_moves.Goals as goal
@@ -22,8 +22,8 @@ returns-in_err-play_next-clause-plays g c =
 pub loop-at-preserved : goal.loop-at-preserved
 loop-at-preserved g c =
     let before = c.loop-at.invariant in
-    let b = pending c.loop-at.lines (g.S.Source.left c.loop-at.source) in
-    let d = pending c.play_next.new.lines (g.S.Source.left c.play_next.new.source) in
+    let b = pending c.loop-at.lines (g.S.Source.left c.loop-at.source) (g.S.Source.last_read c.loop-at.source) in
+    let d = pending c.play_next.new.lines (g.S.Source.left c.play_next.new.source) (g.S.Source.last_read c.play_next.new.source) in
     let P : Bool → Type 0 = λ more. PlayStep b d (g.O.Sink.written c.loop-at.out) (g.O.Sink.written c.play_next.new.out) (is_whole (Ok more))
     (empty_count c.loop-at.session.stands) (empty_count c.play_next.new.session.stands) (PlaysNext c.loop-at.session c.play_next.new.session c.loop-at.at (Ok more)) in
     let fewer = c.in_ok-play_next.ensures.fewer (ap Ok c.if-branch.true) in
@@ -36,8 +36,8 @@ loop-at-preserved g c =
 
 pub returns-clause-plays : goal.returns-clause-plays
 returns-clause-plays g c =
-    let b = pending c.loop-at.lines (g.S.Source.left c.loop-at.source) in
-    let d = pending c.play_next.new.lines (g.S.Source.left c.play_next.new.source) in
+    let b = pending c.loop-at.lines (g.S.Source.left c.loop-at.source) (g.S.Source.last_read c.loop-at.source) in
+    let d = pending c.play_next.new.lines (g.S.Source.left c.play_next.new.source) (g.S.Source.last_read c.play_next.new.source) in
     let P : Bool → Type 0 = λ more. PlayStep b d (g.O.Sink.written c.loop-at.out) (g.O.Sink.written c.play_next.new.out) (is_whole (Ok more))
     (empty_count c.loop-at.session.stands) (empty_count c.play_next.new.session.stands) (PlaysNext c.loop-at.session c.play_next.new.session c.loop-at.at (Ok more)) in
     step_then _ _ _ _ _ _ _ _ _ _ _ _ _ c.loop-at.invariant.goes (subst P c.if-branch.false c.in_ok-play_next.ensures.plays) (λ xs ys bytes mid rest. goes_all c.args.session.now c.loop-at.session c.play_next.new.session c.loop-at.at xs ys bytes mid rest)

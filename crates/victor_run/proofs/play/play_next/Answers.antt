@@ -5,17 +5,17 @@ use Rattle.game_rules.specs.Position.{empty_count}
 use Rattle.io_ports.specs.Lines.{Gives}
 use Rattle.io_ports.specs.declared.line_reader.LineGot.TheVariants.{Line}
 use Rattle.reply_player.specs.Playing.{Playing}
-use Rattle.victor_run.specs.Reading.{pending, Reads}
+use Rattle.io_ports.specs.Reading.{pending, Reads}
 use Rattle.victor_run.specs.PlaySteps.{is_whole}
 use Rattle.victor_run.proofs.PlayRead.{moves_long, moves_none, moves_unread}
 use Rattle.victor_run.proofs.PlayJudged.{step_line, step_none, next_played, next_cut, next_stopped, line_cause, no_move_waits}
-use Rattle.victor_run.proofs.Reading.{Reads_more}
+use Rattle.io_ports.proofs.Reading.{Reads_more}
 use Rattle.victor_run.proofs.play.play_next.Goals as goal
 
 pub returns-in_err-line-in-Line-clause-plays : goal.returns-in_err-line-in-Line-clause-plays
 returns-in_err-line-in-Line-clause-plays g c =
-    let a = pending c.args.lines.now (g.S.Source.left c.args.source.now) in
-    let b = pending c.next.new.self (g.S.Source.left c.next.new.source) in
+    let a = pending c.args.lines.now (g.S.Source.left c.args.source.now) (g.S.Source.last_read c.args.source.now) in
+    let b = pending c.next.new.self (g.S.Source.left c.next.new.source) (g.S.Source.last_read c.next.new.source) in
     let P : List ℕ → Type 0 = λ text. Reads a b (λ bytes rest. Gives bytes rest Line text c.next.new.self.fed) in
     let same = err_from_is_err_and c.from_residual.result c.from_residual.ensures.1 in
     let stopped = c.in_err-line-in-Line.ensures in
@@ -36,8 +36,8 @@ returns-in_err-line-in-Line-clause-cause g c =
 
 pub returns-in-Ok-clause-plays : goal.returns-in-Ok-clause-plays
 returns-in-Ok-clause-plays g c =
-    let a = pending c.args.lines.now (g.S.Source.left c.args.source.now) in
-    let b = pending c.next.new.self (g.S.Source.left c.next.new.source) in
+    let a = pending c.args.lines.now (g.S.Source.left c.args.source.now) (g.S.Source.last_read c.args.source.now) in
+    let b = pending c.next.new.self (g.S.Source.left c.next.new.source) (g.S.Source.last_read c.next.new.source) in
     let P : List ℕ → Type 0 = λ text. Reads a b (λ bytes rest. Gives bytes rest Line text c.next.new.self.fed) in
     let line = c.in_ok-line-in-Line.line.items in
     let Put : List ℕ → Type 0 = λ text. AppendsPrefix true (g.O.Sink.written c.args.out.now) (g.O.Sink.written c.put_line.new.out) text in
@@ -47,8 +47,8 @@ returns-in-Ok-clause-plays g c =
 
 pub returns-in-Err-clause-plays : goal.returns-in-Err-clause-plays
 returns-in-Err-clause-plays g c =
-    let a = pending c.args.lines.now (g.S.Source.left c.args.source.now) in
-    let b = pending c.next.new.self (g.S.Source.left c.next.new.source) in
+    let a = pending c.args.lines.now (g.S.Source.left c.args.source.now) (g.S.Source.last_read c.args.source.now) in
+    let b = pending c.next.new.self (g.S.Source.left c.next.new.source) (g.S.Source.last_read c.next.new.source) in
     let P : List ℕ → Type 0 = λ text. Reads a b (λ bytes rest. Gives bytes rest Line text c.next.new.self.fed) in
     let line = c.in_ok-line-in-Line.line.items in
     let Put : List ℕ → Type 0 = λ text. AppendsPrefix false (g.O.Sink.written c.args.out.now) (g.O.Sink.written c.put_line.new.out) text in

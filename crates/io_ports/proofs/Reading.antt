@@ -1,13 +1,30 @@
 -- Steps of reading, one after another: what they took, and the lines that they passed.
-use Rattle.std.proofs.Common.{◌≡◌, ℕ, zero, suc, ◌+◌, ◌≤◌, Bool, true, false, List, [], ◌++◌, Option, refl, sym, ap, ◌∙◌, subst, arith, append_assoc}
+use Rattle.std.proofs.Common.{◌≡◌, ℕ, zero, suc, ◌+◌, ◌≤◌, Bool, true, false, List, [], ◌++◌, length, Option, refl, sym, ap, ◌∙◌, subst, arith, append_assoc}
 use Rattle.std.specs.Io.KnownBytes.{Consumes, IsAtEnd}
 use Rattle.std.proofs.KnownBytes.{Consumes-trans, Consumes-nil}
 use Rattle.std.proofs.lemmas.List.{append-nil}
-use Rattle.io_ports.specs.Lines.{next_line, behind_lines, Gives, Takes, is_end}
+use Rattle.io_ports.specs.Lines.{Cut, next_line, behind_lines, Gives, IsCut, IsLine, IsLong, Takes, HoldsFew, IsAhead, is_end, most_held}
 use Rattle.io_ports.specs.declared.line_reader.LineGot.{LineGot}
 use Rattle.io_ports.specs.declared.line_reader.LineGot.TheVariants.{Line, Long, Done, Failed}
-use Rattle.victor_run.proofs.Cuts.{line_is_cut, none_is_cut}
-use Rattle.victor_run.specs.Reading.{Pending, Reads, PassesLines}
+use Rattle.io_ports.proofs.LineLemmas.{each_text_is_cut}
+use Rattle.io_ports.specs.Reading.{Pending, Reads, PassesLines}
+
+-- ---- what was got
+
+-- what was got is cut from the bytes
+pub is_cut : (bytes : List ℕ) (line : Cut) → line ≡ next_line bytes → IsCut bytes line.got line.text line.fed line.rest
+is_cut bytes line is = let P : Cut → Type 0 = λ cut. IsCut bytes cut.got cut.text cut.fed cut.rest in subst P (sym is) (each_text_is_cut bytes)
+
+pub line_is_cut : (bytes : List ℕ) (line : Cut) → line ≡ next_line bytes → line.got ≡ Line → IsLine bytes line.text line.fed line.rest
+line_is_cut bytes line is got = let P : LineGot → Type 0 = λ got. IsCut bytes got line.text line.fed line.rest in subst P got (is_cut bytes line is)
+
+pub long_is_cut : (bytes : List ℕ) (line : Cut) → line ≡ next_line bytes → line.got ≡ Long → IsLong bytes line.text line.rest
+long_is_cut bytes line is got = let P : LineGot → Type 0 = λ got. IsCut bytes got line.text line.fed line.rest in subst P got (is_cut bytes line is)
+
+pub none_is_cut : (bytes : List ℕ) (line : Cut) → line ≡ next_line bytes → line.got ≡ Done → (bytes ≡ []) × (line.text ≡ []) × (line.rest ≡ [])
+none_is_cut bytes line is got = let P : LineGot → Type 0 = λ got. IsCut bytes got line.text line.fed line.rest in subst P got (is_cut bytes line is)
+
+-- ---- steps
 
 pub Reads_more : (a b : Pending) (P Q : List ℕ → List ℕ → Type 0) → Reads a b P → ((bytes rest : List ℕ) → P bytes rest → Q bytes rest) → Reads a b Q
 Reads_more a b P Q reads more = record {
@@ -15,6 +32,8 @@ Reads_more a b P Q reads more = record {
   gave = reads.gave;
   stays = reads.stays;
   last = reads.last;
+  held = reads.held;
+  few = reads.few;
   fact = λ later none. more _ _ (reads.fact later none);
 }
 
@@ -25,6 +44,8 @@ Reads_start a P same = record {
   gave = Consumes-nil a.left;
   stays = λ ended. (refl, ended);
   last = λ before after. before after;
+  held = λ short. short;
+  few = λ few. few;
   fact = λ later none. same (a.ahead ++ later);
 }
 
@@ -35,6 +56,8 @@ Reads_then a b c P Q R first next more = record {
   gave = Consumes-trans a.left b.left c.left first.taken next.taken first.gave next.gave;
   stays = λ ended. let one = first.stays ended in let two = next.stays one.1 in (ap (λ l. l ++ next.taken) one.0 ∙ two.0, two.1);
   last = λ before after. next.last (first.last before) after;
+  held = λ short. next.held (first.held short);
+  few = λ few. next.few (first.few few);
   fact = λ later none.
       let open_end : b.ended ≡ true → next.taken ++ later ≡ [] = λ ended. let two = next.stays ended in ap (λ l. l ++ later) two.0 ∙ none two.1 in
       let S : List ℕ → Type 0 = λ l. R (a.ahead ++ l) (c.ahead ++ later) in
@@ -43,12 +66,15 @@ Reads_then a b c P Q R first next more = record {
 
 -- what a call of a reader of lines takes, where the end of the input wasn't reached before it
 pub Reads_from : (a b : Pending) (got : LineGot) (text : List ℕ) (fed : Bool) → a.ended ≡ false → b.ended ≡ is_end got fed
+    → length b.ahead ≤ most_held → (HoldsFew a.last_read a.ahead → IsAhead got b.last_read b.ahead)
     → Takes (is_end got fed) a.left b.left (λ bytes rest. Gives (a.ahead ++ bytes) (b.ahead ++ rest) got text fed) → Reads a b (λ bytes rest. Gives bytes rest got text fed)
-Reads_from a b got text fed going end takes = record {
+Reads_from a b got text fed going end short ahead takes = record {
   taken = takes.taken;
   gave = takes.gave;
   stays = λ ended. absurd (cc (ended, going));
   last = λ before after. takes.last (sym end ∙ after);
+  held = λ _. short;
+  few = λ few. (got, ahead few);
   fact = λ later none. takes.fact later (λ ended. none (end ∙ ended));
 }
 
@@ -60,6 +86,8 @@ Reads_none a b ended after none also same = record {
   gave = let C : Option (List ℕ) → Type 0 = λ left. Consumes a.left left [] in subst C (sym same) (Consumes-nil a.left);
   stays = λ _. (refl, after);
   last = λ before _. subst IsAtEnd (sym same) (before ended);
+  held = λ _. omega (arith, ap length also);
+  few = λ _. (Done, also);
   fact = λ later end.
       let l = end after in
       let there : b.ahead ++ later ≡ [] = ap (λ xs. xs ++ later) also ∙ l in
