@@ -12,8 +12,8 @@ use Rattle.game_rules.specs.declared.InputFault.{InputFault}
 use Rattle.proof_text.specs.Texts.{pieces, lines_in, game_prefix, game_of, behind_game}
 use Rattle.io_ports.specs.Reading.{Pending, Reads, PassesLines}
 use Rattle.victor_run.specs.Reading.{kept_of, KeepsLine, StopsGame}
-use Rattle.victor_run.specs.declared.game_lines.GameStop.{GameStop}
-use Rattle.victor_run.specs.declared.game_lines.GameStop.TheVariants as stops
+use Rattle.victor_run.specs.declared.game_input.InputStop.{InputStop}
+use Rattle.victor_run.specs.declared.game_input.InputStop.TheVariants as stops
 use Rattle.victor_run.proofs.Cuts.{game_kept, game_left}
 use Rattle.io_ports.proofs.Reading.{Reads_more, Reads_then, passes_then, passes_most, passes_line}
 
@@ -43,11 +43,11 @@ module _ (a b : Pending) (got : LineGot) (text : List ℕ) (fed : Bool) (gives :
       by_line _ (λ bytes rest h. let is = given bytes rest text got fed h other in (put ∙ ap (λ line. before ++ kept_of line) is, ap (λ line. line.rest) is))
 
 -- the source failed
-pub game_unread : (a b : Pending) (m n : ℕ) (X : List ℕ → List ℕ → Type 0) (before mid after : ℕ) (stop : GameStop) → m ≤ n → before ≤ mid
+pub game_unread : (a b : Pending) (m n : ℕ) (X : List ℕ → List ℕ → Type 0) (before mid after : ℕ) (stop : InputStop) → m ≤ n → before ≤ mid
     → (stop ≡ stops.Read) × Rose mid after → Reads a b (λ bytes rest. PassesLines m bytes rest × X bytes rest)
     → Reads a b (λ bytes rest. PassesLines n bytes rest × StopsGame (game_at (game_of (pieces bytes))) before after stop)
 game_unread a b m n X before mid after stop few later (is, rose) reads =
-    let S : Result Position InputFault → GameStop → Type 0 = λ game stop. StopsGame game before after stop in
+    let S : Result Position InputFault → InputStop → Type 0 = λ game stop. StopsGame game before after stop in
     Reads_more a b _ _ reads (λ bytes rest p. (
       passes_most m n bytes rest few p.0,
       subst (S (game_at (game_of (pieces bytes)))) (sym is) (Rose_before before mid after later rose),

@@ -5,8 +5,8 @@ use Rattle.io_ports.specs.Lines.{Cut, next_line, feed}
 use Rattle.game_rules.specs.Position.{Position}
 use Rattle.game_rules.specs.declared.InputFault.{InputFault}
 use Rattle.proof_text.specs.Texts.{game_prefix}
-use Rattle.victor_run.specs.declared.game_lines.GameStop.{GameStop}
-use Rattle.victor_run.specs.declared.game_lines.GameStop.TheVariants as stops
+use Rattle.victor_run.specs.declared.game_input.InputStop.{InputStop}
+use Rattle.victor_run.specs.declared.game_input.InputStop.TheVariants as stops
 
 -- what is kept of a line of the game: its prefix, and the line feed that ended it
 abbrev pub kept_of : Cut → List ℕ
@@ -17,6 +17,6 @@ abbrev pub KeepsLine : List ℕ → List ℕ → List ℕ → List ℕ → Type 
 KeepsLine text longer bytes rest = (longer ≡ text ++ kept_of (next_line bytes)) × (rest ≡ (next_line bytes).rest)
 
 -- what stops the reading of a game is its fault, or one of the source, whose count rose
-abbrev pub StopsGame : Result Position InputFault → ℕ → ℕ → GameStop → Type 0
-StopsGame game before after (stops.Input fault) = game ≡ Err fault
+abbrev pub StopsGame : Result Position InputFault → ℕ → ℕ → InputStop → Type 0
+StopsGame game before after (stops.NoGame fault) = game ≡ Err fault
 StopsGame game before after stops.Read = Rose before after

@@ -16,7 +16,8 @@ ghost use Rattle.victor_run.specs.declared.check.Stop.TheVariants as stops;
 ghost use Rattle.proof_text.specs.declared.Why.TheVariants as whys;
 
 use crate::ending::Ending;
-use crate::game_lines::{GameStop, read_game_lines};
+use crate::game_input::InputStop;
+use crate::game_lines::read_game_lines;
 use crate::output::put_line;
 use board_bits::{InputFault, Position, Size};
 use cert_checker::{Accepted, AddStop, Checker, Refusal, Why};
@@ -123,8 +124,8 @@ fn read_root<S: Source>(lines: &mut Lines, source: &mut S) -> Result<Position, S
 {
     match read_game_lines(lines, source) {
         Ok(root) => Ok(root),
-        Err(GameStop::Input(fault)) => Err(Stop::Input(fault)),
-        Err(GameStop::Read) => Err(Stop::Read),
+        Err(InputStop::NoGame(fault)) => Err(Stop::Input(fault)),
+        Err(InputStop::Read) => Err(Stop::Read),
     }
 }
 

@@ -8,10 +8,11 @@ ghost use Rattle.proof_text.specs.Texts.{pieces, lines_in, game_of, behind_game}
 ghost use Rattle.io_ports.specs.Lines.{IsUndecided};
 ghost use Rattle.io_ports.specs.Reading.{pending, Reads, PassesLines};
 ghost use Rattle.victor_run.specs.Reading.{KeepsLine, StopsGame};
-ghost use Rattle.victor_run.specs.declared.game_lines.GameStop.TheVariants as stops;
+ghost use Rattle.victor_run.specs.declared.game_input.InputStop.TheVariants as stops;
 
+use crate::game_input::InputStop;
 use arrayvec::ArrayVec;
-use board_bits::{InputFault, Position, read_game};
+use board_bits::{Position, read_game};
 use io_ports::{LineGot, Lines, Source};
 use text_words::push_text;
 
@@ -21,18 +22,11 @@ const GAME_PREFIX: usize = 256;
 /// The most that is kept of the two lines of the game, with their line feeds.
 const MOST_KEPT: usize = 2 * (GAME_PREFIX + 1);
 
-/// What stops the reading of a game.
-#[derive(Clone, Copy)]
-pub(crate) enum GameStop {
-    Input(InputFault),
-    Read,
-}
-
 /// Reads the two lines of a game, and answers its position.
 pub(crate) fn read_game_lines<S: Source>(
     lines: &mut Lines,
     source: &mut S,
-) -> Result<Position, GameStop>
+) -> Result<Position, InputStop>
     ensures answer { Reads (pending lines.old (S.left source.old) (S.last_read source.old))
         (pending lines.new (S.left source.new) (S.last_read source.new))
         (λ bytes rest. PassesLines 2 bytes rest × MatchResult result
@@ -46,7 +40,7 @@ pub(crate) fn read_game_lines<S: Source>(
     keep_line(&mut text, lines, source)?;
     match read_game(text.as_slice()) {
         Ok(root) => Ok(root),
-        Err(fault) => Err(GameStop::Input(fault)),
+        Err(fault) => Err(InputStop::NoGame(fault)),
     }
 }
 
@@ -55,7 +49,7 @@ fn keep_line<S: Source>(
     text: &mut ArrayVec<u8, MOST_KEPT>,
     lines: &mut Lines,
     source: &mut S,
-) -> Result<(), GameStop>
+) -> Result<(), InputStop>
     requires { array_vec_len text.old + GAME_PREFIX + 1 ≤ MOST_KEPT }
     ensures kept { Reads (pending lines.old (S.left source.old) (S.last_read source.old))
         (pending lines.new (S.left source.new) (S.last_read source.new))
@@ -66,7 +60,7 @@ fn keep_line<S: Source>(
     ensures later { S.faults source.old ≤ S.faults source.new }
 {
     if let LineGot::Failed = lines.next(source) {
-        return Err(GameStop::Read);
+        return Err(InputStop::Read);
     }
     let line = lines.text();
     push_text(text, &line[..line.len().min(GAME_PREFIX)]);

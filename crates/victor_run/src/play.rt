@@ -19,7 +19,8 @@ ghost use Rattle.victor_run.specs.declared.ending.Ending.TheVariants as endings;
 ghost use Rattle.victor_run.specs.declared.play.PlayStop.TheVariants as stops;
 
 use crate::ending::Ending;
-use crate::game_lines::{GameStop, read_game_lines};
+use crate::game_input::InputStop;
+use crate::game_lines::read_game_lines;
 use crate::output::put_line;
 use board_bits::{Column, InputFault, MoveFault, Position, Size};
 use cert_checker::{PlanFault, Refusal, Why};
@@ -109,8 +110,8 @@ fn read_root<S: Source>(lines: &mut Lines, source: &mut S) -> Result<Position, P
 {
     match read_game_lines(lines, source) {
         Ok(root) => Ok(root),
-        Err(GameStop::Input(fault)) => Err(PlayStop::Input(fault)),
-        Err(GameStop::Read) => Err(PlayStop::Read),
+        Err(InputStop::NoGame(fault)) => Err(PlayStop::Input(fault)),
+        Err(InputStop::Read) => Err(PlayStop::Read),
     }
 }
 
