@@ -1,18 +1,16 @@
 -- The text of a proof as it is put together: its head, the lemmas of both questions, and its last line.
-use Rattle.std.proofs.Common.{◌≡◌, ◌≢◌, ℕ, ◌+◌, ◌-◌, ◌<◌, ◌≤◌, Bool, true, false, List, [], ◌∷◌, ◌++◌, map, Option, Result, Ok, Err, IfOk, is_ok, length, get_or, refl, sym, ap, ◌∙◌, subst, inl, inr, arith, append-nil, append_assoc, length-append, codes}
+use Rattle.std.proofs.Common.{◌≡◌, ℕ, ◌<◌, ◌≤◌, Bool, true, false, List, [], ◌++◌, Option, Result, Ok, Err, IfOk, is_ok, length, get_or, refl, sym, ap, ◌∙◌, subst, inl, inr, arith, append_assoc}
 use Rattle.std.specs.Io.KnownBytes.{Appends}
-use Rattle.std.proofs.lemmas.Bool.{eq-eqb, ne_eqb}
-use Rattle.std.proofs.lemmas.List.{get_or-append_right, get_or-map, length-map}
 use Rattle.device_rules.specs.Devices.{AppendsPrefix}
 use Rattle.device_rules.proofs.DeviceLaws.{AppendsPrefix_more}
 use Rattle.game_rules.specs.Cost.{cost}
 use Rattle.game_rules.specs.Position.{Position}
-use Rattle.game_rules.specs.Grammar.{IsGameText, game_text, board_line, moves_line, move_list, letter_of}
+use Rattle.game_rules.specs.Grammar.{IsGameText}
 use Rattle.proof_text.specs.Right.{IsVerdict}
 use Rattle.proof_text.specs.Spelling.{greatest_number, lines_of, verdict_line}
-use Rattle.proof_text.specs.Texts.{first_line, head_of}
+use Rattle.proof_text.specs.Texts.{head_of}
 use Rattle.proof_text.specs.Written.{IsProof, remark_line}
-use Rattle.proof_text.proofs.Written.{both_written, lemmas_stand, head_stands, proof_stands, proof_accepted, head_of_fed, head_of_bare}
+use Rattle.proof_text.proofs.Written.{both_written, lemmas_stand, head_stands, proof_stands, proof_accepted}
 use Rattle.proof_text.specs.declared.Verdict.{Verdict}
 use Rattle.proof_text.specs.declared.Verdict.TheVariants.{Win, Loss, Draw, Unknown}
 use Rattle.deep_search.specs.Planned.{solved_within}

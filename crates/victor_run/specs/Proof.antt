@@ -1,5 +1,5 @@
 -- What `prove` writes: the text of a proof, whole, or a prefix of one.
-use Rattle.std.specs.Prelude.{◌≡◌, ◌⊎◌, ◌<◌, ◌≤◌, ◌-◌, ℕ, false, ◌==◌, if◌then◌else◌, List, ◌++◌, Option, Result, Ok, Err, length, slice_index}
+use Rattle.std.specs.Prelude.{◌≡◌, ◌⊎◌, ◌<◌, ◌≤◌, ℕ, false, List, Option, Result, Ok, Err, length}
 use Rattle.std.specs.Io.KnownBytes.{Appends}
 use Rattle.device_rules.specs.Devices.{AppendsPrefix}
 use Rattle.game_rules.specs.Cost.{cost}
@@ -7,8 +7,8 @@ use Rattle.game_rules.specs.Position.{Position}
 use Rattle.game_rules.specs.declared.Side.TheVariants.{White}
 use Rattle.game_rules.specs.Grammar.{IsGameText}
 use Rattle.proof_text.specs.Right.{Shown, IsTrueVerdict}
-use Rattle.proof_text.specs.Texts.{first_line, head_of, check_of, Accepted}
-use Rattle.proof_text.specs.Spelling.{as_line, verdict_line}
+use Rattle.proof_text.specs.Texts.{head_of, check_of, Accepted}
+use Rattle.proof_text.specs.Spelling.{verdict_line}
 use Rattle.proof_text.specs.Written.{HasWritten, MayStand, IsProof}
 use Rattle.proof_text.specs.declared.Verdict.{Verdict}
 use Rattle.proof_text.specs.declared.Verdict.TheVariants.{Unknown}

@@ -43,6 +43,14 @@ pub record AsksSide (root : Position) (side : Side) (reach : ℕ) (slots : Optio
   pub below : AreBelow (limit_of root result) shown
   pub named : IfOk result (λ answer. Shows (known ++ shown) answer.lemma root (claim_for side answer.yes))
 
+-- White's question was asked, and this lemma shows that White doesn't win.
+pub record AnswersNo (root : Position) (reach : ℕ) (slots : Option ℕ) (lemma : ℕ) (old new : Moment) (total : ℕ) : Type 0 where
+  pub most : ℕ
+  pub answer : Answer
+  pub is_lemma : answer.lemma ≡ lemma
+  pub is_no : answer.yes ≡ false
+  pub asked : AsksSide root White reach slots [] most old new total (Ok answer)
+
 -- ---- both
 
 -- whether all that was begun for a verdict stands whole

@@ -1,6 +1,6 @@
 //! The two questions of a proof, one behind the other: whether White wins, and where it doesn't, whether Black does. For
 //! each a front may grow before the search.
-ghost use Rattle.std.specs.Prelude.{◌≡◌, ◌+◌, ◌<◌, ◌≤◌, List, [], length, Err, IfOk, OnOk};
+ghost use Rattle.std.specs.Prelude.{◌≡◌, ℕ, ◌+◌, ◌<◌, ◌≤◌, List, [], length, Err, IfOk, OnOk};
 ghost use Rattle.device_rules.specs.Devices.{Rose};
 ghost use Rattle.game_rules.specs.Cost.{cost, count};
 ghost use Rattle.game_rules.specs.Questions.{side_asked};
@@ -9,10 +9,10 @@ ghost use Rattle.game_rules.specs.declared.Side.TheVariants as sides;
 ghost use Rattle.proof_text.specs.Right.{Shown};
 ghost use Rattle.proof_text.specs.Spelling.{greatest_number};
 ghost use Rattle.deep_search.specs.Planned.{solved_within};
-ghost use Rattle.deep_search.specs.Search.{moment};
+ghost use Rattle.deep_search.specs.Search.{Moment, moment};
 ghost use Rattle.deep_search.specs.Tables.{IsTrueTable, FitsTable};
 ghost use Rattle.deep_search.specs.declared.solving.SearchStop.TheVariants as stops;
-ghost use Rattle.victor_run.specs.Questions.{AsksSide, Asks, won_by};
+ghost use Rattle.victor_run.specs.Questions.{AsksSide, AnswersNo, Asks, won_by};
 ghost use Rattle.victor_run.specs.SizedFronts.{slots_of, IsAfter, IsAfterSome};
 
 use crate::fronts::{SizedFront, turn_to_black, write_remark};
@@ -61,9 +61,9 @@ pub(crate) fn ask<O: Sink>(
         return Ok(won_by(Side::White, position.to_move(), white.lemma));
     }
     turn_to_black(front, position, chooser);
-    let black = ask_side(
+    ask_black(
         position,
-        Question::BlackWins,
+        white.lemma,
         reach,
         &mut budget,
         table,
@@ -71,11 +71,46 @@ pub(crate) fn ask<O: Sink>(
         chooser,
         &mut lemmas,
         out,
+    )
+}
+
+/// Asks whether Black wins, where the lemma `white` shows that White doesn't.
+fn ask_black<O: Sink>(
+    position: &Position,
+    white: u32,
+    reach: u32,
+    budget: &mut u32,
+    table: &mut Table,
+    front: &mut Option<SizedFront>,
+    chooser: &mut Chooser,
+    lemmas: &mut LemmaOut,
+    out: &mut O,
+) -> Result<Verdict, SearchStop>
+    requires room { lemmas.old + budget.old ≤ greatest_number }
+    requires entries { IsTrueTable table.old lemmas.old }
+    requires front { IsAfter position.now sides.Black reach 0 front.old }
+    ensures asked { (nodes : ℕ) (before : Moment) → lemmas.old + budget.old ≤ nodes
+        → AnswersNo position.now reach (slots_of front.old) white before (moment table.old (O.written out.old)) lemmas.old
+        → Asks position.now nodes reach (slots_of front.old) before.bytes (O.written out.new) result }
+    ensures spent { result ≡ Err stops.Spent → budget.old < count (solved_within reach) sides.Black position.now }
+    ensures later { O.faults out.old ≤ O.faults out.new }
+    ensures fault { result ≡ Err stops.WriteFault → Rose (O.faults out.old) (O.faults out.new) }
+{
+    let black = ask_side(
+        position,
+        Question::BlackWins,
+        reach,
+        budget,
+        table,
+        front,
+        chooser,
+        lemmas,
+        out,
     )?;
     if black.yes {
         return Ok(won_by(Side::Black, position.to_move(), black.lemma));
     }
-    Ok(Verdict::Draw(white.lemma, black.lemma))
+    Ok(Verdict::Draw(white, black.lemma))
 }
 
 /// Asks a question within the budget: first the front grows, where there is one, and its remark is written, and

@@ -1,7 +1,6 @@
-use Rattle.std.proofs.Common.{◌≡◌, ◌<◌, ◌≤◌, Ok, length, take, sym, ◌∙◌, arith}
+use Rattle.std.proofs.Common.{◌≡◌, ◌<◌, ◌≤◌, length, take, ◌∙◌, arith}
 use Rattle.std.specs.Io.KnownBytes.{IsAtEnd}
 use Rattle.std.proofs.lemmas.List.{length-take-le}
-use Rattle.game_rules.specs.Text.{game_at}
 use Rattle.victor_run.specs.GameInput.{TookText}
 use Rattle.victor_run.proofs.Ends.{same_game, game_ended, IfSome_more}
 use Rattle.victor_run.proofs.game_input.read_game_input.Goals as goal
