@@ -1,8 +1,9 @@
 -- What an input that was read to its end, or to 256 bytes, says of the whole, and how `prove` ends on it.
-use Rattle.std.proofs.Common.{◌≡◌, ℕ, ◌<◌, ◌≤◌, List, Option, Some, None, Result, Ok, Err, IfSome, length, refl, ap, ◌∙◌, inl, inr, arith}
+use Rattle.std.proofs.Common.{◌≡◌, ℕ, ◌<◌, ◌≤◌, List, Option, Some, None, Result, Ok, Err, IfSome, length, take, refl, ap, ◌∙◌, inl, inr, arith}
 use Rattle.std.specs.Io.KnownBytes.{Consumes, IsAtEnd}
 use Rattle.std.proofs.KnownBytes.{Consumes-whole}
 use Rattle.std.proofs.lemmas.Bool.{cases_lt}
+use Rattle.std.proofs.lemmas.List.{length-take-le}
 use Rattle.game_rules.specs.Position.{Position}
 use Rattle.game_rules.specs.Cost.{cost}
 use Rattle.game_rules.specs.Text.{game_at}
@@ -17,9 +18,17 @@ use Rattle.victor_run.specs.declared.ending.Ending.{Ending}
 use Rattle.victor_run.specs.declared.ending.Ending.TheVariants as endings
 use Rattle.victor_run.specs.declared.game_input.InputStop.{InputStop}
 use Rattle.victor_run.specs.declared.game_input.InputStop.TheVariants.{NoGame, Read}
-use Rattle.victor_run.specs.GameInput.{TakesGame, input_ending}
+use Rattle.victor_run.specs.GameInput.{TookText, TakesGame, input_ending}
 use Rattle.victor_run.specs.Streams.{Streams, Took}
 use Rattle.victor_run.specs.Outcome.{Proves, ending_of}
+
+-- what stands in the buffer after a read of all that it has room for
+pub heard_text : (old new : Option (List ℕ)) (n : ℕ) (buffer : List ℕ) → length buffer ≡ 256 → n ≤ length buffer
+    → Consumes old new (take n buffer) × (n < length buffer → IsAtEnd new)
+    → TookText old new (take n buffer) × (length (take n buffer) < 256 → IsAtEnd new)
+heard_text old new n buffer room within bytes =
+    let size : length (take n buffer) ≡ n = length-take-le n buffer within in
+    (record { gave = bytes.0; few = omega (arith, size, within, room) }, (λ short. bytes.1 (omega (arith, size, room))))
 
 -- the bytes that were read determine the game of the whole input
 module _ (old new : Option (List ℕ)) (heard : List ℕ) (taken : Consumes old new heard) where

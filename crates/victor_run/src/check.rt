@@ -59,13 +59,7 @@ impl Stop {
 /// failed, which comes only where its count of faults rose, or memory ran out.
 pub(crate) fn check<S: Source, O: Sink>(alloc: Global, source: &mut S, out: &mut O) -> Ending
     ensures outcome { Outcome (Some forms.Check)
-        (record {
-          input = S.left source.old;
-          left = S.left source.new;
-          last_read = S.last_read source.new;
-          old = O.written out.old;
-          new = O.written out.new;
-        }) result }
+        (record { input = S.left source.old; left = S.left source.new; last_read = S.last_read source.new; old = O.written out.old; new = O.written out.new }) result }
     ensures read_fault { result ≡ endings.Read → Rose (S.faults source.old) (S.faults source.new) }
     ensures write_fault { result ≡ endings.Write → Rose (O.faults out.old) (O.faults out.new) }
 {

@@ -60,13 +60,7 @@ pub fn run<S: Source, O: Sink, E: Sink>(
     // The words are a form, or none. The bytes are few, and those that the source gave as far as it tells: one that tells its
     // bytes determines them.
     ensures outcome { (form : Option Form) × IsReadAs (map string_bytes words.now) form × (ending : Ending) × (result ≡ status_of ending) × Outcome form
-        (record {
-          input = S.left source.old;
-          left = S.left source.new;
-          last_read = S.last_read source.new;
-          old = O.written out.old;
-          new = O.written out.new;
-        }) ending
+        (record { input = S.left source.old; left = S.left source.new; last_read = S.last_read source.new; old = O.written out.old; new = O.written out.new }) ending
         × Reports (E.faults err.old) (E.faults err.new) (E.written err.old) (E.written err.new) (fault_text ending) }
     ensures read_fault { result ≡ 6 → Rose (S.faults source.old) (S.faults source.new) }
     ensures write_fault { result ≡ 7 → Rose (O.faults out.old) (O.faults out.new) }
@@ -106,13 +100,7 @@ fn run_words<S: Source, O: Sink>(
     out: &mut O,
 ) -> Ending
     ensures outcome { (form : Option Form) × IsReadAs (map string_bytes words.now) form × Outcome form
-        (record {
-          input = S.left source.old;
-          left = S.left source.new;
-          last_read = S.last_read source.new;
-          old = O.written out.old;
-          new = O.written out.new;
-        }) result }
+        (record { input = S.left source.old; left = S.left source.new; last_read = S.last_read source.new; old = O.written out.old; new = O.written out.new }) result }
     ensures read_fault { result ≡ endings.Read → Rose (S.faults source.old) (S.faults source.new) }
     ensures write_fault { result ≡ endings.Write → Rose (O.faults out.old) (O.faults out.new) }
 {
@@ -126,13 +114,7 @@ fn run_words<S: Source, O: Sink>(
 fn run_form<S: Source, O: Sink>(alloc: Global, form: Form, source: &mut S, out: &mut O) -> Ending
     requires { HasRanges form }
     ensures outcome { Outcome (Some form)
-        (record {
-          input = S.left source.old;
-          left = S.left source.new;
-          last_read = S.last_read source.new;
-          old = O.written out.old;
-          new = O.written out.new;
-        }) result }
+        (record { input = S.left source.old; left = S.left source.new; last_read = S.last_read source.new; old = O.written out.old; new = O.written out.new }) result }
     ensures read_fault { result ≡ endings.Read → Rose (S.faults source.old) (S.faults source.new) }
     ensures write_fault { result ≡ endings.Write → Rose (O.faults out.old) (O.faults out.new) }
 {

@@ -32,13 +32,7 @@ use rule_law::Rule;
 /// Reads a game and explains the plan that is chosen among the first `reach` sets of its position's walk.
 pub(crate) fn explain<S: Source, O: Sink>(reach: u32, source: &mut S, out: &mut O) -> Ending
     ensures outcome { Outcome (Some (forms.Explain reach))
-        (record {
-          input = S.left source.old;
-          left = S.left source.new;
-          last_read = S.last_read source.new;
-          old = O.written out.old;
-          new = O.written out.new;
-        }) result }
+        (record { input = S.left source.old; left = S.left source.new; last_read = S.last_read source.new; old = O.written out.old; new = O.written out.new }) result }
     ensures read_fault { result ≡ endings.Read → Rose (S.faults source.old) (S.faults source.new) }
     ensures write_fault { result ≡ endings.Write → Rose (O.faults out.old) (O.faults out.new) }
 {

@@ -71,13 +71,7 @@ impl PlayStop {
 /// unless a stream failed, which comes only where its count of faults rose.
 pub(crate) fn play<S: Source, O: Sink>(source: &mut S, out: &mut O) -> Ending
     ensures outcome { Outcome (Some forms.Play)
-        (record {
-          input = S.left source.old;
-          left = S.left source.new;
-          last_read = S.last_read source.new;
-          old = O.written out.old;
-          new = O.written out.new;
-        }) result }
+        (record { input = S.left source.old; left = S.left source.new; last_read = S.last_read source.new; old = O.written out.old; new = O.written out.new }) result }
     ensures read_fault { result ≡ endings.Read → Rose (S.faults source.old) (S.faults source.new) }
     ensures write_fault { result ≡ endings.Write → Rose (O.faults out.old) (O.faults out.new) }
 {

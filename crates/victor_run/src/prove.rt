@@ -45,13 +45,7 @@ pub(crate) fn prove<S: Source, O: Sink>(
     requires slots { IfSome slots AreSlots }
     requires room { IsRoom table }
     ensures outcome { Outcome (Some (forms.Prove nodes reach slots table))
-        (record {
-          input = S.left source.old;
-          left = S.left source.new;
-          last_read = S.last_read source.new;
-          old = O.written out.old;
-          new = O.written out.new;
-        }) result }
+        (record { input = S.left source.old; left = S.left source.new; last_read = S.last_read source.new; old = O.written out.old; new = O.written out.new }) result }
     ensures read_fault { result ≡ endings.Read → Rose (S.faults source.old) (S.faults source.new) }
     ensures write_fault { result ≡ endings.Write → Rose (O.faults out.old) (O.faults out.new) }
 {

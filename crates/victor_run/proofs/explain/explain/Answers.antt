@@ -32,11 +32,10 @@ returns-in-Ok-clause-outcome g c =
 
 pub returns-in-Err-clause-outcome : goal.returns-in-Err-clause-outcome
 returns-in-Err-clause-outcome g c =
-    let input = g.S.Source.left c.args.source.now in
-    let left = g.S.Source.left c.read_game_input.new.source in
-    let last_read = g.S.Source.last_read c.read_game_input.new.source in
     let out = g.O.Sink.written c.args.out.now in
-    let s : Streams = record { input = input; left = left; last_read = last_read; old = out; new = out } in
+    let source = c.read_game_input.new.source in
+    let s : Streams = record { input = g.S.Source.left c.args.source.now; left = g.S.Source.left source; last_read = g.S.Source.last_read source;
+        old = out; new = out } in
     let keeps = Keeps-refl out in
     rw c.ending.ensures (no_game s (λ taken ending. Explains c.args.reach taken s ending)
     (λ taken fault at whole. (at, whole, keeps)) (λ taken. keeps) c.in-Err.stop c.in-Err.ensures.takes)
