@@ -58,8 +58,7 @@ module _ (a b : Pending) (text : List ℕ) (fed : Bool) (s : CheckerState) (at :
           → (stop : Stop) → StopsAtLine s at text stop → StopsBy (AtLine s at) bytes before after stop
       by_stop bytes rest is (stops.Refused r) h = line_refused s at bytes (record { got = Line; text = text; fed = fed; rest = rest }) (why_of r.why) is refl h.0 ∙ ap (λ at. Refused at (why_of r.why)) (sym h.1)
       by_stop bytes rest is stops.Memory h = lemma_reached s at bytes (record { got = Line; text = text; fed = fed; rest = rest }) is refl h
-      by_stop bytes rest is (stops.Input fault) h = absurd h
-      by_stop bytes rest is stops.Read h = absurd h
+      by_stop bytes rest is (stops.Input why) h = absurd h
 
   pub long_stops : Reads a b (λ bytes rest. Gives bytes rest Long text fed) → Reads a b (λ bytes rest. PassesLines 1 bytes rest × (lines_from s at bytes ≡ Refused at BadLine))
   long_stops gives = by_line a b Long text fed gives _ (λ bytes rest is. long_got s at bytes (record { got = Long; text = text; fed = fed; rest = rest }) is refl)

@@ -3,9 +3,10 @@ use Rattle.std.proofs.Common.{◌≡◌, ℕ, ◌+◌, ◌-◌, ◌≤◌, true,
 use Rattle.std.specs.Io.KnownBytes.{Keeps, Appends}
 use Rattle.device_rules.specs.Devices.{AppendsPrefix}
 use Rattle.game_rules.specs.Position.{Position}
+use Rattle.game_rules.specs.Text.{game_at}
 use Rattle.proof_text.specs.Checked.{CheckerState}
 use Rattle.proof_text.specs.Texts as answers
-use Rattle.proof_text.specs.Texts.{first_number, start, check_of, CheckAnswer, verdict_answer}
+use Rattle.proof_text.specs.Texts.{pieces, lines_in, game_of, behind_game, first_number, start, check_of, CheckAnswer, verdict_answer}
 use Rattle.cert_checker.specs.declared.stops.Accepted.{Accepted}
 use Rattle.victor_run.specs.Check.{accepted_line, most_lines_read}
 use Rattle.victor_run.specs.Streams.{Streams}
@@ -14,8 +15,12 @@ use Rattle.victor_words.specs.declared.form.Form.TheVariants.{Check}
 use Rattle.victor_run.specs.declared.ending.Ending.TheVariants as endings
 use Rattle.victor_run.specs.CheckSteps.{StopsBy, Judges, Place, AtHead, AtGame, AtLine, GoesOn, lines_from, lines_read_until, ending_of}
 use Rattle.io_ports.specs.Reading.{Pending, Reads, PassesLines}
+use Rattle.victor_run.specs.Reading.{StopsGame}
+use Rattle.victor_run.specs.declared.game_input.InputStop.{InputStop}
+use Rattle.victor_run.specs.declared.game_input.InputStop.TheVariants as inputs
 use Rattle.victor_run.specs.declared.check.Stop.{Stop}
 use Rattle.victor_run.specs.declared.check.Stop.TheVariants as stops
+use Rattle.victor_run.proofs.CheckLines.{game_read, game_reaches, game_fault}
 use Rattle.victor_run.proofs.CheckKnown.{right_input}
 use Rattle.victor_run.proofs.Passing.{takes_bytes}
 use Rattle.io_ports.proofs.Reading.{Reads_then, passes_then, passes_most}
@@ -28,26 +33,41 @@ goes_then one two three bytes mid rest first next = record { answer = first.answ
 -- what stops a later step stops all steps
 pub stops_earlier : (one two : Place) (bytes mid : List ℕ) (a b c : ℕ) (stop : Stop) → GoesOn one bytes two mid → a ≤ b
     → StopsBy two mid b c stop → StopsBy one bytes a c stop
-stops_earlier one two bytes mid a b c (stops.Input fault) goes later h = goes.answer ∙ h
+stops_earlier one two bytes mid a b c (stops.Input (inputs.NoGame fault)) goes later h = goes.answer ∙ h
+stops_earlier one two bytes mid a b c (stops.Input inputs.Read) goes later h = omega (arith, later, h)
 stops_earlier one two bytes mid a b c (stops.Refused r) goes later h = goes.answer ∙ h
-stops_earlier one two bytes mid a b c stops.Read goes later h = omega (arith, later, h)
 stops_earlier one two bytes mid a b c stops.Memory goes later h = goes.reaches h
 
 -- the head and the game
 module _ (a b c : Pending) (head : Reads a b (λ bytes rest. PassesLines 1 bytes rest × GoesOn AtHead bytes AtGame rest)) where
-  pub game_known : (root : Position) → Reads b c (λ bytes rest. PassesLines 2 bytes rest × GoesOn AtGame bytes (AtLine (start root) first_number) rest)
+  pub game_known : (root : Position)
+      → Reads b c (λ bytes rest. PassesLines 2 bytes rest × ((game_at (game_of (pieces bytes)) ≡ Ok root) × (behind_game (pieces bytes) ≡ lines_in (pieces rest))))
       → Reads a c (λ bytes rest. PassesLines 3 bytes rest × GoesOn AtHead bytes (AtLine (start root) first_number) rest)
   game_known root game =
-      Reads_then a b c _ _ _ head game (λ bytes mid rest p q. (passes_then 1 2 bytes mid rest p.0 q.0, goes_then AtHead AtGame _ bytes mid rest p.1 q.1))
+      Reads_then a b c _ _ _ head game (λ bytes mid rest p q. (
+        passes_then 1 2 bytes mid rest p.0 q.0,
+        goes_then AtHead AtGame _ bytes mid rest p.1
+            (record { answer = game_read mid rest root q.1.0 q.1.1; reaches = game_reaches mid rest root q.1.0 q.1.1 }),
+      ))
 
-  pub game_stops : (before mid after : ℕ) (stop : Stop) → before ≤ mid
-      → Reads b c (λ bytes rest. PassesLines 2 bytes rest × StopsBy AtGame bytes mid after stop)
-      → Reads a c (λ bytes rest. PassesLines 3 bytes rest × StopsBy AtHead bytes before after stop)
-  game_stops before mid after stop later game =
+  pub game_stops : (before mid after : ℕ) (why : InputStop) → before ≤ mid
+      → Reads b c (λ bytes rest. PassesLines 2 bytes rest × StopsGame (game_at (game_of (pieces bytes))) mid after why)
+      → Reads a c (λ bytes rest. PassesLines 3 bytes rest × StopsBy AtHead bytes before after (stops.Input why))
+  game_stops before mid after why later game =
       Reads_then a b c _ _ _ head game (λ bytes m rest p q. (
         passes_then 1 2 bytes m rest p.0 q.0,
-        stops_earlier AtHead AtGame bytes m before mid after stop p.1 later q.1,
+        stops_earlier AtHead AtGame bytes m before mid after (stops.Input why) p.1 later (by_game m mid after why q.1),
       ))
+    where
+      by_game : (bytes : List ℕ) (before after : ℕ) (why : InputStop) → StopsGame (game_at (game_of (pieces bytes))) before after why
+          → StopsBy AtGame bytes before after (stops.Input why)
+      by_game bytes before after (inputs.NoGame fault) h = game_fault bytes fault h
+      by_game bytes before after inputs.Read h = h
+
+-- the game is what three lines end
+pub game_lines : (why : InputStop) → 3 ≤ lines_read_until (stops.Input why)
+game_lines (inputs.NoGame fault) = omega arith
+game_lines inputs.Read = omega arith
 
 -- and the lines behind them
 module _ (a b c : Pending) (root : Position) (s t : CheckerState) (began : s ≡ start root)
@@ -116,7 +136,7 @@ module _ (s : Streams) (before after : ℕ) where
   }
 
   pub checks_stop : (stop : Stop) → Judges s.input s.left s.last_read before after (Err stop) → Keeps s.old s.new → Outcome (Some Check) s (ending_of stop)
-  checks_stop (stops.Input fault) judged kept = record {
+  checks_stop (stops.Input (inputs.NoGame fault)) judged kept = record {
     taken = judged.taken;
     gave = judged.gave;
     few = takes_bytes most_lines_read s.last_read judged.taken judged.lines;
@@ -128,7 +148,7 @@ module _ (s : Streams) (before after : ℕ) where
     few = takes_bytes most_lines_read s.last_read judged.taken judged.lines;
     holds = (((judged.answer.0, judged.answer.1), kept, judged.answer.2), judged.lines);
   }
-  checks_stop stops.Read judged kept = record { taken = judged.taken; gave = judged.gave; few = takes_bytes most_lines_read s.last_read judged.taken judged.lines; holds = (kept, judged.lines) }
+  checks_stop (stops.Input inputs.Read) judged kept = record { taken = judged.taken; gave = judged.gave; few = takes_bytes most_lines_read s.last_read judged.taken judged.lines; holds = (kept, judged.lines) }
   checks_stop stops.Memory judged kept = record {
     taken = judged.taken;
     gave = judged.gave;

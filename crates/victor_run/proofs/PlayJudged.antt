@@ -10,7 +10,9 @@ use Rattle.device_rules.proofs.DeviceLaws.{AppendsPrefix_all, AppendsPrefix_more
 use Rattle.io_ports.specs.Lines.{Gives, IsUndecided}
 use Rattle.io_ports.specs.declared.line_reader.LineGot.TheVariants.{Failed, Line}
 use Rattle.game_rules.specs.Position.{Position}
-use Rattle.proof_text.specs.Texts.{pieces, lines_in}
+use Rattle.game_rules.specs.Text.{game_at}
+use Rattle.game_rules.specs.declared.InputFault.{InputFault}
+use Rattle.proof_text.specs.Texts.{pieces, lines_in, game_of, behind_game}
 use Rattle.rule_compat.specs.Planned.{members}
 use Rattle.rule_compat.specs.Faults.{fault_of}
 use Rattle.reply_player.specs.Playing.{Playing}
@@ -25,10 +27,13 @@ use Rattle.victor_run.specs.PlaySteps.{played_at, played_from, end_by, EndsSo, S
 use Rattle.victor_run.specs.Outcome.{Outcome}
 use Rattle.victor_words.specs.declared.form.Form.TheVariants.{Play}
 use Rattle.victor_run.specs.declared.ending.Ending.TheVariants as endings
+use Rattle.victor_run.specs.Reading.{StopsGame}
+use Rattle.victor_run.specs.declared.game_input.InputStop.{InputStop}
+use Rattle.victor_run.specs.declared.game_input.InputStop.TheVariants as inputs
 use Rattle.victor_run.specs.declared.play.PlayStop.{PlayStop}
 use Rattle.victor_run.specs.declared.play.PlayStop.TheVariants as stops
 use Rattle.victor_run.proofs.Passing.{takes_bytes}
-use Rattle.victor_run.proofs.PlayRead.{moves_got}
+use Rattle.victor_run.proofs.PlayRead.{game_goes, game_none, moves_got}
 use Rattle.io_ports.proofs.Reading.{Reads_more, Reads_start, Reads_then, passes_none, passes_then, passes_most}
 use Rattle.victor_run.proofs.Taken.{fresh, of_taken, of_input, of_lines, of_waiting}
 
@@ -76,19 +81,17 @@ module _ (a b : Pending) (text : List ℕ) (fed : Bool) (s t : Playing) (at : �
     where
       of_stop : (stop : PlayStop) → IsNoMove stop → (bytes rest : List ℕ) → PassesLines 1 bytes rest → PassesMoves stop 0 bytes rest
       of_stop (stops.NoMove fault) line = λ bytes rest passed. (omega arith, passed)
-      of_stop (stops.Input fault) line = absurd line
+      of_stop (stops.Input why) line = absurd line
       of_stop stops.NoPlanLine line = absurd line
       of_stop (stops.NoPlan fault) line = absurd line
-      of_stop stops.Read line = absurd line
       of_stop stops.Write line = absurd line
 
 -- where a line is no move, the source didn't fail
 pub no_move_waits : (ahead : List ℕ) (stop : PlayStop) → IsNoMove stop → IsWaiting ahead stop
 no_move_waits ahead (stops.NoMove fault) line = tt
-no_move_waits ahead (stops.Input fault) line = absurd line
+no_move_waits ahead (stops.Input why) line = absurd line
 no_move_waits ahead stops.NoPlanLine line = absurd line
 no_move_waits ahead (stops.NoPlan fault) line = absurd line
-no_move_waits ahead stops.Read line = absurd line
 no_move_waits ahead stops.Write line = absurd line
 
 -- for what a line says no stream is at fault
@@ -97,10 +100,9 @@ line_cause read_before read_after write stop line later = record { read_later = 
   where
     of_stop : (stop : PlayStop) → IsNoMove stop → IsCaused read_before read_after write write stop
     of_stop (stops.NoMove fault) line = tt
-    of_stop (stops.Input fault) line = absurd line
+    of_stop (stops.Input why) line = absurd line
     of_stop stops.NoPlanLine line = absurd line
     of_stop (stops.NoPlan fault) line = absurd line
-    of_stop stops.Read line = absurd line
     of_stop stops.Write line = absurd line
 
 -- ---- several
@@ -151,14 +153,48 @@ goes_stop s t u at stop xs ys bytes mid rest p q =
 
 -- ---- the game, the plan, and then White's lines
 
-module _ (a b c : Pending) (root : Position) (game : Reads a b (λ bytes rest. PassesLines 2 bytes rest × (play_of bytes ≡ played_at root rest))) where
+-- what stops the reading of the game stops play
+pub game_stops : (a b : Pending) (before after : ℕ) (why : InputStop)
+    → Reads a b (λ bytes rest. PassesLines 2 bytes rest × StopsGame (game_at (game_of (pieces bytes))) before after why)
+    → Reads a b (λ bytes rest. PassesLines 2 bytes rest × StopsPlay (play_of bytes) [] (stops.Input why))
+game_stops a b before after why game = Reads_more a b _ _ game (λ bytes rest h. (h.0, by_game bytes why h.1))
+  where
+    by_game : (bytes : List ℕ) (why : InputStop) → StopsGame (game_at (game_of (pieces bytes))) before after why
+        → StopsPlay (play_of bytes) [] (stops.Input why)
+    by_game bytes (inputs.NoGame fault) h = game_none bytes fault h
+    by_game bytes inputs.Read h = (play_of bytes, refl)
+
+pub game_besides : (why : InputStop) → 2 ≤ lines_besides (stops.Input why)
+game_besides (inputs.NoGame fault) = omega arith
+game_besides inputs.Read = omega arith
+
+pub game_waits : (ahead : List ℕ) (game : Result Position InputStop) (why : InputStop) → game ≡ Err why
+    → (game ≡ Err inputs.Read → IsUndecided ahead) → IsWaiting ahead (stops.Input why)
+game_waits ahead game (inputs.NoGame fault) is waits = tt
+game_waits ahead game inputs.Read is waits = waits is
+
+pub game_cause : {X : Type 0} (a b : Pending) (before after write : ℕ) (why : InputStop) → before ≤ after
+    → Reads a b (λ bytes rest. PassesLines 2 bytes rest × StopsGame (game_at (game_of (pieces bytes))) before after why)
+    → HasPlayCause {X = X} before after write write (Err (stops.Input why))
+game_cause a b before after write why later game = record {
+  read_later = later;
+  write_later = omega arith;
+  caused = by_game _ why (game.fact [] (λ _. refl)).1;
+}
+  where
+    by_game : (read : Result Position InputFault) (why : InputStop) → StopsGame read before after why → IsCaused before after write write (stops.Input why)
+    by_game read (inputs.NoGame fault) h = tt
+    by_game read inputs.Read h = h
+
+module _ (a b c : Pending) (root : Position)
+    (game : Reads a b (λ bytes rest. PassesLines 2 bytes rest × ((game_at (game_of (pieces bytes)) ≡ Ok root) × (behind_game (pieces bytes) ≡ lines_in (pieces rest))))) where
   pub plan_stops : (stop : PlayStop) → Reads b c (λ bytes rest. PassesLines 1 bytes rest × StopsPlay (played_at root bytes) [] stop) → Reads a c (λ bytes rest. PassesLines 3 bytes rest × StopsPlay (play_of bytes) [] stop)
   plan_stops stop plan =
-      Reads_then a b c _ _ _ game plan (λ bytes mid rest p q. (passes_then 2 1 bytes mid rest p.0 q.0, stops_behind (play_of bytes) (played_at root mid) [] [] stop p.1 q.1))
+      Reads_then a b c _ _ _ game plan (λ bytes mid rest p q. (passes_then 2 1 bytes mid rest p.0 q.0, stops_behind (play_of bytes) (played_at root mid) [] [] stop (game_goes bytes mid root p.1.0 p.1.1) q.1))
 
   pub plan_goes : (s : Playing) → Reads b c (λ bytes rest. PassesLines 1 bytes rest × (played_at root bytes ≡ played_from s first_move rest))
       → Reads a c (λ bytes rest. PassesLines 3 bytes rest × (play_of bytes ≡ played_from s first_move rest))
-  plan_goes s plan = Reads_then a b c _ _ _ game plan (λ bytes mid rest p q. (passes_then 2 1 bytes mid rest p.0 q.0, p.1 ∙ q.1))
+  plan_goes s plan = Reads_then a b c _ _ _ game plan (λ bytes mid rest p q. (passes_then 2 1 bytes mid rest p.0 q.0, game_goes bytes mid root p.1.0 p.1.1 ∙ q.1))
 
 module _ (a b c : Pending) (s : Playing) (lines : List (List ℕ)) (start : Reads a b (λ bytes rest. PassesLines 3 bytes rest × (play_of bytes ≡ played_from s first_move rest))) where
   passes_all : (bytes mid rest : List ℕ) → PassesLines 3 bytes mid → PassesLines (length lines + 1) mid rest → PassesLines (4 + length lines) bytes rest
@@ -196,9 +232,9 @@ module _ {X : Type 0} (old : Option (List ℕ)) (begun : ℕ) (last : Pending) (
     where
       takes_until : (stop : PlayStop) → (IsUndecided last.ahead → WaitsBehind (lines_besides stop + length lines) reads.taken)
           → TakesLines (lines_besides stop + length lines) last.last_read reads.taken → IsWaiting last.ahead stop → TakesUntil stop (length lines) last.last_read reads.taken
-      takes_until stops.Read undecided takes waits = undecided waits
+      takes_until (stops.Input inputs.Read) undecided takes waits = undecided waits
       takes_until stops.Write undecided takes waits = takes
-      takes_until (stops.Input fault) undecided takes waits = takes
+      takes_until (stops.Input (inputs.NoGame fault)) undecided takes waits = takes
       takes_until stops.NoPlanLine undecided takes waits = takes
       takes_until (stops.NoPlan fault) undecided takes waits = takes
       takes_until (stops.NoMove fault) undecided takes waits = takes
@@ -267,7 +303,7 @@ module _ {X : Type 0} (s : Streams) where
   }
 
   pub plays_stop : (stop : PlayStop) → PlaysInput {X = X} s.input s.left s.last_read s.old s.new (Err stop) → Outcome (Some Play) s (play_ending stop)
-  plays_stop (stops.Input fault) input =
+  plays_stop (stops.Input (inputs.NoGame fault)) input =
       let none = told_by input.taken input.lines (ends.NoGame fault) input.played.0 in
       record {
         taken = input.taken;
@@ -297,7 +333,7 @@ module _ {X : Type 0} (s : Streams) where
     few = takes_few 4 s.last_read input.lines input.taken (omega arith) input.few input.passed;
     holds = (input.lines, (input.played.0, input.played.1), told_by input.taken input.lines (ends.NoMove fault) input.played.0, input.written, input.passed);
   }
-  plays_stop stops.Read input = record {
+  plays_stop (stops.Input inputs.Read) input = record {
     taken = input.taken;
     gave = input.gave;
     few = takes_few 3 s.last_read input.lines input.taken (omega arith) input.few (input.passed.0, input.passed.1, (Failed, input.passed.2), omega (arith, input.passed.2.1));

@@ -12,9 +12,11 @@ use Rattle.proof_text.specs.Texts.{pieces, lines_in, first_number, game_of, behi
 use Rattle.cert_checker.specs.Checking.{why_of}
 use Rattle.cert_checker.specs.declared.stops.Accepted.{Accepted}
 use Rattle.victor_run.specs.Check.{BeginsProof, IsRightInput, most_lines_read}
+use Rattle.victor_run.specs.GameInput.{input_ending}
 use Rattle.victor_run.specs.Streams.{TakesLines}
 use Rattle.victor_run.specs.declared.ending.Ending.{Ending}
 use Rattle.victor_run.specs.declared.ending.Ending.TheVariants as endings
+use Rattle.victor_run.specs.declared.game_input.InputStop.TheVariants as inputs
 use Rattle.victor_run.specs.declared.check.Stop.{Stop}
 use Rattle.victor_run.specs.declared.check.Stop.TheVariants as stops
 
@@ -76,30 +78,28 @@ Adds s t at false bytes rest = lines_from s at bytes ≡ verdict_answer at (leng
 -- The answer is that of what stopped the reading; a fault comes only where the source's count rose, and want of memory
 -- only at a lemma.
 abbrev pub StopsBy : Place → List ℕ → ℕ → ℕ → Stop → Type 0
-StopsBy place bytes before after (stops.Input fault) = answer_at place bytes ≡ NoGame fault
+StopsBy place bytes before after (stops.Input (inputs.NoGame fault)) = answer_at place bytes ≡ NoGame fault
+StopsBy place bytes before after (stops.Input inputs.Read) = Rose before after
 StopsBy place bytes before after (stops.Refused r) = answer_at place bytes ≡ Refused r.at (why_of r.why)
-StopsBy place bytes before after stops.Read = Rose before after
 StopsBy place bytes before after stops.Memory = Reaches place bytes
 
 -- behind what stands, the line at a number is refused by this name, or is a lemma for which memory runs out
 abbrev pub StopsAtLine : CheckerState → ℕ → List ℕ → Stop → Type 0
 StopsAtLine s at bytes (stops.Refused r) = (bytes_refusal s at bytes ≡ Some (why_of r.why)) × (r.at ≡ at)
 StopsAtLine s at bytes stops.Memory = IsNextLemma s at bytes
-StopsAtLine s at bytes (stops.Input fault) = ⊥
-StopsAtLine s at bytes stops.Read = ⊥
+StopsAtLine s at bytes (stops.Input why) = ⊥
 
 -- the number of the last line that is read, at most, by what stops the reading
 abbrev pub lines_read_until : Stop → ℕ
 lines_read_until (stops.Refused r) = r.at
-lines_read_until (stops.Input fault) = 3
-lines_read_until stops.Read = most_lines_read
+lines_read_until (stops.Input (inputs.NoGame fault)) = 3
+lines_read_until (stops.Input inputs.Read) = most_lines_read
 lines_read_until stops.Memory = most_lines_read
 
 -- how the run ends by what stops the reading
 abbrev pub ending_of : Stop → Ending
-ending_of (stops.Input fault) = endings.Input fault
+ending_of (stops.Input why) = input_ending why
 ending_of (stops.Refused r) = endings.Refused r
-ending_of stops.Read = endings.Read
 ending_of stops.Memory = endings.Memory
 
 -- What was read of a proof, to its end or to what stopped the reading: the bytes that were taken are right, or they stopped

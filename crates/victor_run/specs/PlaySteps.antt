@@ -17,11 +17,13 @@ use Rattle.reply_player.specs.declared.session.Reply.TheVariants.{BlackWon, Fill
 use Rattle.play_text.specs.Play as ends
 use Rattle.play_text.specs.Play.{PlayEnd, Played, behind, play_from, play_lines, play_of, text_of}
 use Rattle.io_ports.specs.Reading.{Pending, Reads, PassesLines}
+use Rattle.victor_run.specs.GameInput.{input_ending}
 use Rattle.victor_run.specs.Streams.{TakesLines, WaitsBehind}
 use Rattle.victor_run.specs.declared.ending.Ending.{Ending}
 use Rattle.victor_run.specs.declared.ending.Ending.TheVariants as endings
+use Rattle.victor_run.specs.declared.game_input.InputStop.TheVariants.{NoGame, Read}
 use Rattle.victor_run.specs.declared.play.PlayStop.{PlayStop}
-use Rattle.victor_run.specs.declared.play.PlayStop.TheVariants.{Input, NoPlanLine, NoPlan, NoMove, Read, Write}
+use Rattle.victor_run.specs.declared.play.PlayStop.TheVariants.{Input, NoPlanLine, NoPlan, NoMove, Write}
 
 -- ---- the line of a turn
 
@@ -52,11 +54,11 @@ played_from s at bytes = play_from (members s.plan) s.stands at (lines_in (piece
 
 -- how play ends by what stops it; where a stream failed, it would have gone on
 abbrev pub end_by : PlayStop → Option PlayEnd
-end_by (Input fault) = Some (ends.NoGame fault)
+end_by (Input (NoGame fault)) = Some (ends.NoGame fault)
+end_by (Input Read) = None
 end_by NoPlanLine = Some ends.NoPlanLine
 end_by (NoPlan fault) = Some (ends.NoPlan (fault_of fault))
 end_by (NoMove fault) = Some (ends.NoMove fault)
-end_by Read = None
 end_by Write = None
 
 abbrev pub EndsSo : Played → List (List ℕ) → Option PlayEnd → Type 0
@@ -68,11 +70,11 @@ StopsPlay played lines stop = EndsSo played lines (end_by stop)
 
 -- how many lines are read at most besides one for each that is begun, by what stops play: the line that is no move is one
 abbrev pub lines_besides : PlayStop → ℕ
-lines_besides (Input fault) = 2
+lines_besides (Input (NoGame fault)) = 2
+lines_besides (Input Read) = 3
 lines_besides NoPlanLine = 3
 lines_besides (NoPlan fault) = 3
 lines_besides (NoMove fault) = 4
-lines_besides Read = 3
 lines_besides Write = 3
 
 -- the lines behind the plan that were passed when play stopped there, where so many lines were begun
@@ -81,18 +83,18 @@ PassesMoves stop begun bytes rest = (3 ≤ lines_besides stop) × PassesLines (b
 
 -- where the source failed, the bytes that were taken and not given are no whole line
 abbrev pub IsWaiting : List ℕ → PlayStop → Type 0
-IsWaiting ahead Read = IsUndecided ahead
+IsWaiting ahead (Input Read) = IsUndecided ahead
+IsWaiting ahead (Input (NoGame fault)) = ⊤
 IsWaiting ahead Write = ⊤
-IsWaiting ahead (Input fault) = ⊤
 IsWaiting ahead NoPlanLine = ⊤
 IsWaiting ahead (NoPlan fault) = ⊤
 IsWaiting ahead (NoMove fault) = ⊤
 
 -- what was taken in all, where so many lines were begun
 abbrev pub TakesUntil : PlayStop → ℕ → ℕ → List ℕ → Type 0
-TakesUntil Read begun last_read taken = WaitsBehind (3 + begun) taken
+TakesUntil (Input Read) begun last_read taken = WaitsBehind (3 + begun) taken
 TakesUntil Write begun last_read taken = TakesLines (3 + begun) last_read taken
-TakesUntil (Input fault) begun last_read taken = TakesLines (2 + begun) last_read taken
+TakesUntil (Input (NoGame fault)) begun last_read taken = TakesLines (2 + begun) last_read taken
 TakesUntil NoPlanLine begun last_read taken = TakesLines (3 + begun) last_read taken
 TakesUntil (NoPlan fault) begun last_read taken = TakesLines (3 + begun) last_read taken
 TakesUntil (NoMove fault) begun last_read taken = TakesLines (4 + begun) last_read taken
@@ -102,11 +104,10 @@ TakesUntil (NoMove fault) begun last_read taken = TakesLines (4 + begun) last_re
 -- whether the last line that was begun stands whole
 abbrev pub is_whole : {X : Type 0} → Result X PlayStop → Bool
 is_whole (Ok x) = true
-is_whole (Err (Input fault)) = true
+is_whole (Err (Input why)) = true
 is_whole (Err NoPlanLine) = true
 is_whole (Err (NoPlan fault)) = true
 is_whole (Err (NoMove fault)) = true
-is_whole (Err Read) = true
 is_whole (Err Write) = false
 
 -- Lines were written, of which the last may be cut after a write that failed; and a fact of the bytes that were not given
@@ -130,9 +131,9 @@ PlaysMoves s at (Err stop) lines bytes rest = PassesMoves stop (length lines) by
 
 -- a stream is said to have failed only where its count rose
 abbrev pub IsCaused : ℕ → ℕ → ℕ → ℕ → PlayStop → Type 0
-IsCaused read_before read_after write_before write_after Read = Rose read_before read_after
+IsCaused read_before read_after write_before write_after (Input Read) = Rose read_before read_after
 IsCaused read_before read_after write_before write_after Write = Rose write_before write_after
-IsCaused read_before read_after write_before write_after (Input fault) = ⊤
+IsCaused read_before read_after write_before write_after (Input (NoGame fault)) = ⊤
 IsCaused read_before read_after write_before write_after NoPlanLine = ⊤
 IsCaused read_before read_after write_before write_after (NoPlan fault) = ⊤
 IsCaused read_before read_after write_before write_after (NoMove fault) = ⊤
@@ -145,26 +146,24 @@ pub record HasPlayCause {X : Type 0} (read_before read_after write_before write_
 -- a line is no move
 abbrev pub IsNoMove : PlayStop → Type 0
 IsNoMove (NoMove fault) = ⊤
-IsNoMove (Input fault) = ⊥
+IsNoMove (Input why) = ⊥
 IsNoMove NoPlanLine = ⊥
 IsNoMove (NoPlan fault) = ⊥
-IsNoMove Read = ⊥
 IsNoMove Write = ⊥
 
 -- a line names no plan
 abbrev pub IsNoPlan : PlayStop → Type 0
 IsNoPlan NoPlanLine = ⊤
 IsNoPlan (NoPlan fault) = ⊤
-IsNoPlan (Input fault) = ⊥
+IsNoPlan (Input why) = ⊥
 IsNoPlan (NoMove fault) = ⊥
-IsNoPlan Read = ⊥
 IsNoPlan Write = ⊥
 
 -- what stops play while nothing is written yet
 abbrev pub StopsReading : ℕ → ℕ → PlayStop → Type 0
-StopsReading before after Read = Rose before after
+StopsReading before after (Input Read) = Rose before after
 StopsReading before after Write = ⊥
-StopsReading before after (Input fault) = ⊤
+StopsReading before after (Input (NoGame fault)) = ⊤
 StopsReading before after NoPlanLine = ⊤
 StopsReading before after (NoPlan fault) = ⊤
 StopsReading before after (NoMove fault) = ⊤
@@ -173,11 +172,10 @@ StopsReading before after (NoMove fault) = ⊤
 
 -- how the run ends by what stops play
 abbrev pub play_ending : PlayStop → Ending
-play_ending (Input fault) = endings.Input fault
+play_ending (Input why) = input_ending why
 play_ending NoPlanLine = endings.Refused (record { at = 3; why = BadLine })
 play_ending (NoPlan fault) = endings.NoPlan fault
 play_ending (NoMove fault) = endings.NoMove fault
-play_ending Read = endings.Read
 play_ending Write = endings.Write
 
 -- What was played by the bytes that were taken, and by all of the input, where the source tells it.

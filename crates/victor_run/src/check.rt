@@ -5,7 +5,7 @@ ghost use Rattle.std.specs.Prelude.{◌≡◌, ◌+◌, ◌-◌, ◌≤◌, true
 ghost use Rattle.device_rules.specs.Devices.{Rose, HasCause, AppendsPrefix};
 ghost use Rattle.arrayvec.specs.ArrayVec.{array_vec_len};
 ghost use Rattle.game_rules.specs.Position.{board_of};
-ghost use Rattle.proof_text.specs.Texts.{first_number, bytes_refusal, with_bytes, start, verdict_answer};
+ghost use Rattle.proof_text.specs.Texts.{first_number, bytes_refusal, with_bytes, verdict_answer};
 ghost use Rattle.victor_run.specs.Check.{accepted_line, most_lines_read};
 ghost use Rattle.victor_run.specs.CheckSteps.{lines_from, AtHead, AtGame, AtLine, GoesOn, Adds, StopsBy, StopsAtLine, lines_read_until, ending_of, Judges};
 ghost use Rattle.io_ports.specs.Reading.{pending, Reads, PassesLines};
@@ -19,7 +19,7 @@ use crate::ending::Ending;
 use crate::game_input::InputStop;
 use crate::game_lines::read_game_lines;
 use crate::output::put_line;
-use board_bits::{InputFault, Position, Size};
+use board_bits::Size;
 use cert_checker::{Accepted, AddStop, Checker, Refusal, Why};
 use cert_format::{FIRST_LINE, LineBuffer};
 use io_ports::{Failed, LineGot, Lines, Sink, Source};
@@ -35,10 +35,17 @@ const MOST_LINES: u64 = 20_000_000;
 /// What stops the reading of a proof.
 #[derive(Clone, Copy)]
 enum Stop {
-    Input(InputFault),
+    Input(InputStop),
     Refused(Refusal),
-    Read,
     Memory,
+}
+
+impl From<InputStop> for Stop {
+    ghost from_gives = { λ why stop. stop ≡ stops.Input why };
+
+    fn from(why: InputStop) -> Stop {
+        Stop::Input(why)
+    }
 }
 
 impl Stop {
@@ -47,9 +54,8 @@ impl Stop {
         ensures { result ≡ ending_of self }
     {
         match self {
-            Stop::Input(fault) => Ending::Input(fault),
+            Stop::Input(why) => why.ending(),
             Stop::Refused(refusal) => Ending::Refused(refusal),
-            Stop::Read => Ending::Read,
             Stop::Memory => Ending::Memory,
         }
     }
@@ -78,7 +84,7 @@ fn judge<S: Source>(alloc: Global, source: &mut S) -> Result<Accepted, Stop>
 {
     let mut lines = Lines::new();
     read_head(&mut lines, source)?;
-    let root = read_root(&mut lines, source)?;
+    let root = read_game_lines(&mut lines, source)?;
     let size = root.size();
     let mut checker = Checker::new(alloc, root);
     let end = add_lines(&mut checker, size, &mut lines, source)?;
@@ -98,28 +104,12 @@ fn read_head<S: Source>(lines: &mut Lines, source: &mut S) -> Result<(), Stop>
     ensures later { S.faults source.old ≤ S.faults source.new }
 {
     if let LineGot::Failed = lines.next(source) {
-        return Err(Stop::Read);
+        return Err(Stop::Input(InputStop::Read));
     }
     if lines.text() == FIRST_LINE {
         Ok(())
     } else {
         Err(bad_line(1))
-    }
-}
-
-/// Reads the two lines of the game, and answers its position.
-fn read_root<S: Source>(lines: &mut Lines, source: &mut S) -> Result<Position, Stop>
-    ensures answer { Reads (pending lines.old (S.left source.old) (S.last_read source.old))
-        (pending lines.new (S.left source.new) (S.last_read source.new))
-        (λ bytes rest. PassesLines 2 bytes rest × MatchResult result (λ root. GoesOn AtGame bytes (AtLine (start root) first_number) rest)
-        (StopsBy AtGame bytes (S.faults source.old) (S.faults source.new))) }
-    ensures stops { IfErr result (λ stop. 3 ≤ lines_read_until stop) }
-    ensures later { S.faults source.old ≤ S.faults source.new }
-{
-    match read_game_lines(lines, source) {
-        Ok(root) => Ok(root),
-        Err(InputStop::NoGame(fault)) => Err(Stop::Input(fault)),
-        Err(InputStop::Read) => Err(Stop::Read),
     }
 }
 
@@ -176,7 +166,7 @@ fn add_next<S: Source>(
         }
         LineGot::Long => Err(bad_line(at)),
         LineGot::Done => Ok(false),
-        LineGot::Failed => Err(Stop::Read),
+        LineGot::Failed => Err(Stop::Input(InputStop::Read)),
     }
 }
 

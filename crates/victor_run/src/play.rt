@@ -10,7 +10,7 @@ ghost use Rattle.game_rules.specs.Position.{board_of, height, empty_count};
 ghost use Rattle.plan_text.specs.Items.{square_text};
 ghost use Rattle.text_words.specs.Lines.{line_room};
 ghost use Rattle.rule_compat.specs.Planned.{members};
-ghost use Rattle.play_text.specs.Play.{behind, column_in, play_from, play_lines, play_of, first_move};
+ghost use Rattle.play_text.specs.Play.{behind, column_in, play_from, play_lines, first_move};
 ghost use Rattle.io_ports.specs.Reading.{pending, Reads, PassesLines};
 ghost use Rattle.victor_run.specs.PlaySteps.{reply_column, reply_end, answered_line, played_at, played_from, StopsPlay, lines_besides, IsWaiting, IsNoMove, IsNoPlan, is_whole, PlayStep, PlaysNext, PlaysMoves, PlaysInput, StopsReading, HasPlayCause, play_ending};
 ghost use Rattle.victor_run.specs.Outcome.{Outcome};
@@ -22,7 +22,7 @@ use crate::ending::Ending;
 use crate::game_input::InputStop;
 use crate::game_lines::read_game_lines;
 use crate::output::put_line;
-use board_bits::{Column, InputFault, MoveFault, Position, Size};
+use board_bits::{Column, MoveFault, Position, Size};
 use cert_checker::{PlanFault, Refusal, Why};
 use cert_format::{push_square, read_plan};
 use io_ports::{Failed, LineGot, Lines, Sink, Source};
@@ -40,12 +40,19 @@ const FIRST_MOVE: u64 = 4;
 /// What stops play before the end of the input.
 #[derive(Clone, Copy)]
 enum PlayStop {
-    Input(InputFault),
+    Input(InputStop),
     NoPlanLine,
     NoPlan(PlanFault),
     NoMove(PlayFault),
-    Read,
     Write,
+}
+
+impl From<InputStop> for PlayStop {
+    ghost from_gives = { λ why stop. stop ≡ stops.Input why };
+
+    fn from(why: InputStop) -> PlayStop {
+        PlayStop::Input(why)
+    }
 }
 
 impl PlayStop {
@@ -54,14 +61,13 @@ impl PlayStop {
         ensures { result ≡ play_ending self }
     {
         match self {
-            PlayStop::Input(fault) => Ending::Input(fault),
+            PlayStop::Input(why) => why.ending(),
             PlayStop::NoPlanLine => Ending::Refused(Refusal {
                 at: PLAN_LINE,
                 why: Why::BadLine,
             }),
             PlayStop::NoPlan(fault) => Ending::NoPlan(fault),
             PlayStop::NoMove(fault) => Ending::NoMove(fault),
-            PlayStop::Read => Ending::Read,
             PlayStop::Write => Ending::Write,
         }
     }
@@ -87,26 +93,9 @@ fn play_all<S: Source, O: Sink>(source: &mut S, out: &mut O) -> Result<(), PlayS
     ensures cause { HasPlayCause (S.faults source.old) (S.faults source.new) (O.faults out.old) (O.faults out.new) result }
 {
     let mut lines = Lines::new();
-    let root = read_root(&mut lines, source)?;
+    let root = read_game_lines(&mut lines, source)?;
     let plan = read_plan_line(&root, &mut lines, source)?;
     play_moves(&mut Session::new(plan), &mut lines, source, out)
-}
-
-/// Reads the two lines of the game, and answers its position.
-fn read_root<S: Source>(lines: &mut Lines, source: &mut S) -> Result<Position, PlayStop>
-    ensures answer { Reads (pending lines.old (S.left source.old) (S.last_read source.old))
-        (pending lines.new (S.left source.new) (S.last_read source.new))
-        (λ bytes rest. PassesLines 2 bytes rest × MatchResult result (λ root. play_of bytes ≡ played_at root rest) (StopsPlay (play_of bytes) [])) }
-    ensures waiting { IfErr result (IsWaiting lines.new.ahead) }
-    ensures stops { IfErr result (λ stop. 2 ≤ lines_besides stop) }
-    ensures later { S.faults source.old ≤ S.faults source.new }
-    ensures caused { IfErr result (λ stop. StopsReading (S.faults source.old) (S.faults source.new) stop) }
-{
-    match read_game_lines(lines, source) {
-        Ok(root) => Ok(root),
-        Err(InputStop::NoGame(fault)) => Err(PlayStop::Input(fault)),
-        Err(InputStop::Read) => Err(PlayStop::Read),
-    }
 }
 
 /// Reads the line of the plan, which has to be one at this position.
@@ -129,7 +118,7 @@ fn read_plan_line<S: Source>(
     match lines.next(source) {
         LineGot::Line => plan_of(root, lines.text()),
         LineGot::Long | LineGot::Done => Err(PlayStop::NoPlanLine),
-        LineGot::Failed => Err(PlayStop::Read),
+        LineGot::Failed => Err(PlayStop::Input(InputStop::Read)),
     }
 }
 
@@ -201,7 +190,7 @@ fn play_next<S: Source, O: Sink>(
         }
         LineGot::Long => Err(no_move(PlayKind::BadMove, at)),
         LineGot::Done => Ok(false),
-        LineGot::Failed => Err(PlayStop::Read),
+        LineGot::Failed => Err(PlayStop::Input(InputStop::Read)),
     }
 }
 

@@ -6,7 +6,7 @@ use Rattle.io_ports.specs.Lines.{Cutting}
 use Rattle.victor_run.specs.CheckSteps.{StopsBy, AtHead, AtGame, GoesOn, lines_read_until}
 use Rattle.io_ports.specs.Reading.{pending, Reads, PassesLines}
 use Rattle.victor_run.specs.declared.check.Stop.TheVariants as stops
-use Rattle.victor_run.proofs.Judging.{game_known, game_stops, lines_stop, lines_known, judged_stop, judged_right}
+use Rattle.victor_run.proofs.Judging.{game_known, game_stops, game_lines, lines_stop, lines_known, judged_stop, judged_right}
 use Rattle.victor_run.proofs.check.judge.Goals as goal
 
 pub returns-in_err-read_head : goal.returns-in_err-read_head
@@ -24,19 +24,20 @@ returns-in_err-root g c =
     let left = g.S.Source.left c.args.source.now in
     let begun = g.S.Source.last_read c.args.source.now in
     let mid = pending c.read_head.new.lines (g.S.Source.left c.read_head.new.source) (g.S.Source.last_read c.read_head.new.source) in
-    let last = pending c.read_root.new.lines (g.S.Source.left c.read_root.new.source) (g.S.Source.last_read c.read_root.new.source) in
+    let last = pending c.read_game_lines.new.lines (g.S.Source.left c.read_game_lines.new.source) (g.S.Source.last_read c.read_game_lines.new.source) in
     let same = err_from_is_err_and c.from_residual-in_err-root.result c.from_residual-in_err-root.ensures.1 in
-    let stop = c.in_err-root.field-0.0 in
+    let why = c.in_err-root.field-0.0 in
     let P : Cutting → Type 0 = λ lines. Reads (pending lines left begun) mid (λ bytes rest. PassesLines 1 bytes rest × GoesOn AtHead bytes AtGame rest) in
-    rw (same.1, same.2) (judged_stop left begun last 3 _ _ stop (game_stops _ mid last (subst P c.new-lines.ensures c.in_ok-read_head.ensures.answer) _ _ _ stop c.in_ok-read_head.ensures.later c.in_err-root.ensures.answer)
-    c.in_err-root.ensures.stops (omega arith))
+    let stopped = game_stops _ mid last (subst P c.new-lines.ensures c.in_ok-read_head.ensures.answer) _ _ _ why c.in_ok-read_head.ensures.later
+    c.in_err-root.ensures.answer in
+    rw (same.1, same.2) (judged_stop left begun last 3 _ _ (stops.Input why) stopped (game_lines why) (omega arith))
 
 pub returns-in_err-end : goal.returns-in_err-end
 returns-in_err-end g c =
     let left = g.S.Source.left c.args.source.now in
     let begun = g.S.Source.last_read c.args.source.now in
     let mid = pending c.read_head.new.lines (g.S.Source.left c.read_head.new.source) (g.S.Source.last_read c.read_head.new.source) in
-    let next = pending c.read_root.new.lines (g.S.Source.left c.read_root.new.source) (g.S.Source.last_read c.read_root.new.source) in
+    let next = pending c.read_game_lines.new.lines (g.S.Source.left c.read_game_lines.new.source) (g.S.Source.last_read c.read_game_lines.new.source) in
     let last = pending c.add_lines.new.lines (g.S.Source.left c.add_lines.new.source) (g.S.Source.last_read c.add_lines.new.source) in
     let same = err_from_is_err_and c.from_residual-in_err-end.result c.from_residual-in_err-end.ensures.1 in
     let stop = c.in_err-end.field-0.0 in
@@ -52,7 +53,7 @@ returns-in-Ok g c =
     let left = g.S.Source.left c.args.source.now in
     let begun = g.S.Source.last_read c.args.source.now in
     let mid = pending c.read_head.new.lines (g.S.Source.left c.read_head.new.source) (g.S.Source.last_read c.read_head.new.source) in
-    let next = pending c.read_root.new.lines (g.S.Source.left c.read_root.new.source) (g.S.Source.last_read c.read_root.new.source) in
+    let next = pending c.read_game_lines.new.lines (g.S.Source.left c.read_game_lines.new.source) (g.S.Source.last_read c.read_game_lines.new.source) in
     let last = pending c.add_lines.new.lines (g.S.Source.left c.add_lines.new.source) (g.S.Source.last_read c.add_lines.new.source) in
     let P : Cutting → Type 0 = λ lines. Reads (pending lines left begun) mid (λ bytes rest. PassesLines 1 bytes rest × GoesOn AtHead bytes AtGame rest) in
     let game = game_known _ mid next (subst P c.new-lines.ensures c.in_ok-read_head.ensures.answer) c.in_ok-root.root c.in_ok-root.ensures.answer in
@@ -70,7 +71,7 @@ returns g c =
     let left = g.S.Source.left c.args.source.now in
     let begun = g.S.Source.last_read c.args.source.now in
     let mid = pending c.read_head.new.lines (g.S.Source.left c.read_head.new.source) (g.S.Source.last_read c.read_head.new.source) in
-    let next = pending c.read_root.new.lines (g.S.Source.left c.read_root.new.source) (g.S.Source.last_read c.read_root.new.source) in
+    let next = pending c.read_game_lines.new.lines (g.S.Source.left c.read_game_lines.new.source) (g.S.Source.last_read c.read_game_lines.new.source) in
     let last = pending c.add_lines.new.lines (g.S.Source.left c.add_lines.new.source) (g.S.Source.last_read c.add_lines.new.source) in
     let P : Cutting → Type 0 = λ lines. Reads (pending lines left begun) mid (λ bytes rest. PassesLines 1 bytes rest × GoesOn AtHead bytes AtGame rest) in
     let game = game_known _ mid next (subst P c.new-lines.ensures c.in_ok-read_head.ensures.answer) c.in_ok-root.root c.in_ok-root.ensures.answer in
