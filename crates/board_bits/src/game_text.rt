@@ -4,10 +4,10 @@ ghost use Rattle.std.specs.Prelude.{◌≡◌, ◌+◌, ◌-◌, ◌<◌, ◌≤
 ghost use Rattle.game_rules.specs.Position.{Position as Men, empty_position};
 ghost use Rattle.game_rules.specs.Game.{IsTextOf, letters_in, moves_in, moves_of};
 ghost use Rattle.game_rules.specs.Board.{is_cols, is_rows};
-ghost use Rattle.game_rules.specs.Text.{after_text, is_digit, cols_of, rows_of, size_at, board_at, column_named, letter_read, at_end, letters_from, after_dash, moves_at, read_game, game_at};
+ghost use Rattle.game_rules.specs.Text.{after_text, is_digit, cols_of, rows_of, size_at, board_at, letter_read, at_end, letters_from, after_dash, moves_at, read_game, game_at};
 ghost use Rattle.board_bits.specs.Reading.{Gives};
 
-use crate::{Column, Game, InputFault, InputKind, MoveFault, Position, Size};
+use crate::{Game, InputFault, InputKind, MoveFault, Position, Size};
 use game_rules::Stop;
 
 /// Reads the text of a game: the line `board COLS ROWS`, and the line `moves` with a letter for each move, or `-` for
@@ -216,7 +216,7 @@ fn letter_read(game: &mut Game, letter: u8, bytes: &[u8]) -> Result<(), Stop>
     ensures position { Gives (λ _. game.new.position) result (letter_read game.old.position letter (length bytes.now)) }
     ensures moves { OnOk result (game.new.moves ≡ game.old.moves ++ (letter - 97) ∷ []) }
 {
-    let Some(column) = column_named(game.position(), letter) else {
+    let Some(column) = game.position().size().column_named(letter) else {
         return Err(stop(InputKind::BadColumn, bytes));
     };
     match game.play(column) {
@@ -224,15 +224,4 @@ fn letter_read(game: &mut Game, letter: u8, bytes: &[u8]) -> Result<(), Stop>
         Err(MoveFault::GameOver) => Err(stop(InputKind::GameOver, bytes)),
         Err(MoveFault::ColumnFull) => Err(stop(InputKind::ColumnFull, bytes)),
     }
-}
-
-/// The column with a letter: `a` is the first.
-fn column_named(position: &Position, letter: u8) -> Option<Column>
-    ensures named { result ≡ column_named position.now letter }
-    ensures within { IfSome result (λ column. column < length position.now.columns) }
-{
-    if letter < b'a' {
-        return None;
-    }
-    position.size().column(letter - b'a')
 }

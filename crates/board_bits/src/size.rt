@@ -1,7 +1,8 @@
 //! Sizes of boards with the length of their lines, and their columns and squares. A value of each of these types is one
 //! that some board has, so no later code tests a number again.
-ghost use Rattle.std.specs.Prelude.{◌≡◌, ◌+◌, ◌<◌, ◌≤◌, ◌++◌, ◌↔◌, true, Some, None, if◌then◌else◌, nat_lt, IsTrue};
+ghost use Rattle.std.specs.Prelude.{◌≡◌, ◌+◌, ◌<◌, ◌≤◌, ◌++◌, ◌↔◌, true, Some, None, IfSome, if◌then◌else◌, nat_lt, IsTrue};
 ghost use Rattle.game_rules.specs.Board.{is_board, is_cols, is_rows, on_board, is_line, line_at, line_length, step_of};
+ghost use Rattle.game_rules.specs.Letters.{column_named};
 ghost use Rattle.game_rules.specs.Squares.{squares_of_board, squares_in_column, widest, widest_with};
 ghost use Rattle.board_bits.specs.Size.{sized};
 ghost use Rattle.board_bits.specs.Words.{square_at};
@@ -154,6 +155,14 @@ impl Size {
         } else {
             None
         }
+    }
+
+    /// The column with this letter, where `a` is the first from the left; None exactly where the board has no such column.
+    pub fn column_named(&self, letter: u8) -> Option<Column>
+        ensures value { result ≡ column_named self.now.cols letter }
+        ensures within { IfSome result (λ column. column < self.now.cols) }
+    {
+        self.column(letter.checked_sub(b'a')?)
     }
 
     /// The column with this number, which the board has.

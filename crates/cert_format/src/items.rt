@@ -17,7 +17,7 @@ use io_ports::{Failed, Sink, put_all};
 use itoa::Buffer;
 use open_groups::{GroupId, group_anchor, group_at, group_way};
 use rule_compat::{Instance, PlanFault};
-use text_words::{LineText, column_named, letter_of, number_between, push_number, push_text};
+use text_words::{LineText, letter_of, number_between, push_number, push_text};
 
 /// What a report names: a square, a group, or an instance of a rule.
 #[derive(Clone, Copy)]
@@ -128,7 +128,7 @@ pub(crate) fn square_of(bytes: &[u8], size: Size) -> Option<Square>
     ensures { result ≡ square_of size bytes.now }
 {
     let (letter, digits) = bytes.split_first()?;
-    let column = column_named(*letter, size)?;
+    let column = size.column_named(*letter)?;
     let row = number_between(1, u32::from(size.rows()), digits)?;
     size.square(column, row as u8)
 }

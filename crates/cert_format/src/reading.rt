@@ -20,7 +20,7 @@ use arrayvec::ArrayVec;
 use board_bits::{Column, Size};
 use bstr::ByteSlice;
 use proof_text::{Claim, Verdict};
-use text_words::{column_named, number_between};
+use text_words::number_between;
 
 /// No number of a proof is greater.
 const GREATEST_NUMBER: u32 = 10_000_000;
@@ -99,7 +99,7 @@ fn read_path(path: &mut ArrayVec<Column, LONGEST_PATH>, word: &[u8], size: Size)
     let kept = named_moves(path.as_slice(), word, size.cols());
     path.truncate(kept);
     for letter in &word[kept..] {
-        path.push(column_named(*letter, size)?);
+        path.push(size.column_named(*letter)?);
     }
     Some(())
 }
@@ -109,7 +109,7 @@ fn letter_word(word: &[u8], size: Size) -> Option<Column>
     ensures { result ≡ letter_word size.cols word.now }
 {
     match word {
-        [letter] => column_named(*letter, size),
+        [letter] => size.column_named(*letter),
         _ => None,
     }
 }
@@ -200,7 +200,7 @@ fn cite_of(word: &[u8], size: Size) -> Option<Cite>
         return None;
     };
     Some(Cite {
-        column: column_named(*letter, size)?,
+        column: size.column_named(*letter)?,
         lemma: number_of(number)?,
     })
 }

@@ -8,6 +8,7 @@ pub mod Game
 pub mod Faults
 pub mod Words
 pub mod Laws
+pub mod Letters
 pub mod Squares
 pub mod Groups
 pub mod Number

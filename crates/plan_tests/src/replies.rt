@@ -1,21 +1,14 @@
 //! Games in which Black plays by a plan, move by move.
-ghost use Rattle.std.specs.Prelude.{◌<◌, IfSome};
 
 use crate::lists::{
     AFTEREVEN, BASECLAIM, SIX_ZONES, SMALL, WITH_AFTEREVEN, WITH_BASECLAIM, list_in,
 };
-use board_bits::{Column, MoveFault, Position, Size, read_game};
+use board_bits::{MoveFault, Position, read_game};
 use reply_player::{Reply, Session};
 use rule_compat::Plan;
 use std::test::Fail;
 
 const WITH_HIGHINVERSE: &str = "CE:a1 CE:a3 CE:b1 CE:b3 BI:c1,d1 HI:c2,d2";
-
-fn column_named(size: Size, letter: u8) -> Option<Column>
-    ensures { IfSome result (λ c. c < size.cols) }
-{
-    size.column(letter.checked_sub(b'a')?)
-}
 
 /// A session of the plan that a list is at the position of a game.
 fn session_of(game: &[u8], members: &str) -> Result<Session, Fail> {
@@ -29,7 +22,7 @@ fn session_of(game: &[u8], members: &str) -> Result<Session, Fail> {
 
 /// What a session answers to the column with this letter; none where the board hasn't one.
 fn answer(session: &mut Session, letter: u8) -> Option<Result<Reply, MoveFault>> {
-    let column = column_named(session.now().size(), letter)?;
+    let column = session.now().size().column_named(letter)?;
     Some(session.answer(column))
 }
 

@@ -10,7 +10,7 @@ mod marks;
 mod number;
 
 pub use game_text::push_game;
-pub use letters::{column_named, letter_of};
+pub use letters::letter_of;
 pub use line::{LINE_ROOM, LineText, push_number, push_text};
 pub use marks::split_once;
 pub use number::number_between;

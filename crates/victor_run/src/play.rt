@@ -219,7 +219,7 @@ fn column_in(size: Size, bytes: &[u8]) -> Option<Column>
     ensures { result ≡ column_in size bytes.now }
 {
     match bytes {
-        [letter] => size.column(letter.checked_sub(b'a')?),
+        [letter] => size.column_named(*letter),
         _ => None,
     }
 }
