@@ -157,7 +157,8 @@ impl Size {
         }
     }
 
-    /// The column with this letter, where `a` is the first from the left; None exactly where the board has no such column.
+    /// The column with this letter, `a` for the first from the left; None exactly where the letter is none of the board's
+    /// columns.
     pub fn column_named(&self, letter: u8) -> Option<Column>
         ensures value { result ≡ column_named self.now.cols letter }
         ensures within { IfSome result (λ column. column < self.now.cols) }

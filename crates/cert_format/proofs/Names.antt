@@ -4,7 +4,7 @@ use Rattle.std.proofs.Math.Seq.{take-add}
 use Rattle.std.proofs.lemmas.Bool.{and_from}
 use Rattle.std.proofs.lemmas.List.{map-append}
 use Rattle.std.proofs.lemmas.List.Folds.{list_all-append}
-use Rattle.proof_text.specs.Reading.{is_letter, column_of}
+use Rattle.game_rules.specs.Letters.{is_letter, column_of}
 use Rattle.cert_format.specs.Names.{AreNamed}
 
 -- letters behind others

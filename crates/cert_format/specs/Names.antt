@@ -1,7 +1,7 @@
 -- Letters as names of columns.
 use Rattle.std.specs.Prelude.{◌≡◌, ℕ, true, List, map}
 use Rattle.std.specs.List.{list_all}
-use Rattle.proof_text.specs.Reading.{is_letter, column_of}
+use Rattle.game_rules.specs.Letters.{is_letter, column_of}
 
 -- the letters of the word are those of the columns of the path, and the board has them all
 pub record AreNamed (cols : ℕ) (path word : List ℕ) : Type 0 where

@@ -5,8 +5,9 @@ use Rattle.std.proofs.lemmas.Bool.{cases_Bool, cases_lt, and_parts, and_from, lt
 use Rattle.std.proofs.lemmas.List.{length-append, drop-append-le, take-append-le, take-append-drop}
 use Rattle.std.proofs.lemmas.List.Folds.{prefix_len-append, length-prefix_len}
 use Rattle.std.specs.List.{prefix_len}
+use Rattle.game_rules.specs.Letters.{is_letter, column_of, column_named}
 use Rattle.game_rules.specs.Position.{Position, has_room, after_move, end_of, empty_count, is_legal}
-use Rattle.game_rules.specs.Text.{stop, ◌>>=◌, after_text, is_digit, read_as, size_at, column_named, move_into, letter_read, at_end, letters_from, after_dash, moves_at}
+use Rattle.game_rules.specs.Text.{stop, ◌>>=◌, after_text, is_digit, read_as, size_at, move_into, letter_read, at_end, letters_from, after_dash, moves_at}
 use Rattle.game_rules.specs.declared.Stop.{Stop}
 use Rattle.game_rules.proofs.Lists.{chosen}
 use Rattle.game_rules.proofs.Moves.{empty_count_moved, room_column}
@@ -150,8 +151,8 @@ module _ (spelled : List ℕ → Option ℕ) (too_long : (run : List ℕ) → 3 
 
 -- a letter that was read is a legal move
 pub letter_moves : (p q : Position) (byte left : ℕ) → letter_read p byte left ≡ Ok q → (column : ℕ) × (byte ≡ 97 + column) × (is_legal p column ≡ true) × (q ≡ after_move p column)
-letter_moves p q byte left h = elim (chosen (nat_le 97 byte && nat_lt byte (97 + length p.columns)) (Some (byte - 97)) None (column_named p byte) refl) [
-  | inr outside ↦ absurd (none (column_named p byte) outside.1 h)
+letter_moves p q byte left h = elim (chosen (is_letter (length p.columns) byte) (Some (column_of byte)) None (column_named (length p.columns) byte) refl) [
+  | inr outside ↦ absurd (none (column_named (length p.columns) byte) outside.1 h)
   | inl named ↦
       let letter = and_parts (nat_le 97 byte) (nat_lt byte (97 + length p.columns)) named.0 in
       let low : 97 ≤ byte = leb-true 97 byte letter.0 in
@@ -185,7 +186,7 @@ letter_of_move p column left h =
     rw (and_from _ _ (le-leb 97 (97 + column) (omega arith)) (lt-ltb (97 + column) (97 + length p.columns) (omega arith)), back, parts.0, parts.1) refl
 
 pub letter_spends : (p : Position) (byte n : ℕ) → Spends (λ q. n) (suc n) 1 (letter_read p byte (suc n))
-letter_spends p byte n = move (column_named p byte)
+letter_spends p byte n = move (column_named (length p.columns) byte)
   where
     move : (c : Option ℕ) → Spends (λ (q : Position). n) (suc n) 1 (move_into p (suc n) c)
     move None = (omega arith, omega arith)
@@ -198,7 +199,7 @@ letter_spends p byte n = move (column_named p byte)
     ]
 
 pub letter_more : (p : Position) (byte left n : ℕ) → letter_read p byte (left + n) ≡ with_more (λ q. q) n (letter_read p byte left)
-letter_more p byte left n = move (column_named p byte)
+letter_more p byte left n = move (column_named (length p.columns) byte)
   where
     move : (c : Option ℕ) → move_into p (left + n) c ≡ with_more (λ q. q) n (move_into p left c)
     move None = refl

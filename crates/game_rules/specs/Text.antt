@@ -1,8 +1,9 @@
 -- The text of a game on a board with lines of four, this project's own: the line `board COLS ROWS`, and the line
 -- `moves` with a letter for each move, or `-` for none. The last line feed may be missing. Reading goes from the left
 -- and gives the position, or the first fault.
-use Rattle.std.specs.Prelude.{ℕ, ◌+◌, ◌-◌, Bool, ◌&&◌, ◌||◌, ◌==◌, nat_lt, nat_le, if◌then◌else◌, List, [], ◌∷◌, length, drop, take_while, Option, Some, None, is_some, Result, Ok, Err, codes}
+use Rattle.std.specs.Prelude.{ℕ, ◌+◌, ◌-◌, Bool, ◌&&◌, ◌||◌, ◌==◌, nat_le, if◌then◌else◌, List, [], ◌∷◌, length, drop, take_while, Option, Some, None, is_some, Result, Ok, Err, codes}
 use Rattle.game_rules.specs.Board.{Board}
+use Rattle.game_rules.specs.Letters.{column_named}
 use Rattle.game_rules.specs.Position.{Position, empty_position, has_room, after_move, end_of}
 use Rattle.game_rules.specs.declared.InputKind.{InputKind}
 use Rattle.game_rules.specs.declared.InputKind.TheVariants.{BadHeader, BadSize, BadColumn, ColumnFull, GameOver, Trailing}
@@ -50,17 +51,13 @@ read_as None rest bytes = stop BadSize (length bytes)
 abbrev pub size_at : (List ℕ → Option ℕ) → List ℕ → Result (ℕ × List ℕ) Stop
 size_at spelled bytes = let run = take_while is_digit bytes in read_as (spelled run) (drop (length run) bytes) bytes
 
--- the column with a letter: `a` is the first
-abbrev pub column_named : Position → ℕ → Option ℕ
-column_named p byte = if nat_le 97 byte && nat_lt byte (97 + length p.columns) then Some (byte - 97) else None
-
 -- the position after one more letter, where as many bytes are left as said, the letter too
 abbrev pub move_into : Position → ℕ → Option ℕ → Result Position Stop
 move_into p left None = stop BadColumn left
 move_into p left (Some column) = if is_some (end_of p) then stop GameOver left else (if has_room p column then Ok (after_move p column) else stop ColumnFull left)
 
 abbrev pub letter_read : Position → ℕ → ℕ → Result Position Stop
-letter_read p byte left = move_into p left (column_named p byte)
+letter_read p byte left = move_into p left (column_named (length p.columns) byte)
 
 -- nothing may follow
 abbrev pub at_end : Position → List ℕ → Result Position Stop

@@ -12,6 +12,7 @@ use Rattle.std.proofs.Math.Seq.{take-append_seam, get_or-append_seam}
 use Rattle.game_rules.specs.Board.{Board, Square, is_board, on_board, is_line, ways}
 use Rattle.game_rules.specs.Groups.{Group, group_on, lies_on}
 use Rattle.game_rules.specs.Grammar.{letter_of}
+use Rattle.game_rules.specs.Letters.{is_letter, column_of}
 use Rattle.game_rules.specs.Number.{number_between}
 use Rattle.game_rules.specs.declared.Way.{Way}
 use Rattle.game_rules.specs.declared.Way.TheVariants.{H, V, U, D}
@@ -22,7 +23,7 @@ use Rattle.game_rules.proofs.Groups.{board_most, anchor_on, lies_parts, lies_fro
 use Rattle.plan_rules.specs.Rules.{RuleInstance, claimeven, baseinverse, lowinverse, highinverse, baseclaim, vertical, aftereven, before, specialbefore, kind_of}
 use Rattle.plan_rules.specs.declared.Kind.{Kind}
 use Rattle.plan_rules.specs.declared.Kind.TheVariants as kinds
-use Rattle.plan_text.specs.Words.{◌>>=◌, split_once, is_letter, column_of}
+use Rattle.plan_text.specs.Words.{◌>>=◌, split_once}
 use Rattle.plan_text.specs.Items.{square_text, way_letter, group_text, column_text, rule_letters, parts_text, instance_text, is_named, square_of, way_of, group_at, group_of, both_of, column_of_squares, two_columns, two_squares, three_squares, group_and_squares, all_rules, rule_of, of_rule, if_named, instance_of}
 use Rattle.plan_text.proofs.Spaced.{bind_some, map_some, chosen_some, is_text, letter_read, letter_spelled, IsFreeOf, split_once_gives, split_once_at}
 

@@ -11,8 +11,9 @@ use Rattle.std.proofs.lemmas.List.Splits.{slice_split_none, slice_split_at, join
 use Rattle.std.proofs.lemmas.Slice.Eq.{bytes_eq-Decides}
 use Rattle.std.proofs.lemmas.Bool.{and_parts, and_from, ltb-true, lt-ltb, leb-true, le-leb, eqb-true, eq-eqb, ne_eqb}
 use Rattle.game_rules.specs.Grammar.{letter_of}
+use Rattle.game_rules.specs.Letters.{is_letter, column_of}
 use Rattle.game_rules.proofs.Lists.{chosen}
-use Rattle.plan_text.specs.Words.{◌>>=◌, spaced, words_of, split_once, is_letter, column_of}
+use Rattle.plan_text.specs.Words.{◌>>=◌, spaced, words_of, split_once}
 
 -- ---- options
 

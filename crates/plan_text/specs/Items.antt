@@ -5,13 +5,14 @@ use Rattle.std.specs.Option.{option_map_or}
 use Rattle.game_rules.specs.Board.{Board, Square, is_board, is_line, ways}
 use Rattle.game_rules.specs.Groups.{Group, group_on, lies_on}
 use Rattle.game_rules.specs.Grammar.{letter_of}
+use Rattle.game_rules.specs.Letters.{is_letter, column_of}
 use Rattle.game_rules.specs.Number.{number_between}
 use Rattle.game_rules.specs.declared.Way.{Way}
 use Rattle.game_rules.specs.declared.Way.TheVariants.{H, V, U, D}
 use Rattle.plan_rules.specs.Rules.{RuleInstance, claimeven, baseinverse, lowinverse, highinverse, baseclaim, vertical, aftereven, before, specialbefore, kind_of, is_shaped, line_of}
 use Rattle.plan_rules.specs.declared.Kind.{Kind}
 use Rattle.plan_rules.specs.declared.Kind.TheVariants as kinds
-use Rattle.plan_text.specs.Words.{◌>>=◌, is_letter, column_of, split_once}
+use Rattle.plan_text.specs.Words.{◌>>=◌, split_once}
 
 -- ---- texts
 

@@ -1,5 +1,5 @@
--- Lines as words with a single space between each two, and columns as letters.
-use Rattle.std.specs.Prelude.{ℕ, ◌+◌, ◌-◌, Bool, ◌&&◌, ◌==◌, nat_le, nat_lt, if◌then◌else◌, List, [], ◌∷◌, Option, Some, None, option_map, option_and_then}
+-- Lines as words with a single space between each two.
+use Rattle.std.specs.Prelude.{ℕ, ◌==◌, if◌then◌else◌, List, [], ◌∷◌, Option, Some, None, option_map, option_and_then}
 use Rattle.std.specs.List.{join_with_byte, slice_split}
 
 infixl 10 ◌>>=◌
@@ -18,10 +18,3 @@ words_of bytes = slice_split (λ byte. byte == 32) bytes
 abbrev pub split_once : ℕ → List ℕ → Option (List ℕ × List ℕ)
 split_once mark [] = None
 split_once mark (byte ∷ bytes) = if byte == mark then Some ([], bytes) else option_map (λ parts. (byte ∷ parts.0, parts.1)) (split_once mark bytes)
-
--- whether a byte is the letter of a column, on a board with so many, and which column it is
-abbrev pub is_letter : ℕ → ℕ → Bool
-is_letter cols byte = nat_le 97 byte && nat_lt byte (97 + cols)
-
-abbrev pub column_of : ℕ → ℕ
-column_of byte = byte - 97

@@ -6,6 +6,7 @@ use Rattle.std.proofs.lemmas.Bool.{and_parts}
 use Rattle.std.proofs.lemmas.Option.{same_Some}
 use Rattle.game_rules.specs.Board.{Board, Square}
 use Rattle.game_rules.specs.Grammar.{letter_of}
+use Rattle.game_rules.specs.Letters.{is_letter, column_of}
 use Rattle.game_rules.specs.Position.{Position, board_of, height, has_room, end_of, is_legal, after_move}
 use Rattle.game_rules.specs.declared.End.{End}
 use Rattle.game_rules.proofs.Ends.{legal_parts}
@@ -14,7 +15,6 @@ use Rattle.plan_rules.specs.Rules.{RuleInstance}
 use Rattle.plan_rules.specs.Plan.{is_plan, plan_reply, after_turn, after_turns, duel, is_playable_list, IsAnswered, IsTurn}
 use Rattle.plan_rules.proofs.MoreTurns.{turns_more, turn_made}
 use Rattle.plan_rules.proofs.Theorems.{plan_answers, duel_turns, duel_no_line}
-use Rattle.plan_text.specs.Words.{is_letter, column_of}
 use Rattle.plan_text.proofs.Spaced.{letter_read, letter_spelled}
 use Rattle.play_text.specs.Play.{AllPlayed, NoReply, move_line, Played, behind, turn_text, column_in, move_refusal, answer_to, play_from}
 use Rattle.play_text.specs.Told.{TellsTurn, TellsDuel}

@@ -4,6 +4,7 @@
 use Rattle.std.specs.Prelude.{ℕ, ◌+◌, nat_le, if◌then◌else◌, List, [], ◌∷◌, ◌++◌, length, Option, Some, None, is_none, is_some, Result, Ok, Err, codes, flat_map}
 use Rattle.game_rules.specs.Board.{Board, Square}
 use Rattle.game_rules.specs.Grammar.{letter_of}
+use Rattle.game_rules.specs.Letters.{column_named}
 use Rattle.game_rules.specs.Position.{Position, board_of, height, has_room, end_of, after_move}
 use Rattle.game_rules.specs.Text.{game_at}
 use Rattle.game_rules.specs.declared.End.{End}
@@ -12,7 +13,6 @@ use Rattle.game_rules.specs.declared.InputFault.{InputFault}
 use Rattle.plan_rules.specs.Rules.{RuleInstance}
 use Rattle.plan_rules.specs.Plan.{plan_reply}
 use Rattle.plan_rules.specs.Refusal.{PlanFault, plan_refusal}
-use Rattle.plan_text.specs.Words.{is_letter, column_of}
 use Rattle.plan_text.specs.Items.{square_text}
 use Rattle.plan_text.specs.PlanLine.{read_plan}
 use Rattle.proof_text.specs.Spelling.{as_line, longest_line}
@@ -69,7 +69,7 @@ move_line column = letter_of column ∷ []
 -- the column of the board whose letter is the line
 abbrev pub column_in : Board → List ℕ → Option ℕ
 column_in board [] = None
-column_in board (letter ∷ []) = if is_letter board.cols letter then Some (column_of letter) else None
+column_in board (letter ∷ []) = column_named board.cols letter
 column_in board (letter ∷ next ∷ more) = None
 
 -- why no man of White's can be dropped into the column that a line names, if it names one

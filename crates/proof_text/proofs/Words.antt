@@ -12,7 +12,8 @@ use Rattle.game_rules.proofs.Lists.{chosen}
 use Rattle.game_rules.proofs.Numbers as numbers
 use Rattle.game_rules.proofs.Numbers.{number_gives}
 use Rattle.game_rules.specs.Board.{Board}
-use Rattle.plan_text.specs.Words.{◌>>=◌, is_letter, column_of}
+use Rattle.game_rules.specs.Letters.{is_letter, column_of}
+use Rattle.plan_text.specs.Words.{◌>>=◌}
 use Rattle.plan_text.specs.PlanLine.{members_of}
 use Rattle.plan_text.proofs.Spaced.{bind_some, map_some, is_text, letter_read, letter_spelled}
 use Rattle.plan_text.proofs.PlanLines.{members_read, members_spelled}

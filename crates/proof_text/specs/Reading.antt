@@ -4,7 +4,8 @@ use Rattle.std.specs.Prelude.{ℕ, ◌&&◌, ◌==◌, nat_le, if◌then◌else�
 use Rattle.std.specs.List.{list_all}
 use Rattle.game_rules.specs.Number.{number_between}
 use Rattle.game_rules.specs.Board.{Board}
-pub use Rattle.plan_text.specs.Words.{◌>>=◌, words_of, is_letter, column_of}
+pub use Rattle.plan_text.specs.Words.{◌>>=◌, words_of}
+use Rattle.game_rules.specs.Letters.{is_letter, column_of, column_named}
 use Rattle.plan_text.specs.PlanLine.{members_of}
 use Rattle.proof_text.specs.Lemma.{Cite, Reason, ByEnd, ByOne, ByAll, ByPlan, Lemma, Line, ALemma, ARemark, AVerdict}
 use Rattle.proof_text.specs.Spelling.{greatest_number, longest_path, most_cites, is_remark}
@@ -26,7 +27,7 @@ claim_of word = if bytes_eq word (codes "W+") then Some WhiteWins else (if bytes
 
 -- a word of one letter
 abbrev pub letter_word : ℕ → List ℕ → Option ℕ
-letter_word cols (byte ∷ []) = if is_letter cols byte then Some (column_of byte) else None
+letter_word cols (byte ∷ []) = column_named cols byte
 letter_word cols word = None
 
 -- a letter, a colon and a number

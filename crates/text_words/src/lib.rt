@@ -1,6 +1,6 @@
 //! What texts are made of, whatever they say: numbers in decimal, the letters of columns, what stands on both sides of a
-//! mark, the two lines of a game, and short lines as they are being made. Each has one spelling, which the definitions of the texts say, and is
-//! read here alone. No call takes memory.
+//! mark, the two lines of a game, and short lines as they are being made. Each has one spelling, which the definitions of
+//! the texts say; a number is read here alone, and a letter by `Size::column_named` alone. No call takes memory.
 #![tactic(auto)]
 
 mod game_text;
