@@ -30,7 +30,8 @@ empty_past : (i : ℕ) → length {A = List Side} [] ≤ i
 empty_past i = omega arith
 
 -- numbers that are the lengths of lists, and beyond them 0
-sum_lengths : (g : ℕ → ℕ) (xs : List (List Side)) (m a : ℕ) → length xs ≤ m → ((i : ℕ) → i < m → g (a + i) ≡ length (get_or xs i [])) → sum_by g (range_with_len a m) ≡ sum_by length xs
+sum_lengths : (g : ℕ → ℕ) (xs : List (List Side)) (m a : ℕ) → length xs ≤ m → ((i : ℕ) → i < m → g (a + i) ≡ length (get_or xs i []))
+    → sum_by g (range_with_len a m) ≡ sum_by length xs
 sum_lengths g [] m a few each = sum_none g m a (λ i low. each i low ∙ ap (λ (men : List Side). length men) (get_or_past [] i [] (empty_past i)))
 sum_lengths g (x ∷ xs) zero a few each = absurd (omega arith)
 sum_lengths g (x ∷ xs) (suc m) a few each =
@@ -41,7 +42,8 @@ sum_lengths g (x ∷ xs) (suc m) a few each =
     omega (arith, first, rest, step, all)
 
 -- the men and the empty squares are all squares
-men_and_room : (rows : ℕ) (xs : List (List Side)) → ((i : ℕ) → i < length xs → length (get_or xs i []) ≤ rows) → sum_by length xs + sum_by (λ men. rows - length men) xs ≡ length xs * rows
+men_and_room : (rows : ℕ) (xs : List (List Side)) → ((i : ℕ) → i < length xs → length (get_or xs i []) ≤ rows)
+    → sum_by length xs + sum_by (λ men. rows - length men) xs ≡ length xs * rows
 men_and_room rows [] low = omega arith
 men_and_room rows (x ∷ xs) low =
     let first : length x ≤ rows = low 0 (omega arith) in

@@ -55,7 +55,8 @@ module _ (p : Position) (board : is_board (board_of p) ≡ true) (stacked : IsSt
   pub other_word : side_word (after_move p c) (other (side_to_move p)) ≡ side_word p (other (side_to_move p))
   other_word = ap word_of (where_same (has_man (after_move p c) (other (side_to_move p))) (has_man p (other (side_to_move p))) (λ u on. other_kept p c room u))
 
-  pub white_moved : (a : Inside) → fields_of p ≡ a → side_to_move p ≡ White → fields_of (after_move p c) ≡ record a { white = bit_or a.white (1 * 2 ^ (11 * c + height p c) % 2 ^ 128) }
+  pub white_moved : (a : Inside) → fields_of p ≡ a → side_to_move p ≡ White
+      → fields_of (after_move p c) ≡ record a { white = bit_or a.white (1 * 2 ^ (11 * c + height p c) % 2 ^ 128) }
   white_moved a is moves =
       ap (λ b. record { size = b; white = side_word (after_move p c) White; black = side_word (after_move p c) Black }) (board_moved p c)
       ∙ ap (λ n. record { size = board_of p; white = n; black = side_word (after_move p c) Black }) (mover_word White moves)
@@ -63,7 +64,8 @@ module _ (p : Position) (board : is_board (board_of p) ≡ true) (stacked : IsSt
       (ap (λ side. side_word (after_move p c) (other side)) (sym moves) ∙ other_word ∙ ap (λ side. side_word p (other side)) moves)
       ∙ ap (λ (b : Inside). record b { white = bit_or b.white (1 * 2 ^ (11 * c + height p c) % 2 ^ 128) }) is
 
-  pub black_moved : (a : Inside) → fields_of p ≡ a → side_to_move p ≡ Black → fields_of (after_move p c) ≡ record a { black = bit_or a.black (1 * 2 ^ (11 * c + height p c) % 2 ^ 128) }
+  pub black_moved : (a : Inside) → fields_of p ≡ a → side_to_move p ≡ Black
+      → fields_of (after_move p c) ≡ record a { black = bit_or a.black (1 * 2 ^ (11 * c + height p c) % 2 ^ 128) }
   black_moved a is moves =
       ap (λ b. record { size = b; white = side_word (after_move p c) White; black = side_word (after_move p c) Black }) (board_moved p c)
       ∙ ap (λ n. record { size = board_of p; white = side_word (after_move p c) White; black = n }) (mover_word Black moves)
@@ -89,10 +91,12 @@ module _ (a : Inside) (p : Position) (shown : men_of a ≡ p) (sound : IsSound a
   stacked_is = subst IsStacked shown sound.stacked
 
   white_fields : side_to_move p ≡ White → fields_of (after_move p c) ≡ record a { white = bit_or a.white (1 * 2 ^ n % 2 ^ 128) }
-  white_fields moves = white_moved p board_is stacked_is c room a fields_is moves ∙ ap (λ i. record a { white = bit_or a.white (1 * 2 ^ i % 2 ^ 128) }) (sym place)
+  white_fields moves = white_moved p board_is stacked_is c room a fields_is moves ∙ ap (λ i. record a { white = bit_or a.white (1 * 2 ^ i % 2 ^ 128) })
+      (sym place)
 
   black_fields : side_to_move p ≡ Black → fields_of (after_move p c) ≡ record a { black = bit_or a.black (1 * 2 ^ n % 2 ^ 128) }
-  black_fields moves = black_moved p board_is stacked_is c room a fields_is moves ∙ ap (λ i. record a { black = bit_or a.black (1 * 2 ^ i % 2 ^ 128) }) (sym place)
+  black_fields moves = black_moved p board_is stacked_is c room a fields_is moves ∙ ap (λ i. record a { black = bit_or a.black (1 * 2 ^ i % 2 ^ 128) })
+      (sym place)
 
   pub white_sound : side_to_move p ≡ White → IsSound (record a { white = bit_or a.white (1 * 2 ^ n % 2 ^ 128) })
   white_sound moves = kept_sound (after_move p c) (board_after p board_is stacked_is c room) (stacked_after p board_is stacked_is c room) _ (white_fields moves)
@@ -115,7 +119,8 @@ pub empty_stacked : (b : Board) → IsStacked (empty_position b)
 empty_stacked b = All-replicate (λ (men : List Side). length men ≤ b.rows) b.cols [] (omega arith)
 
 empty_side : (b : Board) (side : Side) → side_word (empty_position b) side ≡ 0
-empty_side b side = ap word_of (where_same (has_man (empty_position b) side) (has_bit 0) (λ u on. empty_no_man b side u ∙ sym (no_bit u))) ∙ word_back 0 zero_word
+empty_side b side = ap word_of (where_same (has_man (empty_position b) side) (has_bit 0) (λ u on. empty_no_man b side u ∙ sym (no_bit u)))
+    ∙ word_back 0 zero_word
 
 pub empty_fields : (b : Board) → fields_of (empty_position b) ≡ record { size = b; white = 0; black = 0 }
 empty_fields b =

@@ -1,5 +1,6 @@
 -- The words of a position's men: what their bits say of its squares, its columns and its moves.
-use Rattle.std.proofs.Common.{◌≡◌, ℕ, zero, suc, ◌+◌, ◌-◌, ◌*◌, ◌/◌, ◌%◌, ◌^◌, ◌<◌, ◌≤◌, max, true, not, cond, ◌&&◌, ◌||◌, ◌==◌, [], length, map, get_or, Option, Some, None, is_none, refl, sym, ap, ◌∙◌, subst, inl, inr, arith, bit_and, bit_or, add-one}
+use Rattle.std.proofs.Common.{◌≡◌, ℕ, zero, suc, ◌+◌, ◌-◌, ◌*◌, ◌/◌, ◌%◌, ◌^◌, ◌<◌, ◌≤◌, max, true, not, cond, ◌&&◌, ◌||◌, ◌==◌, [], length, map, get_or,
+    Option, Some, None, is_none, refl, sym, ap, ◌∙◌, subst, inl, inr, arith, bit_and, bit_or, add-one}
 use Rattle.std.specs.Int.{bit_at, bit_not, w128}
 use Rattle.std.specs.Int.RustNames.{count_ones}
 use Rattle.std.proofs.lemmas.Bool.{cases_lt, and_parts}
@@ -82,7 +83,8 @@ module _ (p : Position) (board : is_board (board_of p) ≡ true) (stacked : IsSt
   men_bit : (c i : ℕ) → c < 10 → i < 10 → bit_at all_men (11 * c + i) ≡ cond (not (is_none (man_at p (c, suc i)))) 1 0
   men_bit c i within low =
       bit_at_or (side_word p White) (side_word p Black) (11 * c + i)
-      ∙ ap (λ b. max b (bit_at (side_word p Black) (11 * c + i))) (word_bit (has_man p White) c i within low ∙ ap (λ r. cond (has_man p White (c, r)) 1 0) (add-one i))
+      ∙ ap (λ b. max b (bit_at (side_word p Black) (11 * c + i)))
+          (word_bit (has_man p White) c i within low ∙ ap (λ r. cond (has_man p White (c, r)) 1 0) (add-one i))
       ∙ ap (max (cond (has_man p White (c, suc i)) 1 0)) (word_bit (has_man p Black) c i within low ∙ ap (λ r. cond (has_man p Black (c, r)) 1 0) (add-one i))
       ∙ at (man_at p (c, suc i))
     where
@@ -92,7 +94,9 @@ module _ (p : Position) (board : is_board (board_of p) ≡ true) (stacked : IsSt
       at (Some Black) = refl
 
   pub column_bits : (c : ℕ) → c < 10 → all_men / 2 ^ (11 * c) % 2 ^ 11 ≡ 2 ^ height p c - 1
-  column_bits c within = same_from_bits_below 11 (all_men / 2 ^ (11 * c) % 2 ^ 11) (2 ^ height p c - 1) (omega arith) (let most = height_most c in let power = pow_below (height p c) 11 (omega arith) in omega (arith, power)) (λ i low. sym (column_of all_men c i low) ∙ at i low)
+  column_bits c within = same_from_bits_below 11 (all_men / 2 ^ (11 * c) % 2 ^ 11) (2 ^ height p c - 1) (omega arith)
+      (let most = height_most c in let power = pow_below (height p c) 11 (omega arith) in omega (arith, power))
+      (λ i low. sym (column_of all_men c i low) ∙ at i low)
     where
       at : (i : ℕ) → i < 11 → bit_at all_men (11 * c + i) ≡ bit_at (2 ^ height p c - 1) i
       at i low = elim (cases_lt i (height p c)) [
@@ -101,7 +105,8 @@ module _ (p : Position) (board : is_board (board_of p) ≡ true) (stacked : IsSt
             let some = man_within (men_in p c) (suc i) (omega arith) (omega arith) in
             men_bit c i within (omega (arith, most)) ∙ ap (λ m. cond (not (is_none m)) 1 0) some.1 ∙ sym (bit_at_ones (height p c) i under)
         | inr above ↦ elim (cases_lt i 10) [
-          | inl row ↦ men_bit c i within row ∙ ap (λ m. cond (not (is_none m)) 1 0) (man_past (men_in p c) (suc i) (omega arith)) ∙ sym (bit_at_ones_above (height p c) i above)
+          | inl row ↦ men_bit c i within row ∙ ap (λ m. cond (not (is_none m)) 1 0) (man_past (men_in p c) (suc i) (omega arith))
+              ∙ sym (bit_at_ones_above (height p c) i above)
           | inr top ↦ ap (bit_at all_men) (let e : 11 * c + i ≡ 11 * c + 10 = omega arith in e) ∙ men_word.gaps c ∙ sym (bit_at_ones_above (height p c) i above)
         ]
       ]
@@ -113,7 +118,8 @@ module _ (p : Position) (board : is_board (board_of p) ≡ true) (stacked : IsSt
   column_back : (c : ℕ) → c < 10 → column_in (side_word p White) (side_word p Black) c ≡ men_in p c
   column_back c within =
       ap (λ h. map (λ i. side_in (side_word p Black) (11 * c + i)) (below h)) (height_bits c within)
-      ∙ ext_get_or White (map (λ i. side_in (side_word p Black) (11 * c + i)) (below (height p c))) (men_in p c) (length-map-range_with_len (λ i. side_in (side_word p Black) (11 * c + i)) 0 (height p c)) (λ i low.
+      ∙ ext_get_or White (map (λ i. side_in (side_word p Black) (11 * c + i)) (below (height p c))) (men_in p c)
+          (length-map-range_with_len (λ i. side_in (side_word p Black) (11 * c + i)) 0 (height p c)) (λ i low.
       let inside : i < height p c = omega (arith, length-map-range_with_len (λ i. side_in (side_word p Black) (11 * c + i)) 0 (height p c)) in
       let most = height_most c in
       get_or-map-range_with_len (λ i. side_in (side_word p Black) (11 * c + i)) 0 (height p c) i i White inside (omega arith)
@@ -150,7 +156,8 @@ module _ (p : Position) (board : is_board (board_of p) ≡ true) (stacked : IsSt
 
   pub has_none : (u : Square) → on_board widest u ≡ true → not (has_bit all_men u) ≡ is_none (man_at p u)
   has_none u on =
-      ap not (union_bit (side_word p White) (side_word p Black) u ∙ ap (λ b. b || has_bit (side_word p Black) u) (has_side White u on) ∙ ap (λ b. has_man p White u || b) (has_side Black u on))
+      ap not (union_bit (side_word p White) (side_word p Black) u ∙ ap (λ b. b || has_bit (side_word p Black) u) (has_side White u on)
+          ∙ ap (λ b. has_man p White u || b) (has_side Black u on))
       ∙ at (man_at p u)
     where
       at : (m : Option Side) → not (is_man White m || is_man Black m) ≡ is_none m
@@ -187,7 +194,8 @@ module _ (p : Position) (board : is_board (board_of p) ≡ true) (stacked : IsSt
       }))
       (λ h.
       let line = has_line_gives p side h in
-      run_from (has_man p side) (side_word p side) (side_shows side) (line_length p.len) (a_length p.len) (record { way = line.way; anchor = line.anchor; each = line.owned }))
+      run_from (has_man p side) (side_word p side) (side_shows side) (line_length p.len) (a_length p.len)
+          (record { way = line.way; anchor = line.anchor; each = line.owned }))
 
 -- a position that is kept by the fields of some position
 pub kept_sound : (q : Position) → is_board (board_of q) ≡ true → IsStacked q → (b : Inside) → fields_of q ≡ b → IsSound b

@@ -1,5 +1,6 @@
 -- A word has a run exactly where its squares do.
-use Rattle.std.proofs.Common.{◌≡◌, ◌⊎◌, ℕ, zero, suc, ◌+◌, ◌-◌, ◌*◌, ◌/◌, ◌%◌, ◌^◌, ◌<◌, ◌≤◌, ◌≢◌, min, Bool, true, false, not, ◌==◌, map, refl, sym, ap, ◌∙◌, subst, inl, inr, arith, bit_and}
+use Rattle.std.proofs.Common.{◌≡◌, ◌⊎◌, ℕ, zero, suc, ◌+◌, ◌-◌, ◌*◌, ◌/◌, ◌%◌, ◌^◌, ◌<◌, ◌≤◌, ◌≢◌, min, Bool, true, false, not, ◌==◌, map, refl, sym, ap, ◌∙◌,
+    subst, inl, inr, arith, bit_and}
 use Rattle.std.specs.Int.{bit_at, trailing_zeros, w128}
 use Rattle.std.specs.List.{list_any}
 use Rattle.std.proofs.lemmas.Bool.{cases_eq, cases_lt, eq-eqb, ne_eqb}
@@ -87,8 +88,10 @@ starts_below : (n step len : ℕ) → IsLength len → starts_in n step len ≤ 
 starts_below n step len (inl four) = rw four (fours_below n step)
   where
     fours_below : (n step : ℕ) → fours_in n step ≤ n
-    fours_below n step = let first = and_le_l (pairs_in n step) (pairs_in n step / 2 ^ (2 * step)) in let second = and_le_l n (n / 2 ^ step) in omega (arith, first, second)
-starts_below n step len (inr five) = rw five (let first = and_le_l (pairs_in n step) (pairs_in n step / 2 ^ (2 * step)) in let second = and_le_l n (n / 2 ^ step) in let third = and_le_l (fours_in n step) (n / 2 ^ (4 * step)) in omega (arith, first, second, third))
+    fours_below n step = let first = and_le_l (pairs_in n step) (pairs_in n step / 2 ^ (2 * step)) in let second = and_le_l n (n / 2 ^ step) in
+        omega (arith, first, second)
+starts_below n step len (inr five) = rw five (let first = and_le_l (pairs_in n step) (pairs_in n step / 2 ^ (2 * step)) in let second =
+    and_le_l n (n / 2 ^ step) in let third = and_le_l (fours_in n step) (n / 2 ^ (4 * step)) in omega (arith, first, second, third))
 
 -- ---- squares
 
@@ -105,7 +108,8 @@ pub record Shows (test : Square → Bool) (n : ℕ) : Type 0 where
   pub same : (u : Square) → on_board widest u ≡ true → has_bit n u ≡ test u
 
 -- a step between squares of the board is one shift
-step_place : (way : Way) (c r j : ℕ) → on_board widest (c, r) ≡ true → on_board widest (step_of way (c, r) j) ≡ true → place_of (step_of way (c, r) j) ≡ place_of (c, r) + j * shift_of way
+step_place : (way : Way) (c r j : ℕ) → on_board widest (c, r) ≡ true → on_board widest (step_of way (c, r) j) ≡ true
+    → place_of (step_of way (c, r) j) ≡ place_of (c, r) + j * shift_of way
 step_place H c r j first here = let start = on_board_parts widest c r first in omega arith
 step_place V c r j first here = let start = on_board_parts widest c r first in omega arith
 step_place U c r j first here = let start = on_board_parts widest c r first in omega arith
@@ -140,11 +144,13 @@ module _ (test : Square → Bool) (n : ℕ) (shows : Shows test n) (len : ℕ) (
     | inr over ↦ absurd (no_top (i + (10 - i % 11) * 1) (follow (10 - i % 11) (omega arith)) (omega arith))
   ]
   square_along U i j low follow = elim (cases_lt (i % 11 + j) 10) [
-    | inl under ↦ let column : (i + j * 12) / 11 ≡ i / 11 + j = omega arith in let row : (i + j * 12) % 11 + 1 ≡ i % 11 + 1 + j = omega arith in rw (column, row) refl
+    | inl under ↦ let column : (i + j * 12) / 11 ≡ i / 11 + j = omega arith in let row : (i + j * 12) % 11 + 1 ≡ i % 11 + 1 + j = omega arith in
+        rw (column, row) refl
     | inr over ↦ absurd (no_top (i + (10 - i % 11) * 12) (follow (10 - i % 11) (omega arith)) (omega arith))
   ]
   square_along D i j low follow = elim (cases_lt (i % 11) j) [
-    | inr above ↦ let column : (i + j * 10) / 11 ≡ i / 11 + j = omega arith in let row : (i + j * 10) % 11 + 1 ≡ i % 11 + 1 - j = omega arith in rw (column, row) refl
+    | inr above ↦ let column : (i + j * 10) / 11 ≡ i / 11 + j = omega arith in let row : (i + j * 10) % 11 + 1 ≡ i % 11 + 1 - j = omega arith in
+        rw (column, row) refl
     | inl beneath ↦ absurd (no_top (i + (i % 11 + 1) * 10) (follow (i % 11 + 1) (omega arith)) (omega arith))
   ]
 
@@ -170,7 +176,8 @@ module _ (test : Square → Bool) (n : ℕ) (shows : Shows test n) (len : ℕ) (
   pub run_from : Run test len → word_runs n len ≡ true
   run_from run =
       let starts = starts_in n (shift_of run.way) len in
-      let set : bit_at starts (place_of run.anchor) ≡ 1 = starts_from n (shift_of run.way) (place_of run.anchor) len some (follow_from run.way run.anchor run.each) in
+      let set : bit_at starts (place_of run.anchor) ≡ 1 = starts_from n (shift_of run.way) (place_of run.anchor) len some
+          (follow_from run.way run.anchor run.each) in
       any_from (λ way. not (starts_in n (shift_of way) len == 0)) ways run.way (Among-ways run.way)
       (ap not (ne_eqb starts 0 (λ none.
       let gone : bit_at starts (place_of run.anchor) ≡ 0 = ap (λ m. bit_at m (place_of run.anchor)) none ∙ bit_at-zero (place_of run.anchor) in
@@ -182,11 +189,13 @@ pub shows_squares : (n : ℕ) → IsWord n → Shows (has_square (squares_of n))
 shows_squares n word = record { word = word; within = where_on (has_bit n); same = λ u on. sym (has_where (has_bit n) u on) }
 
 pub set_runs : (n len : ℕ) → IsWord n → IsLength len → word_runs n len ≡ has_run (squares_of n) len
-set_runs n len word some = agree _ _ (λ runs. from (run_gives (has_square (squares_of n)) n (shows_squares n word) len some runs)) (λ h. run_from (has_square (squares_of n)) n (shows_squares n word) len some (to h))
+set_runs n len word some = agree _ _ (λ runs. from (run_gives (has_square (squares_of n)) n (shows_squares n word) len some runs))
+    (λ h. run_from (has_square (squares_of n)) n (shows_squares n word) len some (to h))
   where
     from : Run (has_square (squares_of n)) len → has_run (squares_of n) len ≡ true
     from run =
-        let first : has_square (squares_of n) run.anchor ≡ true = ap (has_square (squares_of n)) (sym (step_none run.way run.anchor)) ∙ run.each 0 (length_small len some).0 in
+        let first : has_square (squares_of n) run.anchor ≡ true = ap (has_square (squares_of n)) (sym (step_none run.way run.anchor))
+            ∙ run.each 0 (length_small len some).0 in
         any_from (λ way. list_any (runs_from (squares_of n) len way) (squares_of n)) ways run.way (Among-ways run.way)
         (any_from (runs_from (squares_of n) len run.way) (squares_of n) run.anchor (has_gives (squares_of n) run.anchor first)
         (all_from (has_square (squares_of n)) (map (step_of run.way run.anchor) (below len)) (λ u among.
@@ -218,7 +227,8 @@ module _ (n : ℕ) (word : IsWord n) (way : Way) (len : ℕ) (some : IsLength le
     gaps = λ c. elim (bit_cases (starts_in n (shift_of way) len) (11 * c + 10)) [
       | inl none ↦ none
       | inr set ↦
-          let first : bit_at n (11 * c + 10) ≡ 1 = ap (bit_at n) (omega arith) ∙ starts_follow n (shift_of way) (11 * c + 10) len some set 0 (length_small len some).0 in
+          let first : bit_at n (11 * c + 10) ≡ 1 = ap (bit_at n) (omega arith)
+              ∙ starts_follow n (shift_of way) (11 * c + 10) len some set 0 (length_small len some).0 in
           let none = word.gaps c in absurd (omega (arith, first, none))
     ];
   }
@@ -236,11 +246,13 @@ module _ (n : ℕ) (word : IsWord n) (way : Way) (len : ℕ) (some : IsLength le
       ∙ passes_where_set (has_square (squares_of n)) n (shows_squares n word) len some (place_of s + step.0 * shift_of way) (follow step.0 low)))
       (λ all.
       let follow = follow_from (has_square (squares_of n)) n (shows_squares n word) len some way s (λ i low.
-      all_gives (has_square (squares_of n)) (map (step_of way s) (below len)) (step_of way s i) all (Among-map (step_of way s) (below len) i (Among-below len i low))) in
+      all_gives (has_square (squares_of n)) (map (step_of way s) (below len)) (step_of way s i) all
+          (Among-map (step_of way s) (below len) i (Among-below len i low))) in
       eq-eqb (bit_at (starts_in n (shift_of way) len) (place_of s)) 1 (starts_from n (shift_of way) (place_of s) len some follow))
 
   pub starts_set : IsSetOf (runs_from (squares_of n) len way) (squares_of (starts_in n (shift_of way) len))
   starts_set = word_set (runs_from (squares_of n) len way) (starts_in n (shift_of way) len)
       (λ s all. where_on (has_bit n) s (ap (has_square (squares_of n)) (sym (step_none way s))
-      ∙ all_gives (has_square (squares_of n)) (map (step_of way s) (below len)) (step_of way s 0) all (Among-map (step_of way s) (below len) 0 (Among-below len 0 (length_small len some).0))))
+      ∙ all_gives (has_square (squares_of n)) (map (step_of way s) (below len)) (step_of way s 0) all
+          (Among-map (step_of way s) (below len) 0 (Among-below len 0 (length_small len some).0))))
       starts_bit

@@ -7,8 +7,11 @@ use Rattle.game_rules.specs.declared.Length.{Length}
 use Rattle.game_rules.specs.declared.Way.{Way}
 use Rattle.game_rules.proofs.Ends.{each_step, from_steps}
 
-pub whole_line : (test : Square → Bool) (len : Length) (way : Way) (s : Square) (i : ℕ) → line_length len ≤ i → ((k : ℕ) → k < i → test (step_of way s k) ≡ true) → list_all test (line_at len way s) ≡ true
+pub whole_line : (test : Square → Bool) (len : Length) (way : Way) (s : Square) (i : ℕ) → line_length len ≤ i
+    → ((k : ℕ) → k < i → test (step_of way s k) ≡ true) → list_all test (line_at len way s) ≡ true
 whole_line test len way s i all each = from_steps test len way s (λ k low. each k (omega arith))
 
-pub broken_line : (test : Square → Bool) (len : Length) (way : Way) (s : Square) (i : ℕ) → i < line_length len → test (step_of way s i) ≡ false → list_all test (line_at len way s) ≡ false
-broken_line test len way s i low h = false_from_ne_true (list_all test (line_at len way s)) (λ all. both_ways (test (step_of way s i)) h (each_step test len way s all i low))
+pub broken_line : (test : Square → Bool) (len : Length) (way : Way) (s : Square) (i : ℕ) → i < line_length len → test (step_of way s i) ≡ false
+    → list_all test (line_at len way s) ≡ false
+broken_line test len way s i low h = false_from_ne_true (list_all test (line_at len way s))
+    (λ all. both_ways (test (step_of way s i)) h (each_step test len way s all i low))

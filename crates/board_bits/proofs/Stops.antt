@@ -19,6 +19,7 @@ pub place_near : (bytes : List ℕ) (s : Stop) → read_game bytes ≡ Err s →
 place_near bytes s h = (fault_near bytes (record { kind = s.kind; at = length bytes - s.left }) (fault_read bytes s h)).1
 
 -- a fixed text that is not yet at its end stops where no byte is left
-pub text_missing : (text bytes : List ℕ) (i : ℕ) → i < length text → length bytes < 1 → after_text (drop i text) bytes ≡ Err (record { kind = BadHeader; left = length bytes })
+pub text_missing : (text bytes : List ℕ) (i : ℕ) → i < length text → length bytes < 1
+    → after_text (drop i text) bytes ≡ Err (record { kind = BadHeader; left = length bytes })
 text_missing text [] i more none = rw (drop_more text i 0 more) refl
 text_missing text (byte ∷ bytes) i more none = absurd (omega arith)

@@ -1,5 +1,6 @@
 -- The columns of a set, found one by one by the first square of what is left of it.
-use Rattle.std.proofs.Common.{◌≡◌, ℕ, ◌<◌, ◌==◌, Bool, true, false, not, ◌&&◌, ◌||◌, List, [], ◌∷◌, length, filter, Some, None, slice_get, refl, sym, ap, ◌∙◌, inl, inr, arith}
+use Rattle.std.proofs.Common.{◌≡◌, ℕ, ◌<◌, ◌==◌, Bool, true, false, not, ◌&&◌, ◌||◌, List, [], ◌∷◌, length, filter, Some, None, slice_get, refl, sym, ap, ◌∙◌,
+    inl, inr, arith}
 use Rattle.std.specs.List.{list_any}
 use Rattle.std.proofs.lemmas.Bool.{cases_Bool, and_parts, and_from, eqb-true, eq-eqb, both_ways, false_from_ne_true}
 use Rattle.std.proofs.lemmas.List.Filters.{length-filter_both}
@@ -22,17 +23,21 @@ fewer test [] x first fails = absurd (none-some x first)
 fewer test (y ∷ ys) x first fails =
     rw (ap test (same_Some y x first) ∙ fails) (omega (arith, length-filter_both test (λ z. not (test z)) (λ z. refl) ys))
 
-pub fewer_left : (rest column less : List Square) (first : Square) → IsSetOf (has_square rest) rest → slice_get rest 0 ≡ Some first → has_square column first ≡ true
+pub fewer_left : (rest column less : List Square) (first : Square) → IsSetOf (has_square rest) rest → slice_get rest 0 ≡ Some first
+    → has_square column first ≡ true
     → IsSetOf (λ u. has_square rest u && not (has_square column u)) less → length less < length rest
 unfolding squares_where
 fewer_left rest column less first own is has made = rw same (fewer (λ u. not (has_square column u)) rest first is (ap not has))
   where
     same : less ≡ filter (λ u. not (has_square column u)) rest
-    same = made.in_order ∙ sym (filter_both (has_square rest) (λ u. not (has_square column u)) (squares_of_board widest)) ∙ ap (filter (λ u. not (has_square column u))) (sym own.in_order)
+    same = made.in_order ∙ sym (filter_both (has_square rest) (λ u. not (has_square column u)) (squares_of_board widest))
+        ∙ ap (filter (λ u. not (has_square column u))) (sym own.in_order)
 
 -- what is left without a column has all other columns
-pub column_apart : (rest column less : List Square) (first u : Square) → has_square rest first ≡ true → ((v : Square) → has_square column v ≡ (on_board widest v && (first.0 == v.0)))
-    → ((v : Square) → has_square less v ≡ (has_square rest v && not (has_square column v))) → (has_square column u || in_columns_of less u) ≡ in_columns_of rest u
+pub column_apart : (rest column less : List Square) (first u : Square) → has_square rest first ≡ true
+    → ((v : Square) → has_square column v ≡ (on_board widest v && (first.0 == v.0)))
+    → ((v : Square) → has_square less v ≡ (has_square rest v && not (has_square column v)))
+        → (has_square column u || in_columns_of less u) ≡ in_columns_of rest u
 column_apart rest column less first u has whole made = agree _ _ there back
   where
     there : (has_square column u || in_columns_of less u) ≡ true → in_columns_of rest u ≡ true
@@ -68,7 +73,8 @@ column_apart rest column less first u has whole made = agree _ _ there back
         none false same h = refl
 
         other : (v : Square) → v.0 ≡ u.0 → has_square column u ≡ false → (on_board widest v && (first.0 == v.0)) ≡ false
-        other v same out = none (on_board widest v) (first.0 == v.0) (ap (λ n. first.0 == n) same ∙ fails (on_board widest u) (first.0 == u.0) (and_parts (on_board widest u) _ h).0 (sym (whole u) ∙ out))
+        other v same out = none (on_board widest v) (first.0 == v.0)
+            (ap (λ n. first.0 == n) same ∙ fails (on_board widest u) (first.0 == u.0) (and_parts (on_board widest u) _ h).0 (sym (whole u) ∙ out))
 
 -- nothing is left of the columns where no square is
 pub none_left : (rest : List Square) (u : Square) (none : slice_get rest 0 ≡ None) → in_columns_of rest u ≡ false
@@ -83,7 +89,8 @@ pub first_has : (rest : List Square) (first : Square) → slice_get rest 0 ≡ S
 first_has [] first is = absurd (none-some first is)
 first_has (u ∷ us) first is = has_from (u ∷ us) first (inl (same_Some u first is))
 
-pub first_on : (rest : List Square) (first : Square) (column : ℕ) → IsSetOf (has_square rest) rest → slice_get rest 0 ≡ Some first → column ≡ first.0 → (on_board widest first && (column == first.0)) ≡ true
+pub first_on : (rest : List Square) (first : Square) (column : ℕ) → IsSetOf (has_square rest) rest → slice_get rest 0 ≡ Some first → column ≡ first.0
+    → (on_board widest first && (column == first.0)) ≡ true
 first_on rest first column own is same = and_from _ _ (set_on (has_square rest) rest own first (first_has rest first is)) (eq-eqb column first.0 same)
 
 -- where there are no squares there are no columns
@@ -95,4 +102,5 @@ no_columns us none = set_same _ _ us none (λ u. sym (ap (λ b. on_board widest 
     neither false = refl
 
     no_one : (u : Square) → list_any (λ v. v.0 == u.0) us ≡ false
-    no_one u = false_from_ne_true _ (λ h. let found = any_gives (λ v. v.0 == u.0) us h in both_ways (has_square us found.0) (none.has found.0) (has_from us found.0 found.1))
+    no_one u = false_from_ne_true _
+        (λ h. let found = any_gives (λ v. v.0 == u.0) us h in both_ways (has_square us found.0) (none.has found.0) (has_from us found.0 found.1))

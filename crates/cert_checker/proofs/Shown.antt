@@ -18,9 +18,11 @@ pub shown_more : (board : Board) (all : List Words) (claims : List Claim) (words
 shown_more board [] [] words claim same = refl
 shown_more board [] (other ∷ claims) words claim same = absurd (omega arith)
 shown_more board (other ∷ all) [] words claim same = absurd (omega arith)
-shown_more board (other ∷ all) (before ∷ claims) words claim same = ap (λ shown. (position_in board other, before) ∷ shown) (shown_more board all claims words claim (omega arith))
+shown_more board (other ∷ all) (before ∷ claims) words claim same = ap (λ shown. (position_in board other, before) ∷ shown)
+    (shown_more board all claims words claim (omega arith))
 
-pub shown_at : (board : Board) (all : List Words) (claims : List Claim) (i : ℕ) (words : Words) (claim : Claim) → length all ≡ length claims → slice_get all i ≡ Some words → slice_get claims i ≡ Some claim
+pub shown_at : (board : Board) (all : List Words) (claims : List Claim) (i : ℕ) (words : Words) (claim : Claim) → length all ≡ length claims
+    → slice_get all i ≡ Some words → slice_get claims i ≡ Some claim
     → slice_get (shown_in board all claims) i ≡ Some (position_in board words, claim)
 shown_at board [] claims i words claim same at claimed = absurd (cc at)
 shown_at board (other ∷ all) [] i words claim same at claimed = absurd (cc claimed)
@@ -28,13 +30,16 @@ shown_at board (other ∷ all) (before ∷ claims) zero words claim same at clai
 shown_at board (other ∷ all) (before ∷ claims) (suc i) words claim same at claimed = shown_at board all claims i words claim (omega arith) at claimed
 
 -- what is lent of one lemma is what the definitions look up
-pub found_at : (board : Board) (all : List Words) (claims : List Claim) (lemma i : ℕ) (words : Words) (claim : Claim) → 1 ≤ lemma → i ≡ lemma - 1 → length all ≡ length claims → i < length all
+pub found_at : (board : Board) (all : List Words) (claims : List Claim) (lemma i : ℕ) (words : Words) (claim : Claim) → 1 ≤ lemma → i ≡ lemma - 1
+    → length all ≡ length claims → i < length all
     → words ≡ get_or all i words → claim ≡ get_or claims i claim → Some (position_in board words, claim) ≡ lemma_at (shown_in board all claims) lemma
 found_at board all claims lemma i words claim some is same within at claimed =
     let here : lemma ≡ suc i = omega arith in
-    sym (ap (lemma_at (shown_in board all claims)) here ∙ shown_at board all claims i words claim same (slice_get-get_or all i words within ∙ ap Some (sym at)) (slice_get-get_or claims i claim (omega arith) ∙ ap Some (sym claimed)))
+    sym (ap (lemma_at (shown_in board all claims)) here ∙ shown_at board all claims i words claim same (slice_get-get_or all i words within ∙ ap Some (sym at))
+        (slice_get-get_or claims i claim (omega arith) ∙ ap Some (sym claimed)))
 
-pub none_at : (board : Board) (all : List Words) (claims : List Claim) (lemma i : ℕ) → 1 ≤ lemma → i ≡ lemma - 1 → length all ≡ length claims → length all ≤ i → None ≡ lemma_at (shown_in board all claims) lemma
+pub none_at : (board : Board) (all : List Words) (claims : List Claim) (lemma i : ℕ) → 1 ≤ lemma → i ≡ lemma - 1 → length all ≡ length claims → length all ≤ i
+    → None ≡ lemma_at (shown_in board all claims) lemma
 none_at board all claims lemma i some is same past =
     let here : lemma ≡ suc i = omega arith in
     sym (ap (lemma_at (shown_in board all claims)) here ∙ slice_get_past (shown_in board all claims) i (omega (arith, shown_count board all claims same)))

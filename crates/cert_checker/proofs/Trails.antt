@@ -1,5 +1,6 @@
 -- A path and the positions along it, one move longer.
-use Rattle.std.proofs.Common.{◌≡◌, ℕ, ◌+◌, ◌-◌, ◌<◌, ◌≤◌, cond, List, [], ◌∷◌, ◌++◌, take, drop, set, get_or, Option, Some, None, length, sym, ap, ◌∙◌, subst, inl, inr, arith}
+use Rattle.std.proofs.Common.{◌≡◌, ℕ, ◌+◌, ◌-◌, ◌<◌, ◌≤◌, cond, List, [], ◌∷◌, ◌++◌, take, drop, set, get_or, Option, Some, None, length, sym, ap, ◌∙◌, subst,
+    inl, inr, arith}
 use Rattle.std.specs.List.{slice_get}
 use Rattle.std.proofs.Math.Seq.{take-add}
 use Rattle.std.proofs.lemmas.Bool.{cases_eq}
@@ -13,18 +14,22 @@ use Rattle.game_rules.proofs.Played.{barred_more, played_more}
 -- one more move from the position kept after the path
 pub one_more : (root last : Position) (columns : List ℕ) (positions : List Position) (moves column : ℕ) (r : Option Position) → moves < length positions
     → slice_get positions moves ≡ played root (take moves columns)
-    → r ≡ cond (is_legal (get_or positions moves last) column) (Some (after_move (get_or positions moves last) column)) None → played root (take moves columns ++ column ∷ []) ≡ r
+    → r ≡ cond (is_legal (get_or positions moves last) column) (Some (after_move (get_or positions moves last) column)) None
+        → played root (take moves columns ++ column ∷ []) ≡ r
 one_more root last columns positions moves column r within kept is =
     played_more root (get_or positions moves last) (take moves columns) column (sym kept ∙ slice_get-get_or positions moves last within) ∙ sym is
 
 -- a path of which a prefix with one move more isn't legal
-pub barred_at : (root : Position) (path : List ℕ) (i column : ℕ) → i < length path → column ≡ get_or path i column → played root (take i path ++ column ∷ []) ≡ None → played root path ≡ None
+pub barred_at : (root : Position) (path : List ℕ) (i column : ℕ) → i < length path → column ≡ get_or path i column
+    → played root (take i path ++ column ∷ []) ≡ None → played root path ≡ None
 barred_at root path i column within is barred =
-    ap (played root) (sym (take-append-drop (i + 1) path) ∙ ap (λ xs. xs ++ drop (i + 1) path) (take_more path i column within ∙ ap (λ c. take i path ++ c ∷ []) (sym is)))
+    ap (played root) (sym (take-append-drop (i + 1) path)
+        ∙ ap (λ xs. xs ++ drop (i + 1) path) (take_more path i column within ∙ ap (λ c. take i path ++ c ∷ []) (sym is)))
     ∙ barred_more root (take i path ++ column ∷ []) (drop (i + 1) path) barred
 
 -- with one move more each position is still that after so many moves
-pub reached_more : (root next : Position) (columns : List ℕ) (positions : List Position) (moves column : ℕ) → moves < length columns → moves + 1 < length positions
+pub reached_more : (root next : Position) (columns : List ℕ) (positions : List Position) (moves column : ℕ) → moves < length columns
+    → moves + 1 < length positions
     → ((i : ℕ) → i ≤ moves → slice_get positions i ≡ played root (take i columns)) → played root (take moves columns ++ column ∷ []) ≡ Some next
     → (i : ℕ) → i ≤ moves + 1 → slice_get (set positions (moves + 1) next) i ≡ played root (take i (set columns moves column))
 reached_more root next columns positions moves column room place before legal i low = elim (cases_eq i (moves + 1)) [
@@ -52,12 +57,16 @@ board_played p q (x ∷ xs) h = elim (chosen (is_legal p x) (played (after_move 
   | inr barred ↦ absurd (cc barred.1)
 ]
 
-pub board_kept : (root last : Position) (columns : List ℕ) (positions : List Position) (moves : ℕ) → moves < length positions → slice_get positions moves ≡ played root (take moves columns)
+pub board_kept : (root last : Position) (columns : List ℕ) (positions : List Position) (moves : ℕ) → moves < length positions
+    → slice_get positions moves ≡ played root (take moves columns)
     → board_of (get_or positions moves last) ≡ board_of root
-board_kept root last columns positions moves within kept = board_played root (get_or positions moves last) (take moves columns) (sym kept ∙ slice_get-get_or positions moves last within)
+board_kept root last columns positions moves within kept = board_played root (get_or positions moves last) (take moves columns)
+    (sym kept ∙ slice_get-get_or positions moves last within)
 
 -- two paths that are the same up to one place, and then up to another
-pub same_up_to : (at end : ℕ) (xs ys : List ℕ) → at ≤ end → take at xs ≡ take at ys → take (end - at) (drop at xs) ≡ take (end - at) (drop at ys) → take end xs ≡ take end ys
+pub same_up_to : (at end : ℕ) (xs ys : List ℕ) → at ≤ end → take at xs ≡ take at ys → take (end - at) (drop at xs) ≡ take (end - at) (drop at ys)
+    → take end xs ≡ take end ys
 same_up_to at end xs ys ordered first rest =
     let parts : at + (end - at) ≡ end = omega arith in
-    subst (λ n. take n xs ≡ take n ys) parts (take-add at (end - at) xs ∙ ap (λ a. a ++ take (end - at) (drop at xs)) first ∙ ap (λ b. take at ys ++ b) rest ∙ sym (take-add at (end - at) ys))
+    subst (λ n. take n xs ≡ take n ys) parts (take-add at (end - at) xs ∙ ap (λ a. a ++ take (end - at) (drop at xs)) first ∙ ap (λ b. take at ys ++ b) rest
+        ∙ sym (take-add at (end - at) ys))

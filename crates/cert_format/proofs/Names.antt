@@ -15,8 +15,10 @@ named_then cols path more word next first rest = record {
 }
 
 -- the letters up to another place
-pub named_up_to : (cols at end : ℕ) (path word : List ℕ) → at ≤ end → AreNamed cols (take at path) (take at word) → AreNamed cols (take (end - at) (drop at path)) (take (end - at) (drop at word))
+pub named_up_to : (cols at end : ℕ) (path word : List ℕ) → at ≤ end → AreNamed cols (take at path) (take at word)
+    → AreNamed cols (take (end - at) (drop at path)) (take (end - at) (drop at word))
     → AreNamed cols (take end path) (take end word)
 named_up_to cols at end path word ordered first rest =
     let parts : at + (end - at) ≡ end = omega arith in
-    subst (λ n. AreNamed cols (take n path) (take n word)) parts (rw (take-add at (end - at) path, take-add at (end - at) word) (named_then cols _ _ _ _ first rest))
+    subst (λ n. AreNamed cols (take n path) (take n word)) parts
+        (rw (take-add at (end - at) path, take-add at (end - at) word) (named_then cols _ _ _ _ first rest))

@@ -24,18 +24,22 @@ members_behind [] = refl
 members_behind (w ∷ ws) = ap (λ rest. (32 ∷ instance_text w) ++ rest) (members_behind ws)
 
 -- the line of a lemma, each of its pieces before what was put, and what is put behind them
-pub lemma_pieces : (l : Lemma) (tail reason said path : List ℕ) → reason ++ tail ≡ behind_spaces (reason_words l.reason) ++ 10 ∷ [] → said ≡ claim_word l.claim ++ reason → path ≡ move_list l.path ++ 32 ∷ said
+pub lemma_pieces : (l : Lemma) (tail reason said path : List ℕ) → reason ++ tail ≡ behind_spaces (reason_words l.reason) ++ 10 ∷ []
+    → said ≡ claim_word l.claim ++ reason → path ≡ move_list l.path ++ 32 ∷ said
     → (decimal l.number ++ 32 ∷ path) ++ tail ≡ lemma_line l
 lemma_pieces l tail reason said path put_reason put_said put_path =
     append_assoc (decimal l.number) (32 ∷ path) tail
     ∙ pieces (reason ++ tail) (said ++ tail) (path ++ tail) put_reason (ap (λ text. text ++ tail) put_said ∙ append_assoc (claim_word l.claim) reason tail)
     (ap (λ text. text ++ tail) put_path ∙ append_assoc (move_list l.path) (32 ∷ said) tail)
   where
-    pieces : (reason said path : List ℕ) → reason ≡ behind_spaces (reason_words l.reason) ++ 10 ∷ [] → said ≡ claim_word l.claim ++ reason → path ≡ move_list l.path ++ 32 ∷ said
+    pieces : (reason said path : List ℕ) → reason ≡ behind_spaces (reason_words l.reason) ++ 10 ∷ [] → said ≡ claim_word l.claim ++ reason
+        → path ≡ move_list l.path ++ 32 ∷ said
         → decimal l.number ++ 32 ∷ path ≡ lemma_line l
     pieces reason said path put_reason put_said put_path =
         let words = claim_word l.claim ∷ reason_words l.reason in
-        let spelled : claim_word l.claim ++ behind_spaces (reason_words l.reason) ≡ spaced words = sym (spaced_behind (claim_word l.claim) (reason_words l.reason)) in
+        let spelled : claim_word l.claim ++ behind_spaces (reason_words l.reason)
+            ≡ spaced words = sym (spaced_behind (claim_word l.claim) (reason_words l.reason)) in
         let claimed : said ≡ spaced words ++ 10 ∷ [] =
-        put_said ∙ ap (λ rest. claim_word l.claim ++ rest) put_reason ∙ sym (append_assoc (claim_word l.claim) (behind_spaces (reason_words l.reason)) (10 ∷ [])) ∙ ap (λ text. text ++ 10 ∷ []) spelled in
+        put_said ∙ ap (λ rest. claim_word l.claim ++ rest) put_reason
+            ∙ sym (append_assoc (claim_word l.claim) (behind_spaces (reason_words l.reason)) (10 ∷ [])) ∙ ap (λ text. text ++ 10 ∷ []) spelled in
         ap (λ rest. decimal l.number ++ 32 ∷ rest) (put_path ∙ ap (λ rest. move_list l.path ++ 32 ∷ rest) claimed) ∙ sym (simp append_assoc)

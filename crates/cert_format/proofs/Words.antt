@@ -1,5 +1,6 @@
 -- Words as they are read: one is cut off at the first space, and a number is a word of its own.
-use Rattle.std.proofs.Common.{◌≡◌, ◌≢◌, ℕ, ◌+◌, ◌-◌, ◌<◌, ◌≤◌, ◌⊎◌, Bool, true, false, not, cond, ◌==◌, ◌&&◌, nat_le, nat_lt, List, [], ◌∷◌, ◌++◌, take, drop, length, Option, Some, None, codes, Bor, refl, sym, ap, ◌∙◌, subst, inl, inr, arith}
+use Rattle.std.proofs.Common.{◌≡◌, ◌≢◌, ℕ, ◌+◌, ◌-◌, ◌<◌, ◌≤◌, ◌⊎◌, Bool, true, false, not, cond, ◌==◌, ◌&&◌, nat_le, nat_lt, List, [], ◌∷◌, ◌++◌, take, drop,
+    length, Option, Some, None, codes, Bor, refl, sym, ap, ◌∙◌, subst, inl, inr, arith}
 use Rattle.std.specs.List.{position, position_or_len, onto_first}
 use Rattle.std.specs.Cmp.Lexicographic.{same_text}
 use Rattle.std.specs.Option.{option_map}
@@ -40,7 +41,8 @@ space_found bytes (Some at) found =
     let within : position_or_len is_space bytes < length bytes = omega (arith, there, found.0.high) in
     sym (ap (λ b. cond b (Some (position_or_len is_space bytes)) None) (lt-ltb (position_or_len is_space bytes) (length bytes) within) ∙ ap Some there)
 
-pub cut_at : (bytes : List ℕ) (end : ℕ) → position is_space bytes ≡ Some end → words_of bytes ≡ take end bytes ∷ words_of (take (length bytes - (end + 1)) (drop (end + 1) bytes))
+pub cut_at : (bytes : List ℕ) (end : ℕ) → position is_space bytes ≡ Some end
+    → words_of bytes ≡ take end bytes ∷ words_of (take (length bytes - (end + 1)) (drop (end + 1) bytes))
 cut_at bytes end h =
     let found = cond_some (nat_lt (position_or_len is_space bytes) (length bytes)) (position_or_len is_space bytes) end h in
     let cut : words_of bytes ≡ take end bytes ∷ words_of (drop (end + 1) bytes) =
@@ -51,7 +53,8 @@ one_part : (bytes : List ℕ) → length bytes ≤ position_or_len is_space byte
 one_part [] h = refl
 one_part (byte ∷ bytes) h = at (is_space byte) refl h (λ long. one_part bytes long)
   where
-    at : (b : Bool) → is_space byte ≡ b → length (byte ∷ bytes) ≤ cond (not b) (1 + position_or_len is_space bytes) 0 → (length bytes ≤ position_or_len is_space bytes → words_of bytes ≡ bytes ∷ [])
+    at : (b : Bool) → is_space byte ≡ b → length (byte ∷ bytes) ≤ cond (not b) (1 + position_or_len is_space bytes) 0
+        → (length bytes ≤ position_or_len is_space bytes → words_of bytes ≡ bytes ∷ [])
         → words_of (byte ∷ bytes) ≡ (byte ∷ bytes) ∷ []
     at true e long rest = absurd (omega arith)
     at false e long rest = slice_split-cons_no is_space byte bytes e ∙ ap (onto_first byte) (rest (omega arith))
@@ -59,7 +62,8 @@ one_part (byte ∷ bytes) h = at (is_space byte) refl h (λ long. one_part bytes
 pub uncut : (bytes : List ℕ) → position is_space bytes ≡ None → words_of bytes ≡ bytes ∷ []
 uncut bytes h = one_part bytes (past (nat_lt (position_or_len is_space bytes) (length bytes)) refl h)
   where
-    past : (b : Bool) → nat_lt (position_or_len is_space bytes) (length bytes) ≡ b → cond b (Some (position_or_len is_space bytes)) None ≡ None → length bytes ≤ position_or_len is_space bytes
+    past : (b : Bool) → nat_lt (position_or_len is_space bytes) (length bytes) ≡ b → cond b (Some (position_or_len is_space bytes)) None ≡ None
+        → length bytes ≤ position_or_len is_space bytes
     past true e h = cc
     past false e h = grind (arith, nat_tests)
 
@@ -107,7 +111,8 @@ one_number verdict bytes n h = elim (last_word bytes) [
 pub two_numbers : (bytes first rest : List ℕ) (n m : Option ℕ) → words_of bytes ≡ first ∷ words_of rest → number_of first ≡ n → number_of rest ≡ m
     → with_two Draw (words_of bytes) ≡ n >>= (λ n. option_map (Draw n) m)
 two_numbers bytes first rest n m cut h k = elim (last_word rest) [
-  | inl last ↦ ap (with_two Draw) (cut ∙ ap (λ words. first ∷ words) last) ∙ ap (λ o. o >>= (λ n. number_of rest >>= (λ m. Some (Draw n m)))) h ∙ ap (λ o. n >>= (λ n. o >>= (λ m. Some (Draw n m)))) k ∙ both n m
+  | inl last ↦ ap (with_two Draw) (cut ∙ ap (λ words. first ∷ words) last) ∙ ap (λ o. o >>= (λ n. number_of rest >>= (λ m. Some (Draw n m)))) h
+      ∙ ap (λ o. n >>= (λ n. o >>= (λ m. Some (Draw n m)))) k ∙ both n m
   | inr more ↦ ap (with_two Draw) (cut ∙ ap (λ words. first ∷ words) more.words) ∙ none n ∙ ap (λ o. n >>= (λ n. option_map (Draw n) o)) (sym more.none ∙ k)
 ]
   where
@@ -120,15 +125,19 @@ two_numbers bytes first rest n m cut h k = elim (last_word rest) [
     none None = refl
     none (Some n) = refl
 
-pub letter_and_number : (cols : ℕ) (bytes letter rest : List ℕ) (c n : Option ℕ) → words_of bytes ≡ letter ∷ words_of rest → letter_word cols letter ≡ c → number_of rest ≡ n
+pub letter_and_number : (cols : ℕ) (bytes letter rest : List ℕ) (c n : Option ℕ) → words_of bytes ≡ letter ∷ words_of rest → letter_word cols letter ≡ c
+    → number_of rest ≡ n
     → one_of cols (words_of bytes) ≡ c >>= (λ column. option_map (λ n. ByOne (record { column = column; lemma = n })) n)
 letter_and_number cols bytes letter rest c n cut h k = elim (last_word rest) [
-  | inl last ↦ ap (one_of cols) (cut ∙ ap (λ words. letter ∷ words) last) ∙ ap (λ o. o >>= (λ column. number_of rest >>= (λ n. Some (ByOne (record { column = column; lemma = n }))))) h
+  | inl last ↦ ap (one_of cols) (cut ∙ ap (λ words. letter ∷ words) last)
+      ∙ ap (λ o. o >>= (λ column. number_of rest >>= (λ n. Some (ByOne (record { column = column; lemma = n }))))) h
       ∙ ap (λ o. c >>= (λ column. o >>= (λ n. Some (ByOne (record { column = column; lemma = n }))))) k ∙ both c n
-  | inr more ↦ ap (one_of cols) (cut ∙ ap (λ words. letter ∷ words) more.words) ∙ none c ∙ ap (λ o. c >>= (λ column. option_map (λ n. ByOne (record { column = column; lemma = n })) o)) (sym more.none ∙ k)
+  | inr more ↦ ap (one_of cols) (cut ∙ ap (λ words. letter ∷ words) more.words) ∙ none c
+      ∙ ap (λ o. c >>= (λ column. option_map (λ n. ByOne (record { column = column; lemma = n })) o)) (sym more.none ∙ k)
 ]
   where
-    both : (c n : Option ℕ) → (c >>= (λ column. n >>= (λ n. Some (ByOne (record { column = column; lemma = n }))))) ≡ (c >>= (λ column. option_map (λ n. ByOne (record { column = column; lemma = n })) n))
+    both : (c n : Option ℕ) → (c >>= (λ column. n >>= (λ n. Some (ByOne (record { column = column; lemma = n })))))
+        ≡ (c >>= (λ column. option_map (λ n. ByOne (record { column = column; lemma = n })) n))
     both None n = refl
     both (Some c) None = refl
     both (Some c) (Some n) = refl
@@ -154,27 +163,34 @@ all_too_many cols words many =
     let long : nat_le (length words) most_cites ≡ false = lt-leb (length words) most_cites many in
     ap (λ b. cond b (option_map ByAll (cites_of cols words)) None) (ap (λ b. nat_le 1 (length words) && b) long ∙ and-false (nat_le 1 (length words)))
 
-pub all_read : (cols : ℕ) (bytes : List ℕ) (cites : List Cite) → length (words_of bytes) ≤ 10 → cites_of cols (words_of bytes) ≡ Some cites → all_of cols (words_of bytes) ≡ Some (ByAll cites)
+pub all_read : (cols : ℕ) (bytes : List ℕ) (cites : List Cite) → length (words_of bytes) ≤ 10 → cites_of cols (words_of bytes) ≡ Some cites
+    → all_of cols (words_of bytes) ≡ Some (ByAll cites)
 all_read cols bytes cites few h =
-    ap (λ b. cond b (option_map ByAll (cites_of cols (words_of bytes))) None) (and_from _ _ (le-leb 1 _ (words_some bytes)) (le-leb _ most_cites few)) ∙ ap (option_map ByAll) h
+    ap (λ b. cond b (option_map ByAll (cites_of cols (words_of bytes))) None) (and_from _ _ (le-leb 1 _ (words_some bytes)) (le-leb _ most_cites few))
+        ∙ ap (option_map ByAll) h
 
 -- ---- the first word, where others follow
 
 -- bytes that don't begin with this text and a space have another first word
-other_first : (text bytes word next : List ℕ) (more : List (List ℕ)) → ((rest : List ℕ) → bytes ≢ text ++ 32 ∷ rest) → words_of bytes ≡ word ∷ next ∷ more → bytes_eq word text ≡ true → ⊥
+other_first : (text bytes word next : List ℕ) (more : List (List ℕ)) → ((rest : List ℕ) → bytes ≢ text ++ 32 ∷ rest) → words_of bytes ≡ word ∷ next ∷ more
+    → bytes_eq word text ≡ true → ⊥
 other_first text bytes word next more never cut same =
-    never (spaced (next ∷ more)) (sym (join_with_byte-slice_split 32 bytes) ∙ ap spaced cut ∙ ap (λ word. word ++ 32 ∷ spaced (next ∷ more)) (same_text word text (sym same)))
+    never (spaced (next ∷ more)) (sym (join_with_byte-slice_split 32 bytes) ∙ ap spaced cut
+        ∙ ap (λ word. word ++ 32 ∷ spaced (next ∷ more)) (same_text word text (sym same)))
 
 -- ---- the claim
 
 -- bytes that begin with no claim and a space
-pub claim_none : (bytes : List ℕ) → ((rest : List ℕ) → bytes ≢ codes "W+ " ++ rest) → ((rest : List ℕ) → bytes ≢ codes "W- " ++ rest) → ((rest : List ℕ) → bytes ≢ codes "B+ " ++ rest)
+pub claim_none : (bytes : List ℕ) → ((rest : List ℕ) → bytes ≢ codes "W+ " ++ rest) → ((rest : List ℕ) → bytes ≢ codes "W- " ++ rest)
+    → ((rest : List ℕ) → bytes ≢ codes "B+ " ++ rest)
     → ((rest : List ℕ) → bytes ≢ codes "B- " ++ rest) → HasNoClaim bytes
 claim_none bytes a b c d word next more cut =
-    at _ _ _ _ (other_first (codes "W+") bytes word next more a cut) (other_first (codes "W-") bytes word next more b cut) (other_first (codes "B+") bytes word next more c cut)
+    at _ _ _ _ (other_first (codes "W+") bytes word next more a cut) (other_first (codes "W-") bytes word next more b cut)
+        (other_first (codes "B+") bytes word next more c cut)
     (other_first (codes "B-") bytes word next more d cut)
   where
-    at : (p q r s : Bool) → (p ≡ true → ⊥) → (q ≡ true → ⊥) → (r ≡ true → ⊥) → (s ≡ true → ⊥) → cond p (Some WhiteWins) (cond q (Some WhiteFails) (cond r (Some BlackWins) (cond s (Some BlackFails) None))) ≡ None
+    at : (p q r s : Bool) → (p ≡ true → ⊥) → (q ≡ true → ⊥) → (r ≡ true → ⊥) → (s ≡ true → ⊥)
+        → cond p (Some WhiteWins) (cond q (Some WhiteFails) (cond r (Some BlackWins) (cond s (Some BlackFails) None))) ≡ None
     at true q r s a b c d = absurd (a refl)
     at false true r s a b c d = absurd (b refl)
     at false false true s a b c d = absurd (c refl)
@@ -184,7 +200,8 @@ claim_none bytes a b c d word next more cut =
 -- ---- the kind of a reason
 
 -- bytes that aren't `end`, and don't begin with another kind and a space
-pub reason_none : (board : Board) (bytes : List ℕ) → bytes_eq bytes (codes "end") ≡ false → ((rest : List ℕ) → bytes ≢ codes "one " ++ rest) → ((rest : List ℕ) → bytes ≢ codes "all " ++ rest)
+pub reason_none : (board : Board) (bytes : List ℕ) → bytes_eq bytes (codes "end") ≡ false → ((rest : List ℕ) → bytes ≢ codes "one " ++ rest)
+    → ((rest : List ℕ) → bytes ≢ codes "all " ++ rest)
     → ((rest : List ℕ) → bytes ≢ codes "plan " ++ rest) → reason_of board (words_of bytes) ≡ None
 reason_none board bytes end one all plan = by_words (words_of bytes) refl
   where
@@ -195,7 +212,8 @@ reason_none board bytes end one all plan = by_words (words_of bytes) refl
     alone false false false true h = refl
     alone false false false false h = refl
 
-    first : (e o a p : Bool) (x y z : Option Reason) → (o ≡ true → ⊥) → (a ≡ true → ⊥) → (p ≡ true → ⊥) → cond e None (cond o x (cond a y (cond p z None))) ≡ None
+    first : (e o a p : Bool) (x y z : Option Reason) → (o ≡ true → ⊥) → (a ≡ true → ⊥) → (p ≡ true → ⊥)
+        → cond e None (cond o x (cond a y (cond p z None))) ≡ None
     first true o a p x y z one all plan = refl
     first false true a p x y z one all plan = absurd (one refl)
     first false false true p x y z one all plan = absurd (all refl)
@@ -206,9 +224,11 @@ reason_none board bytes end one all plan = by_words (words_of bytes) refl
     by_words [] h = ap (reason_of board) h
     by_words (word ∷ []) h =
         let same : bytes ≡ word = sym (join_with_byte-slice_split 32 bytes) ∙ ap spaced h in
-        ap (reason_of board) h ∙ alone (bytes_eq word (codes "end")) (bytes_eq word (codes "one")) (bytes_eq word (codes "all")) (bytes_eq word (codes "plan")) (ap (λ word. bytes_eq word (codes "end")) (sym same) ∙ end)
+        ap (reason_of board) h ∙ alone (bytes_eq word (codes "end")) (bytes_eq word (codes "one")) (bytes_eq word (codes "all")) (bytes_eq word (codes "plan"))
+            (ap (λ word. bytes_eq word (codes "end")) (sym same) ∙ end)
     by_words (word ∷ next ∷ more) h =
-        ap (reason_of board) h ∙ first (bytes_eq word (codes "end")) (bytes_eq word (codes "one")) (bytes_eq word (codes "all")) (bytes_eq word (codes "plan")) _ _ _ (other_first (codes "one") bytes word next more one h)
+        ap (reason_of board) h ∙ first (bytes_eq word (codes "end")) (bytes_eq word (codes "one")) (bytes_eq word (codes "all")) (bytes_eq word (codes "plan"))
+            _ _ _ (other_first (codes "one") bytes word next more one h)
         (other_first (codes "all") bytes word next more all h) (other_first (codes "plan") bytes word next more plan h)
 
 -- ---- the kind of a verdict
@@ -220,7 +240,8 @@ pub verdict_loss : (bytes rest : List ℕ) (n : Option ℕ) → bytes ≡ codes 
 verdict_loss bytes rest n h is = ap (λ bytes. verdict_of (words_of bytes)) h ∙ one_number Loss rest n is
 
 -- bytes that aren't `unknown`, and don't begin with another kind and a space
-pub verdict_none : (bytes : List ℕ) → bytes_eq bytes (codes "unknown") ≡ false → ((rest : List ℕ) → bytes ≢ codes "win " ++ rest) → ((rest : List ℕ) → bytes ≢ codes "loss " ++ rest)
+pub verdict_none : (bytes : List ℕ) → bytes_eq bytes (codes "unknown") ≡ false → ((rest : List ℕ) → bytes ≢ codes "win " ++ rest)
+    → ((rest : List ℕ) → bytes ≢ codes "loss " ++ rest)
     → ((rest : List ℕ) → bytes ≢ codes "draw " ++ rest) → verdict_of (words_of bytes) ≡ None
 verdict_none bytes unknown win loss draw = by_words (words_of bytes) refl
   where
@@ -231,7 +252,8 @@ verdict_none bytes unknown win loss draw = by_words (words_of bytes) refl
     alone false false false true h = cc
     alone false false false false h = refl
 
-    first : (w l d u : Bool) (x y z : Option Verdict) → (w ≡ true → ⊥) → (l ≡ true → ⊥) → (d ≡ true → ⊥) → cond w x (cond l y (cond d z (cond u None None))) ≡ None
+    first : (w l d u : Bool) (x y z : Option Verdict) → (w ≡ true → ⊥) → (l ≡ true → ⊥) → (d ≡ true → ⊥)
+        → cond w x (cond l y (cond d z (cond u None None))) ≡ None
     first true l d u x y z win loss draw = absurd (win refl)
     first false true d u x y z win loss draw = absurd (loss refl)
     first false false true u x y z win loss draw = absurd (draw refl)
@@ -242,7 +264,9 @@ verdict_none bytes unknown win loss draw = by_words (words_of bytes) refl
     by_words [] h = ap verdict_of h
     by_words (word ∷ []) h =
         let same : bytes ≡ word = sym (join_with_byte-slice_split 32 bytes) ∙ ap spaced h in
-        ap verdict_of h ∙ alone (bytes_eq word (codes "win")) (bytes_eq word (codes "loss")) (bytes_eq word (codes "draw")) (bytes_eq word (codes "unknown")) (ap (λ word. bytes_eq word (codes "unknown")) (sym same) ∙ unknown)
+        ap verdict_of h ∙ alone (bytes_eq word (codes "win")) (bytes_eq word (codes "loss")) (bytes_eq word (codes "draw")) (bytes_eq word (codes "unknown"))
+            (ap (λ word. bytes_eq word (codes "unknown")) (sym same) ∙ unknown)
     by_words (word ∷ next ∷ more) h =
-        ap verdict_of h ∙ first (bytes_eq word (codes "win")) (bytes_eq word (codes "loss")) (bytes_eq word (codes "draw")) (bytes_eq word (codes "unknown")) _ _ _ (other_first (codes "win") bytes word next more win h) (other_first (codes "loss") bytes word next more loss h)
+        ap verdict_of h ∙ first (bytes_eq word (codes "win")) (bytes_eq word (codes "loss")) (bytes_eq word (codes "draw")) (bytes_eq word (codes "unknown")) _
+            _ _ (other_first (codes "win") bytes word next more win h) (other_first (codes "loss") bytes word next more loss h)
         (other_first (codes "draw") bytes word next more draw h)

@@ -25,16 +25,19 @@ lemmas_behind (LemmaEntry l ∷ list) ls = ap (λ ls. l ∷ ls) (lemmas_behind l
 lemmas_behind (RemarkEntry bytes ∷ list) ls = lemmas_behind list ls
 
 -- bytes that end in the text of the list, and the lines of lemmas behind them
-ends_behind : (list : List Entry) (ls : List Lemma) (old new : Option (List ℕ)) → Appends old new (lines_of ls) → EndsIn list old → IfSome old (λ was. EndsIn (list ++ map LemmaEntry ls) new)
+ends_behind : (list : List Entry) (ls : List Lemma) (old new : Option (List ℕ)) → Appends old new (lines_of ls) → EndsIn list old
+    → IfSome old (λ was. EndsIn (list ++ map LemmaEntry ls) new)
 ends_behind list ls None new stands ends = tt
 ends_behind list ls (Some was) None stands ends = tt
 ends_behind list ls (Some was) (Some bytes) stands ends = (
   ends.0,
   stands ∙ ap (λ xs. xs ++ lines_of ls) ends.1 ∙ append_assoc ends.0 (entry_lines list) (lines_of ls)
-      ∙ ap (λ xs. ends.0 ++ (entry_lines list ++ xs)) (sym (entries_of ls)) ∙ ap (λ xs. ends.0 ++ xs) (sym (flat_map-append (λ entry. as_line (entry_text entry)) list (map LemmaEntry ls))),
+      ∙ ap (λ xs. ends.0 ++ (entry_lines list ++ xs)) (sym (entries_of ls))
+          ∙ ap (λ xs. ends.0 ++ xs) (sym (flat_map-append (λ entry. as_line (entry_text entry)) list (map LemmaEntry ls))),
 )
 
-pub continues : (root p : Position) (question : Question) (reach : ℕ) (list : List Entry) (shown : List Shown) (old new : Moment) (before count : ℕ) (result : Result Answer SearchStop) → EndsIn list old.bytes → FitsMoment root before list shown old
+pub continues : (root p : Position) (question : Question) (reach : ℕ) (list : List Entry) (shown : List Shown) (old new : Moment) (before count : ℕ)
+    (result : Result Answer SearchStop) → EndsIn list old.bytes → FitsMoment root before list shown old
     → Solves root p question reach shown old new count result → Continues root p question reach list shown old new count result
 continues root p question reach list shown old new before count result ends fits solves = record {
   more = solves.wrote.more;
@@ -44,7 +47,8 @@ continues root p question reach list shown old new before count result ends fits
   ends = λ whole. ends_behind list solves.wrote.more old.bytes new.bytes
       (subst (λ whole. AppendsLemmas whole solves.wrote.more old.bytes new.bytes) whole solves.wrote.text) ends;
   fits = record {
-    right = subst (λ ls. AreRight root [] ls (shown ++ solves.wrote.shown)) (sym (lemmas_behind list solves.wrote.more)) (AreRight_append root [] shown (shown ++ solves.wrote.shown) (lemmas_among list) solves.wrote.more fits.right solves.wrote.right);
+    right = subst (λ ls. AreRight root [] ls (shown ++ solves.wrote.shown)) (sym (lemmas_behind list solves.wrote.more))
+        (AreRight_append root [] shown (shown ++ solves.wrote.shown) (lemmas_among list) solves.wrote.more fits.right solves.wrote.right);
     counted = solves.wrote.counted;
     table = solves.wrote.fits;
   };

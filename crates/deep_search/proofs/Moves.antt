@@ -1,5 +1,6 @@
 -- The search at one position: the moves that are left to try, and what they tell and cost together.
-use Rattle.std.proofs.Common.{◌≡◌, ℕ, ◌+◌, ◌<◌, ◌≤◌, Bool, true, false, not, cond, None, List, [], ◌∷◌, map, filter, length, drop, get_or, ap, sym, subst, ◌∙◌, refl, arith}
+use Rattle.std.proofs.Common.{◌≡◌, ℕ, ◌+◌, ◌<◌, ◌≤◌, Bool, true, false, not, cond, None, List, [], ◌∷◌, map, filter, length, drop, get_or, ap, sym, subst, ◌∙◌,
+    refl, arith}
 use Rattle.std.proofs.lemmas.List.{drop_more, drop_all}
 use Rattle.std.specs.List.{list_any}
 use mathlib.Core.Bool.{beq}
@@ -46,7 +47,8 @@ end_same ends.Draw ends.White = refl
 end_same ends.Draw ends.Black = refl
 end_same ends.Draw ends.Draw = refl
 
-pub end_told : (told : Bool) (asked side : Side) (won end : End) → told ≡ end_eq.eq-value.it won end → won ≡ win_of asked → asked ≡ side → told ≡ same_end (win_of side) end
+pub end_told : (told : Bool) (asked side : Side) (won end : End) → told ≡ end_eq.eq-value.it won end → won ≡ win_of asked → asked ≡ side
+    → told ≡ same_end (win_of side) end
 end_told told asked side won end is win same = is ∙ end_same won end ∙ ap (λ e. same_end e end) (win ∙ ap win_of same)
 
 pub own_told : (own : Bool) (asked side to_move : Side) (p : Position) → own ≡ eq-value.it asked to_move → asked ≡ side → to_move ≡ side_to_move p
@@ -89,17 +91,20 @@ module _ (side : Side) (p : Position) (own : Bool) (is_own : own ≡ same_side s
 until_first : (test : Position → Bool) (cost : Position → ℕ) (q : Position) (qs : List Position) → test q ≡ true → count_until test cost (q ∷ qs) ≡ cost q
 until_first test cost q qs h = rw h (omega arith)
 
-until_more : (test : Position → Bool) (cost : Position → ℕ) (q : Position) (qs : List Position) → test q ≡ false → count_until test cost (q ∷ qs) ≡ cost q + count_until test cost qs
+until_more : (test : Position → Bool) (cost : Position → ℕ) (q : Position) (qs : List Position) → test q ≡ false
+    → count_until test cost (q ∷ qs) ≡ cost q + count_until test cost qs
 until_more test cost q qs h = rw h refl
 
 cost_least : (test : Position → Bool) (cost : Position → ℕ) (q : Position) (qs : List Position) → cost q ≤ count_until test cost (q ∷ qs)
 cost_least test cost q qs = omega arith
 
 -- a test of the moves that are left, behind one that fails it or has no room
-any_after : (test : Position → Bool) (q : Position) (rest more : List Position) (b : Bool) → rest ≡ q ∷ more → test q ≡ false → list_any test rest ≡ b → list_any test more ≡ b
+any_after : (test : Position → Bool) (q : Position) (rest more : List Position) (b : Bool) → rest ≡ q ∷ more → test q ≡ false → list_any test rest ≡ b
+    → list_any test more ≡ b
 any_after test q rest more b step fails h = sym (ap (list_any test) step ∙ rw fails refl) ∙ h
 
-moves_left_full : (p : Position) (order : List ℕ) (i d : ℕ) → i < length order → has_room p (get_or order i d) ≡ false → moves_left p order (i + 1) ≡ moves_left p order i
+moves_left_full : (p : Position) (order : List ℕ) (i d : ℕ) → i < length order → has_room p (get_or order i d) ≡ false
+    → moves_left p order (i + 1) ≡ moves_left p order i
 moves_left_full p order i d low full = sym (rw (drop_more order i d low, full) refl)
 
 -- Of the moves before place i none decides, and no more was spent on them than they count.
@@ -126,7 +131,8 @@ tried_none closed side p order before budget is_order low = record {
     moves order = map (after_move p) (filter (has_room p) order)
 
 -- the column at place i is full
-pub tried_full : (closed : Side → Position → Bool) (side : Side) (p : Position) (order : List ℕ) (before budget i c : ℕ) → i < length order → get_or order i 0 ≡ c
+pub tried_full : (closed : Side → Position → Bool) (side : Side) (p : Position) (order : List ℕ) (before budget i c : ℕ) → i < length order
+    → get_or order i 0 ≡ c
     → has_room p c ≡ false → Tried closed side p order before budget i → Tried closed side p order before budget (i + 1)
 tried_full closed side p order before budget i c low at full tried =
     let same = moves_left_full p order i 0 low (ap (has_room p) at ∙ full) in

@@ -1,5 +1,6 @@
 -- The lemmas of a search at one position: what they are after some of its moves, and how its own lemma closes them.
-use Rattle.std.proofs.Common.{◌≡◌, ◌≢◌, ℕ, suc, ◌+◌, ◌<◌, ◌≤◌, Bool, true, false, not, List, [], ◌∷◌, ◌++◌, map, filter, cond, Option, Some, None, Result, Ok, Err, IfOk, OnOk, IfSome, length, take, ◌-◌, get_or, set, refl, sym, ap, ◌∙◌, subst, inl, inr, arith, append-nil, append_assoc, length-append}
+use Rattle.std.proofs.Common.{◌≡◌, ◌≢◌, ℕ, suc, ◌+◌, ◌<◌, ◌≤◌, Bool, true, false, not, List, [], ◌∷◌, ◌++◌, map, filter, cond, Option, Some, None, Result, Ok,
+    Err, IfOk, OnOk, IfSome, length, take, ◌-◌, get_or, set, refl, sym, ap, ◌∙◌, subst, inl, inr, arith, append-nil, append_assoc, length-append}
 use Rattle.std.specs.List.{AllByRecursion}
 use Rattle.std.proofs.KnownBytes.{Appends-nil}
 use Rattle.std.proofs.lemmas.Bool.{cases_eq, both_ways}
@@ -64,16 +65,23 @@ IsAfter p question won count before after (Err stop) = (is_whole (Err stop) ≡ 
 some_none : {X : Type 0} {x : X} → Some x ≡ None → ⊥
 some_none e = cc
 
-fits_after : (p : Position) (question : Question) (won : Bool) (count : ℕ) (before after : Entries) (known : List Shown) (result : Result Answer SearchStop) → length known ≡ count → FitsTable before known → IsAfter p question won count before after result
+fits_after : (p : Position) (question : Question) (won : Bool) (count : ℕ) (before after : Entries) (known : List Shown) (result : Result Answer SearchStop)
+    → length known ≡ count → FitsTable before known → IsAfter p question won count before after result
     → FitsTable after (known ++ (p, claim_for (side_asked question) won) ∷ [])
-fits_after p question won count before after known (Ok answer) many fits kept = fits_kept p question (record { lemma = count + 1; answer = won }) before after known kept fits (ap (λ n. n + 1) (sym many))
-fits_after p question won count before after known (Err stop) many fits (cut, same) = subst (λ t. FitsTable t (known ++ (p, claim_for (side_asked question) won) ∷ [])) (sym same) (fits_more before known ((p, claim_for (side_asked question) won) ∷ []) fits)
+fits_after p question won count before after known (Ok answer) many fits kept = fits_kept p question (record { lemma = count + 1; answer = won }) before after
+    known kept fits (ap (λ n. n + 1) (sym many))
+fits_after p question won count before after known (Err stop) many fits (cut, same) =
+    subst (λ t. FitsTable t (known ++ (p, claim_for (side_asked question) won) ∷ [])) (sym same)
+    (fits_more before known ((p, claim_for (side_asked question) won) ∷ []) fits)
 
-stays_after : (p : Position) (question : Question) (won : Bool) (count : ℕ) (before after : Entries) (result : Result Answer SearchStop) → IsAfter p question won count before after result → StaysWhole before after
+stays_after : (p : Position) (question : Question) (won : Bool) (count : ℕ) (before after : Entries) (result : Result Answer SearchStop)
+    → IsAfter p question won count before after result → StaysWhole before after
 stays_after p question won count before after (Ok answer) kept = kept.stays
-stays_after p question won count before after (Err stop) (cut, same) = subst (StaysWhole before) (sym same) (record { was = λ now. now; there = λ now p question gone. gone })
+stays_after p question won count before after (Err stop) (cut, same) = subst (StaysWhole before) (sym same)
+    (record { was = λ now. now; there = λ now p question gone. gone })
 
-new_after : (p : Position) (question : Question) (won : Bool) (count : ℕ) (before after : Entries) (result : Result Answer SearchStop) → held before p question ≡ None → IsAfter p question won count before after result
+new_after : (p : Position) (question : Question) (won : Bool) (count : ℕ) (before after : Entries) (result : Result Answer SearchStop)
+    → held before p question ≡ None → IsAfter p question won count before after result
     → IsNew (is_whole result) question ((p, claim_for (side_asked question) won) ∷ []) before after
 new_after p question won count before after (Ok answer) absent kept = record {
   fresh = λ now. (absent, tt);
@@ -87,18 +95,24 @@ new_after p question won count before after (Err stop) absent (cut, same) = reco
 }
 
 -- a position's own lemma is begun only where the search isn't spent
-limit_after : (p : Position) (question : Question) (won : Bool) (count : ℕ) (before after : Entries) (result : Result Answer SearchStop) → IsAfter p question won count before after result → empty_count p < limit_of p result
+limit_after : (p : Position) (question : Question) (won : Bool) (count : ℕ) (before after : Entries) (result : Result Answer SearchStop)
+    → IsAfter p question won count before after result → empty_count p < limit_of p result
 limit_after p question won count before after (Ok answer) kept = omega arith
 limit_after p question won count before after (Err Spent) (cut, same) = absurd (both_ways true cut refl)
 limit_after p question won count before after (Err WriteFault) (cut, same) = omega arith
 
 -- a lemma that is right behind what is known
-pub told : (root p : Position) (question : Question) (reach : ℕ) (won : Bool) (said : Claim) (known : List Shown) (path : List ℕ) (reason : Reason) (old new : Moment) (count counted : ℕ) (result : Result Answer SearchStop)
-    → said ≡ claim_for (side_asked question) won → played root path ≡ Some p → length known ≡ count → FitsTable old.table known → held old.table p question ≡ None
-    → HasReason known p (claim_for (side_asked question) won) reason → plan_in reason ≡ plan_for reach (side_asked question) p → length (members_in reason) ≤ most_members
-    → AppendsPrefix (is_whole result) old.bytes new.bytes (lemma_line (record { number = count + 1; path = path; claim = said; reason = reason })) → counted + uncounted result ≡ count + 1 → IsDetermined won count result
+pub told : (root p : Position) (question : Question) (reach : ℕ) (won : Bool) (said : Claim) (known : List Shown) (path : List ℕ) (reason : Reason)
+    (old new : Moment) (count counted : ℕ) (result : Result Answer SearchStop)
+    → said ≡ claim_for (side_asked question) won → played root path ≡ Some p → length known ≡ count → FitsTable old.table known
+        → held old.table p question ≡ None
+    → HasReason known p (claim_for (side_asked question) won) reason → plan_in reason ≡ plan_for reach (side_asked question) p
+        → length (members_in reason) ≤ most_members
+    → AppendsPrefix (is_whole result) old.bytes new.bytes (lemma_line (record { number = count + 1; path = path; claim = said; reason = reason }))
+        → counted + uncounted result ≡ count + 1 → IsDetermined won count result
     → IsAfter p question won count old.table new.table result → Solves root p question reach known old new counted result
-told root p question reach won said known path reason old new count counted result is_said along many fits absent right planned short stands number answer after = record {
+told root p question reach won said known path reason old new count counted result is_said along many fits absent right planned short stands number answer
+    after = record {
   wrote = record {
     more = lemma_next count path (side_asked question) won reason ∷ [];
     shown = (p, claim_for (side_asked question) won) ∷ [];
@@ -108,7 +122,8 @@ told root p question reach won said known path reason old new count counted resu
     right = (p, record { next = ap (λ n. n + 1) (sym many); along = along; reason = right }, refl);
     counted = omega (arith, length-append known ((p, claim_for (side_asked question) won) ∷ []), number, many);
     sided = ((side_claimed (side_asked question) won, short), tt);
-    planned = (subst (λ at. IfSome at (λ q. plan_in reason ≡ plan_for reach (claim_side (claim_for (side_asked question) won)) q)) (sym along) (planned ∙ ap (λ side. plan_for reach side p) (sym (side_claimed (side_asked question) won))), tt);
+    planned = (subst (λ at. IfSome at (λ q. plan_in reason ≡ plan_for reach (claim_side (claim_for (side_asked question) won)) q)) (sym along)
+        (planned ∙ ap (λ side. plan_for reach side p) (sym (side_claimed (side_asked question) won))), tt);
     fits = fits_after p question won count old.table new.table known result many fits after;
     stays = stays_after p question won count old.table new.table result after;
     new_ones = new_after p question won count old.table new.table result absent after;
@@ -117,7 +132,8 @@ told root p question reach won said known path reason old new count counted resu
   named = by result answer;
 }
   where
-    by : (result : Result Answer SearchStop) → IsDetermined won count result → IfOk result (λ answer. Shows (known ++ (p, claim_for (side_asked question) won) ∷ []) answer.lemma p (claim_for (side_asked question) answer.yes))
+    by : (result : Result Answer SearchStop) → IsDetermined won count result
+        → IfOk result (λ answer. Shows (known ++ (p, claim_for (side_asked question) won) ∷ []) answer.lemma p (claim_for (side_asked question) answer.yes))
     by (Err stop) answer = tt
     by (Ok answer) (number, yes') = rw (number, yes', ← many) (Shows_last known p (claim_for (side_asked question) won))
 
@@ -125,7 +141,8 @@ pub same_itself : (t : Entries) → HasSame t t
 same_itself t = record { entries = λ p question. refl; whole = refl }
 
 -- nothing was written, and the table has what it had
-abbrev pub wrote_nothing : (root : Position) (question : Question) (reach : ℕ) (known : List Shown) (bytes : Option (List ℕ)) (before after : Entries) (total : ℕ) → HasSame before after → FitsTable before known → length known ≡ total
+abbrev pub wrote_nothing : (root : Position) (question : Question) (reach : ℕ) (known : List Shown) (bytes : Option (List ℕ)) (before after : Entries)
+    (total : ℕ) → HasSame before after → FitsTable before known → length known ≡ total
     → Wrote true root question reach known (moment before bytes) (moment after bytes) total
 wrote_nothing root question reach known bytes before after total same fits many = record {
   more = [];
@@ -141,8 +158,10 @@ wrote_nothing root question reach known bytes before after total same fits many 
 }
 
 -- what the table has answers the question
-pub solves_found : (root p : Position) (question : Question) (reach : ℕ) (known : List Shown) (bytes : Option (List ℕ)) (before after : Entries) (count : ℕ) (f : Found) → HasSame before after → FitsTable before known → held before p question ≡ Some f
-    → length known ≡ count → Solves root p question reach known (moment before bytes) (moment after bytes) count (Ok (record { yes = f.answer; lemma = f.lemma }))
+pub solves_found : (root p : Position) (question : Question) (reach : ℕ) (known : List Shown) (bytes : Option (List ℕ)) (before after : Entries) (count : ℕ)
+    (f : Found) → HasSame before after → FitsTable before known → held before p question ≡ Some f
+    → length known ≡ count → Solves root p question reach known (moment before bytes) (moment after bytes) count
+        (Ok (record { yes = f.answer; lemma = f.lemma }))
 solves_found root p question reach known bytes before after count f same fits there many = record {
   wrote = wrote_nothing root question reach known bytes before after (count + 0) same fits (omega (arith, many));
   below = tt;
@@ -150,8 +169,10 @@ solves_found root p question reach known bytes before after count f same fits th
 }
 
 -- what was written after a look-up was written after the moment before it
-pub solves_entered : (root p : Position) (question : Question) (reach : ℕ) (known : List Shown) (old mid new : Moment) (count : ℕ) (result : Result Answer SearchStop)
-    → HasSame old.table mid.table → mid.bytes ≡ old.bytes → Solves root p question reach known mid new count result → Solves root p question reach known old new count result
+pub solves_entered : (root p : Position) (question : Question) (reach : ℕ) (known : List Shown) (old mid new : Moment) (count : ℕ)
+    (result : Result Answer SearchStop)
+    → HasSame old.table mid.table → mid.bytes ≡ old.bytes → Solves root p question reach known mid new count result
+        → Solves root p question reach known old new count result
 solves_entered root p question reach known old mid new count result same bytes rest = record {
   wrote = record {
     more = rest.wrote.more;
@@ -171,18 +192,22 @@ solves_entered root p question reach known old mid new count result same bytes r
 }
 
 -- what solves one position solves the same one
-pub solves_there : (root p q : Position) (question : Question) (reach : ℕ) (known : List Shown) (old new : Moment) (count : ℕ) (result : Result Answer SearchStop) → p ≡ q
+pub solves_there : (root p q : Position) (question : Question) (reach : ℕ) (known : List Shown) (old new : Moment) (count : ℕ)
+    (result : Result Answer SearchStop) → p ≡ q
     → Solves root p question reach known old new count result → Solves root q question reach known old new count result
 solves_there root p q question reach known old new count result same solves = subst (λ p. Solves root p question reach known old new count result) same solves
 
 -- what stands after some lemmas, and more behind them
-module _ (root : Position) (question : Question) (reach : ℕ) (known : List Shown) (old mid new : Moment) (middle : ℕ) (first : Wrote true root question reach known old mid middle) where
-  abbrev pub then_wrote : (whole : Bool) (count total : ℕ) → count ≡ total → Wrote whole root question reach (known ++ first.shown) mid new count → Wrote whole root question reach known old new total
+module _ (root : Position) (question : Question) (reach : ℕ) (known : List Shown) (old mid new : Moment) (middle : ℕ)
+    (first : Wrote true root question reach known old mid middle) where
+  abbrev pub then_wrote : (whole : Bool) (count total : ℕ) → count ≡ total → Wrote whole root question reach (known ++ first.shown) mid new count
+      → Wrote whole root question reach known old new total
   then_wrote whole count total same rest = record {
     more = first.more ++ rest.more;
     shown = first.shown ++ rest.shown;
     text = lemmas_then whole old.bytes mid.bytes new.bytes first.more rest.more first.text rest.text;
-    right = subst (AreRight root known (first.more ++ rest.more)) (append_assoc known first.shown rest.shown) (AreRight_append root known (known ++ first.shown) ((known ++ first.shown) ++ rest.shown) first.more rest.more first.right rest.right);
+    right = subst (AreRight root known (first.more ++ rest.more)) (append_assoc known first.shown rest.shown)
+        (AreRight_append root known (known ++ first.shown) ((known ++ first.shown) ++ rest.shown) first.more rest.more first.right rest.right);
     counted = ap length (sym (append_assoc known first.shown rest.shown)) ∙ rest.counted ∙ same;
     sided = all_append (λ l. (claim_side l.claim ≡ side_asked question) × IsShort l) first.more rest.more first.sided rest.sided;
     planned = all_append (IsPlanned reach root) first.more rest.more first.planned rest.planned;
@@ -191,33 +216,40 @@ module _ (root : Position) (question : Question) (reach : ℕ) (known : List Sho
     new_ones = new_then whole question first.shown rest.shown old.table mid.table new.table first.stays rest.stays first.new_ones rest.new_ones;
   }
 
-  pub then_solves : (p : Position) (count : ℕ) (result : Result Answer SearchStop) → AreBelow (limit_of p result) first.shown → Solves root p question reach (known ++ first.shown) mid new count result → Solves root p question reach known old new count result
+  pub then_solves : (p : Position) (count : ℕ) (result : Result Answer SearchStop) → AreBelow (limit_of p result) first.shown
+      → Solves root p question reach (known ++ first.shown) mid new count result → Solves root p question reach known old new count result
   then_solves p count result below rest = record {
     wrote = then_wrote (is_whole result) (count + uncounted result) (count + uncounted result) refl rest.wrote;
     below = below_both (limit_of p result) first.shown rest.wrote.shown below rest.below;
-    named = subst (λ all. IfOk result (λ answer. Shows all answer.lemma p (claim_for (side_asked question) answer.yes))) (append_assoc known first.shown rest.wrote.shown) rest.named;
+    named = subst (λ all. IfOk result (λ answer. Shows all answer.lemma p (claim_for (side_asked question) answer.yes)))
+        (append_assoc known first.shown rest.wrote.shown) rest.named;
   }
 
   -- a search that stopped behind a move shows nothing of the position
-  pub then_stopped : (p q : Position) (count : ℕ) (stop : SearchStop) → empty_count q + 1 ≡ empty_count p → AreBelow (empty_count p) first.shown → Solves root q question reach (known ++ first.shown) mid new count (Err stop)
+  pub then_stopped : (p q : Position) (count : ℕ) (stop : SearchStop) → empty_count q + 1 ≡ empty_count p → AreBelow (empty_count p) first.shown
+      → Solves root q question reach (known ++ first.shown) mid new count (Err stop)
       → Solves root p question reach known old new count (Err stop)
   then_stopped p q count stop fewer below rest = record {
     wrote = then_wrote (is_whole (Err stop)) (count + uncounted (Err stop)) (count + uncounted (Err stop)) refl rest.wrote;
     below = below_raised (empty_count p) (limit_of p (Err stop)) (first.shown ++ rest.wrote.shown) (limit_least p (Err stop))
-        (below_both (empty_count p) first.shown rest.wrote.shown below (below_raised (limit_of q (Err stop)) (empty_count p) rest.wrote.shown (omega (arith, limit_most q (Err stop), fewer)) rest.below));
+        (below_both (empty_count p) first.shown rest.wrote.shown below
+            (below_raised (limit_of q (Err stop)) (empty_count p) rest.wrote.shown (omega (arith, limit_most q (Err stop), fewer)) rest.below));
     named = tt;
   }
 
 -- ---- after some of the moves
 
 -- The moves before place i were searched, and none decided: each has a lemma, whose number stands at its column.
-pub record SoFar (root p : Position) (question : Question) (reach : ℕ) (own : Bool) (known : List Shown) (old new : Moment) (count : ℕ) (numbers order : List ℕ) (i : ℕ) : Type 0 where
+pub record SoFar (root p : Position) (question : Question) (reach : ℕ) (own : Bool) (known : List Shown) (old new : Moment) (count : ℕ) (numbers order : List ℕ)
+    (i : ℕ) : Type 0 where
   pub wrote : Wrote true root question reach known old new count
   pub below : AreBelow (empty_count p) wrote.shown
-  pub moves : (k c : ℕ) → k < i → get_or order k 0 ≡ c → has_room p c ≡ true → Shows (known ++ wrote.shown) (get_or numbers c 0) (after_move p c) (claim_for (side_asked question) (not own))
+  pub moves : (k c : ℕ) → k < i → get_or order k 0 ≡ c → has_room p c ≡ true
+      → Shows (known ++ wrote.shown) (get_or numbers c 0) (after_move p c) (claim_for (side_asked question) (not own))
 
 module _ (root p : Position) (question : Question) (reach : ℕ) (own : Bool) (known : List Shown) where
-  pub so_far_start : (bytes : Option (List ℕ)) (before after : Entries) (count : ℕ) (numbers order : List ℕ) → HasSame before after → FitsTable before known → length known ≡ count
+  pub so_far_start : (bytes : Option (List ℕ)) (before after : Entries) (count : ℕ) (numbers order : List ℕ) → HasSame before after → FitsTable before known
+      → length known ≡ count
       → SoFar root p question reach own known (moment before bytes) (moment after bytes) count numbers order 0
   so_far_start bytes before after count numbers order same fits many = record {
     wrote = wrote_nothing root question reach known bytes before after count same fits many;
@@ -225,7 +257,8 @@ module _ (root p : Position) (question : Question) (reach : ℕ) (own : Bool) (k
     moves = λ k c low _ _. absurd (omega arith);
   }
 
-  module _ (old mid : Moment) (count : ℕ) (numbers order : List ℕ) (i c : ℕ) (so_far : SoFar root p question reach own known old mid count numbers order i) (at : get_or order i 0 ≡ c) where
+  module _ (old mid : Moment) (count : ℕ) (numbers order : List ℕ) (i c : ℕ) (so_far : SoFar root p question reach own known old mid count numbers order i)
+      (at : get_or order i 0 ≡ c) where
     -- a full column has no move
     pub so_far_full : has_room p c ≡ false → SoFar root p question reach own known old mid count numbers order (i + 1)
     so_far_full full = record {
@@ -250,7 +283,8 @@ module _ (root p : Position) (question : Question) (reach : ℕ) (own : Bool) (k
         kept : (more : List Shown) (k d : ℕ) → k < i + 1 → get_or order k 0 ≡ d → has_room p d ≡ true → d ≢ c
             → Shows ((known ++ so_far.wrote.shown) ++ more) (get_or numbers d 0) (after_move p d) (claim_for (side_asked question) (not own))
         kept more k d low place room apart =
-            let before : k < i = elim (cases_eq k i) [ inl here ↦ absurd (apart (sym place ∙ ap (λ k. get_or order k 0) here ∙ at)) | inr other ↦ omega arith ] in
+            let before : k < i = elim (cases_eq k i) [ inl here ↦ absurd (apart (sym place ∙ ap (λ k. get_or order k 0) here ∙ at)) | inr other ↦ omega arith ]
+                in
             Shows_more (known ++ so_far.wrote.shown) more (get_or numbers d 0) (after_move p d) (claim_for (side_asked question) (not own))
             (so_far.moves k d before place room)
 
@@ -308,7 +342,8 @@ module _ (p : Position) (side : Side) (own : Bool) (going : end_of p ≡ None) (
     cited = shown;
   }
 
-  pub all_reason : (known : List Shown) (numbers : List ℕ) → ((c : ℕ) → Among c (open_columns p) → Shows known (get_or numbers c 0) (after_move p c) (claim_for side (not own)))
+  pub all_reason : (known : List Shown) (numbers : List ℕ)
+      → ((c : ℕ) → Among c (open_columns p) → Shows known (get_or numbers c 0) (after_move p c) (claim_for side (not own)))
       → HasReason known p (claim_for side (not own)) (ByAll (cites_from numbers (open_columns p)))
   all_reason known numbers each = record {
     goes_on = going;
@@ -332,7 +367,8 @@ place_of x (y ∷ ys) (inl same) = (0, omega arith, same)
 place_of x (y ∷ ys) (inr later) = let rest = place_of x ys later in (suc rest.0, omega arith, rest.2)
 
 -- after all moves, each playable column has its lemma
-pub all_moves : (root p : Position) (question : Question) (reach : ℕ) (own : Bool) (known : List Shown) (old mid : Moment) (count : ℕ) (numbers order : List ℕ) (i : ℕ)
+pub all_moves : (root p : Position) (question : Question) (reach : ℕ) (own : Bool) (known : List Shown) (old mid : Moment) (count : ℕ) (numbers order : List ℕ)
+    (i : ℕ)
     (so_far : SoFar root p question reach own known old mid count numbers order i) → length order ≤ i → order ≡ centre_out (length p.columns)
     → (c : ℕ) → Among c (open_columns p) → Shows (known ++ so_far.wrote.shown) (get_or numbers c 0) (after_move p c) (claim_for (side_asked question) (not own))
 all_moves root p question reach own known old mid count numbers order i so_far all is_order c among =
@@ -347,16 +383,19 @@ below_more : (n : ℕ) → below (n + 1) ≡ below n ++ n ∷ []
 below_more n = sym (map-id (below (n + 1))) ∙ map-range_with_len_more (λ k. k) 0 n n (omega arith) ∙ ap (λ ks. ks ++ n ∷ []) (map-id (below n))
 
 pub cites_room : (p : Position) (numbers : List ℕ) (i : ℕ) → has_room p i ≡ true
-    → cites_from numbers (filter (has_room p) (below (i + 1))) ≡ cites_from numbers (filter (has_room p) (below i)) ++ record { column = i; lemma = get_or numbers i 0 } ∷ []
+    → cites_from numbers (filter (has_room p) (below (i + 1))) ≡ cites_from numbers (filter (has_room p) (below i))
+        ++ record { column = i; lemma = get_or numbers i 0 } ∷ []
 cites_room p numbers i room =
     ap (λ cs. cites_from numbers (filter (has_room p) cs)) (below_more i)
     ∙ ap (cites_from numbers) (filter-append (has_room p) (below i) (i ∷ []) ∙ ap (λ b. filter (has_room p) (below i) ++ cond b (i ∷ []) []) room)
     ∙ map-append (λ c. record { column = c; lemma = get_or numbers c 0 }) (filter (has_room p) (below i)) (i ∷ [])
 
-pub cites_full : (p : Position) (numbers : List ℕ) (i : ℕ) → has_room p i ≡ false → cites_from numbers (filter (has_room p) (below (i + 1))) ≡ cites_from numbers (filter (has_room p) (below i))
+pub cites_full : (p : Position) (numbers : List ℕ) (i : ℕ) → has_room p i ≡ false
+    → cites_from numbers (filter (has_room p) (below (i + 1))) ≡ cites_from numbers (filter (has_room p) (below i))
 cites_full p numbers i full =
     ap (λ cs. cites_from numbers (filter (has_room p) cs)) (below_more i)
-    ∙ ap (cites_from numbers) (filter-append (has_room p) (below i) (i ∷ []) ∙ ap (λ b. filter (has_room p) (below i) ++ cond b (i ∷ []) []) full ∙ append-nil (filter (has_room p) (below i)))
+    ∙ ap (cites_from numbers) (filter-append (has_room p) (below i) (i ∷ []) ∙ ap (λ b. filter (has_room p) (below i) ++ cond b (i ∷ []) []) full
+        ∙ append-nil (filter (has_room p) (below i)))
 
 -- ---- what is said of an answer alone
 
@@ -370,7 +409,8 @@ on_ok (Err e) P h = tt
 
 -- ---- one move further along a path
 
-pub played_more : (root : Position) (path : List ℕ) (p : Position) (c : ℕ) → played root path ≡ Some p → end_of p ≡ None → has_room p c ≡ true → played root (path ++ c ∷ []) ≡ Some (after_move p c)
+pub played_more : (root : Position) (path : List ℕ) (p : Position) (c : ℕ) → played root path ≡ Some p → end_of p ≡ None → has_room p c ≡ true
+    → played root (path ++ c ∷ []) ≡ Some (after_move p c)
 played_more root [] p c along going room =
     let same : root ≡ p = some_same along in
     ap (λ q. played q (c ∷ [])) same ∙ rw (going, room) refl
@@ -385,15 +425,20 @@ played_more root (d ∷ path) p c along going room = elim (chosen (is_legal root
 -- ---- the position's own lemma, behind those of its moves
 
 module _ (root p : Position) (question : Question) (reach : ℕ) (own : Bool) (known : List Shown) (old mid : Moment) (count : ℕ) (numbers order : List ℕ) (i : ℕ)
-    (so_far : SoFar root p question reach own known old mid count numbers order i) (going : end_of p ≡ None) (is_own : own ≡ same_side (side_asked question) (side_to_move p)) where
+    (so_far : SoFar root p question reach own known old mid count numbers order i) (going : end_of p ≡ None)
+        (is_own : own ≡ same_side (side_asked question) (side_to_move p)) where
   -- the search after a move stopped
-  pub stopped_by_move : (new : Moment) (counted c : ℕ) (stop : SearchStop) (child result : Result Answer SearchStop) → has_room p c ≡ true → child ≡ Err stop → result ≡ Err stop
-      → Solves root (after_move p c) question reach (known ++ so_far.wrote.shown) mid new counted child → Solves root p question reach known old new counted result
+  pub stopped_by_move : (new : Moment) (counted c : ℕ) (stop : SearchStop) (child result : Result Answer SearchStop) → has_room p c ≡ true → child ≡ Err stop
+      → result ≡ Err stop
+      → Solves root (after_move p c) question reach (known ++ so_far.wrote.shown) mid new counted child
+          → Solves root p question reach known old new counted result
   stopped_by_move new counted c stop child result room was is_stop solves =
-      rw is_stop (then_stopped root question reach known old mid new count so_far.wrote p (after_move p c) counted stop (empty_count_moved p c room) so_far.below
+      rw is_stop (then_stopped root question reach known old mid new count so_far.wrote p (after_move p c) counted stop (empty_count_moved p c room)
+          so_far.below
       (subst (λ r. Solves root (after_move p c) question reach (known ++ so_far.wrote.shown) mid new counted r) was solves))
 
-  pub closed_by_one : (next new : Moment) (counted last c : ℕ) (found : Answer) (child result : Result Answer SearchStop) → child ≡ Ok found → has_room p c ≡ true
+  pub closed_by_one : (next new : Moment) (counted last c : ℕ) (found : Answer) (child result : Result Answer SearchStop) → child ≡ Ok found
+      → has_room p c ≡ true
       → found.yes ≡ own → Solves root (after_move p c) question reach (known ++ so_far.wrote.shown) mid next counted child
       → ((also : List Shown) → length also ≡ counted → FitsTable next.table also
       → HasReason also p (claim_for (side_asked question) own) (ByOne (record { column = c; lemma = found.lemma }))
@@ -413,13 +458,17 @@ module _ (root p : Position) (question : Question) (reach : ℕ) (own : Bool) (k
       (tell also many all.wrote.fits (one_reason p (side_asked question) own going is_own also c found.lemma room shown))
 
   pub closed_by_all : (new : Moment) (last : ℕ) (result : Result Answer SearchStop) → length order ≤ i → order ≡ centre_out (length p.columns)
-      → ((also : List Shown) → length also ≡ count → FitsTable mid.table also → HasReason also p (claim_for (side_asked question) (not own)) (ByAll (cites_from numbers (open_columns p))) → Solves root p question reach also mid new last result)
+      → ((also : List Shown) → length also ≡ count → FitsTable mid.table also
+          → HasReason also p (claim_for (side_asked question) (not own)) (ByAll (cites_from numbers (open_columns p)))
+          → Solves root p question reach also mid new last result)
       → Solves root p question reach known old new last result
   closed_by_all new last result all is_order tell =
       let also = known ++ so_far.wrote.shown in
       then_solves root question reach known old mid new count so_far.wrote p last result
       (below_raised (empty_count p) (limit_of p result) so_far.wrote.shown (limit_least p result) so_far.below)
-      (tell also so_far.wrote.counted so_far.wrote.fits (all_reason p (side_asked question) own going is_own also numbers (all_moves root p question reach own known old mid count numbers order i so_far all is_order)))
+      (tell also so_far.wrote.counted so_far.wrote.fits
+          (all_reason p (side_asked question) own going is_own also numbers
+          (all_moves root p question reach own known old mid count numbers order i so_far all is_order)))
 
 -- a column that was taken from the end of a path
 pub path_back : (path longer shorter : List ℕ) (c : ℕ) → longer ≡ path ++ c ∷ [] → shorter ≡ take (length longer - 1) longer → shorter ≡ path

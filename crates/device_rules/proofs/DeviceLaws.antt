@@ -31,7 +31,8 @@ AppendsPrefix_take old new x y prefix =
     (n, subst (Appends old new) same prefix.1)
 
 -- The whole of x, and then y either way, is x ++ y that way.
-pub AppendsPrefix_more : (ok : Bool) (old mid new : Option (List ℕ)) (x y : List ℕ) → Appends old mid x → AppendsPrefix ok mid new y → AppendsPrefix ok old new (x ++ y)
+pub AppendsPrefix_more : (ok : Bool) (old mid new : Option (List ℕ)) (x y : List ℕ) → Appends old mid x → AppendsPrefix ok mid new y
+    → AppendsPrefix ok old new (x ++ y)
 AppendsPrefix_more true old mid new x y first rest = Appends-trans old mid new x y first rest
 AppendsPrefix_more false old mid new x y first rest =
     (length x + rest.0, subst (Appends old new) (sym (take-append-add x y rest.0)) (Appends-trans old mid new x (take rest.0 y) first rest.1))

@@ -1,5 +1,6 @@
 -- The columns that have room, one column further, and that a state chooses one of them.
-use Rattle.std.proofs.Common.{◌≡◌, ℕ, ◌+◌, ◌%◌, ◌<◌, Bool, true, false, cond, append-nil, List, [], ◌∷◌, ◌++◌, filter, length, None, sym, ap, ◌∙◌, inl, inr, arith}
+use Rattle.std.proofs.Common.{◌≡◌, ℕ, ◌+◌, ◌%◌, ◌<◌, Bool, true, false, cond, append-nil, List, [], ◌∷◌, ◌++◌, filter, length, None, sym, ap, ◌∙◌, inl, inr,
+    arith}
 use Rattle.std.specs.List.{list_any}
 use Rattle.std.proofs.lemmas.List.{map-id}
 use Rattle.std.proofs.lemmas.List.Elements.{filter-append}
@@ -22,7 +23,8 @@ pub one_open : (p : Position) (n : ℕ) → has_room p n ≡ true → filter (ha
 one_open p n room = filter_below_more (has_room p) n ∙ ap (λ b. filter (has_room p) (below n) ++ cond b (n ∷ []) []) room
 
 pub one_full : (p : Position) (n : ℕ) → has_room p n ≡ false → filter (has_room p) (below (n + 1)) ≡ filter (has_room p) (below n)
-one_full p n full = filter_below_more (has_room p) n ∙ ap (λ b. filter (has_room p) (below n) ++ cond b (n ∷ []) []) full ∙ append-nil (filter (has_room p) (below n))
+one_full p n full = filter_below_more (has_room p) n ∙ ap (λ b. filter (has_room p) (below n) ++ cond b (n ∷ []) []) full
+    ∙ append-nil (filter (has_room p) (below n))
 
 some_passes : {X : Type 0} (test : X → Bool) (xs : List X) → list_any test xs ≡ true → 0 < length (filter test xs)
 some_passes test [] h = cc

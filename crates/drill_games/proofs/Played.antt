@@ -13,7 +13,8 @@ pub one_move : (n : ℕ) (p : Position) (x : ℕ) (game : Position × ℕ) → n
 unfolding game_from
 one_move n p x game h = elim (chosen_way (is_some (end_of p)) None (Some (after_move p (chosen p (next_state x)), next_state x)) (Some game) h) [
   | inl ended ↦ cc
-  | inr going ↦ let same : (after_move p (chosen p (next_state x)), next_state x) ≡ game = cc (going.1) in rw going.0 (ap (λ (game : Position × ℕ). game_from n game.0 game.1) same)
+  | inr going ↦ let same : (after_move p (chosen p (next_state x)), next_state x) ≡ game = cc (going.1) in
+      rw going.0 (ap (λ (game : Position × ℕ). game_from n game.0 game.1) same)
 ]
 
 pub game_ended : (n : ℕ) (p : Position) (x : ℕ) → next_move p x ≡ None → game_from n p x ≡ (p, x)

@@ -1,5 +1,6 @@
 -- Which instance answers a group: the first that bars it, and the member that a plan names by its place.
-use Rattle.std.proofs.Common.{◌≡◌, ℕ, zero, suc, ◌-◌, ◌<◌, ◌≤◌, Bool, true, false, not, List, [], ◌∷◌, Option, Some, None, is_some, is_none, refl, sym, ap, ◌∙◌, subst, arith, slice_get}
+use Rattle.std.proofs.Common.{◌≡◌, ℕ, zero, suc, ◌-◌, ◌<◌, ◌≤◌, Bool, true, false, not, List, [], ◌∷◌, Option, Some, None, is_some, is_none, refl, sym, ap, ◌∙◌,
+    subst, arith, slice_get}
 use Rattle.std.specs.List.{list_any, find}
 use Rattle.game_rules.specs.Position.{Position, board_of, has_man}
 use Rattle.game_rules.specs.Groups.{Group, squares_of, lies_on}
@@ -15,7 +16,8 @@ first_found : {X : Type 0} (test : X → Bool) (xs : List X) (i : ℕ) (x : X) �
     → ((j : ℕ) (y : X) → j < i → slice_get xs j ≡ Some y → test y ≡ false) → find test xs ≡ Some x
 first_found test [] i x at passes earlier = absurd (cc at)
 first_found test (y ∷ ys) zero x at passes earlier = let same : y ≡ x = cc at in rw (same, passes) refl
-first_found test (y ∷ ys) (suc i) x at passes earlier = rw (earlier 0 y (omega arith) refl) (first_found test ys i x at passes (λ j z less at. earlier (suc j) z (omega arith) at))
+first_found test (y ∷ ys) (suc i) x at passes earlier = rw (earlier 0 y (omega arith) refl)
+    (first_found test ys i x at passes (λ j z less at. earlier (suc j) z (omega arith) at))
 
 -- the member at a place, counted from 1, is the first that bars a group of White's
 pub record IsNamed (p : Position) (ws : List RuleInstance) (g : Group) (place : ℕ) : Type 0 where
@@ -38,14 +40,16 @@ named p ws g place h =
     }
 
 -- a plan names none for a group exactly where it has a man of Black's
-pub none_named : (p : Position) (ws : List RuleInstance) (g : Group) → is_plan p ws ≡ true → lies_on (board_of p) g ≡ true → is_none (answering p ws g) ≡ not (is_white p g)
+pub none_named : (p : Position) (ws : List RuleInstance) (g : Group) → is_plan p ws ≡ true → lies_on (board_of p) g ≡ true
+    → is_none (answering p ws g) ≡ not (is_white p g)
 none_named p ws g plan lies = answer_none p ws g plan lies ∙ twice (list_any (has_man p Black) (squares_of g))
   where
     twice : (b : Bool) → b ≡ not (not b)
     twice true = refl
     twice false = refl
 
-pub white_answered : (p : Position) (ws : List RuleInstance) (g : Group) → is_plan p ws ≡ true → lies_on (board_of p) g ≡ true → is_white p g ≡ true → is_some (answerer p ws g) ≡ true
+pub white_answered : (p : Position) (ws : List RuleInstance) (g : Group) → is_plan p ws ≡ true → lies_on (board_of p) g ≡ true → is_white p g ≡ true
+    → is_some (answerer p ws g) ≡ true
 white_answered p ws g plan lies white = by_place (answering p ws g) refl
   where
     by_place : (place : Option ℕ) → answering p ws g ≡ place → is_some (answerer p ws g) ≡ true

@@ -7,7 +7,8 @@ use mathlib.Core.Bool.{true≢false}
 use Rattle.game_rules.specs.Position.{Position}
 use Rattle.game_rules.specs.declared.Side.{Side}
 use Rattle.front_rules.specs.Counts.{plus, least, is_zero, is_infinite, finite_part}
-use Rattle.front_rules.specs.Front.{Row, nothing, leaf, inner, node_count, leaf_number, joined, takes_least, is_own, number_of, node_number, verdict_on, node_as, collapsed}
+use Rattle.front_rules.specs.Front.{Row, nothing, leaf, inner, node_count, leaf_number, joined, takes_least, is_own, number_of, node_number, verdict_on,
+    node_as, collapsed}
 use Rattle.front_rules.specs.declared.Count.{Count}
 use Rattle.front_rules.specs.declared.Count.TheVariants.{Finite, Infinite}
 use Rattle.front_rules.specs.declared.Verdict.{Verdict}
@@ -49,7 +50,8 @@ infinite_plus (Finite m) Infinite = refl
 infinite_plus Infinite b = refl
 
 -- where two numbers are each 0 exactly where two others are infinite, so is the least of them and the sum of the others
-dual_joined : (smallest : Bool) (a b c d : Count) → is_zero a ≡ is_infinite c → is_zero b ≡ is_infinite d → is_zero (joined smallest a b) ≡ is_infinite (joined (not smallest) c d)
+dual_joined : (smallest : Bool) (a b c d : Count) → is_zero a ≡ is_infinite c → is_zero b ≡ is_infinite d
+    → is_zero (joined smallest a b) ≡ is_infinite (joined (not smallest) c d)
 dual_joined true a b c d e f = zero_least a b ∙ (rw (e, f) (sym (infinite_plus c d)))
 dual_joined false a b c d e f = zero_plus a b ∙ (rw (e, f) (sym (infinite_least c d)))
 
@@ -85,24 +87,28 @@ module _ (side : Side) where
   row_dual nothing proof false = refl
   row_dual (leaf p v rest) proof smallest = dual_joined smallest _ _ _ _ (dual_leaf proof v) (row_dual rest proof smallest)
   row_dual (inner p kids rest) proof smallest =
-      dual_joined smallest _ _ _ _ (row_dual kids proof (takes_least side proof p) ∙ ap (λ w. is_infinite (number_of side (not proof) w kids)) (sym (turned proof p))) (row_dual rest proof smallest)
+      dual_joined smallest _ _ _ _ (row_dual kids proof (takes_least side proof p)
+          ∙ ap (λ w. is_infinite (number_of side (not proof) w kids)) (sym (turned proof p))) (row_dual rest proof smallest)
 
   pub node_dual : (p : Position) (kids : Row) (proof : Bool) → is_zero (node_number side proof p kids) ≡ is_infinite (node_number side (not proof) p kids)
   node_dual p kids proof = row_dual kids proof (takes_least side proof p) ∙ ap (λ w. is_infinite (number_of side (not proof) w kids)) (sym (turned proof p))
 
   -- ---- a settled node as a leaf
 
-  pub settled_yes : (p : Position) (kids : Row) (proof : Bool) → is_zero (node_number side true p kids) ≡ true → leaf_number proof Yes ≡ node_number side proof p kids
+  pub settled_yes : (p : Position) (kids : Row) (proof : Bool) → is_zero (node_number side true p kids) ≡ true
+      → leaf_number proof Yes ≡ node_number side proof p kids
   settled_yes p kids true h = sym (zero_is _ h)
   settled_yes p kids false h = sym (infinite_is _ (sym (node_dual p kids true) ∙ h))
 
-  pub settled_no : (p : Position) (kids : Row) (proof : Bool) → is_zero (node_number side false p kids) ≡ true → leaf_number proof No ≡ node_number side proof p kids
+  pub settled_no : (p : Position) (kids : Row) (proof : Bool) → is_zero (node_number side false p kids) ≡ true
+      → leaf_number proof No ≡ node_number side proof p kids
   settled_no p kids true h = sym (infinite_is _ (sym (node_dual p kids false) ∙ h))
   settled_no p kids false h = sym (zero_is _ h)
 
   -- a node that becomes a leaf where it is settled, and else gets children with the same numbers, keeps its numbers
   pub as_number : (p : Position) (kids new rest : Row) → ((proof smallest : Bool) → number_of side proof smallest new ≡ number_of side proof smallest kids)
-      → (proof smallest : Bool) → number_of side proof smallest (node_as (verdict_on side p kids) p new rest) ≡ joined smallest (node_number side proof p kids) (number_of side proof smallest rest)
+      → (proof smallest : Bool) → number_of side proof smallest (node_as (verdict_on side p kids) p new rest)
+          ≡ joined smallest (node_number side proof p kids) (number_of side proof smallest rest)
   as_number p kids new rest same proof smallest =
       elim (cases_Bool (is_zero (node_number side true p kids))) [
         | inl won ↦ rw won (ap (λ n. joined smallest n (number_of side proof smallest rest)) (settled_yes p kids proof won))
@@ -135,4 +141,5 @@ module _ (side : Side) where
   number_bound (leaf p v rest) proof smallest =
       omega (arith, part_joined smallest (leaf_number proof v) (number_of side proof smallest rest), part_leaf proof v, number_bound rest proof smallest)
   number_bound (inner p kids rest) proof smallest =
-      omega (arith, part_joined smallest (node_number side proof p kids) (number_of side proof smallest rest), number_bound kids proof (takes_least side proof p), number_bound rest proof smallest)
+      omega (arith, part_joined smallest (node_number side proof p kids) (number_of side proof smallest rest),
+          number_bound kids proof (takes_least side proof p), number_bound rest proof smallest)

@@ -4,7 +4,8 @@ use Rattle.std.proofs.lemmas.Bool.{cases_Bool}
 use Rattle.game_rules.specs.Position.{Position}
 use Rattle.game_rules.specs.declared.Side.{Side}
 use Rattle.front_rules.specs.Counts.{same_count}
-use Rattle.front_rules.specs.Front.{Row, nothing, leaf, inner, moves_out, leaf_number, is_own, takes_least, number_of, node_number, root_number, verdict_of, verdict_on, node_as, collapsed, leaves, expanded, grown, front_within}
+use Rattle.front_rules.specs.Front.{Row, nothing, leaf, inner, moves_out, leaf_number, is_own, takes_least, number_of, node_number, root_number, verdict_of,
+    verdict_on, node_as, collapsed, leaves, expanded, grown, front_within}
 use Rattle.front_rules.specs.Path.{IsClean, updated}
 use Rattle.front_rules.proofs.Numbers.{collapsed_number}
 use Rattle.front_rules.specs.declared.Count.{Count}
@@ -18,7 +19,8 @@ module _ (side : Side) where
   clean_stays (leaf p v rest) h = ap (leaf p v) (clean_stays rest h)
   clean_stays (inner p kids rest) h = rw (h.0, clean_stays kids h.1, clean_stays rest h.2) refl
 
-  pub clean_as : (v : Verdict) (p : Position) (kids rest : Row) → verdict_on side p kids ≡ v → IsClean side kids → IsClean side rest → IsClean side (node_as v p kids rest)
+  pub clean_as : (v : Verdict) (p : Position) (kids rest : Row) → verdict_on side p kids ≡ v → IsClean side kids → IsClean side rest
+      → IsClean side (node_as v p kids rest)
   clean_as Unsettled p kids rest e k r = (e, k, r)
   clean_as Yes p kids rest e k r = r
   clean_as No p kids rest e k r = r
@@ -28,7 +30,8 @@ module _ (side : Side) where
     clean_leaves [] = tt
     clean_leaves (p ∷ ps) = clean_leaves ps
 
-    pub updated_is : (proof : Bool) (n : Count) (row : Row) → IsClean side row → collapsed side (expanded side closed proof n row) ≡ updated side closed proof n row
+    pub updated_is : (proof : Bool) (n : Count) (row : Row) → IsClean side row
+        → collapsed side (expanded side closed proof n row) ≡ updated side closed proof n row
     updated_is proof n nothing h = refl
     updated_is proof n (leaf p v rest) h =
         elim (cases_Bool (same_count (leaf_number proof v) n)) [
@@ -39,7 +42,8 @@ module _ (side : Side) where
         let below = updated_is (is_own side p) (number_of side (is_own side p) true kids) kids h.1 in
         let new = expanded side closed (is_own side p) (number_of side (is_own side p) true kids) kids in
         elim (cases_Bool (same_count (node_number side proof p kids) n)) [
-          | inl found ↦ rw (found, clean_stays rest h.2) (ap (λ v. node_as v p (collapsed side new) rest) (verdict_collapsed p new) ∙ ap (λ k. node_as (verdict_on side p k) p k rest) below)
+          | inl found ↦ rw (found, clean_stays rest h.2) (ap (λ v. node_as v p (collapsed side new) rest) (verdict_collapsed p new)
+              ∙ ap (λ k. node_as (verdict_on side p k) p k rest) below)
           | inr past ↦ rw (past, h.0, clean_stays kids h.1) (ap (inner p kids) (updated_is proof n rest h.2))
         ]
       where

@@ -1,14 +1,18 @@
 -- How a game ends: lines as tests and as squares, full boards, and what legal moves keep.
-use Rattle.std.proofs.Common.{◌≡◌, ◌≢◌, ◌⊎◌, ◌↔◌, ℕ, zero, suc, ◌+◌, ◌-◌, ◌%◌, ◌<◌, ◌≤◌, Bool, true, false, ◌&&◌, ◌==◌, List, [], ◌∷◌, length, replicate, Option, Some, None, is_none, refl, sym, ap, ◌∙◌, subst, inl, inr, arith, add-one, lit<}
+use Rattle.std.proofs.Common.{◌≡◌, ◌≢◌, ◌⊎◌, ◌↔◌, ℕ, zero, suc, ◌+◌, ◌-◌, ◌%◌, ◌<◌, ◌≤◌, Bool, true, false, ◌&&◌, ◌==◌, List, [], ◌∷◌, length, replicate,
+    Option, Some, None, is_none, refl, sym, ap, ◌∙◌, subst, inl, inr, arith, add-one, lit<}
 use Rattle.std.specs.List.{list_any, list_all}
-use Rattle.std.proofs.lemmas.Bool.{cases_Bool, cases_eq, cases_lt, both_ways, and_parts, and_from, ltb-true, lt-ltb, le-leb, leb-true, eqb-true, eq-eqb, false_from_ne_true, not_from_false, not-true}
+use Rattle.std.proofs.lemmas.Bool.{cases_Bool, cases_eq, cases_lt, both_ways, and_parts, and_from, ltb-true, lt-ltb, le-leb, leb-true, eqb-true, eq-eqb,
+    false_from_ne_true, not_from_false, not-true}
 use Rattle.std.proofs.lemmas.List.{get_or-replicate, length-replicate, get_or_past, ext_get_or}
 use Rattle.std.proofs.lemmas.List.Elements.{All-replicate}
 use Rattle.std.proofs.lemmas.List.Folds.{sum_by-replicate}
 use Rattle.game_rules.specs.Board.{Board, Square, below, on_board, step_of, line_at, line_length, is_line, ways}
-use Rattle.game_rules.specs.Position.{Position, board_of, empty_position, other, men_in, height, man_in, man_at, has_man, is_man, man_count, side_to_move, has_room, after_move, has_line_at, has_line_in_column, has_line_along, has_line, is_full, end_of, is_legal, played, IsStacked}
+use Rattle.game_rules.specs.Position.{Position, board_of, empty_position, other, men_in, height, man_in, man_at, has_man, is_man, man_count, side_to_move,
+    has_room, after_move, has_line_at, has_line_in_column, has_line_along, has_line, is_full, end_of, is_legal, played, IsStacked}
 use Rattle.game_rules.specs.Laws.{HasLine, IsFilled, DropsMan}
-use Rattle.game_rules.proofs.Lists.{Among, any_gives, any_from, any_same, all_gives, all_from, Among-map, Among-map_gives, Among-below, Among-below_gives, chosen}
+use Rattle.game_rules.proofs.Lists.{Among, any_gives, any_from, any_same, all_gives, all_from, Among-map, Among-map_gives, Among-below, Among-below_gives,
+    chosen}
 use Rattle.game_rules.proofs.Moves.{man_within, placed, unchanged, was_empty, board_moved, room_column, room_height, room_from, stacked_moved, man_count_moved}
 use Rattle.game_rules.specs.declared.Length.{Length}
 use Rattle.game_rules.specs.declared.Length.TheVariants.{Four, Five}
@@ -47,10 +51,13 @@ pub some_length : (len : Length) → 1 < line_length len
 some_length Four = lit< tt
 some_length Five = lit< tt
 
-pub each_step : (test : Square → Bool) (len : Length) (way : Way) (s : Square) → list_all test (line_at len way s) ≡ true → (i : ℕ) → i < line_length len → test (step_of way s i) ≡ true
-each_step test len way s h i low = all_gives test (line_at len way s) (step_of way s i) h (Among-map (step_of way s) (below (line_length len)) i (Among-below (line_length len) i low))
+pub each_step : (test : Square → Bool) (len : Length) (way : Way) (s : Square) → list_all test (line_at len way s) ≡ true → (i : ℕ) → i < line_length len
+    → test (step_of way s i) ≡ true
+each_step test len way s h i low = all_gives test (line_at len way s) (step_of way s i) h
+    (Among-map (step_of way s) (below (line_length len)) i (Among-below (line_length len) i low))
 
-pub from_steps : (test : Square → Bool) (len : Length) (way : Way) (s : Square) → ((i : ℕ) → i < line_length len → test (step_of way s i) ≡ true) → list_all test (line_at len way s) ≡ true
+pub from_steps : (test : Square → Bool) (len : Length) (way : Way) (s : Square) → ((i : ℕ) → i < line_length len → test (step_of way s i) ≡ true)
+    → list_all test (line_at len way s) ≡ true
 from_steps test len way s each = all_from test (line_at len way s) (λ u among.
     let from = Among-map_gives (step_of way s) (below (line_length len)) u among in
     subst (λ u. test u ≡ true) from.2 (each from.0 (Among-below_gives (line_length len) from.0 from.1)))
@@ -82,11 +89,14 @@ has_line_from p side line = at line.way line.anchor line.on_the_board line.owned
     first_step : 0 < line_length p.len
     first_step = let two = some_length p.len in omega arith
 
-    at : (way : Way) (s : Square) → ((i : ℕ) → i < line_length p.len → on_board (board_of p) (step_of way s i) ≡ true) → ((i : ℕ) → i < line_length p.len → has_man p side (step_of way s i) ≡ true) → has_line p side ≡ true
-    at way (c, zero) inside owned = let first = on_board_parts (board_of p) c 0 (subst (λ s. on_board (board_of p) s ≡ true) (step_none way (c, 0)) (inside 0 first_step)) in absurd (omega arith)
+    at : (way : Way) (s : Square) → ((i : ℕ) → i < line_length p.len → on_board (board_of p) (step_of way s i) ≡ true)
+        → ((i : ℕ) → i < line_length p.len → has_man p side (step_of way s i) ≡ true) → has_line p side ≡ true
+    at way (c, zero) inside owned = let first =
+        on_board_parts (board_of p) c 0 (subst (λ s. on_board (board_of p) s ≡ true) (step_none way (c, 0)) (inside 0 first_step)) in absurd (omega arith)
     at way (c, suc i) inside owned =
         let first = on_board_parts (board_of p) c (suc i) (subst (λ s. on_board (board_of p) s ≡ true) (step_none way (c, suc i)) (inside 0 first_step)) in
-        let line : has_line_at p side way (c, suc i) ≡ true = and_from _ _ (from_steps (on_board (board_of p)) p.len way (c, suc i) inside) (from_steps (has_man p side) p.len way (c, suc i) owned) in
+        let line : has_line_at p side way (c, suc i) ≡ true = and_from _ _ (from_steps (on_board (board_of p)) p.len way (c, suc i) inside)
+            (from_steps (has_man p side) p.len way (c, suc i) owned) in
         any_from (has_line_along p side) ways way (Among-ways way)
         (any_from (has_line_in_column p side way) (below (length p.columns)) c (Among-below (length p.columns) c first.0)
         (any_from (λ i. has_line_at p side way (c, i + 1)) (below p.rows) i (Among-below p.rows i (omega arith)) (rw add-one line)))
@@ -97,7 +107,8 @@ pub filled_from_full : (p : Position) → is_full p ≡ true → IsFilled p
 filled_from_full p full (c, r) inside none =
     let on = on_board_parts (board_of p) c r inside in
     elim (cases_Bool (has_room p c)) [
-      | inl room ↦ both_ways (list_any (has_room p) (below (length p.columns))) (not-true _ full) (any_from (has_room p) (below (length p.columns)) c (Among-below (length p.columns) c on.0) room)
+      | inl room ↦ both_ways (list_any (has_room p) (below (length p.columns))) (not-true _ full)
+          (any_from (has_room p) (below (length p.columns)) c (Among-below (length p.columns) c on.0) room)
       | inr closed ↦ high (cases_lt (height p c) r) on.0 on.1 on.2 closed
     ]
   where
@@ -109,12 +120,14 @@ pub full_from_filled : (p : Position) → IsFilled p → is_full p ≡ true
 full_from_filled p filled = not_from_false _ (false_from_ne_true _ (λ some.
     let found = any_gives (has_room p) (below (length p.columns)) some in
     let low : height p found.0 < p.rows = room_height p found.0 found.2 in
-    filled (found.0, height p found.0 + 1) (on_board_from (board_of p) found.0 (height p found.0 + 1) (room_column p found.0 found.2) (omega arith) (omega arith)) (was_empty p found.0)))
+    filled (found.0, height p found.0 + 1)
+        (on_board_from (board_of p) found.0 (height p found.0 + 1) (room_column p found.0 found.2) (omega arith) (omega arith)) (was_empty p found.0)))
 
 -- ---- the end
 
 -- a test at each square decides a line
-pub has_line_same : (p q : Position) (side : Side) → board_of p ≡ board_of q → ((s : Square) → has_man p side s ≡ has_man q side s) → has_line p side ≡ has_line q side
+pub has_line_same : (p q : Position) (side : Side) → board_of p ≡ board_of q → ((s : Square) → has_man p side s ≡ has_man q side s)
+    → has_line p side ≡ has_line q side
 has_line_same p q side board same =
     any_same (has_line_along p side) (has_line_along q side) ways (λ way _.
     ap (λ n. list_any (has_line_in_column p side way) (below n)) cols
@@ -144,7 +157,8 @@ cases_square (a, b) (c, d) = elim (cases_eq a c) [
 ]
 
 -- the other side's men are as before
-pub other_kept : (p : Position) (column : ℕ) → has_room p column ≡ true → (s : Square) → has_man (after_move p column) (other (side_to_move p)) s ≡ has_man p (other (side_to_move p)) s
+pub other_kept : (p : Position) (column : ℕ) → has_room p column ≡ true → (s : Square)
+    → has_man (after_move p column) (other (side_to_move p)) s ≡ has_man p (other (side_to_move p)) s
 other_kept p column room s = elim (cases_square s (column, height p column + 1)) [
   | inl here ↦ rw here (ap (is_man (other (side_to_move p))) (placed p column (room_column p column room)) ∙ not_own (side_to_move p)
       ∙ sym (ap (is_man (other (side_to_move p))) (was_empty p column)))
@@ -179,7 +193,8 @@ legal_parts p column h = let both = and_parts (is_none (end_of p)) (has_room p c
 pub none_for_other : (p : Position) (column : ℕ) → is_legal p column ≡ true → has_line (after_move p column) (other (side_to_move p)) ≡ false
 none_for_other p column h =
     let parts = legal_parts p column h in let going = ended_parts p parts.0 in
-    has_line_same (after_move p column) p (other (side_to_move p)) (board_moved p column) (other_kept p column parts.1) ∙ of_side (side_to_move p) going.0 going.1
+    has_line_same (after_move p column) p (other (side_to_move p)) (board_moved p column) (other_kept p column parts.1)
+        ∙ of_side (side_to_move p) going.0 going.1
   where
     of_side : (side : Side) → has_line p White ≡ false → has_line p Black ≡ false → has_line p (other side) ≡ false
     of_side White white black = black
@@ -246,7 +261,8 @@ white_end p = (to, from)
       | inl won ↦ has_line_gives p White won.0
       | inr rest ↦ elim (chosen (has_line p Black) (Some ends.Black) _ (Some ends.White) rest.1) [
         | inl lost ↦ absurd (cc lost.1)
-        | inr more ↦ elim (chosen (is_full p) (Some ends.Draw) None (Some ends.White) more.1) [ inl full ↦ absurd (cc full.1) | inr going ↦ absurd (cc going.1) ]
+        | inr more ↦ elim (chosen (is_full p) (Some ends.Draw) None (Some ends.White) more.1)
+            [ inl full ↦ absurd (cc full.1) | inr going ↦ absurd (cc going.1) ]
       ]
     ]
 
@@ -262,7 +278,8 @@ black_end_to p h = elim (chosen (has_line p White) (Some ends.White) _ (Some end
   ]
 ]
 
-pub black_end : (board : Board) (columns : List ℕ) (p : Position) → played (empty_position board) columns ≡ Some p → (end_of p ≡ Some ends.Black) ↔ HasLine p Black
+pub black_end : (board : Board) (columns : List ℕ) (p : Position) → played (empty_position board) columns ≡ Some p → (end_of p ≡ Some ends.Black)
+    ↔ HasLine p Black
 black_end board columns p e = (λ h. has_line_gives p Black (black_end_to p h).1, from)
   where
     from : HasLine p Black → end_of p ≡ Some ends.Black
@@ -280,7 +297,8 @@ draw_end p = (to, from)
       | inr rest ↦ elim (chosen (has_line p Black) (Some ends.Black) _ (Some ends.Draw) rest.1) [
         | inl lost ↦ absurd (cc lost.1)
         | inr more ↦ elim (chosen (is_full p) (Some ends.Draw) None (Some ends.Draw) more.1) [
-          | inl full ↦ (filled_from_full p full.0, λ line. both_ways _ rest.0 (has_line_from p White line), λ line. both_ways _ more.0 (has_line_from p Black line))
+          | inl full ↦ (filled_from_full p full.0, λ line. both_ways _ rest.0 (has_line_from p White line), λ line.
+              both_ways _ more.0 (has_line_from p Black line))
           | inr going ↦ absurd (cc going.1)
         ]
       ]
@@ -322,7 +340,8 @@ empty_man_count : (board : Board) → man_count (empty_position board) ≡ 0
 empty_man_count board = omega (arith, sum_by-replicate (λ (men : List Side). length men) board.cols [])
 
 pub man_count_along : (board : Board) (columns : List ℕ) (p : Position) → played (empty_position board) columns ≡ Some p → man_count p ≡ length columns
-man_count_along board columns p e = let more : man_count p ≡ man_count (empty_position board) + length columns = along columns (empty_position board) e in omega (arith, empty_man_count board)
+man_count_along board columns p e = let more : man_count p ≡ man_count (empty_position board) + length columns = along columns (empty_position board) e in
+    omega (arith, empty_man_count board)
   where
     along : (columns : List ℕ) (q : Position) → played q columns ≡ Some p → man_count p ≡ man_count q + length columns
     along [] q e = let same : q ≡ p = cc in omega (arith, ap man_count same)
@@ -365,4 +384,5 @@ same_by_squares p q board same =
     let rows : p.rows ≡ q.rows = ap (λ (b : Board). b.rows) board in
     let columns : p.columns ≡ q.columns = ext_get_or [] p.columns q.columns (ap (λ (b : Board). b.cols) board)
     (λ c _. same_men (men_in p c) (men_in q c) (λ r. same_man (man_at p (c, r)) (man_at q (c, r)) (λ side. same side (c, r)))) in
-    ap (λ n. record p { rows = n }) rows ∙ ap (λ (b : Board). record q { len = b.len; columns = p.columns }) board ∙ ap (λ men. record q { columns = men }) columns
+    ap (λ n. record p { rows = n }) rows ∙ ap (λ (b : Board). record q { len = b.len; columns = p.columns }) board
+        ∙ ap (λ men. record q { columns = men }) columns

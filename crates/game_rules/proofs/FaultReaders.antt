@@ -1,5 +1,6 @@
 -- Where each reader of a game text stops: what stands before the place, and what stands from it on.
-use Rattle.std.proofs.Common.{◌≡◌, ◌≢◌, ◌⊎◌, ℕ, suc, ◌+◌, ◌-◌, ◌<◌, ◌≤◌, Bool, true, false, ◌&&◌, ◌==◌, cond, nat_le, nat_lt, List, [], ◌∷◌, ◌++◌, map, length, take, drop, take_while, Option, Some, None, is_some, Result, Ok, Err, refl, sym, ap, ◌∙◌, inl, inr, arith}
+use Rattle.std.proofs.Common.{◌≡◌, ◌≢◌, ◌⊎◌, ℕ, suc, ◌+◌, ◌-◌, ◌<◌, ◌≤◌, Bool, true, false, ◌&&◌, ◌==◌, cond, nat_le, nat_lt, List, [], ◌∷◌, ◌++◌, map, length,
+    take, drop, take_while, Option, Some, None, is_some, Result, Ok, Err, refl, sym, ap, ◌∙◌, inl, inr, arith}
 use Rattle.std.specs.List.{prefix_len}
 use Rattle.std.proofs.lemmas.Bool.{cases_Bool, and_parts, and_from, leb-true, le-leb, lt-ltb, ltb-true, eqb-true, eq-eqb, ne_eqb, false_from_ne_true, both_ways}
 use Rattle.std.proofs.lemmas.List.Folds.{length-prefix_len}
@@ -58,7 +59,8 @@ text_stop (x ∷ text) (byte ∷ bytes) s h = elim (cases_Bool (byte == x)) [
       }
 ]
   where
-    at_other : (b : Bool) → b ≡ false → cond b (after_text text bytes) (stop BadHeader (length (byte ∷ bytes))) ≡ Err s → s ≡ record { kind = BadHeader; left = length (byte ∷ bytes) }
+    at_other : (b : Bool) → b ≡ false → cond b (after_text text bytes) (stop BadHeader (length (byte ∷ bytes))) ≡ Err s
+        → s ≡ record { kind = BadHeader; left = length (byte ∷ bytes) }
     at_other true e h = absurd (cc e)
     at_other false e h = cc
 
@@ -66,7 +68,8 @@ text_stop (x ∷ text) (byte ∷ bytes) s h = elim (cases_Bool (byte == x)) [
     at_same true e h = h
     at_same false e h = absurd (cc e)
 
-pub text_stops : (before : List ℕ) (byte : ℕ) (later behind : List ℕ) → IsOther byte behind → after_text (before ++ byte ∷ later) (before ++ behind) ≡ stop BadHeader (length behind)
+pub text_stops : (before : List ℕ) (byte : ℕ) (later behind : List ℕ) → IsOther byte behind
+    → after_text (before ++ byte ∷ later) (before ++ behind) ≡ stop BadHeader (length behind)
 text_stops [] byte later [] other = refl
 text_stops [] byte later (first ∷ behind) other = rw (ne_eqb first byte other) refl
 text_stops (x ∷ before) byte later behind other = rw (eq-eqb x x refl) (text_stops before byte later behind other)
@@ -97,7 +100,8 @@ size_ends spelled bytes x h = read (spelled (take_while is_digit bytes)) h
     read None h = cc
     read (Some n) h = let pair : (n, drop (length (run_of bytes)) bytes) ≡ x = cc in sym (ap (λ (p : ℕ × List ℕ). run_of p.1) pair) ∙ none
 
-pub size_stop : (spelled : List ℕ → Option ℕ) (bytes : List ℕ) (s : Stop) → size_at spelled bytes ≡ Err s → (spelled (run_of bytes) ≡ None) × (s ≡ record { kind = BadSize; left = length bytes })
+pub size_stop : (spelled : List ℕ → Option ℕ) (bytes : List ℕ) (s : Stop) → size_at spelled bytes ≡ Err s
+    → (spelled (run_of bytes) ≡ None) × (s ≡ record { kind = BadSize; left = length bytes })
 size_stop spelled bytes s h = read (spelled (run_of bytes)) h
   where
     read : (n : Option ℕ) → read_as n (drop (length (run_of bytes)) bytes) bytes ≡ Err s → (n ≡ None) × (s ≡ record { kind = BadSize; left = length bytes })
@@ -115,12 +119,15 @@ Letterless p byte = (column : ℕ) → column < length p.columns → byte ≢ le
 -- why a letter isn't read: it is none, or it is a column's and the game has ended, or the column is full
 pub data LetterStop (p : Position) (byte left : ℕ) (s : Stop) : Type 0 where
   no_letter : Letterless p byte → s ≡ record { kind = BadColumn; left = left } → LetterStop p byte left s
-  over : (column : ℕ) (ending : End) → byte ≡ letter_of column → column < length p.columns → end_of p ≡ Some ending → s ≡ record { kind = GameOver; left = left } → LetterStop p byte left s
-  full : (column : ℕ) → byte ≡ letter_of column → column < length p.columns → end_of p ≡ None → has_room p column ≡ false → s ≡ record { kind = ColumnFull; left = left } → LetterStop p byte left s
+  over : (column : ℕ) (ending : End) → byte ≡ letter_of column → column < length p.columns → end_of p ≡ Some ending
+      → s ≡ record { kind = GameOver; left = left } → LetterStop p byte left s
+  full : (column : ℕ) → byte ≡ letter_of column → column < length p.columns → end_of p ≡ None → has_room p column ≡ false
+      → s ≡ record { kind = ColumnFull; left = left } → LetterStop p byte left s
 
 pub letter_stop : (p : Position) (byte left : ℕ) (s : Stop) → letter_read p byte left ≡ Err s → LetterStop p byte left s
 letter_stop p byte left s h = elim (cases_Bool (nat_le 97 byte && nat_lt byte (97 + length p.columns))) [
-  | inr none ↦ no_letter (λ column low same. both_ways (nat_le 97 byte && nat_lt byte (97 + length p.columns)) none (and_from _ _ (le-leb 97 byte (omega arith)) (lt-ltb byte (97 + length p.columns) (omega arith))))
+  | inr none ↦ no_letter (λ column low same. both_ways (nat_le 97 byte && nat_lt byte (97 + length p.columns)) none
+      (and_from _ _ (le-leb 97 byte (omega arith)) (lt-ltb byte (97 + length p.columns) (omega arith))))
       (unnamed (nat_le 97 byte && nat_lt byte (97 + length p.columns)) none h)
   | inl named ↦
       let both = and_parts (nat_le 97 byte) (nat_lt byte (97 + length p.columns)) named in
@@ -138,7 +145,8 @@ letter_stop p byte left s h = elim (cases_Bool (nat_le 97 byte && nat_lt byte (9
     letter false e h = absurd (cc e)
 
     moving : (column : ℕ) → byte ≡ letter_of column → column < length p.columns → (ending : Option End) → end_of p ≡ ending
-        → cond (is_some ending) (stop GameOver left) (cond (has_room p column) (Ok (after_move p column)) (stop ColumnFull left)) ≡ Err s → LetterStop p byte left s
+        → cond (is_some ending) (stop GameOver left) (cond (has_room p column) (Ok (after_move p column)) (stop ColumnFull left)) ≡ Err s
+            → LetterStop p byte left s
     moving column is low (Some ending) e h = over column ending is low e (cc)
     moving column is low None e h = elim (cases_Bool (has_room p column)) [
       | inl room ↦ absurd (roomy (has_room p column) room h)
@@ -154,7 +162,8 @@ letter_stop p byte left s h = elim (cases_Bool (nat_le 97 byte && nat_lt byte (9
         roomless false e h = cc
 
 pub letterless_stops : (p : Position) (byte left : ℕ) → Letterless p byte → letter_read p byte left ≡ stop BadColumn left
-letterless_stops p byte left none = ap (λ b. move_into p left (cond b (Some (byte - 97)) None)) (false_from_ne_true (nat_le 97 byte && nat_lt byte (97 + length p.columns)) outside)
+letterless_stops p byte left none = ap (λ b. move_into p left (cond b (Some (byte - 97)) None))
+    (false_from_ne_true (nat_le 97 byte && nat_lt byte (97 + length p.columns)) outside)
   where
     outside : (nat_le 97 byte && nat_lt byte (97 + length p.columns)) ≡ true → ⊥
     outside h =
@@ -168,16 +177,19 @@ letter_into p column left low =
     let back : (97 + column) - 97 ≡ column = omega arith in
     rw (and_from _ _ (le-leb 97 (97 + column) (omega arith)) (lt-ltb (97 + column) (97 + length p.columns) (omega arith)), back) refl
 
-pub over_stops : (p : Position) (column left : ℕ) (ending : End) → column < length p.columns → end_of p ≡ Some ending → letter_read p (letter_of column) left ≡ stop GameOver left
+pub over_stops : (p : Position) (column left : ℕ) (ending : End) → column < length p.columns → end_of p ≡ Some ending
+    → letter_read p (letter_of column) left ≡ stop GameOver left
 over_stops p column left ending low e = letter_into p column left low ∙ rw e refl
 
-pub full_stops : (p : Position) (column left : ℕ) → column < length p.columns → end_of p ≡ None → has_room p column ≡ false → letter_read p (letter_of column) left ≡ stop ColumnFull left
+pub full_stops : (p : Position) (column left : ℕ) → column < length p.columns → end_of p ≡ None → has_room p column ≡ false
+    → letter_read p (letter_of column) left ≡ stop ColumnFull left
 full_stops p column left low e none = letter_into p column left low ∙ rw (e, none) refl
 
 -- ---- the letters of legal moves
 
 -- they are read, whatever follows
-pub letters_read : (columns : List ℕ) (p q : Position) (behind : List ℕ) → played p columns ≡ Some q → letters_from p (map letter_of columns ++ behind) ≡ letters_from q behind
+pub letters_read : (columns : List ℕ) (p q : Position) (behind : List ℕ) → played p columns ≡ Some q
+    → letters_from p (map letter_of columns ++ behind) ≡ letters_from q behind
 letters_read [] p q behind h = let same : p ≡ q = cc in ap (λ p. letters_from p behind) same
 letters_read (column ∷ columns) p q behind h = elim (chosen (is_legal p column) (played (after_move p column) columns) None (Some q) h) [
   | inr illegal ↦ absurd (cc illegal.1)
@@ -188,7 +200,8 @@ letters_read (column ∷ columns) p q behind h = elim (chosen (is_legal p column
 ]
 
 -- the first is read where a list begins
-pub moves_read : (column : ℕ) (columns : List ℕ) (p q : Position) (behind : List ℕ) → played p (column ∷ columns) ≡ Some q → moves_at p (map letter_of (column ∷ columns) ++ behind) ≡ letters_from q behind
+pub moves_read : (column : ℕ) (columns : List ℕ) (p q : Position) (behind : List ℕ) → played p (column ∷ columns) ≡ Some q
+    → moves_at p (map letter_of (column ∷ columns) ++ behind) ≡ letters_from q behind
 moves_read column columns p q behind h = elim (chosen (is_legal p column) (played (after_move p column) columns) None (Some q) h) [
   | inr illegal ↦ absurd (cc illegal.1)
   | inl legal ↦
@@ -198,7 +211,8 @@ moves_read column columns p q behind h = elim (chosen (is_legal p column) (playe
 ]
 
 -- one more move at the end
-pub played_push : (columns : List ℕ) (p q : Position) (column : ℕ) → played p columns ≡ Some q → is_legal q column ≡ true → played p (columns ++ column ∷ []) ≡ Some (after_move q column)
+pub played_push : (columns : List ℕ) (p q : Position) (column : ℕ) → played p columns ≡ Some q → is_legal q column ≡ true
+    → played p (columns ++ column ∷ []) ≡ Some (after_move q column)
 played_push [] p q column h legal = let same : p ≡ q = cc in rw (ap (λ p. is_legal p column) same ∙ legal) (ap (λ p. Some (after_move p column)) same)
 played_push (first ∷ columns) p q column h legal = elim (chosen (is_legal p first) (played (after_move p first) columns) None (Some q) h) [
   | inr illegal ↦ absurd (cc illegal.1)

@@ -1,5 +1,6 @@
 -- Games as they are played and as their texts spell them.
-use Rattle.std.proofs.Common.{◌≡◌, ℕ, ◌+◌, ◌-◌, ◌<◌, Bool, true, false, ◌==◌, cond, List, [], ◌∷◌, ◌++◌, map, length, Some, None, Ok, codes, refl, sym, ap, ◌∙◌, append_assoc, arith}
+use Rattle.std.proofs.Common.{◌≡◌, ℕ, ◌+◌, ◌-◌, ◌<◌, Bool, true, false, ◌==◌, cond, List, [], ◌∷◌, ◌++◌, map, length, Some, None, Ok, codes, refl, sym, ap, ◌∙◌,
+    append_assoc, arith}
 use Rattle.std.proofs.lemmas.Bool.{ne_eqb}
 use Rattle.std.proofs.lemmas.List.{length-replicate}
 use Rattle.game_rules.specs.Board.{Board, is_board}
@@ -29,7 +30,8 @@ move_is_played game column h legal =
     ∙ ap (λ b. cond b (Some (after_move game.position column)) None) legal
 
 -- while a column has room, fewer moves were made than a board has squares
-pub moves_few : (game : Game) (column : ℕ) → IsPlayed game → is_board (board_played game) ≡ true → has_room game.position column ≡ true → length game.moves < 100
+pub moves_few : (game : Game) (column : ℕ) → IsPlayed game → is_board (board_played game) ≡ true → has_room game.position column ≡ true
+    → length game.moves < 100
 moves_few game column h board room =
     let fill = played_fill game.moves (empty_position (board_played game)) game.position h in
     let most = first_empty (board_played game) board in

@@ -1,5 +1,6 @@
 -- Groups are the lines of a board, each once and in order: membership, order, how many there are, and whole groups.
-use Rattle.std.proofs.Common.{◌≡◌, ◌≢◌, ◌⊎◌, ℕ, zero, suc, ◌+◌, ◌<◌, ◌≤◌, Bool, true, ◌&&◌, ◌||◌, ◌==◌, nat_le, List, [], ◌∷◌, ◌++◌, length, map, filter, refl, sym, ap, ◌∙◌, subst, inl, inr, arith, lit<}
+use Rattle.std.proofs.Common.{◌≡◌, ◌≢◌, ◌⊎◌, ℕ, zero, suc, ◌+◌, ◌<◌, ◌≤◌, Bool, true, ◌&&◌, ◌||◌, ◌==◌, nat_le, List, [], ◌∷◌, ◌++◌, length, map, filter, refl,
+    sym, ap, ◌∙◌, subst, inl, inr, arith, lit<}
 use Rattle.std.specs.Prelude.{⊤}
 use Rattle.std.specs.List.{list_any, list_all, flat_map, range_with_len, AllPairs, slice_index_or}
 use Rattle.std.proofs.lemmas.Bool.{cases_Bool, cases_eq, both_ways, and_parts, and_from, or_cases, eq-eqb, eqb-true, leb-true}
@@ -9,8 +10,10 @@ use Rattle.std.proofs.lemmas.List.Kept.{AllPairs-cons}
 use Rattle.game_rules.specs.Board.{Board, Square, below, is_cols, is_rows, is_board, on_board, line_length, same_length, line_at, step_of, is_line, ways}
 use Rattle.game_rules.specs.Position.{Position, board_of, has_man, has_line_at, has_line_in_column, has_line_along, has_line}
 use Rattle.game_rules.specs.Squares.{same_square, has_square, squares_in_column, squares_of_board, widest_with, Precedes as SquarePrecedes}
-use Rattle.game_rules.specs.Groups.{Group, squares_of, lies_on, rank, same_group, has_group, group_on, groups_along, groups_of, Precedes, groups_where, GroupsOn, IsGroupSetOf}
-use Rattle.game_rules.proofs.Lists.{Among, Among-at, any_gives, any_from, any_same, any_map, all_gives, Among-append_cases, Among-filter, Among-filter_gives, Among-map, Among-map_gives, Among-flat_map, Among-flat_map_gives, Among-range_gives, Among-below, Among-below_gives}
+use Rattle.game_rules.specs.Groups.{Group, squares_of, lies_on, rank, same_group, has_group, group_on, groups_along, groups_of, Precedes, groups_where,
+    GroupsOn, IsGroupSetOf}
+use Rattle.game_rules.proofs.Lists.{Among, Among-at, any_gives, any_from, any_same, any_map, all_gives, Among-append_cases, Among-filter, Among-filter_gives,
+    Among-map, Among-map_gives, Among-flat_map, Among-flat_map_gives, Among-range_gives, Among-below, Among-below_gives}
 use Rattle.game_rules.proofs.Ends.{on_board_parts, on_board_from, some_length, each_step, from_steps, step_none, Among-ways}
 use Rattle.game_rules.proofs.Squares.{agree, same_square_refl, same_square_is, has_gives, has_from, Among-board, filter_same}
 use Rattle.game_rules.proofs.Moves.{same_length_refl, same_length_is}
@@ -23,7 +26,8 @@ use Rattle.game_rules.specs.declared.Way.TheVariants.{H, V, U, D}
 -- ---- membership
 
 pub anchor_on : (b : Board) (way : Way) (anchor : Square) → is_line b way anchor ≡ true → on_board b anchor ≡ true
-anchor_on b way anchor h = subst (λ u. on_board b u ≡ true) (step_none way anchor) (each_step (on_board b) b.len way anchor h 0 (let two = some_length b.len in omega arith))
+anchor_on b way anchor h = subst (λ u. on_board b u ≡ true) (step_none way anchor)
+    (each_step (on_board b) b.len way anchor h 0 (let two = some_length b.len in omega arith))
 
 -- a group lies on a board exactly where it has the board's length and its line is one of the board's
 pub lies_parts : (b : Board) (g : Group) → lies_on b g ≡ true → (g.len ≡ b.len) × (is_line b g.way g.anchor ≡ true)
@@ -46,17 +50,20 @@ Among-groups b g h =
     let parts = lies_parts b g h in
     subst (λ g. Among g (flat_map (groups_along b) ways)) (group_as b g parts.0)
     (Among-flat_map (groups_along b) ways g.way (group_on b g.way g.anchor) (Among-ways g.way)
-    (Among-map (group_on b g.way) (filter (is_line b g.way) (squares_of_board b)) g.anchor (Among-filter (is_line b g.way) (squares_of_board b) g.anchor (Among-board b g.anchor (anchor_on b g.way g.anchor parts.1)) parts.1)))
+    (Among-map (group_on b g.way) (filter (is_line b g.way) (squares_of_board b)) g.anchor
+        (Among-filter (is_line b g.way) (squares_of_board b) g.anchor (Among-board b g.anchor (anchor_on b g.way g.anchor parts.1)) parts.1)))
 
 pub Among-groups_gives : (b : Board) (g : Group) → Among g (groups_of b) → lies_on b g ≡ true
 unfolding groups_of
 Among-groups_gives b g among =
     let along = Among-flat_map_gives (groups_along b) ways g among in
     let anchored = Among-map_gives (group_on b along.0) (filter (is_line b along.0) (squares_of_board b)) g along.2 in
-    subst (λ g. lies_on b g ≡ true) anchored.2 (lies_from b along.0 anchored.0 (Among-filter_gives (is_line b along.0) (squares_of_board b) anchored.0 anchored.1).1)
+    subst (λ g. lies_on b g ≡ true) anchored.2
+        (lies_from b along.0 anchored.0 (Among-filter_gives (is_line b along.0) (squares_of_board b) anchored.0 anchored.1).1)
 
 -- a line of a board is one of each larger board with lines of the same length
-pub line_wider : (b c : Board) → b.cols ≤ c.cols → b.rows ≤ c.rows → b.len ≡ c.len → (way : Way) (anchor : Square) → is_line b way anchor ≡ true → is_line c way anchor ≡ true
+pub line_wider : (b c : Board) → b.cols ≤ c.cols → b.rows ≤ c.rows → b.len ≡ c.len → (way : Way) (anchor : Square) → is_line b way anchor ≡ true
+    → is_line c way anchor ≡ true
 line_wider b c wide high same way anchor h = from_steps (on_board c) c.len way anchor (λ i low.
     wider (step_of way anchor i) (each_step (on_board b) b.len way anchor h i (subst (λ len. i < line_length len) (sym same) low)))
   where
@@ -128,7 +135,8 @@ passes_at_sizes test len = list_all test (flat_map (with_cols len) all_cols)
 cols_among : (n : ℕ) → is_cols n ≡ true → Among n all_cols
 cols_among =
     of_cols (λ n. Among n all_cols)
-    (inl refl) (inr (inl refl)) (inr (inr (inl refl))) (inr (inr (inr (inl refl)))) (inr (inr (inr (inr (inl refl))))) (inr (inr (inr (inr (inr (inl refl)))))) (inr (inr (inr (inr (inr (inr (inl refl)))))))
+    (inl refl) (inr (inl refl)) (inr (inr (inl refl))) (inr (inr (inr (inl refl)))) (inr (inr (inr (inr (inl refl))))) (inr (inr (inr (inr (inr (inl refl))))))
+        (inr (inr (inr (inr (inr (inr (inl refl)))))))
 
 rows_among : (n : ℕ) → is_rows n ≡ true → Among n all_rows
 rows_among = of_rows (λ n. Among n all_rows) (inl refl) (inr (inl refl)) (inr (inr (inl refl))) (inr (inr (inr (inl refl))))
@@ -138,7 +146,8 @@ pub on_each_size : (test : Board → Bool) → ((len : Length) → passes_at_siz
 on_each_size test h b is =
     let both = and_parts (is_cols b.cols) (is_rows b.rows) is in
     all_gives test (flat_map (with_cols b.len) all_cols) b (h b.len)
-    (Among-flat_map (with_cols b.len) all_cols b.cols b (cols_among b.cols both.0) (Among-map (λ rows. record { cols = b.cols; rows = rows; len = b.len }) all_rows b.rows (rows_among b.rows both.1)))
+    (Among-flat_map (with_cols b.len) all_cols b.cols b (cols_among b.cols both.0)
+        (Among-map (λ rows. record { cols = b.cols; rows = rows; len = b.len }) all_rows b.rows (rows_among b.rows both.1)))
 
 -- no board has more than 238 groups
 pub groups_fit : (b : Board) → is_board b ≡ true → length (groups_of b) ≤ 238
@@ -156,7 +165,8 @@ abbrev pub Ordered : {X : Type 0} → (X → X → Type 0) → List X → Type 0
 Ordered R [] = ⊤
 Ordered R (x ∷ xs) = ((y : _) → Among y xs → R x y) × Ordered R xs
 
-pub Ordered-append : {X : Type 0} (R : X → X → Type 0) (xs ys : List X) → Ordered R xs → Ordered R ys → ((x y : X) → Among x xs → Among y ys → R x y) → Ordered R (xs ++ ys)
+pub Ordered-append : {X : Type 0} (R : X → X → Type 0) (xs ys : List X) → Ordered R xs → Ordered R ys → ((x y : X) → Among x xs → Among y ys → R x y)
+    → Ordered R (xs ++ ys)
 Ordered-append R [] ys left right between = right
 Ordered-append R (x ∷ xs) ys left right between = (
   (λ y among. elim (Among-append_cases y xs ys among) [ inl here ↦ left.0 y here | inr later ↦ between x y (inl refl) later ]),
@@ -170,7 +180,8 @@ Ordered-filter R p (x ∷ xs) h = elim (cases_Bool (p x)) [
   | inr fails ↦ rw fails (Ordered-filter R p xs h.1)
 ]
 
-pub Ordered-map : {X Y : Type 0} (R : X → X → Type 0) (S : Y → Y → Type 0) (f : X → Y) (xs : List X) → ((a b : X) → R a b → S (f a) (f b)) → Ordered R xs → Ordered S (map f xs)
+pub Ordered-map : {X Y : Type 0} (R : X → X → Type 0) (S : Y → Y → Type 0) (f : X → Y) (xs : List X) → ((a b : X) → R a b → S (f a) (f b)) → Ordered R xs
+    → Ordered S (map f xs)
 Ordered-map R S f [] keeps h = tt
 Ordered-map R S f (x ∷ xs) keeps h = (
   (λ y among. let from = Among-map_gives f xs y among in subst (S (f x)) from.2 (keeps x from.0 (h.0 from.0 from.1))),
@@ -228,7 +239,8 @@ groups_in_order b = Ordered-flat_map (λ v w. rank v < rank w) Precedes (groups_
     way_is way g among = let from = Among-map_gives (group_on b way) (filter (is_line b way) (squares_of_board b)) g among in ap (λ (g : Group). g.way) from.2
 
     along : (way : Way) → Ordered Precedes (groups_along b way)
-    along way = Ordered-map SquarePrecedes Precedes (group_on b way) (filter (is_line b way) (squares_of_board b)) (λ u v less. inr (refl, less)) (Ordered-filter SquarePrecedes (is_line b way) (squares_of_board b) (squares_in_order b))
+    along way = Ordered-map SquarePrecedes Precedes (group_on b way) (filter (is_line b way) (squares_of_board b)) (λ u v less. inr (refl, less))
+        (Ordered-filter SquarePrecedes (is_line b way) (squares_of_board b) (squares_in_order b))
 
 -- each group once, in group order
 pub groups_ordered : (b : Board) → AllPairs Precedes (groups_of b)
@@ -262,7 +274,8 @@ has_line_by_groups p side =
 
     along : (way : Way) → has_line_along p side way ≡ list_any owned (groups_along (board_of p) way)
     along way =
-        any_same (has_line_in_column p side way) (λ c. list_any (has_line_at p side way) (squares_in_column p.rows c)) (below (length p.columns)) (λ c _. in_column way c)
+        any_same (has_line_in_column p side way) (λ c. list_any (has_line_at p side way) (squares_in_column p.rows c)) (below (length p.columns))
+            (λ c _. in_column way c)
         ∙ sym (any_flat_map (has_line_at p side way) (squares_in_column p.rows) (below (length p.columns)))
         ∙ sym (any_filter (λ s. owned (group_on (board_of p) way s)) (is_line (board_of p) way) (squares_of_board (board_of p)))
         ∙ sym (any_map owned (group_on (board_of p) way) (filter (is_line (board_of p) way) (squares_of_board (board_of p))))
@@ -324,7 +337,8 @@ unfolding groups_where
 groups_where_same b f g same = filter_same f g (groups_of b) (λ h among. same h (Among-groups_gives b h among))
 
 -- a set by a test that only groups of the board pass
-pub group_set_where : (b : Board) (test : Group → Bool) → ((g : Group) → test g ≡ true → lies_on b g ≡ true) → IsGroupSetOf b test (record { board = b; groups = groups_where b test })
+pub group_set_where : (b : Board) (test : Group → Bool) → ((g : Group) → test g ≡ true → lies_on b g ≡ true)
+    → IsGroupSetOf b test (record { board = b; groups = groups_where b test })
 group_set_where b test within = record {
   on = refl;
   in_order = refl;
@@ -354,7 +368,8 @@ step_gives len way s u h =
     (from.0, Among-below_gives (line_length len) from.0 from.1, from.2)
 
 step_has : (len : Length) (way : Way) (s : Square) (i : ℕ) → i < line_length len → has_square (line_at len way s) (step_of way s i) ≡ true
-step_has len way s i low = has_from (line_at len way s) (step_of way s i) (Among-map (step_of way s) (below (line_length len)) i (Among-below (line_length len) i low))
+step_has len way s i low = has_from (line_at len way s) (step_of way s i)
+    (Among-map (step_of way s) (below (line_length len)) i (Among-below (line_length len) i low))
 
 -- Two lines above the ground, the first two squares of the one among the other's, and the other's anchor among the
 -- one's: they have one anchor and one direction.
@@ -393,14 +408,19 @@ determined_by_steps v w (c, r) (d, q) i j k high_s high_t first second back =
     at D D a b x y e f m n = (same (omega arith) (omega arith), refl)
 
 -- two groups of a board with the same squares are one
-pub group_determined : (b : Board) (g h : Group) → lies_on b g ≡ true → lies_on b h ≡ true → ((u : Square) → has_square (squares_of g) u ≡ has_square (squares_of h) u) → g ≡ h
+pub group_determined : (b : Board) (g h : Group) → lies_on b g ≡ true → lies_on b h ≡ true
+    → ((u : Square) → has_square (squares_of g) u ≡ has_square (squares_of h) u) → g ≡ h
 group_determined b g h lies_g lies_h same =
     let on_g = lies_parts b g lies_g in
     let on_h = lies_parts b h lies_h in
-    let first = step_gives h.len h.way h.anchor (step_of g.way g.anchor 0) (sym (same (step_of g.way g.anchor 0)) ∙ step_has g.len g.way g.anchor 0 (first_step g.len)) in
-    let second = step_gives h.len h.way h.anchor (step_of g.way g.anchor 1) (sym (same (step_of g.way g.anchor 1)) ∙ step_has g.len g.way g.anchor 1 (some_length g.len)) in
-    let back = step_gives g.len g.way g.anchor (step_of h.way h.anchor 0) (same (step_of h.way h.anchor 0) ∙ step_has h.len h.way h.anchor 0 (first_step h.len)) in
-    let one = determined_by_steps g.way h.way g.anchor h.anchor first.0 second.0 back.0 (above_ground g.way g.anchor on_g.1) (above_ground h.way h.anchor on_h.1)
+    let first = step_gives h.len h.way h.anchor (step_of g.way g.anchor 0)
+        (sym (same (step_of g.way g.anchor 0)) ∙ step_has g.len g.way g.anchor 0 (first_step g.len)) in
+    let second = step_gives h.len h.way h.anchor (step_of g.way g.anchor 1)
+        (sym (same (step_of g.way g.anchor 1)) ∙ step_has g.len g.way g.anchor 1 (some_length g.len)) in
+    let back = step_gives g.len g.way g.anchor (step_of h.way h.anchor 0) (same (step_of h.way h.anchor 0) ∙ step_has h.len h.way h.anchor 0 (first_step h.len))
+        in
+    let one = determined_by_steps g.way h.way g.anchor h.anchor first.0 second.0 back.0 (above_ground g.way g.anchor on_g.1)
+        (above_ground h.way h.anchor on_h.1)
     (first.2 ∙ step_none g.way g.anchor) second.2 (back.2 ∙ step_none h.way h.anchor) in
     ap (λ s. record g { anchor = s }) one.0
     ∙ ap (λ way. record { anchor = h.anchor; way = way; len = g.len }) one.1

@@ -1,5 +1,6 @@
 -- What a move changes, and what it leaves: the men of the columns, how many there are, and who is to move.
-use Rattle.std.proofs.Common.{◌≡◌, ◌&&◌, ◌==◌, ◌≢◌, ℕ, zero, suc, ◌+◌, ◌-◌, ◌%◌, ◌<◌, ◌≤◌, true, false, cond, List, [], ◌∷◌, ◌++◌, length, Some, None, refl, sym, ap, ◌∙◌, inl, inr, arith, add-one, length-set}
+use Rattle.std.proofs.Common.{◌≡◌, ◌&&◌, ◌==◌, ◌≢◌, ℕ, zero, suc, ◌+◌, ◌-◌, ◌%◌, ◌<◌, ◌≤◌, true, false, cond, List, [], ◌∷◌, ◌++◌, length, Some, None, refl,
+    sym, ap, ◌∙◌, inl, inr, arith, add-one, length-set}
 use Rattle.std.specs.List.{slice_get}
 use Rattle.std.proofs.lemmas.List.{get_or-set_same, get_or-set_other, length_push}
 use Rattle.std.proofs.lemmas.List.Sums.{sum_by-set}
@@ -8,7 +9,8 @@ use Rattle.std.proofs.lemmas.Bool.{cases_eq, and_parts, and_from, ltb-true, lt-l
 use Rattle.std.proofs.lemmas.Slice.Eq.{slice_eq-Decides}
 use Rattle.std.specs.Bool.{Decides}
 use Rattle.std.specs.Cmp.Lexicographic.{pointwise}
-use Rattle.game_rules.specs.Position.{Position, board_of, other, same_side, same_position, men_in, height, man_in, man_at, man_count, side_to_move, has_room, empty_count, after_move, IsStacked}
+use Rattle.game_rules.specs.Position.{Position, board_of, other, same_side, same_position, men_in, height, man_in, man_at, man_count, side_to_move, has_room,
+    empty_count, after_move, IsStacked}
 use Rattle.game_rules.specs.Board.{same_length}
 use Rattle.game_rules.specs.declared.Length.{Length}
 use Rattle.game_rules.specs.declared.Length.TheVariants.{Four, Five}
@@ -53,7 +55,8 @@ pub same_position_Decides : (p q : Position) → Decides (same_position p q) (p 
 same_position_Decides p q = (to, from)
   where
     columns : Decides (pointwise (pointwise same_side) p.columns q.columns) (p.columns ≡ q.columns)
-    columns = slice_eq-Decides (λ (a b : List Side). slice_eq-Decides same_side_Decides a b (pointwise same_side a b) refl) p.columns q.columns (pointwise (pointwise same_side) p.columns q.columns) refl
+    columns = slice_eq-Decides (λ (a b : List Side). slice_eq-Decides same_side_Decides a b (pointwise same_side a b) refl) p.columns q.columns
+        (pointwise (pointwise same_side) p.columns q.columns) refl
 
     to : same_position p q ≡ true → p ≡ q
     to h =
@@ -64,7 +67,8 @@ same_position_Decides p q = (to, from)
         ∙ ap (λ men. record q { columns = men }) (columns.0 both.1)
 
     from : p ≡ q → same_position p q ≡ true
-    from e = and_from _ _ (and_from _ _ (eq-eqb p.rows q.rows (ap (λ (r : Position). r.rows) e)) (ap (λ (r : Position). same_length p.len r.len) (sym e) ∙ same_length_refl p.len)) (columns.1 (ap (λ (r : Position). r.columns) e))
+    from e = and_from _ _ (and_from _ _ (eq-eqb p.rows q.rows (ap (λ (r : Position). r.rows) e)) (ap (λ (r : Position). same_length p.len r.len) (sym e)
+        ∙ same_length_refl p.len)) (columns.1 (ap (λ (r : Position). r.columns) e))
 
 -- ---- a column
 
@@ -114,7 +118,8 @@ pub placed : (p : Position) (column : ℕ) → column < length p.columns → man
 placed p column h = ap (λ men. man_in men (height p column + 1)) (men_moved p column h) ∙ man_pushed (men_in p column) (side_to_move p)
 
 -- every other square is as it was
-pub unchanged : (p : Position) (column c r : ℕ) → column < length p.columns → (c ≡ column → r ≢ height p column + 1) → man_at (after_move p column) (c, r) ≡ man_at p (c, r)
+pub unchanged : (p : Position) (column c r : ℕ) → column < length p.columns → (c ≡ column → r ≢ height p column + 1)
+    → man_at (after_move p column) (c, r) ≡ man_at p (c, r)
 unchanged p column c r h apart = elim (cases_eq c column) [
   | inl same ↦ rw same (ap (λ men. man_in men r) (men_moved p column h) ∙ man_kept (men_in p column) (side_to_move p) r (apart same))
   | inr beside ↦ ap (λ men. man_in men r) (men_beside p column c beside)
@@ -134,7 +139,8 @@ pub room_from : (p : Position) (column : ℕ) → column < length p.columns → 
 room_from p column within low = and_from _ _ (lt-ltb column (length p.columns) within) (lt-ltb (height p column) p.rows low)
 
 pub man_count_moved : (p : Position) (column : ℕ) → column < length p.columns → man_count (after_move p column) ≡ man_count p + 1
-man_count_moved p column h = omega (arith, sum_by-set length p.columns column (men_in p column ++ side_to_move p ∷ []) [] h, length_push (men_in p column) (side_to_move p))
+man_count_moved p column h = omega (arith, sum_by-set length p.columns column (men_in p column ++ side_to_move p ∷ []) [] h,
+    length_push (men_in p column) (side_to_move p))
 
 pub height_moved : (p : Position) (column : ℕ) → column < length p.columns → height (after_move p column) column ≡ height p column + 1
 height_moved p column h = ap length (men_moved p column h) ∙ length_push (men_in p column) (side_to_move p)

@@ -42,7 +42,8 @@ filter_map_by f test (x ∷ xs) = elim (cases_Bool (test (f x))) [
 -- ---- the squares of a board
 
 abbrev Trimmed : Length → ℕ → ℕ → Type 0
-Trimmed len cols rows = squares_of_board (record { cols = cols; rows = rows; len = len }) ≡ filter (on_board (record { cols = cols; rows = rows; len = len })) (squares_of_board widest)
+Trimmed len cols rows = squares_of_board (record { cols = cols; rows = rows; len = len }) ≡ filter (on_board (record { cols = cols; rows = rows; len = len }))
+    (squares_of_board widest)
 
 -- the squares of a board are those of the widest one that it has
 pub board_squares : (b : Board) → is_board b ≡ true → squares_of_board b ≡ filter (on_board b) (squares_of_board widest)
@@ -66,6 +67,7 @@ on_widest b h (c, r) on =
     on_board_from widest c r (omega (arith, parts.0, most.0)) parts.1 (omega (arith, parts.2, most.1))
 
 -- squares of a board that pass a test, as a set
-pub where_on_board : (b : Board) (test : Square → Bool) → is_board b ≡ true → ((u : Square) → test u ≡ true → on_board b u ≡ true) → squares_where test ≡ filter test (squares_of_board b)
+pub where_on_board : (b : Board) (test : Square → Bool) → is_board b ≡ true → ((u : Square) → test u ≡ true → on_board b u ≡ true)
+    → squares_where test ≡ filter test (squares_of_board b)
 unfolding squares_where
 where_on_board b test h within = sym (filter_within test (on_board b) (squares_of_board widest) within) ∙ ap (filter test) (sym (board_squares b h))

@@ -7,7 +7,8 @@ use Rattle.std.proofs.lemmas.Bool.{cases_Bool}
 use Rattle.std.proofs.lemmas.List.{take_more}
 use Rattle.std.proofs.lemmas.List.Folds.{list_any-append}
 
-module _ {X : Type 0} (same : X → X → Bool) (same_is : (x y : X) → same x y ≡ true → x ≡ y) (xs : List X) (i : ℕ) (x : X) (within : i < length xs) (here : x ≡ get_or xs i x) where
+module _ {X : Type 0} (same : X → X → Bool) (same_is : (x y : X) → same x y ≡ true → x ≡ y) (xs : List X) (i : ℕ) (x : X) (within : i < length xs)
+    (here : x ≡ get_or xs i x) where
   -- one more element
   pub one_more : (y : X) → (same y x || list_any (same y) (take i xs)) ≡ list_any (same y) (take (i + 1) xs)
   one_more y =
@@ -21,7 +22,8 @@ module _ {X : Type 0} (same : X → X → Bool) (same_is : (x y : X) → same x 
     pub one_passes : test x ≡ true → (y : X) → (same y x || (list_any (same y) (take i xs) && test y)) ≡ (list_any (same y) (take (i + 1) xs) && test y)
     one_passes passes y = at (cases_Bool (same y x)) ∙ ap (λ b. b && test y) (one_more y)
       where
-        at : (same y x ≡ true) ⊎ (same y x ≡ false) → (same y x || (list_any (same y) (take i xs) && test y)) ≡ ((same y x || list_any (same y) (take i xs)) && test y)
+        at : (same y x ≡ true) ⊎ (same y x ≡ false)
+            → (same y x || (list_any (same y) (take i xs) && test y)) ≡ ((same y x || list_any (same y) (take i xs)) && test y)
         at (inl is) = rw is (sym (ap test (same_is y x is) ∙ passes))
         at (inr apart) = rw apart refl
 
@@ -30,5 +32,6 @@ module _ {X : Type 0} (same : X → X → Bool) (same_is : (x y : X) → same x 
     one_fails fails y = at (cases_Bool (same y x)) ∙ ap (λ b. b && test y) (one_more y)
       where
         at : (same y x ≡ true) ⊎ (same y x ≡ false) → (list_any (same y) (take i xs) && test y) ≡ ((same y x || list_any (same y) (take i xs)) && test y)
-        at (inl is) = rw (ap test (same_is y x is) ∙ fails) (and-false (list_any (same y) (take i xs)) ∙ sym (and-false (same y x || list_any (same y) (take i xs))))
+        at (inl is) = rw (ap test (same_is y x is) ∙ fails)
+            (and-false (list_any (same y) (take i xs)) ∙ sym (and-false (same y x || list_any (same y) (take i xs))))
         at (inr apart) = rw apart refl

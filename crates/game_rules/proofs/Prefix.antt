@@ -21,7 +21,8 @@ game_more : (bytes ys : List ℕ) → 120 ≤ length bytes → read_game (bytes 
 unfolding read_game
 game_more bytes ys h =
     ap (λ r. r >>= λ line. moves_at (empty_position line.0) line.1) (board_more bytes ys (omega arith))
-    ∙ more_bind (with_rest ys) (λ p. p) (length ys) (board_at bytes) (λ line. moves_at (empty_position line.0) line.1) (λ line. moves_at (empty_position line.0) line.1)
+    ∙ more_bind (with_rest ys) (λ p. p) (length ys) (board_at bytes) (λ line. moves_at (empty_position line.0) line.1)
+        (λ line. moves_at (empty_position line.0) line.1)
     (λ line read. let empty = first_empty line.0 (spelled_parts line.0 (board_gives bytes line read).0).0 in
     let spent = subst (Spends behind (length bytes) 18) read (board_spends bytes) in
     moves_more (empty_position line.0) line.1 ys (omega arith) (omega arith))
@@ -34,7 +35,8 @@ same_prefix bytes ys h =
     ∙ ap (λ size. placed size (with_more (λ p. p) (length ys) (read_game bytes))) (length-append bytes ys)
     ∙ same (read_game bytes) (game_spends bytes)
   where
-    same : (r : Result Position Stop) → Spends nothing (length bytes) 119 r → placed (length bytes + length ys) (with_more (λ p. p) (length ys) r) ≡ placed (length bytes) r
+    same : (r : Result Position Stop) → Spends nothing (length bytes) 119 r → placed (length bytes + length ys) (with_more (λ p. p) (length ys) r)
+        ≡ placed (length bytes) r
     same (Ok p) spent = refl
     same (Err s) spent = ap (λ n. Err (record { kind = s.kind; at = n })) (omega arith)
 

@@ -1,6 +1,7 @@
 -- How the readers of a game text go: what is read at each step, how much of the text it takes, and that what follows
 -- decides nothing.
-use Rattle.std.proofs.Common.{◌≡◌, ℕ, suc, ◌+◌, ◌-◌, ◌<◌, ◌≤◌, Bool, true, false, ◌&&◌, ◌==◌, cond, List, [], ◌∷◌, ◌++◌, length, take, drop, take_while, Option, Some, None, is_some, is_none, Result, Ok, Err, refl, sym, ap, ◌∙◌, subst, nat_le, nat_lt, eqb, inl, inr, arith}
+use Rattle.std.proofs.Common.{◌≡◌, ℕ, suc, ◌+◌, ◌-◌, ◌<◌, ◌≤◌, Bool, true, false, ◌&&◌, ◌==◌, cond, List, [], ◌∷◌, ◌++◌, length, take, drop, take_while, Option,
+    Some, None, is_some, is_none, Result, Ok, Err, refl, sym, ap, ◌∙◌, subst, nat_le, nat_lt, eqb, inl, inr, arith}
 use Rattle.std.proofs.lemmas.Bool.{cases_Bool, cases_lt, and_parts, and_from, lt-ltb, leb-true, le-leb, eqb-true, eq-eqb, ne_eqb}
 use Rattle.std.proofs.lemmas.List.{length-append, drop-append-le, take-append-le, take-append-drop}
 use Rattle.std.proofs.lemmas.List.Folds.{prefix_len-append, length-prefix_len}
@@ -64,7 +65,8 @@ after_text_spends (x ∷ text) (byte ∷ bytes) = elim (cases_Bool (byte == x)) 
     one_more (Ok rest) h = (omega arith, omega arith)
     one_more (Err s) h = (omega arith, omega arith)
 
-pub after_text_more : (text bytes ys : List ℕ) → length text ≤ length bytes → after_text text (bytes ++ ys) ≡ with_more (λ rest. rest ++ ys) (length ys) (after_text text bytes)
+pub after_text_more : (text bytes ys : List ℕ) → length text ≤ length bytes
+    → after_text text (bytes ++ ys) ≡ with_more (λ rest. rest ++ ys) (length ys) (after_text text bytes)
 after_text_more [] bytes ys h = refl
 after_text_more (x ∷ text) [] ys h = absurd (omega arith)
 after_text_more (x ∷ text) (byte ∷ bytes) ys h = elim (cases_Bool (byte == x)) [
@@ -92,7 +94,8 @@ behind x = length x.1
 
 module _ (spelled : List ℕ → Option ℕ) (too_long : (run : List ℕ) → 3 ≤ length run → spelled run ≡ None) where
   -- what was read spells the number, and is the longest run of digits
-  pub size_gives : (bytes : List ℕ) (x : ℕ × List ℕ) → size_at spelled bytes ≡ Ok x → (spelled (take_while is_digit bytes) ≡ Some x.0) × (bytes ≡ take_while is_digit bytes ++ x.1)
+  pub size_gives : (bytes : List ℕ) (x : ℕ × List ℕ) → size_at spelled bytes ≡ Ok x → (spelled (take_while is_digit bytes) ≡ Some x.0)
+      × (bytes ≡ take_while is_digit bytes ++ x.1)
   size_gives bytes x h = read (spelled (take_while is_digit bytes)) refl h
     where
       whole : take_while is_digit bytes ++ drop (length (take_while is_digit bytes)) bytes ≡ bytes
@@ -112,28 +115,36 @@ module _ (spelled : List ℕ → Option ℕ) (too_long : (run : List ℕ) → 3 
       read (Ok x) e =
           let given = size_gives bytes x (sym e) in
           elim (cases_lt (length (take_while is_digit bytes)) 3) [
-            | inl short ↦ let size : length bytes ≡ length (take_while is_digit bytes) + length x.1 = ap length given.1 ∙ length-append (take_while is_digit bytes) x.1 in (omega arith, omega arith)
+            | inl short ↦ let size : length bytes ≡ length (take_while is_digit bytes) + length x.1 = ap length given.1
+                ∙ length-append (take_while is_digit bytes) x.1 in (omega arith, omega arith)
             | inr long ↦ absurd (cc (given.0, too_long (take_while is_digit bytes) long))
           ]
       read (Err s) e = stopped (spelled (take_while is_digit bytes)) e
         where
-          stopped : (n : Option ℕ) → Err s ≡ read_as n (drop (length (take_while is_digit bytes)) bytes) bytes → Spends (behind {A = ℕ}) (length bytes) 2 (Err s)
+          stopped : (n : Option ℕ) → Err s ≡ read_as n (drop (length (take_while is_digit bytes)) bytes) bytes
+              → Spends (behind {A = ℕ}) (length bytes) 2 (Err s)
           stopped None e = let same : s ≡ record { kind = BadSize; left = length bytes } = cc in rw same (omega arith, omega arith)
           stopped (Some n) e = cc
 
   pub size_more : (bytes ys : List ℕ) → 3 ≤ length bytes → size_at spelled (bytes ++ ys) ≡ with_more (λ x. (x.0, x.1 ++ ys)) (length ys) (size_at spelled bytes)
   size_more bytes ys h = elim (cases_lt (prefix_len is_digit bytes) (length bytes)) [
     | inl within ↦
-        let same : prefix_len is_digit (bytes ++ ys) ≡ prefix_len is_digit bytes = prefix_len-append is_digit bytes ys ∙ cond_past _ _ _ (ne_eqb (prefix_len is_digit bytes) (length bytes) (λ (e : prefix_len is_digit bytes ≡ length bytes). omega arith)) in
-        let run : take_while is_digit (bytes ++ ys) ≡ take_while is_digit bytes = ap (λ n. take n (bytes ++ ys)) same ∙ take-append-le (prefix_len is_digit bytes) bytes ys (omega arith) in
+        let same : prefix_len is_digit (bytes ++ ys) ≡ prefix_len is_digit bytes = prefix_len-append is_digit bytes ys
+            ∙ cond_past _ _ _ (ne_eqb (prefix_len is_digit bytes) (length bytes) (λ (e : prefix_len is_digit bytes ≡ length bytes). omega arith)) in
+        let run : take_while is_digit (bytes ++ ys) ≡ take_while is_digit bytes = ap (λ n. take n (bytes ++ ys)) same
+            ∙ take-append-le (prefix_len is_digit bytes) bytes ys (omega arith) in
         ap (λ run. read_as (spelled run) (drop (length run) (bytes ++ ys)) (bytes ++ ys)) run
-        ∙ ap (λ rest. read_as (spelled (take_while is_digit bytes)) rest (bytes ++ ys)) (drop-append-le (length (take_while is_digit bytes)) bytes ys (omega (arith, length-prefix_len is_digit bytes)))
+        ∙ ap (λ rest. read_as (spelled (take_while is_digit bytes)) rest (bytes ++ ys))
+            (drop-append-le (length (take_while is_digit bytes)) bytes ys (omega (arith, length-prefix_len is_digit bytes)))
         ∙ read_more (spelled (take_while is_digit bytes)) (drop (length (take_while is_digit bytes)) bytes)
     | inr all ↦
-        let longer : length bytes ≤ prefix_len is_digit (bytes ++ ys) = rw (prefix_len-append is_digit bytes ys) (cond_low (eqb (prefix_len is_digit bytes) (length bytes)) (length bytes + prefix_len is_digit ys) (prefix_len is_digit bytes) (omega arith) all) in
-        ap (λ n. read_as n (drop (length (take_while is_digit (bytes ++ ys))) (bytes ++ ys)) (bytes ++ ys)) (too_long (take_while is_digit (bytes ++ ys)) (omega (arith, length-prefix_len is_digit (bytes ++ ys))))
+        let longer : length bytes ≤ prefix_len is_digit (bytes ++ ys) = rw (prefix_len-append is_digit bytes ys)
+            (cond_low (eqb (prefix_len is_digit bytes) (length bytes)) (length bytes + prefix_len is_digit ys) (prefix_len is_digit bytes) (omega arith) all) in
+        ap (λ n. read_as n (drop (length (take_while is_digit (bytes ++ ys))) (bytes ++ ys)) (bytes ++ ys))
+            (too_long (take_while is_digit (bytes ++ ys)) (omega (arith, length-prefix_len is_digit (bytes ++ ys))))
         ∙ ap (stop BadSize) (length-append bytes ys)
-        ∙ ap (λ n. with_more (λ x. (x.0, x.1 ++ ys)) (length ys) (read_as n (drop (length (take_while is_digit bytes)) bytes) bytes)) (sym (too_long (take_while is_digit bytes) (omega (arith, length-prefix_len is_digit bytes))))
+        ∙ ap (λ n. with_more (λ x. (x.0, x.1 ++ ys)) (length ys) (read_as n (drop (length (take_while is_digit bytes)) bytes) bytes))
+            (sym (too_long (take_while is_digit bytes) (omega (arith, length-prefix_len is_digit bytes))))
   ]
     where
       read_more : (n : Option ℕ) (rest : List ℕ) → read_as n (rest ++ ys) (bytes ++ ys) ≡ with_more (λ x. (x.0, x.1 ++ ys)) (length ys) (read_as n rest bytes)
@@ -150,7 +161,8 @@ module _ (spelled : List ℕ → Option ℕ) (too_long : (run : List ℕ) → 3 
 -- ---- letters
 
 -- a letter that was read is a legal move
-pub letter_moves : (p q : Position) (byte left : ℕ) → letter_read p byte left ≡ Ok q → (column : ℕ) × (byte ≡ 97 + column) × (is_legal p column ≡ true) × (q ≡ after_move p column)
+pub letter_moves : (p q : Position) (byte left : ℕ) → letter_read p byte left ≡ Ok q → (column : ℕ) × (byte ≡ 97 + column) × (is_legal p column ≡ true)
+    × (q ≡ after_move p column)
 letter_moves p q byte left h = elim (chosen (is_letter (length p.columns) byte) (Some (column_of byte)) None (column_named (length p.columns) byte) refl) [
   | inr outside ↦ absurd (none (column_named (length p.columns) byte) outside.1 h)
   | inl named ↦
@@ -220,18 +232,22 @@ nothing p = 0
 -- one letter, and more behind it
 module _ (byte : ℕ) (bytes : List ℕ) (p : Position) where
   fewer_empty : (q : Position) → letter_read p byte (length (byte ∷ bytes)) ≡ Ok q → empty_count q + 1 ≡ empty_count p
-  fewer_empty q read = let letter = letter_moves p q byte (length (byte ∷ bytes)) read in rw letter.3 (empty_count_moved p letter.0 (legal_parts p letter.0 letter.2).1)
+  fewer_empty q read = let letter = letter_moves p q byte (length (byte ∷ bytes)) read in
+      rw letter.3 (empty_count_moved p letter.0 (legal_parts p letter.0 letter.2).1)
 
   letter_then_spends : ((q : Position) → Spends nothing (length bytes) (empty_count q + 1) (letters_from q bytes))
       → Spends nothing (length (byte ∷ bytes)) (empty_count p + 1) (letter_read p byte (length (byte ∷ bytes)) >>= λ q. letters_from q bytes)
   letter_then_spends later = spends_more nothing (length (byte ∷ bytes)) (1 + empty_count p) (empty_count p + 1) _ (omega arith)
-      (spends_bind (λ q. length bytes) nothing (length (byte ∷ bytes)) 1 (empty_count p) (letter_read p byte (length (byte ∷ bytes))) (λ q. letters_from q bytes)
+      (spends_bind (λ q. length bytes) nothing (length (byte ∷ bytes)) 1 (empty_count p) (letter_read p byte (length (byte ∷ bytes)))
+          (λ q. letters_from q bytes)
       (letter_spends p byte (length bytes))
       (λ q read. let fewer : empty_count q + 1 ≡ empty_count p = fewer_empty q read in
       spends_more nothing (length bytes) (empty_count q + 1) (empty_count p) (letters_from q bytes) (omega arith) (later q)))
 
-  letter_then_more : (ys : List ℕ) → ((q : Position) → empty_count q + 1 ≡ empty_count p → letters_from q (bytes ++ ys) ≡ with_more (λ q. q) (length ys) (letters_from q bytes))
-      → (letter_read p byte (length (byte ∷ (bytes ++ ys))) >>= λ q. letters_from q (bytes ++ ys)) ≡ with_more (λ q. q) (length ys) (letter_read p byte (length (byte ∷ bytes)) >>= λ q. letters_from q bytes)
+  letter_then_more : (ys : List ℕ)
+      → ((q : Position) → empty_count q + 1 ≡ empty_count p → letters_from q (bytes ++ ys) ≡ with_more (λ q. q) (length ys) (letters_from q bytes))
+      → (letter_read p byte (length (byte ∷ (bytes ++ ys))) >>= λ q. letters_from q (bytes ++ ys))
+          ≡ with_more (λ q. q) (length ys) (letter_read p byte (length (byte ∷ bytes)) >>= λ q. letters_from q bytes)
   letter_then_more ys later =
       ap (λ left. letter_read p byte left >>= λ q. letters_from q (bytes ++ ys)) (length-append (byte ∷ bytes) ys)
       ∙ ap (λ r. r >>= λ q. letters_from q (bytes ++ ys)) (letter_more p byte (length (byte ∷ bytes)) (length ys))
@@ -251,7 +267,8 @@ letters_spend (byte ∷ bytes) p = elim (cases_Bool (byte == 10)) [
     at_end_spends (next ∷ bytes) = (omega arith, omega arith)
 
 -- where more letters stand than squares are empty, the fault is among them
-pub letters_more : (bytes : List ℕ) (p : Position) (ys : List ℕ) → empty_count p + 2 ≤ length bytes → letters_from p (bytes ++ ys) ≡ with_more (λ q. q) (length ys) (letters_from p bytes)
+pub letters_more : (bytes : List ℕ) (p : Position) (ys : List ℕ) → empty_count p + 2 ≤ length bytes
+    → letters_from p (bytes ++ ys) ≡ with_more (λ q. q) (length ys) (letters_from p bytes)
 letters_more [] p ys h = absurd (omega arith)
 letters_more (byte ∷ bytes) p ys h = elim (cases_Bool (byte == 10)) [
   | inl feed ↦ rw feed (behind_feed bytes (omega arith))
@@ -280,7 +297,8 @@ moves_spend p (byte ∷ bytes) h = elim (cases_Bool (byte == 45)) [
       | inr other ↦ rw other (omega arith, omega arith)
     ]
 
-pub moves_more : (p : Position) (bytes ys : List ℕ) → 1 ≤ empty_count p → empty_count p + 2 ≤ length bytes → moves_at p (bytes ++ ys) ≡ with_more (λ q. q) (length ys) (moves_at p bytes)
+pub moves_more : (p : Position) (bytes ys : List ℕ) → 1 ≤ empty_count p → empty_count p + 2 ≤ length bytes
+    → moves_at p (bytes ++ ys) ≡ with_more (λ q. q) (length ys) (moves_at p bytes)
 moves_more p [] ys some h = absurd (omega arith)
 moves_more p (byte ∷ bytes) ys some h = elim (cases_Bool (byte == 45)) [
   | inl dash ↦ rw dash (behind_dash bytes (omega arith))

@@ -1,5 +1,6 @@
 -- Sets of squares: which squares a set by a test has, when two are the same, and the squares of a board.
-use Rattle.std.proofs.Common.{◌≡◌, ◌≢◌, ◌⊎◌, ◌↔◌, ℕ, zero, suc, ◌+◌, ◌<◌, ◌≤◌, Bool, true, false, ◌==◌, List, [], ◌∷◌, filter, length, Option, Some, None, is_none, refl, sym, ap, ◌∙◌, subst, inl, inr, arith, add-one}
+use Rattle.std.proofs.Common.{◌≡◌, ◌≢◌, ◌⊎◌, ◌↔◌, ℕ, zero, suc, ◌+◌, ◌<◌, ◌≤◌, Bool, true, false, ◌==◌, List, [], ◌∷◌, filter, length, Option, Some, None,
+    is_none, refl, sym, ap, ◌∙◌, subst, inl, inr, arith, add-one}
 use Rattle.std.specs.List.{list_any, list_all}
 use Rattle.std.proofs.lemmas.Bool.{cases_Bool, cases_lt, both_ways, and_parts, and_from, eq-eqb, eqb-true}
 use Rattle.std.proofs.lemmas.List.{get_or_past}
@@ -7,7 +8,8 @@ use Rattle.game_rules.specs.Board.{Board, Square, below, on_board}
 use Rattle.game_rules.specs.Position.{Position, board_of, men_in, height, man_in, man_at, is_man, has_man, IsStacked}
 use Rattle.game_rules.specs.declared.Side.{Side}
 use Rattle.game_rules.specs.Squares.{is_empty, is_playable, same_square, has_square, squares_in_column, squares_of_board, widest, squares_where, IsSetOf}
-use Rattle.game_rules.proofs.Lists.{Among, any_gives, any_from, any_agree, all_gives, all_from, Among-filter, Among-filter_gives, Among-map, Among-map_gives, Among-flat_map, Among-flat_map_gives, Among-below, Among-below_gives}
+use Rattle.game_rules.proofs.Lists.{Among, any_gives, any_from, any_agree, all_gives, all_from, Among-filter, Among-filter_gives, Among-map, Among-map_gives,
+    Among-flat_map, Among-flat_map_gives, Among-below, Among-below_gives}
 use Rattle.game_rules.proofs.Ends.{on_board_parts, on_board_from}
 use Rattle.game_rules.proofs.Moves.{man_past, man_within, was_empty}
 
@@ -58,7 +60,8 @@ Among-where_gives test u among = let both = Among-filter_gives test (squares_of_
 
 -- a set by a test has a square of the widest board exactly where the test passes, and no other square
 pub has_where : (test : Square → Bool) (u : Square) → on_board widest u ≡ true → has_square (squares_where test) u ≡ test u
-has_where test u on = agree _ _ (λ h. (Among-where_gives test u (has_gives (squares_where test) u h)).1) (λ h. has_from (squares_where test) u (Among-where test u on h))
+has_where test u on = agree _ _ (λ h. (Among-where_gives test u (has_gives (squares_where test) u h)).1)
+    (λ h. has_from (squares_where test) u (Among-where test u on h))
 
 pub where_on : (test : Square → Bool) (u : Square) → has_square (squares_where test) u ≡ true → on_board widest u ≡ true
 where_on test u h = (Among-where_gives test u (has_gives (squares_where test) u h)).0
@@ -136,7 +139,8 @@ man_on_board p side (c, r) stacked h = elim (cases_lt c (length p.columns)) [
     ]
 
 -- a square is playable exactly where it is empty and every square below it is filled
-pub playable_is : (p : Position) (u : Square) → (is_playable p u ≡ true) ↔ ((is_empty p u ≡ true) × ((row : ℕ) → 1 ≤ row → row < u.1 → man_at p (u.0, row) ≢ None))
+pub playable_is : (p : Position) (u : Square) → (is_playable p u ≡ true)
+    ↔ ((is_empty p u ≡ true) × ((row : ℕ) → 1 ≤ row → row < u.1 → man_at p (u.0, row) ≢ None))
 playable_is p (c, r) = (to, from)
   where
     to : is_playable p (c, r) ≡ true → (is_empty p (c, r) ≡ true) × ((row : ℕ) → 1 ≤ row → row < r → man_at p (c, row) ≢ None)

@@ -1,5 +1,6 @@
 -- The value at an end and after a move, and who wins by it.
-use Rattle.std.proofs.Common.{◌≡◌, ◌⊎◌, ℕ, zero, suc, ◌+◌, ◌<◌, ◌≤◌, Bool, true, false, not, ◌&&◌, ◌||◌, cond, List, [], ◌∷◌, map, subst, length, Some, None, refl, sym, ap, ◌∙◌, inl, inr, arith}
+use Rattle.std.proofs.Common.{◌≡◌, ◌⊎◌, ℕ, zero, suc, ◌+◌, ◌<◌, ◌≤◌, Bool, true, false, not, ◌&&◌, ◌||◌, cond, List, [], ◌∷◌, map, subst, length, Some, None,
+    refl, sym, ap, ◌∙◌, inl, inr, arith}
 use Rattle.std.specs.List.{list_any, list_all}
 use Rattle.std.proofs.lemmas.Bool.{cases_Bool, true_from_ne_false}
 use Rattle.game_rules.specs.Board.{below}
@@ -72,7 +73,8 @@ enough zero (suc m) p left right = let ended = full_ended p (nothing_open p (ome
 enough (suc n) zero p left right = let ended = full_ended p (nothing_open p (omega arith)) in rw ended.1 refl
 enough (suc n) (suc m) p left right =
     ap (λ found. ended_or (end_of p) (best_of (side_to_move p) found))
-    (map_same (value_within n) (value_within m) (moved p) (λ q among. let one : empty_count q + 1 ≡ empty_count p = moved_empty p q among in enough n m q (omega arith) (omega arith)))
+    (map_same (value_within n) (value_within m) (moved p) (λ q among. let one : empty_count q + 1 ≡ empty_count p = moved_empty p q among in
+        enough n m q (omega arith) (omega arith)))
 
 pub value_at_end : (p : Position) (e : End) → end_of p ≡ Some e → value p ≡ e
 unfolding value value_within
@@ -90,7 +92,8 @@ value_step p h = step (empty_count p) refl (goes_on_empty p h)
     step : (n : ℕ) → n ≡ empty_count p → 0 < n → value_within n p ≡ best_of (side_to_move p) (map value (moved p))
     step zero e low = absurd (omega arith)
     step (suc n) e low = rw h (ap (best_of (side_to_move p))
-        (map_same (value_within n) value (moved p) (λ q among. let one : empty_count q + 1 ≡ empty_count p = moved_empty p q among in enough n (empty_count q) q (omega arith) (omega arith))))
+        (map_same (value_within n) value (moved p) (λ q among. let one : empty_count q + 1 ≡ empty_count p = moved_empty p q among in
+            enough n (empty_count q) q (omega arith) (omega arith))))
 
 -- ---- who wins
 
@@ -117,7 +120,8 @@ best_other side found =
     told side (list_any (same_end (win_of side)) found) (list_any (same_end Draw) found)
     ∙ ap not (sym (any_apart found)) ∙ sym (all_any (same_end (win_of (other side))) found)
   where
-    told : (side : Side) (own drawn : Bool) → same_end (win_of (other side)) (cond own (win_of side) (cond drawn Draw (win_of (other side)))) ≡ not (own || drawn)
+    told : (side : Side) (own drawn : Bool) → same_end (win_of (other side)) (cond own (win_of side) (cond drawn Draw (win_of (other side))))
+        ≡ not (own || drawn)
     told sides.White true drawn = refl
     told sides.White false true = refl
     told sides.White false false = refl
@@ -139,7 +143,8 @@ best_other side found =
     turned false true false d = refl
     turned false false c d = refl
 
-    any_apart : (es : List End) → list_any (λ e. not (same_end (win_of (other side)) e)) es ≡ (list_any (same_end (win_of side)) es || list_any (same_end Draw) es)
+    any_apart : (es : List End) → list_any (λ e. not (same_end (win_of (other side)) e)) es
+        ≡ (list_any (same_end (win_of side)) es || list_any (same_end Draw) es)
     any_apart [] = refl
     any_apart (e ∷ es) = ap (λ b. b || list_any (λ e. not (same_end (win_of (other side)) e)) es) (apart side e)
         ∙ ap (λ b. (same_end (win_of side) e || same_end Draw e) || b) (any_apart es)

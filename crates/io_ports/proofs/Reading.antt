@@ -61,13 +61,15 @@ Reads_then a b c P Q R first next more = record {
   fact = λ later none.
       let open_end : b.ended ≡ true → next.taken ++ later ≡ [] = λ ended. let two = next.stays ended in ap (λ l. l ++ later) two.0 ∙ none two.1 in
       let S : List ℕ → Type 0 = λ l. R (a.ahead ++ l) (c.ahead ++ later) in
-      subst S (sym (append_assoc first.taken next.taken later)) (more _ (b.ahead ++ (next.taken ++ later)) _ (first.fact (next.taken ++ later) open_end) (next.fact later none));
+      subst S (sym (append_assoc first.taken next.taken later))
+          (more _ (b.ahead ++ (next.taken ++ later)) _ (first.fact (next.taken ++ later) open_end) (next.fact later none));
 }
 
 -- what a call of a reader of lines takes, where the end of the input wasn't reached before it
 pub Reads_from : (a b : Pending) (got : LineGot) (text : List ℕ) (fed : Bool) → a.ended ≡ false → b.ended ≡ is_end got fed
     → length b.ahead ≤ most_held → (HoldsFew a.last_read a.ahead → IsAhead got b.last_read b.ahead)
-    → Takes (is_end got fed) a.left b.left (λ bytes rest. Gives (a.ahead ++ bytes) (b.ahead ++ rest) got text fed) → Reads a b (λ bytes rest. Gives bytes rest got text fed)
+    → Takes (is_end got fed) a.left b.left (λ bytes rest. Gives (a.ahead ++ bytes) (b.ahead ++ rest) got text fed)
+        → Reads a b (λ bytes rest. Gives bytes rest got text fed)
 Reads_from a b got text fed going end short ahead takes = record {
   taken = takes.taken;
   gave = takes.gave;
@@ -103,7 +105,8 @@ ended_empty bytes rest text Done fed gives end = (none_is_cut bytes _ gives refl
 ended_empty bytes rest text Long fed gives end = cc
 ended_empty bytes rest text Failed fed gives end = cc
 
-pub held_none : (old new : Option (List ℕ)) (before held text : List ℕ) (got : LineGot) (fed : Bool) → Takes (is_end got fed) old new (λ bytes rest. Gives (before ++ bytes) (held ++ rest) got text fed)
+pub held_none : (old new : Option (List ℕ)) (before held text : List ℕ) (got : LineGot) (fed : Bool)
+    → Takes (is_end got fed) old new (λ bytes rest. Gives (before ++ bytes) (held ++ rest) got text fed)
     → is_end got fed ≡ true → held ≡ []
 held_none old new before held text got fed takes end =
     sym (append-nil held) ∙ ended_empty (before ++ (takes.taken ++ [])) (held ++ []) text got fed (takes.fact [] (λ _. refl)) end

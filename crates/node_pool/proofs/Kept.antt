@@ -14,7 +14,8 @@ module _ {T : Type 0} where
   abbrev one : Option T → ℕ
   one x = cond (is_some x) 1 0
 
-  live_set : (slots : List (Option T)) (at : ℕ) (y : Option T) → at < length slots → live_slots (set slots at y) + one (held slots at) ≡ live_slots slots + one y
+  live_set : (slots : List (Option T)) (at : ℕ) (y : Option T) → at < length slots
+      → live_slots (set slots at y) + one (held slots at) ≡ live_slots slots + one y
   live_set slots at y inside = sum_by-set one slots at y None inside
 
   -- a slot that holds nothing isn't live
@@ -30,7 +31,8 @@ module _ {T : Type 0} where
       ]
 
   -- a slot that held nothing and holds a value now is one more
-  pub one_more : (slots : List (Option T)) (at : ℕ) (v : T) → at < length slots → held slots at ≡ None → live_slots (set slots at (Some v)) ≡ live_slots slots + 1
+  pub one_more : (slots : List (Option T)) (at : ℕ) (v : T) → at < length slots → held slots at ≡ None
+      → live_slots (set slots at (Some v)) ≡ live_slots slots + 1
   one_more slots at v inside none = omega (arith, live_set slots at (Some v) inside, ap one none)
 
   -- a live slot that holds nothing now is one fewer
@@ -58,7 +60,8 @@ module _ {T : Type 0} where
           long = kept.long ∙ sym same;
           counted = omega (arith, same, kept.counted, one_more slots at v (next_within at some is) (next_empty at some is));
           within = λ k below. omega (arith, same, kept.within k (omega arith));
-          empty = λ k below. get_or-set_other slots at (get_or free k 0) (Some v) None (λ e. kept.apart k (room - 1) below (omega arith) (e ∙ sym here)) ∙ kept.empty k (omega arith);
+          empty = λ k below. get_or-set_other slots at (get_or free k 0) (Some v) None (λ e. kept.apart k (room - 1) below (omega arith) (e ∙ sym here))
+              ∙ kept.empty k (omega arith);
           apart = λ j k before below. kept.apart j k before (omega arith);
         }
 
@@ -112,7 +115,8 @@ module _ {T : Type 0} where
             ]
 
   -- the free numbers of a new pool: all its slots, in order
-  pub all_free : (n : ℕ) (free : List ℕ) → n ≤ 1000000 → length free ≡ n → ((k : ℕ) → k < n → get_or free k 0 ≡ k) → KeepsFree (replicate {A = Option T} n None) free n
+  pub all_free : (n : ℕ) (free : List ℕ) → n ≤ 1000000 → length free ≡ n → ((k : ℕ) → k < n → get_or free k 0 ≡ k)
+      → KeepsFree (replicate {A = Option T} n None) free n
   all_free n free few long each =
       let size = length-replicate {A = Option T} n None in
       record {

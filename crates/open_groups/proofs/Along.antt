@@ -15,7 +15,8 @@ pub groups_by_way : (b : Board) → groups_of b ≡ groups_along b H ++ (groups_
 unfolding groups_of
 groups_by_way b = ap (λ gs. groups_along b H ++ (groups_along b V ++ (groups_along b U ++ gs))) (append-nil (groups_along b D))
 
-pub ways_fit : (b : Board) → is_board b ≡ true → length (groups_along b H) + (length (groups_along b V) + (length (groups_along b U) + length (groups_along b D))) ≤ 238
+pub ways_fit : (b : Board) → is_board b ≡ true
+    → length (groups_along b H) + (length (groups_along b V) + (length (groups_along b U) + length (groups_along b D))) ≤ 238
 ways_fit b h =
     omega (
       arith,

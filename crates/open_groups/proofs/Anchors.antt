@@ -1,5 +1,6 @@
 -- What the anchors of each direction say of a set of groups.
-use Rattle.std.proofs.Common.{◌≡◌, ◌≢◌, ◌<◌, Bool, true, false, ◌&&◌, ◌||◌, List, [], ◌∷◌, length, set, get_or, refl, sym, ap, ◌∙◌, subst, inl, inr, arith, lit<}
+use Rattle.std.proofs.Common.{◌≡◌, ◌≢◌, ◌<◌, Bool, true, false, ◌&&◌, ◌||◌, List, [], ◌∷◌, length, set, get_or, refl, sym, ap, ◌∙◌, subst, inl, inr, arith,
+    lit<}
 use Rattle.std.proofs.lemmas.Bool.{cases_eq, or_cases, and_parts, and_from, eq-eqb, ne_eqb}
 use Rattle.std.proofs.lemmas.List.{get_or-set_same, get_or-set_other, get_or_default}
 use Rattle.game_rules.specs.Board.{Board, Square, same_length}
@@ -22,7 +23,8 @@ parted d (a ∷ b ∷ e ∷ f ∷ []) size = refl
 parted d (a ∷ b ∷ e ∷ f ∷ g ∷ xs) size = absurd (omega arith)
 
 -- Anchors that are, direction by direction, those of the groups that pass a test.
-module _ (board : Board) (anchors : List (List Square)) (size : length anchors ≡ 4) (test : Group → Bool) (within : (g : Group) → test g ≡ true → lies_on board g ≡ true)
+module _ (board : Board) (anchors : List (List Square)) (size : length anchors ≡ 4) (test : Group → Bool) (within : (g : Group) → test g ≡ true
+    → lies_on board g ≡ true)
     (each : (way : Way) → IsSetOf (λ s. test (group_on board way s)) (anchors_along anchors way)) where
   pub anchored_set : IsGroupSetOf board test (set_anchored board anchors)
   unfolding groups_anchored
@@ -33,7 +35,8 @@ module _ (board : Board) (anchors : List (List Square)) (size : length anchors �
 
   kept : (way : Way) → squares_where (λ s. has_group (groups_anchored board anchors) (group_on board way s)) ≡ anchors_along anchors way
   kept way =
-      where_same (λ s. has_group (groups_anchored board anchors) (group_on board way s)) (λ s. test (group_on board way s)) (λ s on. anchored_set.has (group_on board way s))
+      where_same (λ s. has_group (groups_anchored board anchors) (group_on board way s)) (λ s. test (group_on board way s))
+          (λ s on. anchored_set.has (group_on board way s))
       ∙ sym (each way).in_order
 
   pub determined_anchors : anchors_of (set_anchored board anchors) ≡ anchors
@@ -72,9 +75,11 @@ module _ (a : Inside) (sound : IsSound a) where
   old_along way =
       subst (IsSetOf (λ s. has_group (groups_anchored a.size a.anchors) (group_on a.size way s))) (at way ∙ ap (λ xs. anchors_along xs way) sound.determined)
       (set_where (λ s. has_group (groups_anchored a.size a.anchors) (group_on a.size way s))
-      (λ s h. anchor_on (widest_with a.size.len) way s (line_widest a.size sound.board way s (lies_parts a.size (group_on a.size way s) (anchored_on (group_on a.size way s) h)).1)))
+      (λ s h. anchor_on (widest_with a.size.len) way s
+          (line_widest a.size sound.board way s (lies_parts a.size (group_on a.size way s) (anchored_on (group_on a.size way s) h)).1)))
     where
-      at : (way : Way) → squares_where (λ s. has_group (groups_anchored a.size a.anchors) (group_on a.size way s)) ≡ anchors_along (anchors_of (set_anchored a.size a.anchors)) way
+      at : (way : Way) → squares_where (λ s. has_group (groups_anchored a.size a.anchors) (group_on a.size way s))
+          ≡ anchors_along (anchors_of (set_anchored a.size a.anchors)) way
       at H = refl
       at V = refl
       at U = refl
@@ -82,7 +87,8 @@ module _ (a : Inside) (sound : IsSound a) where
 
   -- a group is in the set exactly where it has the board's length and its anchor is kept
   pub has_anchored : (g : Group) → has_group (groups_anchored a.size a.anchors) g ≡ (same_length g.len a.size.len && is_anchored a.anchors g)
-  has_anchored g = agree _ _ (λ h. to h (lies_parts a.size g (anchored_on g h)).0) (λ h. let both = and_parts (same_length g.len a.size.len) (is_anchored a.anchors g) h in from (same_length_is g.len a.size.len both.0) both.1)
+  has_anchored g = agree _ _ (λ h. to h (lies_parts a.size g (anchored_on g h)).0)
+      (λ h. let both = and_parts (same_length g.len a.size.len) (is_anchored a.anchors g) h in from (same_length_is g.len a.size.len both.0) both.1)
     where
       to : has_group (groups_anchored a.size a.anchors) g ≡ true → g.len ≡ a.size.len → (same_length g.len a.size.len && is_anchored a.anchors g) ≡ true
       to h same = and_from _ _ (ap (λ len. same_length len a.size.len) same ∙ same_length_refl a.size.len)
@@ -105,12 +111,14 @@ module _ (a : Inside) (sound : IsSound a) where
     pub each_with : (along next : List Square) → along ≡ get_or a.anchors (rank g.way) along → IsSetOf (λ u. same_square u g.anchor || has_square along u) next
         → (way : Way) → IsSetOf (λ s. with_group (group_on a.size way s)) (anchors_along (set a.anchors (rank g.way) next) way)
     each_with along next is one way = elim (cases_eq (rank way) (rank g.way)) [
-      | inl same ↦ rw (rank_is way g.way same) (subst (IsSetOf (λ s. with_group (group_on a.size g.way s))) (sym (get_or-set_same a.anchors (rank g.way) next [] low))
+      | inl same ↦ rw (rank_is way g.way same)
+          (subst (IsSetOf (λ s. with_group (group_on a.size g.way s))) (sym (get_or-set_same a.anchors (rank g.way) next [] low))
           (set_same _ (λ s. with_group (group_on a.size g.way s)) next one (λ s.
           ap (λ b. b || has_square along s) (sym (same_there s))
           ∙ ap (λ b. same_group (group_on a.size g.way s) g || b) (ap (λ m. has_square m s) old ∙ (old_along g.way).has s))))
       | inr apart ↦ subst (IsSetOf (λ s. with_group (group_on a.size way s))) (sym (get_or-set_other a.anchors (rank g.way) (rank way) next [] apart))
-          (set_same (λ s. has_group (groups_anchored a.size a.anchors) (group_on a.size way s)) (λ s. with_group (group_on a.size way s)) (anchors_along a.anchors way) (old_along way) (λ s.
+          (set_same (λ s. has_group (groups_anchored a.size a.anchors) (group_on a.size way s)) (λ s. with_group (group_on a.size way s))
+              (anchors_along a.anchors way) (old_along way) (λ s.
           ap (λ b. b || has_group (groups_anchored a.size a.anchors) (group_on a.size way s)) (sym (other_way s way apart))))
     ]
       where

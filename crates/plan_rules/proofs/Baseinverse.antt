@@ -44,9 +44,11 @@ module _ (s t : Square) where
 
   pub baseinverse_step : StepLaw (zone_of (baseinverse s t)) (fits (baseinverse s t)) (is_calm (baseinverse s t)) (reply_to (baseinverse s t))
   baseinverse_step p q last fitted board calm white playable owned founded = elim (has_gives zone last owned) [
-    | inl here ↦ subst (λ u. Answers zone (is_calm (baseinverse s t)) (reply_to (baseinverse s t)) q u) here (at_s (subst (λ u. is_playable q u ≡ true) (sym here) playable))
+    | inl here ↦ subst (λ u. Answers zone (is_calm (baseinverse s t)) (reply_to (baseinverse s t)) q u) here
+        (at_s (subst (λ u. is_playable q u ≡ true) (sym here) playable))
     | inr later ↦ elim later [
-      | inl here ↦ subst (λ u. Answers zone (is_calm (baseinverse s t)) (reply_to (baseinverse s t)) q u) here (at_t (subst (λ u. is_playable q u ≡ true) (sym here) playable))
+      | inl here ↦ subst (λ u. Answers zone (is_calm (baseinverse s t)) (reply_to (baseinverse s t)) q u) here
+          (at_t (subst (λ u. is_playable q u ≡ true) (sym here) playable))
       | inr more ↦ absurd more
     ]
   ]
@@ -64,13 +66,15 @@ module _ (s t : Square) where
       t_s = other_column t s (λ same. apart (sym same))
 
       foot_s : s.1 ≤ height q s.0 + 1
-      foot_s = foot_low (zone_of (baseinverse s t)) q founded s (has_from (zone_of (baseinverse s t)) s (inl refl)) (λ u owned same. elim (has_gives (zone_of (baseinverse s t)) u owned) [
+      foot_s = foot_low (zone_of (baseinverse s t)) q founded s (has_from (zone_of (baseinverse s t)) s (inl refl))
+          (λ u owned same. elim (has_gives (zone_of (baseinverse s t)) u owned) [
         | inl here ↦ omega (arith, ap (λ (v : Square). v.1) here)
         | inr later ↦ elim later [ inl here ↦ absurd (apart (sym same ∙ sym (ap (λ (v : Square). v.0) here))) | inr more ↦ absurd more ]
       ])
 
       foot_t : t.1 ≤ height q t.0 + 1
-      foot_t = foot_low (zone_of (baseinverse s t)) q founded t (has_from (zone_of (baseinverse s t)) t (inr (inl refl))) (λ u owned same. elim (has_gives (zone_of (baseinverse s t)) u owned) [
+      foot_t = foot_low (zone_of (baseinverse s t)) q founded t (has_from (zone_of (baseinverse s t)) t (inr (inl refl)))
+          (λ u owned same. elim (has_gives (zone_of (baseinverse s t)) u owned) [
         | inl here ↦ absurd (apart (ap (λ (v : Square). v.0) here ∙ same))
         | inr later ↦ elim later [ inl here ↦ omega (arith, ap (λ (v : Square). v.1) here) | inr more ↦ absurd more ]
       ])
@@ -80,7 +84,8 @@ module _ (s t : Square) where
         | inr more ↦ absurd more
         | inl word ↦
             let right : man_at q t ≡ None = cc in
-            let open_now : is_playable (after_move q s.0) t ≡ true = answer_at q s t playable (on t (inr (inl refl))) t_s right (low_kept q s t playable foot_t) in
+            let open_now : is_playable (after_move q s.0) t ≡ true = answer_at q s t playable (on t (inr (inl refl))) t_s right (low_kept q s t playable foot_t)
+                in
             let after = turn q s t white playable open_now in
             record {
               to = t;
@@ -110,7 +115,8 @@ module _ (s t : Square) where
   never_both : (q : Position) → is_calm (baseinverse s t) q ≡ true → has_man q White s ≡ true → has_man q White t ≡ true → ⊥
   never_both q calm left right = narrow (are_white 0 1) inverse_words (word_at q zone) calm (and_from _ _ left right)
 
-  pub baseinverse_keeps : FactLaw (fits (baseinverse s t)) (is_calm (baseinverse s t)) (upper_of (baseinverse s t)) (pair_of (baseinverse s t)) (twin_of (baseinverse s t))
+  pub baseinverse_keeps : FactLaw (fits (baseinverse s t)) (is_calm (baseinverse s t)) (upper_of (baseinverse s t)) (pair_of (baseinverse s t))
+      (twin_of (baseinverse s t))
   baseinverse_keeps p q fitted calm = record {
     uppers = λ u h. absurd (cc h);
     pairs = λ u h. absurd (cc h);
@@ -118,11 +124,14 @@ module _ (s t : Square) where
   }
     where
       twin : (i : ℕ) (u v : Square) → slice_get (as_list (twin_of (baseinverse s t))) i ≡ Some (u, v) → has_man q White u ≡ true → has_man q White v ≡ false
-      twin zero u v h white = false_from_ne_true _ (λ other. never_both q calm (ap (has_man q White) (twin_is s t u v h).0 ∙ white) (ap (has_man q White) (twin_is s t u v h).1 ∙ other))
+      twin zero u v h white = false_from_ne_true _
+          (λ other. never_both q calm (ap (has_man q White) (twin_is s t u v h).0 ∙ white) (ap (has_man q White) (twin_is s t u v h).1 ∙ other))
       twin (suc i) u v h white = absurd (cc h)
 
   pub baseinverse_bars : BarLaw (fits (baseinverse s t)) (is_supported (baseinverse s t)) (is_calm (baseinverse s t)) (barred (baseinverse s t)) None
-  baseinverse_bars p q facts set fitted empty supported calm are_true stay held owns = let both = and_parts _ _ held in never_both q calm (owns s both.0) (owns t both.1)
+  baseinverse_bars p q facts set fitted empty supported calm are_true stay held owns = let both = and_parts _ _ held in
+      never_both q calm (owns s both.0) (owns t both.1)
 
   pub baseinverse_laws : Lawful (baseinverse s t)
-  baseinverse_laws = record { starts = baseinverse_start; is_local = baseinverse_local; steps = baseinverse_step; keeps = baseinverse_keeps; bars = baseinverse_bars }
+  baseinverse_laws = record { starts = baseinverse_start; is_local = baseinverse_local; steps = baseinverse_step; keeps = baseinverse_keeps; bars =
+      baseinverse_bars }

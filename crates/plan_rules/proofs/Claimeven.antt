@@ -32,7 +32,8 @@ module _ (x : Square) where
 
   pub claimeven_step : StepLaw (zone_of (claimeven x)) (fits (claimeven x)) (is_calm (claimeven x)) (reply_to (claimeven x))
   claimeven_step p q s fitted board calm white playable owned founded = elim (has_gives zone s owned) [
-    | inl here ↦ subst (λ s. Answers zone (is_calm (claimeven x)) (reply_to (claimeven x)) q s) here (at_lower (subst (λ s. is_playable q s ≡ true) (sym here) playable))
+    | inl here ↦ subst (λ s. Answers zone (is_calm (claimeven x)) (reply_to (claimeven x)) q s) here
+        (at_lower (subst (λ s. is_playable q s ≡ true) (sym here) playable))
     | inr later ↦ elim later [
       | inl here ↦ absurd (at_upper (subst (λ s. is_playable q s ≡ true) (sym here) playable))
       | inr more ↦ absurd more
@@ -43,7 +44,8 @@ module _ (x : Square) where
       on = zone_on_board (claimeven x) p q fitted board
 
       at_upper : is_playable q (above x) ≡ true → ⊥
-      at_upper playable = narrow (is_free_over 0 1) even_words (word_at q zone) calm (free_over_from q x (on_board_parts (board_of q) x.0 x.1 (on x (inl refl))).1 playable)
+      at_upper playable = narrow (is_free_over 0 1) even_words (word_at q zone) calm
+          (free_over_from q x (on_board_parts (board_of q) x.0 x.1 (on x (inl refl))).1 playable)
 
       at_lower : is_playable q x ≡ true → Answers (zone_of (claimeven x)) (is_calm (claimeven x)) (reply_to (claimeven x)) q x
       at_lower playable = elim (narrow (is_free 0) even_words (word_at q zone) calm (free_from q x playable)) [

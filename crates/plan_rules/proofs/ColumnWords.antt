@@ -1,5 +1,6 @@
 -- The lists of men of a Lowinverse's column say what its squares say.
-use Rattle.std.proofs.Common.{◌≡◌, ◌≢◌, ◌⊎◌, ◌↔◌, ℕ, zero, suc, ◌+◌, ◌-◌, ◌*◌, ◌%◌, ◌<◌, ◌≤◌, ◌==◌, true, cond, List, [], ◌∷◌, length, Some, None, refl, sym, ap, ◌∙◌, inl, inr, arith}
+use Rattle.std.proofs.Common.{◌≡◌, ◌≢◌, ◌⊎◌, ◌↔◌, ℕ, zero, suc, ◌+◌, ◌-◌, ◌*◌, ◌%◌, ◌<◌, ◌≤◌, ◌==◌, true, cond, List, [], ◌∷◌, length, Some, None, refl, sym,
+    ap, ◌∙◌, inl, inr, arith}
 use Rattle.std.specs.List.{slice_get}
 use Rattle.std.proofs.lemmas.Bool.{cases_lt, cases_eq, eqb-true, eq-eqb, and_parts, and_from}
 use Rattle.game_rules.specs.Board.{Square}
@@ -29,7 +30,8 @@ get_past (x ∷ men) zero h = absurd (omega arith)
 get_past (x ∷ men) (suc i) h = get_past men i (omega arith)
 
 -- how many men there are where just the first so many places have one
-length_known : (men : List Side) (size n : ℕ) → length men ≤ size → n ≤ size → ((i : ℕ) → i < n → (m : Side) × (slice_get men i ≡ Some m)) → ((i : ℕ) → n ≤ i → i < size → slice_get men i ≡ None) → length men ≡ n
+length_known : (men : List Side) (size n : ℕ) → length men ≤ size → n ≤ size → ((i : ℕ) → i < n → (m : Side) × (slice_get men i ≡ Some m))
+    → ((i : ℕ) → n ≤ i → i < size → slice_get men i ≡ None) → length men ≡ n
 length_known men size n short low some none = omega (arith, at_least (cases_eq n 0), at_most (cases_eq n size))
   where
     at_least : (n ≡ 0) ⊎ (n ≢ 0) → n ≤ length men
@@ -57,7 +59,8 @@ paired_reads (White ∷ []) h = absurd (cc h)
 paired_reads (White ∷ White ∷ men) h = absurd (cc h)
 paired_reads (White ∷ Black ∷ men) h = let rest = paired_reads men h in (rest.0 + 1, omega (arith, rest.1), at rest.0 rest.2)
   where
-    at : (k : ℕ) → ((i : ℕ) → i < 2 * k → slice_get men i ≡ Some (pair_man i)) → (i : ℕ) → i < 2 * (k + 1) → slice_get (White ∷ Black ∷ men) i ≡ Some (pair_man i)
+    at : (k : ℕ) → ((i : ℕ) → i < 2 * k → slice_get men i ≡ Some (pair_man i)) → (i : ℕ) → i < 2 * (k + 1)
+        → slice_get (White ∷ Black ∷ men) i ≡ Some (pair_man i)
     at k rest zero low = refl
     at k rest (suc zero) low = refl
     at k rest (suc (suc i)) low = rest i (omega arith) ∙ ap (λ m. Some m) (sym (pair_again i))
@@ -147,7 +150,8 @@ shifted_reads (Black ∷ men) h = let rest = paired_reads men h in (
 
 pub reads_shifted : (men : List Side) (pairs turned : ℕ) → Shifted men pairs turned → is_shifted men ≡ true
 reads_shifted [] pairs turned h = absurd (omega (arith, h.size))
-reads_shifted (a ∷ men) zero turned h = by_case a h.black (reads_paired men turned (omega (arith, h.size)) (λ i low. ap (slice_get (a ∷ men)) (place i) ∙ h.shifted i low))
+reads_shifted (a ∷ men) zero turned h =
+    by_case a h.black (reads_paired men turned (omega (arith, h.size)) (λ i low. ap (slice_get (a ∷ men)) (place i) ∙ h.shifted i low))
   where
     place : (i : ℕ) → suc i ≡ 2 * 0 + 1 + i
     place i = omega arith
@@ -214,12 +218,14 @@ module _ (p : Position) (bottom : Square) (size : ℕ) (low : 1 ≤ bottom.1) wh
           let full = eqb-true (length (men_on p (column_up bottom size))) size both.0 in
           record {
             filled = λ i less. sym (at i (omega arith)) ∙ topped_reads (men_on p (column_up bottom size)) both.1 i (omega (arith, full));
-            top = λ i last. sym (at i (omega arith)) ∙ topped_reads (men_on p (column_up bottom size)) both.1 i (omega (arith, full)) ∙ ap (λ m. Some m) (even_white i (omega arith));
+            top = λ i last. sym (at i (omega arith)) ∙ topped_reads (men_on p (column_up bottom size)) both.1 i (omega (arith, full))
+                ∙ ap (λ m. Some m) (even_white i (omega arith));
           }
 
       from : IsCappedColumn p bottom size → is_capped size (men_on p (column_up bottom size)) ≡ true
       from h =
-          let full : length (men_on p (column_up bottom size)) ≡ size = length_known (men_on p (column_up bottom size)) size size (length_within p size bottom) (omega arith)
+          let full : length (men_on p (column_up bottom size)) ≡ size = length_known (men_on p (column_up bottom size)) size size (length_within p size bottom)
+              (omega arith)
           (λ i less. (pair_man i, each i less)) (λ i more within. absurd (omega arith)) in
           and_from _ _ (eq-eqb (length (men_on p (column_up bottom size))) size full)
           (reads_topped (men_on p (column_up bottom size)) (ap (λ n. n % 2) full ∙ odd) (λ i less. each i (omega (arith, full))))
@@ -236,7 +242,8 @@ module _ (p : Position) (bottom : Square) (size : ℕ) (low : 1 ≤ bottom.1) wh
       to : is_shifted (men_on p (column_up bottom size)) ≡ true → IsShiftedColumn p bottom size
       to h = by_case (shifted_reads (men_on p (column_up bottom size)) h) (length_within p size bottom)
         where
-          by_case : (pairs : ℕ) × (turned : ℕ) × Shifted (men_on p (column_up bottom size)) pairs turned → length (men_on p (column_up bottom size)) ≤ size → IsShiftedColumn p bottom size
+          by_case : (pairs : ℕ) × (turned : ℕ) × Shifted (men_on p (column_up bottom size)) pairs turned → length (men_on p (column_up bottom size)) ≤ size
+              → IsShiftedColumn p bottom size
           by_case (pairs, turned, reads) short = record {
             pairs = pairs;
             turned = turned;

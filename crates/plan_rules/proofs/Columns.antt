@@ -26,7 +26,8 @@ man_on q (suc n) u i low within = elim (cases_lt (height q u.0) u.1) [
   | inr under ↦ filled i within (filled_under q u low under) (λ j less. man_on q n (above u) j (omega arith) less)
 ]
   where
-    filled : (i : ℕ) → i < suc n → (m : Side) × (man_at q u ≡ Some m) → ((j : ℕ) → j < n → slice_get (men_on q (column_up (above u) n)) j ≡ man_at q (u.0, u.1 + 1 + j))
+    filled : (i : ℕ) → i < suc n → (m : Side) × (man_at q u ≡ Some m)
+        → ((j : ℕ) → j < n → slice_get (men_on q (column_up (above u) n)) j ≡ man_at q (u.0, u.1 + 1 + j))
         → slice_get (men_on q (column_up u (suc n))) i ≡ man_at q (u.0, u.1 + i)
     filled zero within some rest =
         ap (λ m. slice_get (put_first m (men_on q (column_up (above u) n))) 0) some.1
@@ -44,7 +45,8 @@ length_within q (suc n) u = more (man_at q u) (length_within q n (above u))
     more (Some m) low = omega arith
 
 -- the men reach up to the height of the column
-pub length_on : (q : Position) (n : ℕ) (u : Square) → 1 ≤ u.1 → u.1 ≤ height q u.0 + 1 → height q u.0 + 1 ≤ u.1 + n → u.1 + length (men_on q (column_up u n)) ≡ height q u.0 + 1
+pub length_on : (q : Position) (n : ℕ) (u : Square) → 1 ≤ u.1 → u.1 ≤ height q u.0 + 1 → height q u.0 + 1 ≤ u.1 + n
+    → u.1 + length (men_on q (column_up u n)) ≡ height q u.0 + 1
 length_on q zero u low under high = omega arith
 length_on q (suc n) u low under high = elim (cases_lt (height q u.0) u.1) [
   | inl past ↦ omega (arith, ap length (none_on q (suc n) u past))
@@ -66,12 +68,14 @@ same_on q r (u ∷ us) same =
     ap (λ m. put_first m (men_on r us)) (same u (inl refl)) ∙ ap (λ men. put_first (man_at q u) men) (same_on q r us (λ v among. same v (inr among)))
 
 -- a man in another column
-pub beside_on : (q : Position) (s : Square) (n : ℕ) (u : Square) → is_playable q s ≡ true → u.0 ≢ s.0 → men_on (after_move q s.0) (column_up u n) ≡ men_on q (column_up u n)
+pub beside_on : (q : Position) (s : Square) (n : ℕ) (u : Square) → is_playable q s ≡ true → u.0 ≢ s.0
+    → men_on (after_move q s.0) (column_up u n) ≡ men_on q (column_up u n)
 beside_on q s n u playable apart = same_on q (after_move q s.0) (column_up u n) (λ v among.
     beside q s v playable (other_column v s (λ same. apart (sym (ap (λ (v : Square). v.0) (column_gives u n v among).2) ∙ same))))
 
 -- a man more on the squares
-pub pushed_on : (q : Position) (s : Square) (m : Side) (n : ℕ) (u : Square) → is_playable q s ≡ true → side_to_move q ≡ m → 1 ≤ u.1 → u.0 ≡ s.0 → u.1 ≤ s.1 → s.1 < u.1 + n
+pub pushed_on : (q : Position) (s : Square) (m : Side) (n : ℕ) (u : Square) → is_playable q s ≡ true → side_to_move q ≡ m → 1 ≤ u.1 → u.0 ≡ s.0 → u.1 ≤ s.1
+    → s.1 < u.1 + n
     → men_on (after_move q s.0) (column_up u n) ≡ men_on q (column_up u n) ++ m ∷ []
 pushed_on q s m zero u playable side low same under high = absurd (omega arith)
 pushed_on q s m (suc n) u playable side low same under high = elim (cases_lt u.1 s.1) [
@@ -92,9 +96,12 @@ pushed_on q s m (suc n) u playable side low same under high = elim (cases_lt u.1
         let parts = playable_parts q s playable in
         let now : man_at (after_move q s.0) u ≡ Some m = ap (man_at (after_move q s.0)) at ∙ placed q s playable ∙ ap (λ side. Some side) side in
         let none_now : men_on (after_move q s.0) (column_up (above u) n) ≡ [] =
-        none_on (after_move q s.0) n (above u) (omega (arith, height_here q s playable, parts.1, ap (λ (v : Square). v.1) at, ap (height (after_move q s.0)) (ap (λ (v : Square). v.0) at))) in
-        let none_before : men_on q (column_up u (suc n)) ≡ [] = none_on q (suc n) u (omega (arith, parts.1, ap (λ (v : Square). v.1) at, ap (height q) (ap (λ (v : Square). v.0) at))) in
-        ap (λ k. put_first k (men_on (after_move q s.0) (column_up (above u) n))) now ∙ ap (λ men. m ∷ men) none_now ∙ ap (λ men. men ++ m ∷ []) (sym none_before)
+        none_on (after_move q s.0) n (above u)
+            (omega (arith, height_here q s playable, parts.1, ap (λ (v : Square). v.1) at, ap (height (after_move q s.0)) (ap (λ (v : Square). v.0) at))) in
+        let none_before : men_on q (column_up u (suc n))
+            ≡ [] = none_on q (suc n) u (omega (arith, parts.1, ap (λ (v : Square). v.1) at, ap (height q) (ap (λ (v : Square). v.0) at))) in
+        ap (λ k. put_first k (men_on (after_move q s.0) (column_up (above u) n))) now ∙ ap (λ men. m ∷ men) none_now
+            ∙ ap (λ men. men ++ m ∷ []) (sym none_before)
 
 pub men_on_append : (q : Position) (us vs : List Square) → men_on q (us ++ vs) ≡ men_on q us ++ men_on q vs
 men_on_append q [] vs = refl

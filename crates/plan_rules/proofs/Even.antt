@@ -7,7 +7,8 @@ use Rattle.game_rules.specs.Board.{Square}
 use Rattle.game_rules.specs.Position.{Position, man_at}
 use Rattle.game_rules.specs.declared.Side.{Side}
 use Rattle.plan_rules.specs.Squares.{is_even, span, put_first, word_at, men_on}
-use Rattle.plan_rules.specs.Rules.{RuleInstance, claimeven, baseinverse, lowinverse, highinverse, baseclaim, vertical, aftereven, before, specialbefore, zone_of}
+use Rattle.plan_rules.specs.Rules.{RuleInstance, claimeven, baseinverse, lowinverse, highinverse, baseclaim, vertical, aftereven, before, specialbefore,
+    zone_of}
 use Rattle.plan_rules.specs.Calm.{Word, is_one_of, even_words, inverse_words, claim_words, high_words, is_calm}
 use Rattle.plan_rules.proofs.Words.{one_of_all}
 use Rattle.plan_rules.proofs.Columns.{men_on_append}
@@ -24,8 +25,10 @@ men_of_word q [] = refl
 men_of_word q (u ∷ us) = ap (λ men. put_first (man_at q u) men) (men_of_word q us)
 
 -- each word of the list has an even number of men
-word_even : (q : Position) (words : List Word) (us : List Square) → list_all (λ word. is_even (length (men_of word))) words ≡ true → is_one_of words (word_at q us) ≡ true → is_even (length (men_on q us)) ≡ true
-word_even q words us all calm = ap (λ men. is_even (length men)) (sym (men_of_word q us)) ∙ one_of_all (λ word. is_even (length (men_of word))) words (word_at q us) calm all
+word_even : (q : Position) (words : List Word) (us : List Square) → list_all (λ word. is_even (length (men_of word))) words ≡ true
+    → is_one_of words (word_at q us) ≡ true → is_even (length (men_on q us)) ≡ true
+word_even q words us all calm = ap (λ men. is_even (length men)) (sym (men_of_word q us))
+    ∙ one_of_all (λ word. is_even (length (men_of word))) words (word_at q us) calm all
 
 low_even : (n m : ℕ) (us vs : List Side) → CalmLow n m us vs → (length us + length vs) % 2 ≡ 0
 low_even n m us vs (both_paired left right) = omega (arith, paired_even us left, paired_even vs right)
@@ -38,7 +41,8 @@ calm_even (baseinverse s t) q calm = word_even q inverse_words (zone_of (baseinv
 calm_even (lowinverse x x_top y y_top) q calm =
     eq-eqb (length (men_on q (zone_of (lowinverse x x_top y y_top))) % 2) 0
     (ap (λ n. n % 2) (ap length (men_on_append q (span x x_top) (span y y_top)) ∙ length-append (men_on q (span x x_top)) (men_on q (span y y_top)))
-    ∙ low_even (x_top.1 + 1 - x.1) (y_top.1 + 1 - y.1) (men_on q (span x x_top)) (men_on q (span y y_top)) (calm_gives q x y (x_top.1 + 1 - x.1) (y_top.1 + 1 - y.1) calm))
+    ∙ low_even (x_top.1 + 1 - x.1) (y_top.1 + 1 - y.1) (men_on q (span x x_top)) (men_on q (span y y_top))
+        (calm_gives q x y (x_top.1 + 1 - x.1) (y_top.1 + 1 - y.1) calm))
 calm_even (highinverse x y) q calm = word_even q high_words (zone_of (highinverse x y)) refl calm
 calm_even (baseclaim a b e) q calm = word_even q claim_words (zone_of (baseclaim a b e)) refl calm
 calm_even (vertical e) q calm = refl

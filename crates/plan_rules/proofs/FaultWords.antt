@@ -44,9 +44,11 @@ map_none f (Some x) h = absurd (cc h)
 
 -- no member passes, as a test and by their places
 pub no_member : (test : RuleInstance → Bool) (ws : List RuleInstance) → list_any test ws ≡ false → (i : ℕ) (w : RuleInstance) → IsMember ws i w → test w ≡ false
-no_member test ws none i w member = false_from_ne_true (test w) (λ passes. both_ways (list_any test ws) none (any_from test ws w (get-Among ws i w member) passes))
+no_member test ws none i w member =
+    false_from_ne_true (test w) (λ passes. both_ways (list_any test ws) none (any_from test ws w (get-Among ws i w member) passes))
 
-pub member_none : (test : RuleInstance → Bool) (ws : List RuleInstance) → ((i : ℕ) (w : RuleInstance) → IsMember ws i w → test w ≡ false) → list_any test ws ≡ false
+pub member_none : (test : RuleInstance → Bool) (ws : List RuleInstance) → ((i : ℕ) (w : RuleInstance) → IsMember ws i w → test w ≡ false)
+    → list_any test ws ≡ false
 member_none test ws none = false_from_ne_true (list_any test ws) (λ some.
     let found = any_gives test ws some in let at = Among-get ws found.0 found.1 in
     both_ways (test found.0) (none at.0 found.0 at.1) found.2)
@@ -65,7 +67,8 @@ unanswered_gives p ws g lies h =
     record {
       line = lies;
       no_black = λ u owned. false_from_ne_true (has_man p Black u) (λ black.
-          both_ways (list_any (has_man p Black) (squares_of g)) (not-true _ both.0) (any_from (has_man p Black) (squares_of g) u (has_gives (squares_of g) u owned) black));
+          both_ways (list_any (has_man p Black) (squares_of g)) (not-true _ both.0)
+              (any_from (has_man p Black) (squares_of g) u (has_gives (squares_of g) u owned) black));
       no_bar = no_member (λ w. barred w (facts_of p ws) (empty_part p g)) ws (not-true (is_barred p ws g) both.1);
     }
 
@@ -92,13 +95,15 @@ groups_one_way g h (inr a) (inr b) = squares_one_way g.anchor h.anchor a.1 b.1
 -- ---- what a fault says
 
 -- all members fit, and each two stand together, where neither is refused
-pub together_gives : (p : Position) (ws : List RuleInstance) → position_from (λ w. not (fits w p)) 1 ws ≡ None → first_two_from together 1 ws ≡ None → StandTogether p ws
+pub together_gives : (p : Position) (ws : List RuleInstance) → position_from (λ w. not (fits w p)) 1 ws ≡ None → first_two_from together 1 ws ≡ None
+    → StandTogether p ws
 together_gives p ws fit stand = record {
   fitting = sym (no_place (λ w. fits w p) 1 ws) ∙ ap is_none fit;
   standing = sym (no_two together 1 ws) ∙ ap is_none stand;
 }
 
-pub first_uncovered : (p : Position) (ws : List RuleInstance) (u : Square) → find (is_uncovered p ws) (squares_of_board (board_of p)) ≡ Some u → IsFirstOf (IsUncovered p ws) SquarePrecedes u
+pub first_uncovered : (p : Position) (ws : List RuleInstance) (u : Square) → find (is_uncovered p ws) (squares_of_board (board_of p)) ≡ Some u
+    → IsFirstOf (IsUncovered p ws) SquarePrecedes u
 first_uncovered p ws u h =
     let found = find_gives SquarePrecedes (is_uncovered p ws) (squares_of_board (board_of p)) u (squares_in_order (board_of p)) h in
     record {
@@ -106,7 +111,8 @@ first_uncovered p ws u h =
       first = λ v is. found.2 v (Among-board (board_of p) v (empty_parts p v is.empty).0) (uncovered_from p ws v is);
     }
 
-pub first_unanswered : (p : Position) (ws : List RuleInstance) (g : Group) → find (is_unanswered p ws) (groups_of (board_of p)) ≡ Some g → IsFirstOf (IsUnanswered p ws) GroupPrecedes g
+pub first_unanswered : (p : Position) (ws : List RuleInstance) (g : Group) → find (is_unanswered p ws) (groups_of (board_of p)) ≡ Some g
+    → IsFirstOf (IsUnanswered p ws) GroupPrecedes g
 first_unanswered p ws g h =
     let found = find_gives GroupPrecedes (is_unanswered p ws) (groups_of (board_of p)) g (groups_in_order (board_of p)) h in
     record {
@@ -114,11 +120,13 @@ first_unanswered p ws g h =
       first = λ v is. found.2 v (Among-groups (board_of p) v is.line) (unanswered_from p ws v is);
     }
 
-pub covered_gives : (p : Position) (ws : List RuleInstance) → StandTogether p ws → find (is_uncovered p ws) (squares_of_board (board_of p)) ≡ None → IsCovered p ws
+pub covered_gives : (p : Position) (ws : List RuleInstance) → StandTogether p ws → find (is_uncovered p ws) (squares_of_board (board_of p)) ≡ None
+    → IsCovered p ws
 covered_gives p ws members none = record {
   members = members;
   covered = λ u is.
       let all = sym (no_find (is_uncovered p ws) (squares_of_board (board_of p))) ∙ ap is_none none in
-      let covered_u = all_gives (λ u. not (is_uncovered p ws u)) (squares_of_board (board_of p)) u all (Among-board (board_of p) u (empty_parts p u is.empty).0) in
+      let covered_u = all_gives (λ u. not (is_uncovered p ws u)) (squares_of_board (board_of p)) u all (Among-board (board_of p) u (empty_parts p u is.empty).0)
+          in
       both_ways (is_uncovered p ws u) (not-true _ covered_u) (uncovered_from p ws u is);
 }

@@ -1,5 +1,6 @@
 -- What fits, of a list's elements, one element after the other.
-use Rattle.std.proofs.Common.{◌≡◌, ℕ, ◌+◌, ◌<◌, ◌≤◌, Bool, true, false, cond, Option, Some, None, List, [], ◌∷◌, ◌++◌, length, map, filter, take, get_or, length-append, refl, sym, ap, ◌∙◌, inl, inr, arith}
+use Rattle.std.proofs.Common.{◌≡◌, ℕ, ◌+◌, ◌<◌, ◌≤◌, Bool, true, false, cond, Option, Some, None, List, [], ◌∷◌, ◌++◌, length, map, filter, take, get_or,
+    length-append, refl, sym, ap, ◌∙◌, inl, inr, arith}
 use Rattle.std.specs.List.{flat_map}
 use Rattle.std.specs.Option.{option_map}
 use Rattle.std.proofs.lemmas.Bool.{cases_Bool}
@@ -34,10 +35,12 @@ fitting_parts written p (x ∷ xs) = elim (cases_Bool (fits (written x) p)) [
   | inr bad ↦ rw (flat_map-cons, bad) (fitting_parts written p xs)
 ]
 
-pub fitting-append : {X : Type 0} (written : X → RuleInstance) (p : Position) (xs ys : List X) → fitting written p (xs ++ ys) ≡ fitting written p xs ++ fitting written p ys
+pub fitting-append : {X : Type 0} (written : X → RuleInstance) (p : Position) (xs ys : List X)
+    → fitting written p (xs ++ ys) ≡ fitting written p xs ++ fitting written p ys
 fitting-append written p xs ys = ap (filter (λ w. fits w p)) (map-append written xs ys) ∙ filter-append (λ w. fits w p) (map written xs) (map written ys)
 
-fitting-map : {X Y : Type 0} (written : Y → RuleInstance) (f : X → Y) (p : Position) (xs : List X) → fitting written p (map f xs) ≡ fitting (λ x. written (f x)) p xs
+fitting-map : {X Y : Type 0} (written : Y → RuleInstance) (f : X → Y) (p : Position) (xs : List X)
+    → fitting written p (map f xs) ≡ fitting (λ x. written (f x)) p xs
 fitting-map written f p [] = refl
 fitting-map written f p (x ∷ xs) = elim (cases_Bool (fits (written (f x)) p)) [
   | inl good ↦ rw good (ap (λ ws. written (f x) ∷ ws) (fitting-map written f p xs))
@@ -62,7 +65,8 @@ none_fits p w h = elim (cases_Bool (fits w p)) [
 ]
 
 -- what a constructor makes, where a fit comes down to the shape
-pub made_as : {V : Type 0} (view : V → RuleInstance) (made : Option V) (v : V) (shaped good : Bool) → made ≡ cond {A = Option V} shaped (Some v) None → good ≡ shaped
+pub made_as : {V : Type 0} (view : V → RuleInstance) (made : Option V) (v : V) (shaped good : Bool) → made ≡ cond {A = Option V} shaped (Some v) None
+    → good ≡ shaped
     → option_map view made ≡ cond {A = Option RuleInstance} good (Some (view v)) None
 made_as view made v true good is same = ap (option_map view) is ∙ sym (ap (λ b. cond {A = Option RuleInstance} b (Some (view v)) None) same)
 made_as view made v false good is same = ap (option_map view) is ∙ sym (ap (λ b. cond {A = Option RuleInstance} b (Some (view v)) None) same)

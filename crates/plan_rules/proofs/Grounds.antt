@@ -1,6 +1,7 @@
 -- Why the columns of a zone are filled below it when White plays there: the zone was founded at the plan's position, or
 -- White's square stands on the column itself, or the zone is an inverse and both floors were filled by a Baseinverse.
-use Rattle.std.proofs.Common.{◌≡◌, ◌≢◌, ◌⊎◌, ℕ, ◌+◌, ◌-◌, ◌<◌, ◌≤◌, true, false, List, [], ◌∷◌, ◌++◌, Option, Some, None, is_none, refl, sym, ap, ◌∙◌, subst, inl, inr, arith}
+use Rattle.std.proofs.Common.{◌≡◌, ◌≢◌, ◌⊎◌, ℕ, ◌+◌, ◌-◌, ◌<◌, ◌≤◌, true, false, List, [], ◌∷◌, ◌++◌, Option, Some, None, is_none, refl, sym, ap, ◌∙◌, subst,
+    inl, inr, arith}
 use Rattle.std.specs.List.{list_all}
 use Rattle.std.proofs.lemmas.Bool.{cases_lt, cases_order, both_ways, and_parts, or_cases, ltb-true, leb-true}
 use Rattle.game_rules.specs.Board.{Square, on_board}
@@ -12,7 +13,8 @@ use Rattle.game_rules.proofs.Ends.{on_board_parts}
 use Rattle.game_rules.proofs.Lists.{Among}
 use Rattle.game_rules.proofs.Squares.{has_gives, has_from}
 use Rattle.plan_rules.specs.Squares.{above, under, column_up, span, men_on}
-use Rattle.plan_rules.specs.Rules.{RuleInstance, claimeven, baseinverse, lowinverse, highinverse, baseclaim, vertical, aftereven, before, specialbefore, zone_of, owns_no_zone, has_shape, is_shaped, is_grounded, fits_besides, fits, rests_on, stands_over, together}
+use Rattle.plan_rules.specs.Rules.{RuleInstance, claimeven, baseinverse, lowinverse, highinverse, baseclaim, vertical, aftereven, before, specialbefore,
+    zone_of, owns_no_zone, has_shape, is_shaped, is_grounded, fits_besides, fits, rests_on, stands_over, together}
 use Rattle.plan_rules.specs.Calm.{is_one_of, inverse_words, is_calm}
 use Rattle.plan_rules.specs.Laws.{IsFounded}
 use Rattle.plan_rules.specs.Plan.{IsMember, SomeMember, IsPlan, bottoms_of, HasFloors}
@@ -22,10 +24,12 @@ use Rattle.plan_rules.proofs.Columns.{none_on, men_on_append}
 use Rattle.plan_rules.proofs.Table.{RestsOn, together_sym, floor_owner}
 
 pub fits_shape : (w : RuleInstance) (p : Position) → fits w p ≡ true → has_shape w (board_of p) ≡ true
-fits_shape w p h = (and_parts (list_all (on_board (board_of p)) (zone_of w)) (has_shape w (board_of p)) (and_parts (is_shaped w (board_of p)) _ (and_parts _ (fits_besides w p) h).0).0).1
+fits_shape w p h = (and_parts (list_all (on_board (board_of p)) (zone_of w)) (has_shape w (board_of p))
+    (and_parts (is_shaped w (board_of p)) _ (and_parts _ (fits_besides w p) h).0).0).1
 
 pub fits_on_board : (w : RuleInstance) (p : Position) → fits w p ≡ true → list_all (on_board (board_of p)) (zone_of w) ≡ true
-fits_on_board w p h = (and_parts (list_all (on_board (board_of p)) (zone_of w)) (has_shape w (board_of p)) (and_parts (is_shaped w (board_of p)) _ (and_parts _ (fits_besides w p) h).0).0).0
+fits_on_board w p h = (and_parts (list_all (on_board (board_of p)) (zone_of w)) (has_shape w (board_of p))
+    (and_parts (is_shaped w (board_of p)) _ (and_parts _ (fits_besides w p) h).0).0).0
 
 pub fits_empty : (w : RuleInstance) (p : Position) → fits w p ≡ true → list_all (is_empty p) (zone_of w) ≡ true
 fits_empty w p h = (and_parts (is_shaped w (board_of p)) (list_all (is_empty p) (zone_of w)) (and_parts _ (fits_besides w p) h).0).1
@@ -47,7 +51,8 @@ founded_by zone q feet u owned lowest = by_case (feet u owned)
   where
     by_case : Foot zone q u → u.1 ≤ height q u.0 + 1
     by_case f = elim (cases_lt f.foot.1 u.1) [
-      | inl lower ↦ absurd (both_ways (has_square zone (u.0, f.foot.1)) (lowest f.foot.1 lower) (subst (λ c. has_square zone (c, f.foot.1) ≡ true) f.same_column f.in_zone))
+      | inl lower ↦ absurd (both_ways (has_square zone (u.0, f.foot.1)) (lowest f.foot.1 lower)
+          (subst (λ c. has_square zone (c, f.foot.1) ≡ true) f.same_column f.in_zone))
       | inr high ↦ let low : f.foot.1 ≤ height q f.foot.0 + 1 = f.low in omega (arith, ap (height q) f.same_column)
     ]
 
@@ -75,11 +80,13 @@ low_two x x_top y y_top p h =
       has_x = has_left (span x x_top) (span y y_top) x (bottom x x_top (omega (arith, size_x)));
       has_y = has_right (span x x_top) (span y y_top) y (bottom y y_top (omega (arith, size_y)));
       apart = λ same. omega arith;
-      each = λ u owned. elim (has_append (span x x_top) (span y y_top) u owned) [ inl left ↦ inl (within x x_top u left) | inr right ↦ inr (within y y_top u right) ];
+      each = λ u owned. elim (has_append (span x x_top) (span y y_top) u owned)
+          [ inl left ↦ inl (within x x_top u left) | inr right ↦ inr (within y y_top u right) ];
     }
   where
     bottom : (x x_top : Square) → x.1 ≤ x_top.1 → has_square (span x x_top) x ≡ true
-    bottom x x_top size = has_from (span x x_top) x (subst (λ r. Among (x.0, r) (span x x_top)) (omega arith) (column_from x (x_top.1 + 1 - x.1) 0 (omega arith)))
+    bottom x x_top size = has_from (span x x_top) x
+        (subst (λ r. Among (x.0, r) (span x x_top)) (omega arith) (column_from x (x_top.1 + 1 - x.1) 0 (omega arith)))
 
     within : (x x_top u : Square) → has_square (span x x_top) u ≡ true → (u.0 ≡ x.0) × (x.1 ≤ u.1)
     within x x_top u owned =
@@ -138,7 +145,8 @@ module _ (p q : Position) (ws : List RuleInstance) (plan : IsPlan p ws)
   ]
 
   -- the floors of an inverse that isn't playable itself: the column of White's square is filled below it, and so is the other
-  module _ (i : ℕ) (w : RuleInstance) (x y : Square) (member : IsMember ws i w) (moving : owns_no_zone w ≡ false) (none : (a b : Square) → rests_on a b w ≡ false)
+  module _ (i : ℕ) (w : RuleInstance) (x y : Square) (member : IsMember ws i w) (moving : owns_no_zone w ≡ false) (none : (a b : Square)
+      → rests_on a b w ≡ false)
       (over : (v : RuleInstance) → stands_over w v ≡ true → rests_on x y v ≡ true) (two : TwoColumns (zone_of w) x y) where
     inverse_owner : (v : RuleInstance) (j : ℕ) → IsMember ws j v → is_playable p (under x) ≡ true → has_square (zone_of v) (under x) ≡ true → RestsOn x y v
     inverse_owner v j member_v floor owned =
@@ -163,7 +171,8 @@ module _ (p q : Position) (ws : List RuleInstance) (plan : IsPlan p ws)
         by_case : SomeMember ws (λ v. has_square (zone_of v) (under x) ≡ true) → is_none (man_at q (under x)) ≡ is_none (man_at q (under y))
         by_case some =
             let rest = inverse_owner some.member some.place some.is_member floor some.has_it in
-            let calm : is_calm (baseinverse rest.s rest.t) q ≡ true = subst (λ v. is_calm v q ≡ true) rest.is_inverse (calms some.place some.member some.is_member) in
+            let calm : is_calm (baseinverse rest.s rest.t) q
+                ≡ true = subst (λ v. is_calm v q ≡ true) rest.is_inverse (calms some.place some.member some.is_member) in
             ap (λ u. is_none (man_at q (under u))) (sym rest.below_x)
             ∙ ap (λ r. is_none (man_at q (rest.s.0, r))) (omega arith)
             ∙ both_or_none (man_at q rest.s) (man_at q rest.t) calm
@@ -226,7 +235,8 @@ module _ (p q : Position) (ws : List RuleInstance) (plan : IsPlan p ws)
   has_floors i (lowinverse x x_top y y_top) bottoms member is =
       let fit = plan.fitting i (lowinverse x x_top y y_top) member in
       subst (HasFloors q (span x x_top ++ span y y_top)) (some_pair (x, y) bottoms is)
-      (two_floors i (lowinverse x x_top y y_top) x y member refl (λ a b. refl) (λ v h. h) (low_two x x_top y y_top p fit) (fits_more (lowinverse x x_top y y_top) p fit)
+      (two_floors i (lowinverse x x_top y y_top) x y member refl (λ a b. refl) (λ v h. h) (low_two x x_top y y_top p fit)
+          (fits_more (lowinverse x x_top y y_top) p fit)
       (λ past_x past_y. men_on_append q (span x x_top) (span y y_top)
       ∙ ap (λ men. men ++ men_on q (span y y_top)) (none_on q (x_top.1 + 1 - x.1) x past_x) ∙ none_on q (y_top.1 + 1 - y.1) y past_y))
   has_floors i (highinverse x y) bottoms member is =
@@ -266,12 +276,14 @@ module _ (p q : Position) (ws : List RuleInstance) (plan : IsPlan p ws)
       founded_by (a ∷ b ∷ []) q (λ u among. elim (has_gives (a ∷ b ∷ []) u among) [
         | inl here ↦ record { foot = a; same_column = ap (λ (s : Square). s.0) here; in_zone = has_from (a ∷ b ∷ []) a (inl refl); low = still_low a both.0 }
         | inr later ↦ elim later [
-          | inl here ↦ record { foot = b; same_column = ap (λ (s : Square). s.0) here; in_zone = has_from (a ∷ b ∷ []) b (inr (inl refl)); low = still_low b both.1 }
+          | inl here ↦ record { foot = b; same_column = ap (λ (s : Square). s.0) here; in_zone = has_from (a ∷ b ∷ []) b (inr (inl refl)); low =
+              still_low b both.1 }
           | inr more ↦ absurd more
         ]
       ])
   founded i (lowinverse x x_top y y_top) member s playable owned =
-      inverse_founded i (lowinverse x x_top y y_top) x y member refl (λ a b. refl) (λ v h. h) (low_two x x_top y y_top p (plan.fitting i (lowinverse x x_top y y_top) member))
+      inverse_founded i (lowinverse x x_top y y_top) x y member refl (λ a b. refl) (λ v h. h)
+          (low_two x x_top y y_top p (plan.fitting i (lowinverse x x_top y y_top) member))
       (fits_more (lowinverse x x_top y y_top) p (plan.fitting i (lowinverse x x_top y y_top) member)) s playable owned
   founded i (highinverse x y) member s playable owned =
       inverse_founded i (highinverse x y) x y member refl (λ a b. refl) (λ v h. h) (high_two x y p (plan.fitting i (highinverse x y) member))
@@ -284,9 +296,11 @@ module _ (p q : Position) (ws : List RuleInstance) (plan : IsPlan p ws)
         | inr later ↦ elim later [
           | inl here ↦ record { foot = b; same_column = ap (λ (s : Square). s.0) here; in_zone = has_from zone b (inr (inl refl)); low = still_low b inner.1 }
           | inr more ↦ elim more [
-            | inl here ↦ record { foot = e; same_column = ap (λ (s : Square). s.0) here; in_zone = has_from zone e (inr (inr (inl refl))); low = still_low e outer.1 }
+            | inl here ↦ record { foot = e; same_column = ap (λ (s : Square). s.0) here; in_zone = has_from zone e (inr (inr (inl refl))); low =
+                still_low e outer.1 }
             | inr last ↦ elim last [
-              | inl here ↦ record { foot = b; same_column = ap (λ (s : Square). s.0) here; in_zone = has_from zone b (inr (inl refl)); low = still_low b inner.1 }
+              | inl here ↦ record { foot = b; same_column = ap (λ (s : Square). s.0) here; in_zone = has_from zone b (inr (inl refl)); low =
+                  still_low b inner.1 }
               | inr past ↦ absurd past
             ]
           ]

@@ -16,7 +16,8 @@ use Rattle.plan_rules.specs.Rules.{is_open_line}
 use Rattle.plan_rules.specs.Laws.{Owns, StepLaw}
 use Rattle.plan_rules.proofs.Turns.{filled_height, filled_under, man_from}
 
-pub each_of_gives : (chosen test : Square → Bool) (us : List Square) (u : Square) → each_of chosen test us ≡ true → has_square us u ≡ true → chosen u ≡ true → test u ≡ true
+pub each_of_gives : (chosen test : Square → Bool) (us : List Square) (u : Square) → each_of chosen test us ≡ true → has_square us u ≡ true → chosen u ≡ true
+    → test u ≡ true
 each_of_gives chosen test us u h owned yes_chosen = elim (or_cases _ _ (all_gives (λ u. not (chosen u) || test u) us u h (has_gives us u owned))) [
   | inl out ↦ absurd (both_ways (chosen u) (not-true _ out) yes_chosen)
   | inr passes ↦ passes
@@ -26,7 +27,8 @@ pub open_lies : (p : Position) (g : Group) → is_open_line p g ≡ true → lie
 open_lies p g h = (and_parts (lies_on (board_of p) g) _ (and_parts _ _ h).0).0
 
 pub line_square_on : (p : Position) (g : Group) → is_open_line p g ≡ true → (u : Square) → has_square (squares_of g) u ≡ true → on_board (board_of p) u ≡ true
-line_square_on p g h u in_line = all_gives (on_board (board_of p)) (squares_of g) u (squares_on (board_of p) g (open_lies p g h)) (has_gives (squares_of g) u in_line)
+line_square_on p g h u in_line = all_gives (on_board (board_of p)) (squares_of g) u (squares_on (board_of p) g (open_lies p g h))
+    (has_gives (squares_of g) u in_line)
 
 -- a filled square that isn't White's is Black's
 black_left : (m : Option Side) → is_none m ≡ false → is_man White m ≡ false → is_man Black m ≡ true
@@ -39,11 +41,14 @@ pub line_black : (p q : Position) (g : Group) → is_open_line p g ≡ true → 
     → ((u : Square) → has_square (squares_of g) u ≡ true → is_empty p u ≡ true → has_man q Black u ≡ true) → Owns Black q (has_square (squares_of g))
 line_black p q g h stay filled u in_line = elim (cases_Bool (is_none (man_at p u))) [
   | inl none ↦ filled u in_line (and_from _ _ (line_square_on p g h u in_line) none)
-  | inr some ↦ stay u (black_left (man_at p u) some (not-true _ (all_gives (λ u. not (has_man p White u)) (squares_of g) u (and_parts (lies_on (board_of p) g) _ (and_parts _ _ h).0).1 (has_gives (squares_of g) u in_line))))
+  | inr some ↦ stay u (black_left (man_at p u) some
+      (not-true _ (all_gives (λ u. not (has_man p White u)) (squares_of g) u (and_parts (lies_on (board_of p) g) _ (and_parts _ _ h).0).1
+      (has_gives (squares_of g) u in_line))))
 ]
 
 -- below a man there is a man, and if it isn't White's it is Black's
-pub black_under : (q : Position) (u v : Square) → 1 ≤ u.1 → v.0 ≡ u.0 → u.1 < v.1 → has_man q White v ≡ true → has_man q White u ≡ false → has_man q Black u ≡ true
+pub black_under : (q : Position) (u v : Square) → 1 ≤ u.1 → v.0 ≡ u.0 → u.1 < v.1 → has_man q White v ≡ true → has_man q White u ≡ false
+    → has_man q Black u ≡ true
 black_under q u v low same over white no_white = black_left (man_at q u) (ap is_none some.1) no_white
   where
     some : (m : Side) × (man_at q u ≡ Some m)

@@ -55,7 +55,8 @@ afterevens_at_first : count_after 4 4 [] kinds.Aftereven ≡ Some 10
 unfolding squares_of_board groups_of
 afterevens_at_first = refl
 
-befores_at_first : listed_after 4 4 [] kinds.Before ≡ Some (before (line_of_four (0, 1) H) ∷ before (line_of_four (0, 2) H) ∷ before (line_of_four (0, 3) H) ∷ [])
+befores_at_first : listed_after 4 4 [] kinds.Before
+    ≡ Some (before (line_of_four (0, 1) H) ∷ before (line_of_four (0, 2) H) ∷ before (line_of_four (0, 3) H) ∷ [])
 unfolding squares_of_board groups_of
 befores_at_first = refl
 

@@ -6,7 +6,8 @@ use Rattle.game_rules.specs.Position.{Position, is_legal, after_move}
 use Rattle.plan_rules.specs.Rules.{RuleInstance}
 use Rattle.plan_rules.specs.Plan.{after_turn, after_turns, IsAnswered}
 
-pub turns_more : (ws : List RuleInstance) (p q r : Position) (columns : List ℕ) (column : ℕ) → after_turns ws p columns ≡ Some q → is_legal q column ≡ true → after_turn ws q column ≡ Some r
+pub turns_more : (ws : List RuleInstance) (p q r : Position) (columns : List ℕ) (column : ℕ) → after_turns ws p columns ≡ Some q → is_legal q column ≡ true
+    → after_turn ws q column ≡ Some r
     → after_turns ws p (columns ++ column ∷ []) ≡ Some r
 turns_more ws p q r [] column reached legal turn =
     let same : p ≡ q = cc reached in
@@ -18,5 +19,6 @@ turns_more ws p q r (first ∷ columns) column reached legal turn = elim (cases_
 ]
 
 -- a move of White's that a plan answers, and the answer, are a turn
-pub turn_made : (ws : List RuleInstance) (q : Position) (column : ℕ) (answered : IsAnswered ws q column) → after_turn ws q column ≡ Some (after_move (after_move q column) answered.reply.0)
+pub turn_made : (ws : List RuleInstance) (q : Position) (column : ℕ) (answered : IsAnswered ws q column)
+    → after_turn ws q column ≡ Some (after_move (after_move q column) answered.reply.0)
 turn_made ws q column answered = rw (answered.going, answered.is_reply) refl

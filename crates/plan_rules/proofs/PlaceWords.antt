@@ -1,5 +1,6 @@
 -- First places, the least two and the first of an ordered list, in words.
-use Rattle.std.proofs.Common.{◌≡◌, ◌⊎◌, ℕ, zero, suc, ◌+◌, ◌<◌, Bool, true, false, not, List, [], ◌∷◌, Option, Some, None, refl, sym, ap, ◌∙◌, subst, inl, inr, arith}
+use Rattle.std.proofs.Common.{◌≡◌, ◌⊎◌, ℕ, zero, suc, ◌+◌, ◌<◌, Bool, true, false, not, List, [], ◌∷◌, Option, Some, None, refl, sym, ap, ◌∙◌, subst, inl, inr,
+    arith}
 use Rattle.std.specs.List.{slice_get, find, position_from}
 use Rattle.std.specs.Option.{option_map, option_or}
 use Rattle.std.proofs.lemmas.Bool.{cases_Bool, both_ways, cond-true, cond-false, not-true, not-false, not_from_true, not_from_false}
@@ -19,10 +20,12 @@ place_gives test n (x ∷ xs) place h = elim (cases_Bool (test x)) [
       record { index = 0; counted = omega arith; element = x; at = refl; passes = passes; earlier = λ i y less. absurd (omega arith) }
   | inr fails ↦
       let later = place_gives test (n + 1) xs place (rw fails at h) in
-      record { index = suc later.index; counted = omega (arith, later.counted); element = later.element; at = later.at; passes = later.passes; earlier = before fails later.index later.earlier }
+      record { index = suc later.index; counted = omega (arith, later.counted); element = later.element; at = later.at; passes = later.passes; earlier =
+          before fails later.index later.earlier }
 ]
   where
-    before : test x ≡ false → (index : ℕ) → ((i : ℕ) (y : _) → i < index → slice_get xs i ≡ Some y → test y ≡ false) → (i : ℕ) (y : _) → i < suc index → slice_get (x ∷ xs) i ≡ Some y → test y ≡ false
+    before : test x ≡ false → (index : ℕ) → ((i : ℕ) (y : _) → i < index → slice_get xs i ≡ Some y → test y ≡ false) → (i : ℕ) (y : _) → i < suc index
+        → slice_get (x ∷ xs) i ≡ Some y → test y ≡ false
     before fails index earlier zero y less at = let same : x ≡ y = cc at in sym (ap test same) ∙ fails
     before fails index earlier (suc i) y less at = earlier i y (omega arith) at
 
@@ -38,9 +41,11 @@ none_at test n (y ∷ xs) h i x at = elim (cases_Bool (test y)) [
     by_index zero at fails later = let same : y ≡ x = cc at in sym (ap test same) ∙ fails
     by_index (suc i) at fails later = later i x at
 
-pub place_none : {X : Type 0} (test : X → Bool) (n : ℕ) (xs : List X) → ((i : ℕ) (x : X) → slice_get xs i ≡ Some x → test x ≡ false) → position_from test n xs ≡ None
+pub place_none : {X : Type 0} (test : X → Bool) (n : ℕ) (xs : List X) → ((i : ℕ) (x : X) → slice_get xs i ≡ Some x → test x ≡ false)
+    → position_from test n xs ≡ None
 place_none test n [] none = refl
-place_none test n (x ∷ xs) none = cond-false (test x) (Some n) (position_from test (n + 1) xs) (none 0 x refl) ∙ place_none test (n + 1) xs (λ i y at. none (suc i) y at)
+place_none test n (x ∷ xs) none = cond-false (test x) (Some n) (position_from test (n + 1) xs) (none 0 x refl)
+    ∙ place_none test (n + 1) xs (λ i y at. none (suc i) y at)
 
 place_at : {X : Type 0} (test : X → Bool) (n : ℕ) (xs : List X) (index : ℕ) (element : X) → slice_get xs index ≡ Some element → test element ≡ true
     → ((i : ℕ) (x : X) → i < index → slice_get xs i ≡ Some x → test x ≡ false) → position_from test n xs ≡ Some (n + index)
@@ -75,13 +80,16 @@ two_behind {X} test n x xs first second stands two = record {
   earlier = earlier;
 }
   where
-    earlier : (i j : ℕ) (y z : X) → i < j → (i < suc two.left) ⊎ ((i ≡ suc two.left) × (j < suc two.right)) → slice_get (x ∷ xs) i ≡ Some y → slice_get (x ∷ xs) j ≡ Some z → test y z ≡ true
+    earlier : (i j : ℕ) (y z : X) → i < j → (i < suc two.left) ⊎ ((i ≡ suc two.left) × (j < suc two.right)) → slice_get (x ∷ xs) i ≡ Some y
+        → slice_get (x ∷ xs) j ≡ Some z → test y z ≡ true
     earlier i zero y z order less at_i at_j = absurd (omega arith)
     earlier zero (suc j) y z order less at_i at_j = let same : x ≡ y = cc at_i in subst (λ y. test y z ≡ true) same (stands j z at_j)
-    earlier (suc i) (suc j) y z order less at_i at_j = two.earlier i j y z (omega arith) (elim less [ inl under ↦ inl (omega arith) | inr level ↦ inr (omega (arith, level.0), omega (arith, level.1)) ]) at_i at_j
+    earlier (suc i) (suc j) y z order less at_i at_j = two.earlier i j y z (omega arith)
+        (elim less [ inl under ↦ inl (omega arith) | inr level ↦ inr (omega (arith, level.0), omega (arith, level.1)) ]) at_i at_j
 
 -- the first element and the first that it fails with
-two_here : {X : Type 0} (test : X → X → Bool) (n : ℕ) (x : X) (xs : List X) (second : ℕ) → IsFirstAt (λ y. not (test x y)) (n + 1) xs second → IsLeastTwo test n (x ∷ xs) n second
+two_here : {X : Type 0} (test : X → X → Bool) (n : ℕ) (x : X) (xs : List X) (second : ℕ) → IsFirstAt (λ y. not (test x y)) (n + 1) xs second
+    → IsLeastTwo test n (x ∷ xs) n second
 two_here {X} test n x xs second place = record {
   left = 0;
   right = suc place.index;
@@ -96,7 +104,8 @@ two_here {X} test n x xs second place = record {
   earlier = earlier;
 }
   where
-    earlier : (i j : ℕ) (y z : X) → i < j → (i < 0) ⊎ ((i ≡ 0) × (j < suc place.index)) → slice_get (x ∷ xs) i ≡ Some y → slice_get (x ∷ xs) j ≡ Some z → test y z ≡ true
+    earlier : (i j : ℕ) (y z : X) → i < j → (i < 0) ⊎ ((i ≡ 0) × (j < suc place.index)) → slice_get (x ∷ xs) i ≡ Some y → slice_get (x ∷ xs) j ≡ Some z
+        → test y z ≡ true
     earlier i zero y z order less at_i at_j = absurd (omega arith)
     earlier zero (suc j) y z order less at_i at_j =
         let same : x ≡ y = cc at_i in
@@ -104,23 +113,29 @@ two_here {X} test n x xs second place = record {
         subst (λ y. test y z ≡ true) same (not-false (test x z) (place.earlier j z before at_j))
     earlier (suc i) (suc j) y z order less at_i at_j = absurd (elim less [ inl under ↦ omega arith | inr level ↦ omega (arith, level.0) ])
 
-pub two_gives : {X : Type 0} (test : X → X → Bool) (n : ℕ) (xs : List X) (first second : ℕ) → first_two_from test n xs ≡ Some (first, second) → IsLeastTwo test n xs first second
+pub two_gives : {X : Type 0} (test : X → X → Bool) (n : ℕ) (xs : List X) (first second : ℕ) → first_two_from test n xs ≡ Some (first, second)
+    → IsLeastTwo test n xs first second
 two_gives test n [] first second h = absurd (cc h)
-two_gives test n (x ∷ xs) first second h = by_place (position_from (λ y. not (test x y)) (n + 1) xs) refl h (λ later. two_gives test (n + 1) xs first second later)
+two_gives test n (x ∷ xs) first second h = by_place (position_from (λ y. not (test x y)) (n + 1) xs) refl h
+    (λ later. two_gives test (n + 1) xs first second later)
   where
-    by_place : (place : Option ℕ) → position_from (λ y. not (test x y)) (n + 1) xs ≡ place → option_or (option_map (λ j. (n, j)) place) (first_two_from test (n + 1) xs) ≡ Some (first, second)
+    by_place : (place : Option ℕ) → position_from (λ y. not (test x y)) (n + 1) xs ≡ place
+        → option_or (option_map (λ j. (n, j)) place) (first_two_from test (n + 1) xs) ≡ Some (first, second)
         → (first_two_from test (n + 1) xs ≡ Some (first, second) → IsLeastTwo test (n + 1) xs first second) → IsLeastTwo test n (x ∷ xs) first second
     by_place (Some j) found h later =
         let both = same_Some (n, j) (first, second) h in
         let here : n ≡ first = ap (λ pair. pair.0) both in
         let there : j ≡ second = ap (λ pair. pair.1) both in
-        subst (λ k. IsLeastTwo test n (x ∷ xs) k second) here (two_here test n x xs second (place_gives (λ y. not (test x y)) (n + 1) xs second (found ∙ ap (λ k. Some k) there)))
-    by_place None none h later = two_behind test n x xs first second (λ j y at. not-false (test x y) (none_at (λ y. not (test x y)) (n + 1) xs none j y at)) (later h)
+        subst (λ k. IsLeastTwo test n (x ∷ xs) k second) here
+            (two_here test n x xs second (place_gives (λ y. not (test x y)) (n + 1) xs second (found ∙ ap (λ k. Some k) there)))
+    by_place None none h later = two_behind test n x xs first second (λ j y at. not-false (test x y) (none_at (λ y. not (test x y)) (n + 1) xs none j y at))
+        (later h)
 
 same_two : (a b c d : ℕ) → a ≡ c → b ≡ d → ◌≡◌ {A = Option (ℕ × ℕ)} (Some (a, b)) (Some (c, d))
 same_two a b c d first second = let pair : ℕ → ℕ → Option (ℕ × ℕ) = λ x y. Some (x, y) in ap (λ x. pair x b) first ∙ ap (pair c) second
 
-two_at : {X : Type 0} (test : X → X → Bool) (n : ℕ) (xs : List X) (left right : ℕ) (x y : X) → left < right → slice_get xs left ≡ Some x → slice_get xs right ≡ Some y → test x y ≡ false
+two_at : {X : Type 0} (test : X → X → Bool) (n : ℕ) (xs : List X) (left right : ℕ) (x y : X) → left < right → slice_get xs left ≡ Some x
+    → slice_get xs right ≡ Some y → test x y ≡ false
     → ((i j : ℕ) (v w : X) → i < j → (i < left) ⊎ ((i ≡ left) × (j < right)) → slice_get xs i ≡ Some v → slice_get xs j ≡ Some w → test v w ≡ true)
     → first_two_from test n xs ≡ Some (n + left, n + right)
 two_at test n [] left right x y order at_x at_y fails earlier = absurd (cc at_x)
@@ -132,16 +147,19 @@ two_at test n (z ∷ xs) zero (suc right) x y order at_x at_y fails earlier =
     ap (λ found. option_or (option_map (λ j. (n, j)) found) (first_two_from test (n + 1) xs)) place
     ∙ same_two n (n + 1 + right) (n + 0) (n + suc right) (omega arith) (omega arith)
 two_at test n (z ∷ xs) (suc left) (suc right) x y order at_x at_y fails earlier =
-    let none = place_none (λ w. not (test z w)) (n + 1) xs (λ i w at. not_from_true (test z w) (earlier 0 (suc i) z w (omega arith) (inl (omega arith)) refl at)) in
+    let none = place_none (λ w. not (test z w)) (n + 1) xs
+        (λ i w at. not_from_true (test z w) (earlier 0 (suc i) z w (omega arith) (inl (omega arith)) refl at)) in
     ap (λ found. option_or (option_map (λ j. (n, j)) found) (first_two_from test (n + 1) xs)) none
-    ∙ two_at test (n + 1) xs left right x y (omega arith) at_x at_y fails (λ i j v w less before at_v at_w. earlier (suc i) (suc j) v w (omega arith) (moved i j before) at_v at_w)
+    ∙ two_at test (n + 1) xs left right x y (omega arith) at_x at_y fails
+        (λ i j v w less before at_v at_w. earlier (suc i) (suc j) v w (omega arith) (moved i j before) at_v at_w)
     ∙ same_two (n + 1 + left) (n + 1 + right) (n + suc left) (n + suc right) (omega arith) (omega arith)
   where
     moved : (i j : ℕ) → (i < left) ⊎ ((i ≡ left) × (j < right)) → (suc i < suc left) ⊎ ((suc i ≡ suc left) × (suc j < suc right))
     moved i j (inl under) = inl (omega arith)
     moved i j (inr level) = inr (ap suc level.0, omega (arith, level.1))
 
-pub two_from : {X : Type 0} (test : X → X → Bool) (n : ℕ) (xs : List X) (first second : ℕ) → IsLeastTwo test n xs first second → first_two_from test n xs ≡ Some (first, second)
+pub two_from : {X : Type 0} (test : X → X → Bool) (n : ℕ) (xs : List X) (first second : ℕ) → IsLeastTwo test n xs first second
+    → first_two_from test n xs ≡ Some (first, second)
 two_from test n xs first second two =
     two_at test n xs two.left two.right two.left_element two.right_element two.order two.at_left two.at_right two.fails two.earlier
     ∙ same_two (n + two.left) (n + two.right) first second (sym two.first_counted) (sym two.second_counted)
@@ -153,7 +171,8 @@ pub find_gives : {X : Type 0} (R : X → X → Type 0) (test : X → Bool) (xs :
     → Among x xs × (test x ≡ true) × ((y : X) → Among y xs → test y ≡ true → (x ≡ y) ⊎ R x y)
 find_gives R test [] x order h = absurd (cc h)
 find_gives R test (z ∷ xs) x order h = elim (cases_Bool (test z)) [
-  | inl passes ↦ let same : z ≡ x = cc (rw passes at h) in subst (λ x. Among x (z ∷ xs) × (test x ≡ true) × ((y : _) → Among y (z ∷ xs) → test y ≡ true → (x ≡ y) ⊎ R x y)) same (inl refl, passes, here order.0)
+  | inl passes ↦ let same : z ≡ x = cc (rw passes at h) in
+      subst (λ x. Among x (z ∷ xs) × (test x ≡ true) × ((y : _) → Among y (z ∷ xs) → test y ≡ true → (x ≡ y) ⊎ R x y)) same (inl refl, passes, here order.0)
   | inr fails ↦ let rest = find_gives R test xs x order.1 (rw fails at h) in (inr rest.0, rest.1, later fails rest.2)
 ]
   where
@@ -165,7 +184,8 @@ find_gives R test (z ∷ xs) x order h = elim (cases_Bool (test z)) [
     later fails rest y (inl same) passes = absurd (both_ways (test y) (sym (ap test same) ∙ fails) passes)
     later fails rest y (inr more) passes = rest y more passes
 
-pub find_from : {X : Type 0} (R : X → X → Type 0) (test : X → Bool) (xs : List X) (x : X) → Ordered R xs → ((y z : X) → R y z → R z y → ⊥) → Among x xs → test x ≡ true
+pub find_from : {X : Type 0} (R : X → X → Type 0) (test : X → Bool) (xs : List X) (x : X) → Ordered R xs → ((y z : X) → R y z → R z y → ⊥) → Among x xs
+    → test x ≡ true
     → ((y : X) → Among y xs → test y ≡ true → (x ≡ y) ⊎ R x y) → find test xs ≡ Some x
 find_from {X} R test xs x order one_way among passes first = same_one found.1 found.4
   where

@@ -1,7 +1,8 @@
 -- A list whose members fit, and each two of which may stand together, has at most fifty zones and five twins on any
 -- board. Each zone has two squares at least, and each Baseinverse two columns; no two zones share a square, and no two
 -- Baseinverses a column.
-use Rattle.std.proofs.Common.{◌≡◌, ◌≢◌, ℕ, suc, ◌+◌, ◌*◌, ◌<◌, ◌≤◌, Bool, true, ◌||◌, ◌==◌, cond, List, [], ◌∷◌, ◌++◌, length, filter, Option, Some, None, is_some, refl, sym, ap, ◌∙◌, inl, inr, arith}
+use Rattle.std.proofs.Common.{◌≡◌, ◌≢◌, ℕ, suc, ◌+◌, ◌*◌, ◌<◌, ◌≤◌, Bool, true, ◌||◌, ◌==◌, cond, List, [], ◌∷◌, ◌++◌, length, filter, Option, Some, None,
+    is_some, refl, sym, ap, ◌∙◌, inl, inr, arith}
 use Rattle.std.specs.List.{list_all, list_any, flat_map, sum_by}
 use Rattle.std.proofs.lemmas.Bool.{cases_Bool, and_parts, or_cases, or_left, or_right, eqb-true, eq-eqb, ltb-true, false_from_ne_true}
 use Rattle.std.proofs.lemmas.List.FromFn.{length-range_with_len}
@@ -14,7 +15,8 @@ use Rattle.game_rules.proofs.Lists.{Among, all_gives, Among-below}
 use Rattle.game_rules.proofs.Squares.{has_gives, has_from, Among-board}
 use Rattle.game_rules.proofs.Groups.{board_most}
 use Rattle.plan_rules.specs.Squares.{above}
-use Rattle.plan_rules.specs.Rules.{RuleInstance, claimeven, baseinverse, lowinverse, highinverse, baseclaim, zone_of, twin_of, as_list, fits, facts_of, together}
+use Rattle.plan_rules.specs.Rules.{RuleInstance, claimeven, baseinverse, lowinverse, highinverse, baseclaim, zone_of, twin_of, as_list, fits, facts_of,
+    together}
 use Rattle.plan_rules.specs.Plan.{each_two, is_plan}
 use Rattle.plan_rules.specs.Zones.{owns_zone, zones_from}
 use Rattle.plan_rules.specs.Refusal.{StandTogether}
@@ -43,12 +45,16 @@ one_passing test (x ∷ xs) a (inr later) passes = omega (arith, passing_past te
 two_passing : {X : Type 0} (test : X → Bool) (xs : List X) (a b : X) → a ≢ b → Among a xs → Among b xs → test a ≡ true → test b ≡ true → 2 ≤ passing test xs
 two_passing test [] a b apart in_a in_b passes_a passes_b = absurd in_a
 two_passing test (x ∷ xs) a b apart (inl same_a) (inl same_b) passes_a passes_b = absurd (apart (sym same_a ∙ same_b))
-two_passing test (x ∷ xs) a b apart (inl same) (inr later) passes_a passes_b = omega (arith, passing_here test x xs (ap test same ∙ passes_a), one_passing test xs b later passes_b)
-two_passing test (x ∷ xs) a b apart (inr later) (inl same) passes_a passes_b = omega (arith, passing_here test x xs (ap test same ∙ passes_b), one_passing test xs a later passes_a)
-two_passing test (x ∷ xs) a b apart (inr later_a) (inr later_b) passes_a passes_b = omega (arith, passing_past test x xs, two_passing test xs a b apart later_a later_b passes_a passes_b)
+two_passing test (x ∷ xs) a b apart (inl same) (inr later) passes_a passes_b =
+    omega (arith, passing_here test x xs (ap test same ∙ passes_a), one_passing test xs b later passes_b)
+two_passing test (x ∷ xs) a b apart (inr later) (inl same) passes_a passes_b =
+    omega (arith, passing_here test x xs (ap test same ∙ passes_b), one_passing test xs a later passes_a)
+two_passing test (x ∷ xs) a b apart (inr later_a) (inr later_b) passes_a passes_b =
+    omega (arith, passing_past test x xs, two_passing test xs a b apart later_a later_b passes_a passes_b)
 
 -- at most one member passes, where no two that stand together do
-one_member : (test : RuleInstance → Bool) (ws : List RuleInstance) → each_two together ws ≡ true → ((v w : RuleInstance) → together v w ≡ true → test v ≡ true → test w ≡ true → ⊥) → passing test ws ≤ 1
+one_member : (test : RuleInstance → Bool) (ws : List RuleInstance) → each_two together ws ≡ true
+    → ((v w : RuleInstance) → together v w ≡ true → test v ≡ true → test w ≡ true → ⊥) → passing test ws ≤ 1
 one_member test [] standing apart = omega arith
 one_member test (w ∷ ws) standing apart = elim (cases_Bool (test w)) [
   | inl passes ↦
@@ -61,7 +67,8 @@ one_member test (w ∷ ws) standing apart = elim (cases_Bool (test w)) [
     both = and_parts (list_all (together w) ws) (each_two together ws) standing
 
 -- twice as many as are counted, where each of those has two at least
-twice : {X : Type 0} (counted : X → Bool) (f : X → ℕ) (xs : List X) → ((x : X) → Among x xs → counted x ≡ true → 2 ≤ f x) → 2 * length (filter counted xs) ≤ sum_by f xs
+twice : {X : Type 0} (counted : X → Bool) (f : X → ℕ) (xs : List X) → ((x : X) → Among x xs → counted x ≡ true → 2 ≤ f x)
+    → 2 * length (filter counted xs) ≤ sum_by f xs
 twice counted f [] two = omega arith
 twice counted f (x ∷ xs) two = elim (cases_Bool (counted x)) [
   | inl is ↦ rw is (let rest = twice counted f xs (λ y among. two y (inr among)) in omega (arith, rest, two x (inl refl) is, sum_by-cons f x xs))
@@ -170,7 +177,8 @@ inverse_at (baseinverse s t) c h = elim (or_cases _ _ h) [
 inverse_at w c h = absurd (cc h)
 
 -- two Baseinverses that stand together share no column
-inverses_apart : (s t u v : Square) → together (baseinverse s t) (baseinverse u v) ≡ true → (a b : Square) → has_square (s ∷ t ∷ []) a ≡ true → has_square (u ∷ v ∷ []) b ≡ true → a.0 ≡ b.0 → ⊥
+inverses_apart : (s t u v : Square) → together (baseinverse s t) (baseinverse u v) ≡ true → (a b : Square) → has_square (s ∷ t ∷ []) a ≡ true
+    → has_square (u ∷ v ∷ []) b ≡ true → a.0 ≡ b.0 → ⊥
 inverses_apart s t u v h a b in_a in_b = by_case (apart_gives (baseinverse s t) (baseinverse u v) h)
   where
     by_case : Apart (baseinverse s t) (baseinverse u v) → a.0 ≡ b.0 → ⊥
@@ -183,7 +191,8 @@ inverses_apart s t u v h a b in_a in_b = by_case (apart_gives (baseinverse s t) 
 twins_apart : (v w : RuleInstance) (c : ℕ) → together v w ≡ true → is_twin_column v c ≡ true → is_twin_column w c ≡ true → ⊥
 twins_apart v w c h left right =
     let a = inverse_at v c left in let b = inverse_at w c right in
-    let both : together (baseinverse a.s a.t) (baseinverse b.s b.t) ≡ true = ap (λ v. together v (baseinverse b.s b.t)) (sym a.is_inverse) ∙ ap (together v) (sym b.is_inverse) ∙ h in
+    let both : together (baseinverse a.s a.t) (baseinverse b.s b.t) ≡ true = ap (λ v. together v (baseinverse b.s b.t)) (sym a.is_inverse)
+        ∙ ap (together v) (sym b.is_inverse) ∙ h in
     inverses_apart a.s a.t b.s b.t both a.foot b.foot a.owned b.owned (a.column ∙ sym b.column)
 
 -- a twin of an instance that fits has two columns of the board
@@ -194,7 +203,8 @@ twin_columns (baseinverse s t) p fitted twin =
     (or_left _ _ (or_left _ _ (eq-eqb s.0 s.0 refl))) (or_left _ _ (or_right _ _ (eq-eqb t.0 t.0 refl)))
   where
     column : (u : Square) → Among u (s ∷ t ∷ []) → Among u.0 (below (board_of p).cols)
-    column u among = Among-below (board_of p).cols u.0 (on_board_parts (board_of p) u.0 u.1 (all_gives (on_board (board_of p)) (s ∷ t ∷ []) u (fits_on_board (baseinverse s t) p fitted) among)).0
+    column u among = Among-below (board_of p).cols u.0
+        (on_board_parts (board_of p) u.0 u.1 (all_gives (on_board (board_of p)) (s ∷ t ∷ []) u (fits_on_board (baseinverse s t) p fitted) among)).0
 twin_columns w p fitted twin = absurd (cc twin)
 
 twins_counted : (ws : List RuleInstance) → length (flat_map (λ w. as_list (twin_of w)) ws) ≡ length (filter (λ w. is_some (twin_of w)) ws)
@@ -202,7 +212,8 @@ twins_counted [] = refl
 twins_counted (w ∷ ws) = by_twin (twin_of w) (twins_counted ws)
   where
     by_twin : (twin : Option (Square × Square)) → length (flat_map (λ w. as_list (twin_of w)) ws) ≡ length (filter (λ w. is_some (twin_of w)) ws)
-        → length (as_list twin ++ flat_map (λ w. as_list (twin_of w)) ws) ≡ length (cond (is_some twin) (w ∷ filter (λ w. is_some (twin_of w)) ws) (filter (λ w. is_some (twin_of w)) ws))
+        → length (as_list twin ++ flat_map (λ w. as_list (twin_of w)) ws)
+            ≡ length (cond (is_some twin) (w ∷ filter (λ w. is_some (twin_of w)) ws) (filter (λ w. is_some (twin_of w)) ws))
     by_twin None rest = rest
     by_twin (Some twin) rest = ap suc rest
 

@@ -1,5 +1,6 @@
 -- A plan in words of squares and lines, and the test of it.
-use Rattle.std.proofs.Common.{◌≡◌, ℕ, zero, suc, ◌+◌, ◌<◌, Bool, true, not, ◌||◌, List, [], ◌∷◌, Option, Some, None, is_none, refl, sym, ap, subst, inl, inr, arith}
+use Rattle.std.proofs.Common.{◌≡◌, ℕ, zero, suc, ◌+◌, ◌<◌, Bool, true, not, ◌||◌, List, [], ◌∷◌, Option, Some, None, is_none, refl, sym, ap, subst, inl, inr,
+    arith}
 use Rattle.std.specs.List.{list_all, list_any}
 use Rattle.std.proofs.lemmas.Bool.{cases_Bool, both_ways, and_parts, and_from, or_cases, or_left, or_right, not-true, not_from_false, false_from_ne_true}
 use Rattle.game_rules.specs.Board.{Board, Square, below, on_board, is_line, ways}
@@ -30,10 +31,12 @@ any_member test ws some = any_from test ws some.member (get-Among ws some.place 
 pub each_member : (test : RuleInstance → Bool) (ws : List RuleInstance) → list_all test ws ≡ true → (i : ℕ) (w : RuleInstance) → IsMember ws i w → test w ≡ true
 each_member test ws h i w member = all_gives test ws w h (get-Among ws i w member)
 
-pub all_members : (test : RuleInstance → Bool) (ws : List RuleInstance) → ((i : ℕ) (w : RuleInstance) → IsMember ws i w → test w ≡ true) → list_all test ws ≡ true
+pub all_members : (test : RuleInstance → Bool) (ws : List RuleInstance) → ((i : ℕ) (w : RuleInstance) → IsMember ws i w → test w ≡ true)
+    → list_all test ws ≡ true
 all_members test ws each = all_from test ws (λ w among. let at = Among-get ws w among in each at.0 w at.1)
 
-two_give : (test : RuleInstance → RuleInstance → Bool) (ws : List RuleInstance) → each_two test ws ≡ true → (i j : ℕ) (v w : RuleInstance) → i < j → IsMember ws i v → IsMember ws j w → test v w ≡ true
+two_give : (test : RuleInstance → RuleInstance → Bool) (ws : List RuleInstance) → each_two test ws ≡ true → (i j : ℕ) (v w : RuleInstance) → i < j
+    → IsMember ws i v → IsMember ws j w → test v w ≡ true
 two_give test [] h i j v w order left right = absurd (cc left)
 two_give test (x ∷ ws) h i zero v w order left right = absurd (omega arith)
 two_give test (x ∷ ws) h zero (suc j) v w order left right =
@@ -41,7 +44,8 @@ two_give test (x ∷ ws) h zero (suc j) v w order left right =
     subst (λ x. test x w ≡ true) same (each_member (test x) ws (and_parts _ _ h).0 j w right)
 two_give test (x ∷ ws) h (suc i) (suc j) v w order left right = two_give test ws (and_parts _ _ h).1 i j v w (omega arith) left right
 
-two_from : (test : RuleInstance → RuleInstance → Bool) (ws : List RuleInstance) → ((i j : ℕ) (v w : RuleInstance) → i < j → IsMember ws i v → IsMember ws j w → test v w ≡ true) → each_two test ws ≡ true
+two_from : (test : RuleInstance → RuleInstance → Bool) (ws : List RuleInstance)
+    → ((i j : ℕ) (v w : RuleInstance) → i < j → IsMember ws i v → IsMember ws j w → test v w ≡ true) → each_two test ws ≡ true
 two_from test [] each = refl
 two_from test (x ∷ ws) each = and_from _ _ (all_members (test x) ws (λ j w member. each 0 (suc j) x w (omega arith) refl member))
     (two_from test ws (λ i j v w order left right. each (suc i) (suc j) v w (omega arith) left right))
@@ -63,8 +67,10 @@ every_square_from board test each = all_from (λ c. list_all (λ r. test (c, r +
 every_line_gives : (board : Board) (test : Group → Bool) → every_line board test ≡ true → (g : Group) → lies_on board g ≡ true → test g ≡ true
 every_line_gives board test h g lies =
     let parts = lies_parts board g lies in
-    let along = all_gives (λ way. every_square board (λ anchor. not (is_line board way anchor) || test (group_on board way anchor))) ways g.way h (Among-ways g.way) in
-    let at = every_square_gives board (λ anchor. not (is_line board g.way anchor) || test (group_on board g.way anchor)) along g.anchor (anchor_on board g.way g.anchor parts.1) in
+    let along = all_gives (λ way. every_square board (λ anchor. not (is_line board way anchor) || test (group_on board way anchor))) ways g.way h
+        (Among-ways g.way) in
+    let at = every_square_gives board (λ anchor. not (is_line board g.way anchor) || test (group_on board g.way anchor)) along g.anchor
+        (anchor_on board g.way g.anchor parts.1) in
     elim (or_cases _ _ at) [
       | inl off ↦ absurd (both_ways (is_line board g.way g.anchor) (not-true _ off) parts.1)
       | inr passes ↦ subst (λ g. test g ≡ true) (group_as board g parts.0) passes
@@ -73,7 +79,8 @@ every_line_gives board test h g lies =
 every_line_from : (board : Board) (test : Group → Bool) → ((g : Group) → lies_on board g ≡ true → test g ≡ true) → every_line board test ≡ true
 every_line_from board test each =
     all_from (λ way. every_square board (λ anchor. not (is_line board way anchor) || test (group_on board way anchor))) ways (λ way _.
-    every_square_from board (λ anchor. not (is_line board way anchor) || test (group_on board way anchor)) (λ anchor. elim (cases_Bool (is_line board way anchor)) [
+    every_square_from board (λ anchor. not (is_line board way anchor) || test (group_on board way anchor))
+        (λ anchor. elim (cases_Bool (is_line board way anchor)) [
       | inl line ↦ or_right _ _ (each (group_on board way anchor) (lies_from board way anchor line))
       | inr off ↦ or_left _ _ (not_from_false _ off)
     ]))
@@ -93,12 +100,14 @@ plan_gives p ws h =
       going = none_is (end_of p) going.1;
       fitting = each_member (λ w. fits w p) ws fitting.1;
       compatible = two_give together ws compatible.1;
-      covered = λ u empty. elim (or_cases _ _ (every_square_gives (board_of p) (λ u. not (is_empty p u) || has_owner ws u) covered.1 u (empty_parts p u empty).0)) [
+      covered = λ u empty. elim (or_cases _ _
+          (every_square_gives (board_of p) (λ u. not (is_empty p u) || has_owner ws u) covered.1 u (empty_parts p u empty).0)) [
         | inl filled ↦ absurd (both_ways (is_empty p u) (not-true _ filled) empty)
         | inr owned ↦ member_of (λ w. has_square (zone_of w) u) ws owned
       ];
       supported = each_member (λ w. is_supported w (facts_of p ws)) ws supported.1;
-      answered = λ g lies no_black. elim (or_cases _ _ (every_line_gives (board_of p) (λ g. list_any (has_man p Black) (squares_of g) || is_barred p ws g) answered.1 g lies)) [
+      answered = λ g lies no_black. elim
+          (or_cases _ _ (every_line_gives (board_of p) (λ g. list_any (has_man p Black) (squares_of g) || is_barred p ws g) answered.1 g lies)) [
         | inl some ↦ let found = any_gives (has_man p Black) (squares_of g) some in
             absurd (both_ways (has_man p Black found.0) (no_black found.0 (has_from (squares_of g) found.0 found.1)) found.2)
         | inr barred_one ↦ member_of (λ w. barred w (facts_of p ws) (empty_part p g)) ws barred_one
@@ -117,8 +126,10 @@ plan_from p ws plan =
       | inr filled ↦ or_left _ _ (not_from_false _ filled)
     ])))
     (all_members (λ w. is_supported w (facts_of p ws)) ws plan.supported))
-    (every_line_from (board_of p) (λ g. list_any (has_man p Black) (squares_of g) || is_barred p ws g) (λ g lies. elim (cases_Bool (list_any (has_man p Black) (squares_of g))) [
+    (every_line_from (board_of p) (λ g. list_any (has_man p Black) (squares_of g) || is_barred p ws g)
+        (λ g lies. elim (cases_Bool (list_any (has_man p Black) (squares_of g))) [
       | inl some ↦ or_left _ _ some
       | inr none ↦ or_right _ _ (any_member (λ w. barred w (facts_of p ws) (empty_part p g)) ws (plan.answered g lies (λ u owned.
-          false_from_ne_true _ (λ black. both_ways (list_any (has_man p Black) (squares_of g)) none (any_from (has_man p Black) (squares_of g) u (has_gives (squares_of g) u owned) black)))))
+          false_from_ne_true _ (λ black. both_ways (list_any (has_man p Black) (squares_of g)) none
+              (any_from (has_man p Black) (squares_of g) u (has_gives (squares_of g) u owned) black)))))
     ]))

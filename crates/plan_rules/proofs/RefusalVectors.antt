@@ -51,7 +51,8 @@ unfolding squares_of_board groups_of
 first_misfit = refl
 
 -- all squares are covered
-crossed_zones : refused [] (baseinverse (0, 1) (2, 1) ∷ baseinverse (1, 1) (3, 1) ∷ lowinverse (0, 2) (0, 4) (1, 2) (1, 4) ∷ lowinverse (2, 2) (2, 4) (3, 2) (3, 4) ∷ []) ≡ Some (Some (clash 1 3))
+crossed_zones : refused [] (baseinverse (0, 1) (2, 1) ∷ baseinverse (1, 1) (3, 1) ∷ lowinverse (0, 2) (0, 4) (1, 2) (1, 4)
+    ∷ lowinverse (2, 2) (2, 4) (3, 2) (3, 4) ∷ []) ≡ Some (Some (clash 1 3))
 unfolding squares_of_board groups_of
 crossed_zones = refl
 
@@ -84,7 +85,8 @@ unsupported_aftereven : refused [] (six_zones ++ aftereven (line_of_four (0, 2) 
 unfolding squares_of_board groups_of
 unsupported_aftereven = refl
 
-only_claimevens : refused [] (columns_a_b ++ claimeven (2, 1) ∷ claimeven (2, 3) ∷ claimeven (3, 1) ∷ claimeven (3, 3) ∷ []) ≡ Some (Some (unanswered (line_of_four (0, 1) H)))
+only_claimevens : refused [] (columns_a_b ++ claimeven (2, 1) ∷ claimeven (2, 3) ∷ claimeven (3, 1) ∷ claimeven (3, 3) ∷ [])
+    ≡ Some (Some (unanswered (line_of_four (0, 1) H)))
 unfolding squares_of_board groups_of
 only_claimevens = refl
 

@@ -1,5 +1,6 @@
 -- A list has no refusal exactly where it is a plan.
-use Rattle.std.proofs.Common.{◌≡◌, ℕ, ◌+◌, Bool, true, false, not, ◌&&◌, ◌||◌, if◌then◌else◌, List, [], ◌∷◌, filter, Option, Some, None, is_some, is_none, refl, ap, ◌∙◌, inl, inr}
+use Rattle.std.proofs.Common.{◌≡◌, ℕ, ◌+◌, Bool, true, false, not, ◌&&◌, ◌||◌, if◌then◌else◌, List, [], ◌∷◌, filter, Option, Some, None, is_some, is_none, refl,
+    ap, ◌∙◌, inl, inr}
 use Rattle.std.specs.List.{list_all, list_any, flat_map, find, position_from}
 use Rattle.std.specs.Option.{option_map, option_or}
 use Rattle.std.proofs.lemmas.Bool.{cases_Bool}
@@ -26,7 +27,8 @@ all_same p q (x ∷ xs) same = ap (λ b. b && list_all p xs) (same x) ∙ ap (λ
 
 all_flat_map : {X Y : Type 0} (p : Y → Bool) (f : X → List Y) (xs : List X) → list_all p (flat_map f xs) ≡ list_all (λ x. list_all p (f x)) xs
 all_flat_map p f [] = refl
-all_flat_map p f (x ∷ xs) = ap (list_all p) (flat_map-cons f x xs) ∙ list_all-append p (f x) (flat_map f xs) ∙ ap (λ b. list_all p (f x) && b) (all_flat_map p f xs)
+all_flat_map p f (x ∷ xs) = ap (list_all p) (flat_map-cons f x xs) ∙ list_all-append p (f x) (flat_map f xs)
+    ∙ ap (λ b. list_all p (f x) && b) (all_flat_map p f xs)
 
 all_filter : {X : Type 0} (p q : X → Bool) (xs : List X) → list_all p (filter q xs) ≡ list_all (λ x. not (q x) || p x) xs
 all_filter p q [] = refl
@@ -38,7 +40,8 @@ all_filter p q (x ∷ xs) = elim (cases_Bool (q x)) [
 -- the tests of each square and of each line, over their lists in order
 pub squares_all : (b : Board) (test : Square → Bool) → list_all test (squares_of_board b) ≡ every_square b test
 unfolding squares_of_board
-squares_all b test = all_flat_map test (squares_in_column b.rows) (below b.cols) ∙ all_same _ _ (below b.cols) (λ c. list_all-map test (λ i. (c, i + 1)) (below b.rows))
+squares_all b test = all_flat_map test (squares_in_column b.rows) (below b.cols)
+    ∙ all_same _ _ (below b.cols) (λ c. list_all-map test (λ i. (c, i + 1)) (below b.rows))
 
 pub lines_all : (b : Board) (test : Group → Bool) → list_all test (groups_of b) ≡ every_line b test
 unfolding groups_of
@@ -61,7 +64,8 @@ no_place test n (x ∷ xs) = elim (cases_Bool (test x)) [
 
 pub no_two : (test : RuleInstance → RuleInstance → Bool) (n : ℕ) (ws : List RuleInstance) → is_none (first_two_from test n ws) ≡ each_two test ws
 no_two test n [] = refl
-no_two test n (w ∷ ws) = or_none (position_from (λ v. not (test w v)) (n + 1) ws) (first_two_from test (n + 1) ws) ∙ cc (no_place (test w) (n + 1) ws, no_two test (n + 1) ws)
+no_two test n (w ∷ ws) = or_none (position_from (λ v. not (test w v)) (n + 1) ws) (first_two_from test (n + 1) ws)
+    ∙ cc (no_place (test w) (n + 1) ws, no_two test (n + 1) ws)
   where
     or_none : (i : Option ℕ) (two : Option (ℕ × ℕ)) → is_none (option_or (option_map (λ j. (n, j)) i) two) ≡ (is_none i && is_none two)
     or_none None two = refl
@@ -85,13 +89,15 @@ not_nor true b = refl
 not_nor false true = refl
 not_nor false false = refl
 
-no_square : (p : Position) (ws : List RuleInstance) → is_none (find (is_uncovered p ws) (squares_of_board (board_of p))) ≡ every_square (board_of p) (λ u. not (is_empty p u) || has_owner ws u)
+no_square : (p : Position) (ws : List RuleInstance) → is_none (find (is_uncovered p ws) (squares_of_board (board_of p)))
+    ≡ every_square (board_of p) (λ u. not (is_empty p u) || has_owner ws u)
 no_square p ws =
     no_find (is_uncovered p ws) (squares_of_board (board_of p))
     ∙ all_same _ _ (squares_of_board (board_of p)) (λ u. not_and (is_empty p u) (has_owner ws u))
     ∙ squares_all (board_of p) (λ u. not (is_empty p u) || has_owner ws u)
 
-no_line : (p : Position) (ws : List RuleInstance) → is_none (find (is_unanswered p ws) (groups_of (board_of p))) ≡ every_line (board_of p) (λ g. list_any (has_man p Black) (squares_of g) || is_barred p ws g)
+no_line : (p : Position) (ws : List RuleInstance) → is_none (find (is_unanswered p ws) (groups_of (board_of p)))
+    ≡ every_line (board_of p) (λ g. list_any (has_man p Black) (squares_of g) || is_barred p ws g)
 no_line p ws =
     no_find (is_unanswered p ws) (groups_of (board_of p))
     ∙ all_same _ _ (groups_of (board_of p)) (λ g. not_nor (list_any (has_man p Black) (squares_of g)) (is_barred p ws g))
@@ -102,7 +108,8 @@ no_line p ws =
 none_of_seven : (white : Bool) (end : Option End) (i : Option ℕ) (two : Option (ℕ × ℕ)) (u : Option Square) (j : Option ℕ) (g : Option Group)
     → is_none (
     if not white then Some not_white_to_move else (if is_some end then Some ended else
-    option_or (option_or (option_map misfit i) (option_map (λ two. clash two.0 two.1) two)) (option_or (option_map uncovered u) (option_or (option_map unsupported j) (option_map unanswered g)))))
+    option_or (option_or (option_map misfit i) (option_map (λ two. clash two.0 two.1) two))
+        (option_or (option_map uncovered u) (option_or (option_map unsupported j) (option_map unanswered g)))))
     ≡ (white && is_none end && is_none i && is_none two && is_none u && is_none j && is_none g)
 none_of_seven false end i two u j g = refl
 none_of_seven true (Some e) i two u j g = refl
@@ -117,7 +124,8 @@ pub refusal_is : (p : Position) (ws : List RuleInstance) → is_none (plan_refus
 refusal_is p ws =
     let all = none_of_seven (same_side White (side_to_move p)) (end_of p)
     (position_from (λ w. not (fits w p)) 1 ws) (first_two_from together 1 ws)
-    (find (is_uncovered p ws) (squares_of_board (board_of p))) (position_from (λ w. not (is_supported w (facts_of p ws))) 1 ws) (find (is_unanswered p ws) (groups_of (board_of p))) in
+    (find (is_uncovered p ws) (squares_of_board (board_of p))) (position_from (λ w. not (is_supported w (facts_of p ws))) 1 ws)
+        (find (is_unanswered p ws) (groups_of (board_of p))) in
     let fitting = no_place (λ w. fits w p) 1 ws in
     let standing = no_two together 1 ws in
     let supported = no_place (λ w. is_supported w (facts_of p ws)) 1 ws in

@@ -1,5 +1,6 @@
 -- A list made from fewer sites is whole where each site of an instance that fits is among them.
-use Rattle.std.proofs.Common.{◌≡◌, ℕ, ◌%◌, Bool, true, false, not, ◌==◌, ◌&&◌, nat_le, cond, List, [], ◌∷◌, ◌++◌, map, filter, refl, sym, ap, ◌∙◌, inl, inr, arith}
+use Rattle.std.proofs.Common.{◌≡◌, ℕ, ◌%◌, Bool, true, false, not, ◌==◌, ◌&&◌, nat_le, cond, List, [], ◌∷◌, ◌++◌, map, filter, refl, sym, ap, ◌∙◌, inl, inr,
+    arith}
 use Rattle.std.specs.List.{list_all}
 use Rattle.std.proofs.lemmas.Bool.{cases_Bool, cases_eq, both_ways, and_parts, and_from, eq-eqb, eqb-true, ne_eqb, le-leb}
 use Rattle.std.proofs.lemmas.List.Elements.{filter-append}
@@ -22,7 +23,8 @@ use Rattle.plan_rules.specs.declared.Kind.TheVariants as kinds
 abbrev both_pass : {X Y : Type 0} → (X → Bool) → (Y → Bool) → X × Y → Bool
 both_pass g h two = g two.0 && h two.1
 
-beside_passes : {X Y : Type 0} (g : X → Bool) (h : Y → Bool) (x : X) (ys : List Y) → g x ≡ true → filter (both_pass g h) (map (λ y. (x, y)) ys) ≡ map (λ y. (x, y)) (filter h ys)
+beside_passes : {X Y : Type 0} (g : X → Bool) (h : Y → Bool) (x : X) (ys : List Y) → g x ≡ true
+    → filter (both_pass g h) (map (λ y. (x, y)) ys) ≡ map (λ y. (x, y)) (filter h ys)
 beside_passes g h x [] passes = refl
 beside_passes g h x (y ∷ ys) passes = elim (cases_Bool (h y)) [
   | inl good ↦ rw (passes, good) (ap (λ twos. (x, y) ∷ twos) (beside_passes g h x ys passes))
@@ -33,7 +35,8 @@ beside_fails : {X Y : Type 0} (g : X → Bool) (h : Y → Bool) (x : X) (ys : Li
 beside_fails g h x [] fails = refl
 beside_fails g h x (y ∷ ys) fails = rw fails (beside_fails g h x ys fails)
 
-filter_pairs : {X Y : Type 0} (g : X → Bool) (h : Y → Bool) (xs : List X) (ys : List Y) → each_with (filter g xs) (filter h ys) ≡ filter (both_pass g h) (each_with xs ys)
+filter_pairs : {X Y : Type 0} (g : X → Bool) (h : Y → Bool) (xs : List X) (ys : List Y)
+    → each_with (filter g xs) (filter h ys) ≡ filter (both_pass g h) (each_with xs ys)
 filter_pairs g h [] ys = refl
 filter_pairs g h (x ∷ xs) ys =
     let apart = filter-append (both_pass g h) (map (λ y. (x, y)) ys) (each_with xs ys) in
@@ -59,12 +62,14 @@ fitting_map written p (x ∷ xs) = elim (cases_Bool (fits (written x) p)) [
   | inr bad ↦ rw bad (fitting_map written p xs)
 ]
 
-pub fitting_within : {X : Type 0} (written : X → RuleInstance) (p : Position) (test : X → Bool) (xs : List X) → ((x : X) → fits (written x) p ≡ true → test x ≡ true) → fitting written p (filter test xs) ≡ fitting written p xs
+pub fitting_within : {X : Type 0} (written : X → RuleInstance) (p : Position) (test : X → Bool) (xs : List X)
+    → ((x : X) → fits (written x) p ≡ true → test x ≡ true) → fitting written p (filter test xs) ≡ fitting written p xs
 fitting_within written p test xs within =
     fitting_map written p (filter test xs) ∙ ap (map written) (filter_within (λ x. fits (written x) p) test xs within) ∙ sym (fitting_map written p xs)
 
 pub fitting_pairs_within : {X Y : Type 0} (written : X × Y → RuleInstance) (p : Position) (g : X → Bool) (h : Y → Bool) (xs : List X) (ys : List Y)
-    → ((x : X) (y : Y) → fits (written (x, y)) p ≡ true → (g x ≡ true) × (h y ≡ true)) → fitting written p (each_with (filter g xs) (filter h ys)) ≡ fitting written p (each_with xs ys)
+    → ((x : X) (y : Y) → fits (written (x, y)) p ≡ true → (g x ≡ true) × (h y ≡ true))
+        → fitting written p (each_with (filter g xs) (filter h ys)) ≡ fitting written p (each_with xs ys)
 fitting_pairs_within written p g h xs ys within =
     ap (fitting written p) (filter_pairs g h xs ys)
     ∙ fitting_within written p (both_pass g h) (each_with xs ys) (λ two good. let both = within two.0 two.1 good in and_from (g two.0) (h two.1) both.0 both.1)
@@ -73,7 +78,8 @@ fitting_pairs_within written p g h xs ys within =
 
 -- a set of squares that has each site is enough
 pub fitting_where : (written : Square → RuleInstance) (p : Position) (test : Square → Bool) → is_board (board_of p) ≡ true
-    → ((u : Square) → fits (written u) p ≡ true → (test u ≡ true) × (on_board (board_of p) u ≡ true)) → fitting written p (squares_where test) ≡ fitting written p (squares_at p)
+    → ((u : Square) → fits (written u) p ≡ true → (test u ≡ true) × (on_board (board_of p) u ≡ true))
+        → fitting written p (squares_where test) ≡ fitting written p (squares_at p)
 unfolding squares_where
 fitting_where written p test h within =
     fitting_within written p test (squares_of_board widest) (λ u good. (within u good).0)
@@ -83,12 +89,14 @@ fitting_where written p test h within =
 -- ---- sites that are those of what fits
 
 -- each square of the set is a site
-pub every_site : (written : Square → RuleInstance) (p : Position) (us : List Square) → IsSetOf (λ u. fits (written u) p) us → list_all (λ u. fits (written u) p) us ≡ true
+pub every_site : (written : Square → RuleInstance) (p : Position) (us : List Square) → IsSetOf (λ u. fits (written u) p) us
+    → list_all (λ u. fits (written u) p) us ≡ true
 every_site written p us set = all_from (λ u. fits (written u) p) us (λ u among. sym (set.has u) ∙ has_from us u among)
 
 -- and they are enough
 pub all_sites : (written : Square → RuleInstance) (p : Position) (us : List Square) → is_board (board_of p) ≡ true
-    → ((u : Square) → fits (written u) p ≡ true → on_board (board_of p) u ≡ true) → IsSetOf (λ u. fits (written u) p) us → fitting written p us ≡ fitting written p (squares_at p)
+    → ((u : Square) → fits (written u) p ≡ true → on_board (board_of p) u ≡ true) → IsSetOf (λ u. fits (written u) p) us
+        → fitting written p us ≡ fitting written p (squares_at p)
 all_sites written p us h on set = ap (fitting written p) set.in_order ∙ fitting_where written p (λ u. fits (written u) p) h (λ u good. (good, on u good))
 
 -- the square and the one above it are empty
@@ -122,7 +130,8 @@ claimeven_sites p u h = agree _ _
     and_from _ _ (two_from p u empty.0 over) (and_from _ _ (on_widest (board_of p) h u (claimeven_site p u good)) (fits_shape (claimeven u) p good)))
 
 pub vertical_site : (p : Position) (u : Square) → fits (vertical u) p ≡ true → on_board (board_of p) u ≡ true
-vertical_site p u good = (and_parts (on_board (board_of p) u) _ (and_parts (on_board (board_of p) u && on_board (board_of p) (above u)) (is_even u.1) (fits_shape (vertical u) p good)).0).0
+vertical_site p u good = (and_parts (on_board (board_of p) u) _
+    (and_parts (on_board (board_of p) u && on_board (board_of p) (above u)) (is_even u.1) (fits_shape (vertical u) p good)).0).0
 
 even_not_odd : (n : ℕ) → is_even n ≡ not (is_odd n)
 even_not_odd n = elim (cases_Bool (is_even n)) [
@@ -151,20 +160,25 @@ vertical_sites p u h = agree _ _
 
 -- ---- sites of playable squares
 
-pub fitting_triples_within : {X Y Z : Type 0} (written : X × (Y × Z) → RuleInstance) (p : Position) (g : X → Bool) (h : Y → Bool) (k : Z → Bool) (xs : List X) (ys : List Y) (zs : List Z)
+pub fitting_triples_within : {X Y Z : Type 0} (written : X × (Y × Z) → RuleInstance) (p : Position) (g : X → Bool) (h : Y → Bool) (k : Z → Bool) (xs : List X)
+    (ys : List Y) (zs : List Z)
     → ((x : X) (y : Y) (z : Z) → fits (written (x, (y, z))) p ≡ true → (g x ≡ true) × (h y ≡ true) × (k z ≡ true))
     → fitting written p (each_with (filter g xs) (each_with (filter h ys) (filter k zs))) ≡ fitting written p (each_with xs (each_with ys zs))
 fitting_triples_within written p g h k xs ys zs within =
     ap (λ twos. fitting written p (each_with (filter g xs) twos)) (filter_pairs h k ys zs)
-    ∙ fitting_pairs_within written p g (both_pass h k) xs (each_with ys zs) (λ x two good. let all = within x two.0 two.1 good in (all.0, and_from (h two.0) (k two.1) all.1 all.2))
+    ∙ fitting_pairs_within written p g (both_pass h k) xs (each_with ys zs)
+        (λ x two good. let all = within x two.0 two.1 good in (all.0, and_from (h two.0) (k two.1) all.1 all.2))
 
 -- an instance with an empty zone fits where it is shaped and has what its rule asks besides
-pub fits_shaped : (w : RuleInstance) (p : Position) → (is_shaped w (board_of p) ≡ true → list_all (is_empty p) (zone_of w) ≡ true) → fits_besides w p ≡ true → fits w p ≡ is_shaped w (board_of p)
+pub fits_shaped : (w : RuleInstance) (p : Position) → (is_shaped w (board_of p) ≡ true → list_all (is_empty p) (zone_of w) ≡ true) → fits_besides w p ≡ true
+    → fits w p ≡ is_shaped w (board_of p)
 fits_shaped w p empty besides = agree _ _
-    (λ good. (and_parts (is_shaped w (board_of p)) (list_all (is_empty p) (zone_of w)) (and_parts (is_shaped w (board_of p) && list_all (is_empty p) (zone_of w)) (fits_besides w p) good).0).0)
+    (λ good. (and_parts (is_shaped w (board_of p)) (list_all (is_empty p) (zone_of w))
+        (and_parts (is_shaped w (board_of p) && list_all (is_empty p) (zone_of w)) (fits_besides w p) good).0).0)
     (λ shaped. and_from _ _ (and_from _ _ shaped (empty shaped)) besides)
 
-pub baseinverse_site : (p : Position) (s t : Square) → (is_playable p s && is_playable p t) ≡ true → fits (baseinverse s t) p ≡ is_shaped (baseinverse s t) (board_of p)
+pub baseinverse_site : (p : Position) (s t : Square) → (is_playable p s && is_playable p t) ≡ true
+    → fits (baseinverse s t) p ≡ is_shaped (baseinverse s t) (board_of p)
 baseinverse_site p s t h =
     let both = and_parts (is_playable p s) (is_playable p t) h in
     fits_shaped (baseinverse s t) p (λ shaped. and_from _ _ (playable_empty p s both.0) (and_from _ _ (playable_empty p t both.1) refl)) h
@@ -174,7 +188,8 @@ pub baseclaim_site : (p : Position) (a b e : Square) → is_board (board_of p) �
 baseclaim_site p a b e h playable =
     let all = and_parts (is_playable p a && is_playable p b) (is_playable p e) playable in
     let two = and_parts (is_playable p a) (is_playable p b) all.0 in
-    fits_shaped (baseclaim a b e) p (λ shaped. and_from _ _ (playable_empty p a two.0) (and_from _ _ (playable_empty p b two.1) (and_from _ _ (playable_empty p e all.1)
+    fits_shaped (baseclaim a b e) p
+        (λ shaped. and_from _ _ (playable_empty p a two.0) (and_from _ _ (playable_empty p b two.1) (and_from _ _ (playable_empty p e all.1)
     (and_from _ _ (empty_over p b h (odd shaped) two.1) refl)))) playable
   where
     odd : is_shaped (baseclaim a b e) (board_of p) ≡ true → is_odd b.1 ≡ true
@@ -185,15 +200,19 @@ baseclaim_site p a b e h playable =
         (and_parts (apart && is_even a.1) (is_odd b.1) all.0).1
 
 -- where all of two lists pass, each two of them do
-pub pairs_pass : {X Y : Type 0} (g : X → Bool) (h : Y → Bool) (xs : List X) (ys : List Y) → list_all g xs ≡ true → list_all h ys ≡ true → list_all (λ x. list_all (λ y. g x && h y) ys) xs ≡ true
-pairs_pass g h xs ys first second = all_from _ xs (λ x at_x. all_from _ ys (λ y at_y. and_from _ _ (all_gives g xs x first at_x) (all_gives h ys y second at_y)))
+pub pairs_pass : {X Y : Type 0} (g : X → Bool) (h : Y → Bool) (xs : List X) (ys : List Y) → list_all g xs ≡ true → list_all h ys ≡ true
+    → list_all (λ x. list_all (λ y. g x && h y) ys) xs ≡ true
+pairs_pass g h xs ys first second =
+    all_from _ xs (λ x at_x. all_from _ ys (λ y at_y. and_from _ _ (all_gives g xs x first at_x) (all_gives h ys y second at_y)))
 
 -- each three playable squares
-pub playable_triples : (p : Position) (ss ts us : List Square) → list_all (is_playable p) ss ≡ true → list_all (is_playable p) ts ≡ true → list_all (is_playable p) us ≡ true
+pub playable_triples : (p : Position) (ss ts us : List Square) → list_all (is_playable p) ss ≡ true → list_all (is_playable p) ts ≡ true
+    → list_all (is_playable p) us ≡ true
     → list_all (λ s. list_all (λ t. list_all (λ u. is_playable p s && is_playable p t && is_playable p u) us) ts) ss ≡ true
 playable_triples p ss ts us first second third =
     all_from _ ss (λ s at_s. all_from _ ts (λ t at_t. all_from _ us (λ u at_u.
-    and_from _ _ (and_from _ _ (all_gives (is_playable p) ss s first at_s) (all_gives (is_playable p) ts t second at_t)) (all_gives (is_playable p) us u third at_u))))
+    and_from _ _ (and_from _ _ (all_gives (is_playable p) ss s first at_s) (all_gives (is_playable p) ts t second at_t))
+        (all_gives (is_playable p) us u third at_u))))
 
 -- the playable squares, and those of them that pass a test
 pub all_filtered : {X : Type 0} (test : X → Bool) (xs : List X) → list_all test (filter test xs) ≡ true
@@ -210,17 +229,21 @@ these_playable p us same = ap (list_all (is_playable p)) same ∙ all_filtered (
 has_playable : (p : Position) (u : Square) → has_square (playable_squares p) u ≡ is_playable p u
 has_playable p u = agree _ _
     (λ h. (Among-filter_gives (is_playable p) (squares_at p) u (has_gives (playable_squares p) u h)).1)
-    (λ h. has_from (playable_squares p) u (Among-filter (is_playable p) (squares_at p) u (has_gives (squares_at p) u (has_on_board (board_of p) u ∙ (and_parts (on_board (board_of p) u) _ h).0)) h))
+    (λ h. has_from (playable_squares p) u
+        (Among-filter (is_playable p) (squares_at p) u (has_gives (squares_at p) u (has_on_board (board_of p) u ∙ (and_parts (on_board (board_of p) u) _ h).0))
+        h))
 
 -- a set of playable squares is the list of those that pass the test
-pub some_playables : (p : Position) (test : Square → Bool) (us : List Square) → is_board (board_of p) ≡ true → IsSetOf (λ u. has_square (playable_squares p) u && test u) us
+pub some_playables : (p : Position) (test : Square → Bool) (us : List Square) → is_board (board_of p) ≡ true
+    → IsSetOf (λ u. has_square (playable_squares p) u && test u) us
     → us ≡ filter test (playable_squares p)
 unfolding squares_where
 some_playables p test us h set =
     let passes : Square → Bool = λ u. is_playable p u && test u in
     set.in_order
     ∙ filter_same (λ u. has_square (playable_squares p) u && test u) passes (squares_of_board widest) (λ u among. ap (λ b. b && test u) (has_playable p u))
-    ∙ sym (filter_within passes (on_board (board_of p)) (squares_of_board widest) (λ u good. (and_parts (on_board (board_of p) u) _ (and_parts (is_playable p u) (test u) good).0).0))
+    ∙ sym (filter_within passes (on_board (board_of p)) (squares_of_board widest)
+        (λ u good. (and_parts (on_board (board_of p) u) _ (and_parts (is_playable p u) (test u) good).0).0))
     ∙ ap (filter passes) (sym (board_squares (board_of p) h))
     ∙ sym (filter_both (is_playable p) test (squares_at p))
 
@@ -232,7 +255,8 @@ abbrev pub off_odd_rows : Square → Bool
 off_odd_rows u = not (on_odd_row u)
 
 -- the squares of a Baseclaim by their rows
-claim_rows : (p : Position) (a b e : Square) → is_board (board_of p) ≡ true → fits (baseclaim a b e) p ≡ true → (off_odd_rows a ≡ true) × (on_odd_row b ≡ true) × (off_odd_rows e ≡ true)
+claim_rows : (p : Position) (a b e : Square) → is_board (board_of p) ≡ true → fits (baseclaim a b e) p ≡ true → (off_odd_rows a ≡ true) × (on_odd_row b ≡ true)
+    × (off_odd_rows e ≡ true)
 claim_rows p a b e h good =
     let apart : Bool = not (a.0 == b.0) && not (a.0 == e.0) && not (b.0 == e.0) in
     let all = and_parts (apart && is_even a.1 && is_odd b.1) (is_even e.1) (fits_shape (baseclaim a b e) p good) in
@@ -246,26 +270,32 @@ claim_rows p a b e h good =
       | inr off ↦ rw off refl
     ]
 
-pub baseclaim_sites : (p : Position) (firsts seconds thirds : List Square) → is_board (board_of p) ≡ true → firsts ≡ filter off_odd_rows (playable_squares p) → seconds ≡ filter on_odd_row (playable_squares p)
-    → thirds ≡ filter off_odd_rows (playable_squares p) → fitting (λ three. baseclaim three.0 three.1.0 three.1.1) p (each_with firsts (each_with seconds thirds)) ≡ listed kinds.Baseclaim p
+pub baseclaim_sites : (p : Position) (firsts seconds thirds : List Square) → is_board (board_of p) ≡ true → firsts ≡ filter off_odd_rows (playable_squares p)
+    → seconds ≡ filter on_odd_row (playable_squares p)
+    → thirds ≡ filter off_odd_rows (playable_squares p)
+        → fitting (λ three. baseclaim three.0 three.1.0 three.1.1) p (each_with firsts (each_with seconds thirds)) ≡ listed kinds.Baseclaim p
 baseclaim_sites p firsts seconds thirds h first second third =
     let claim : Square × (Square × Square) → RuleInstance = λ three. baseclaim three.0 three.1.0 three.1.1 in
     let evens = filter off_odd_rows (playable_squares p) in let odds = filter on_odd_row (playable_squares p) in
     ap (λ us. fitting claim p (each_with us (each_with seconds thirds))) first
     ∙ ap (λ us. fitting claim p (each_with evens (each_with us thirds))) second
     ∙ ap (λ us. fitting claim p (each_with evens (each_with odds us))) third
-    ∙ fitting_triples_within claim p off_odd_rows on_odd_row off_odd_rows (playable_squares p) (playable_squares p) (playable_squares p) (λ a b e good. claim_rows p a b e h good)
+    ∙ fitting_triples_within claim p off_odd_rows on_odd_row off_odd_rows (playable_squares p) (playable_squares p) (playable_squares p)
+        (λ a b e good. claim_rows p a b e h good)
 
 -- the playable squares in odd rows, and the others, from a mask of them all
-pub playables_off : (p : Position) (all mask odds us : List Square) → is_board (board_of p) ≡ true → all ≡ playable_squares p → IsSetOf (has_square all) mask → IsSetOf on_odd_row odds
+pub playables_off : (p : Position) (all mask odds us : List Square) → is_board (board_of p) ≡ true → all ≡ playable_squares p → IsSetOf (has_square all) mask
+    → IsSetOf on_odd_row odds
     → IsSetOf (λ u. has_square mask u && not (has_square odds u)) us → us ≡ filter off_odd_rows (playable_squares p)
 playables_off p all mask odds us h same masked odd set = some_playables p off_odd_rows us h (set_same _ _ us set (λ u.
     ap (λ b. b && not (has_square odds u)) (masked.has u ∙ ap (λ vs. has_square vs u) same) ∙ ap (λ b. has_square (playable_squares p) u && not b) (odd.has u)))
 
-pub playables_on : (p : Position) (all mask odds us : List Square) → is_board (board_of p) ≡ true → all ≡ playable_squares p → IsSetOf (has_square all) mask → IsSetOf on_odd_row odds
+pub playables_on : (p : Position) (all mask odds us : List Square) → is_board (board_of p) ≡ true → all ≡ playable_squares p → IsSetOf (has_square all) mask
+    → IsSetOf on_odd_row odds
     → IsSetOf (λ u. has_square mask u && has_square odds u) us → us ≡ filter on_odd_row (playable_squares p)
 playables_on p all mask odds us h same masked odd set = some_playables p on_odd_row us h (set_same _ _ us set (λ u.
     ap (λ b. b && has_square odds u) (masked.has u ∙ ap (λ vs. has_square vs u) same) ∙ ap (λ b. has_square (playable_squares p) u && b) (odd.has u)))
 
 pub kept_playable : (p : Position) (test : Square → Bool) (us : List Square) → us ≡ filter test (playable_squares p) → list_all (is_playable p) us ≡ true
-kept_playable p test us same = ap (list_all (is_playable p)) same ∙ all_kept (is_playable p) test (playable_squares p) (all_filtered (is_playable p) (squares_at p))
+kept_playable p test us same = ap (list_all (is_playable p)) same
+    ∙ all_kept (is_playable p) test (playable_squares p) (all_filtered (is_playable p) (squares_at p))

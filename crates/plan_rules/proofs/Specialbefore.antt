@@ -21,29 +21,35 @@ use Rattle.plan_rules.proofs.Before.{not_white, low_open}
 use Rattle.plan_rules.specs.Lawful.{Lawful}
 
 -- of two twins White doesn't own the one where it owns the other
-twin_not_white : (facts : Facts) (q : Position) (u v : Square) → AreTrue facts.upper facts.pair facts.twin q → is_twin facts.twin u v ≡ true → has_man q White u ≡ true → has_man q White v ≡ false
+twin_not_white : (facts : Facts) (q : Position) (u v : Square) → AreTrue facts.upper facts.pair facts.twin q → is_twin facts.twin u v ≡ true
+    → has_man q White u ≡ true → has_man q White v ≡ false
 twin_not_white facts q u v are_true twins white =
     let found = any_gives (λ twin. (same_square u twin.0 && same_square v twin.1) || (same_square u twin.1 && same_square v twin.0)) facts.twin twins in
     let at = Among-get facts.twin found.0 found.1 in
     elim (or_cases _ _ found.2) [
       | inl straight ↦
           let both = and_parts _ _ straight in
-          ap (has_man q White) (same_square_is v found.0.1 both.1) ∙ are_true.twins at.0 found.0.0 found.0.1 at.1 (ap (has_man q White) (sym (same_square_is u found.0.0 both.0)) ∙ white)
+          ap (has_man q White) (same_square_is v found.0.1 both.1)
+              ∙ are_true.twins at.0 found.0.0 found.0.1 at.1 (ap (has_man q White) (sym (same_square_is u found.0.0 both.0)) ∙ white)
       | inr turned ↦
           let both = and_parts _ _ turned in
           false_from_ne_true _ (λ other. both_ways (has_man q White u)
-          (ap (has_man q White) (same_square_is u found.0.1 both.0) ∙ are_true.twins at.0 found.0.0 found.0.1 at.1 (ap (has_man q White) (sym (same_square_is v found.0.0 both.1)) ∙ other)) white)
+          (ap (has_man q White) (same_square_is u found.0.1 both.0)
+              ∙ are_true.twins at.0 found.0.0 found.0.1 at.1 (ap (has_man q White) (sym (same_square_is v found.0.0 both.1)) ∙ other)) white)
     ]
 
 module _ (g : Group) (f e0 : Square) where
   low_line : (p : Position) → fits (specialbefore g f e0) p ≡ true → is_low_line p g ≡ true
   low_line p fitted = (and_parts (is_low_line p g) _ (and_parts _ _ (fits_more (specialbefore g f e0) p fitted)).0).0
 
-  pub specialbefore_bars : BarLaw (fits (specialbefore g f e0)) (is_supported (specialbefore g f e0)) (is_calm (specialbefore g f e0)) (barred (specialbefore g f e0)) (Some g)
+  pub specialbefore_bars : BarLaw (fits (specialbefore g f e0)) (is_supported (specialbefore g f e0)) (is_calm (specialbefore g f e0))
+      (barred (specialbefore g f e0)) (Some g)
   specialbefore_bars p q facts set fitted empty supported calm are_true stay held owns =
       line_black p q g is_open stay (λ u in_line empty_at.
-      let one : (same_square u e0 || facts.upper u || facts.pair u) ≡ true = each_of_gives facts.empty (λ u. same_square u e0 || facts.upper u || facts.pair u) (squares_of g) u others in_line (empty u ∙ empty_at) in
-      let over : has_man q White (above u) ≡ true = owns (above u) (each_of_gives facts.empty (λ u. set (above u)) (squares_of g) u over_each in_line (empty u ∙ empty_at)) in
+      let one : (same_square u e0 || facts.upper u || facts.pair u) ≡ true = each_of_gives facts.empty (λ u. same_square u e0 || facts.upper u || facts.pair u)
+          (squares_of g) u others in_line (empty u ∙ empty_at) in
+      let over : has_man q White (above u)
+          ≡ true = owns (above u) (each_of_gives facts.empty (λ u. set (above u)) (squares_of g) u over_each in_line (empty u ∙ empty_at)) in
       let row = (on_board_parts (board_of p) u.0 u.1 (line_square_on p g is_open u in_line)).1 in
       black_under q u (above u) row refl (omega arith) over (none u one over))
     where

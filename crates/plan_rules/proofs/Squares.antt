@@ -1,5 +1,6 @@
 -- Squares, lists of squares and members of lists.
-use Rattle.std.proofs.Common.{◌≡◌, ◌≢◌, ◌⊎◌, ℕ, zero, suc, ◌+◌, ◌<◌, Bool, true, false, ◌||◌, List, [], ◌∷◌, ◌++◌, Some, refl, sym, ap, ◌∙◌, subst, inl, inr, arith}
+use Rattle.std.proofs.Common.{◌≡◌, ◌≢◌, ◌⊎◌, ℕ, zero, suc, ◌+◌, ◌<◌, Bool, true, false, ◌||◌, List, [], ◌∷◌, ◌++◌, Some, refl, sym, ap, ◌∙◌, subst, inl, inr,
+    arith}
 use Rattle.std.specs.List.{list_any, slice_get, find}
 use Rattle.std.proofs.lemmas.Bool.{cases_Bool, and_left, and_right, ne_eqb, cond-true, cond-false}
 use Rattle.game_rules.specs.Board.{Square}
@@ -43,7 +44,8 @@ get-Among (y ∷ xs) zero x h = inl (cc)
 get-Among (y ∷ xs) (suc i) x h = inr (get-Among xs i x h)
 
 -- the first that passes, with its place
-pub find_one : {X : Type 0} (test : X → Bool) (xs : List X) → list_any test xs ≡ true → (i : ℕ) × (x : X) × (slice_get xs i ≡ Some x) × (test x ≡ true) × (find test xs ≡ Some x)
+pub find_one : {X : Type 0} (test : X → Bool) (xs : List X) → list_any test xs ≡ true → (i : ℕ) × (x : X) × (slice_get xs i ≡ Some x) × (test x ≡ true)
+    × (find test xs ≡ Some x)
 find_one test [] h = absurd (cc h)
 find_one test (y ∷ xs) h = elim (cases_Bool (test y)) [
   | inl passes ↦ (0, y, refl, passes, cond-true (test y) (Some y) (find test xs) passes)

@@ -1,11 +1,13 @@
 -- From the laws of each instance and the table alone: whatever White plays, Black has a reply, each zone stays calm, and
 -- White never has a line.
-use Rattle.std.proofs.Common.{◌≡◌, ◌≢◌, ◌⊎◌, ℕ, zero, suc, ◌+◌, ◌*◌, ◌<◌, ◌≤◌, Bool, true, false, cond, List, [], ◌∷◌, length, Option, Some, None, is_none, refl, sym, ap, ◌∙◌, subst, inl, inr, arith}
+use Rattle.std.proofs.Common.{◌≡◌, ◌≢◌, ◌⊎◌, ℕ, zero, suc, ◌+◌, ◌*◌, ◌<◌, ◌≤◌, Bool, true, false, cond, List, [], ◌∷◌, length, Option, Some, None, is_none,
+    refl, sym, ap, ◌∙◌, subst, inl, inr, arith}
 use Rattle.std.specs.List.{list_all, slice_get, find, flat_map}
 use Rattle.std.specs.Option.{option_map, option_map_or, option_and_then}
 use Rattle.std.proofs.lemmas.Bool.{cases_eq, both_ways, and_parts, and_from, cond-true, false_from_ne_true, not_from_true}
 use Rattle.game_rules.specs.Board.{Square, below, on_board, line_at}
-use Rattle.game_rules.specs.Position.{Position, board_of, men_in, height, man_at, has_man, other, side_to_move, has_room, has_line, is_full, end_of, is_legal, after_move, empty_count, moved, open_columns}
+use Rattle.game_rules.specs.Position.{Position, board_of, men_in, height, man_at, has_man, other, side_to_move, has_room, has_line, is_full, end_of, is_legal,
+    after_move, empty_count, moved, open_columns}
 use Rattle.game_rules.specs.Value.{wins, same_end}
 use Rattle.game_rules.specs.Squares.{same_square, has_square, is_empty, is_playable}
 use Rattle.game_rules.specs.Groups.{Group, squares_of, lies_on, group_on}
@@ -14,10 +16,12 @@ use Rattle.game_rules.specs.declared.Side.{Side}
 use Rattle.game_rules.specs.declared.Side.TheVariants.{White, Black}
 use Rattle.game_rules.specs.declared.End.{End}
 use Rattle.game_rules.specs.declared.End.TheVariants as ends
-use Rattle.game_rules.proofs.Lists.{Among-map_gives, Among, any_gives, any_from, all_gives, all_from, Among-below, Among-flat_map_gives, Among-filter, Among-filter_gives, Among-map, chosen}
+use Rattle.game_rules.proofs.Lists.{Among-map_gives, Among, any_gives, any_from, all_gives, all_from, Among-below, Among-flat_map_gives, Among-filter,
+    Among-filter_gives, Among-map, chosen}
 use Rattle.game_rules.proofs.Moves.{man_past, board_moved, room_column, room_height, empty_count_moved, side_moved}
 use Rattle.game_rules.proofs.Values.{wins_own, wins_other, value_at_end}
-use Rattle.game_rules.proofs.Ends.{on_board_from, has_line_gives, has_line_from, has_line_same, each_step, from_steps, ended_parts, legal_parts, none_for_other, other_kept, disjoint, white_end}
+use Rattle.game_rules.proofs.Ends.{on_board_from, has_line_gives, has_line_from, has_line_same, each_step, from_steps, ended_parts, legal_parts, none_for_other,
+    other_kept, disjoint, white_end}
 use Rattle.game_rules.proofs.Squares.{has_gives, has_from, same_square_is}
 use Rattle.plan_rules.specs.Squares.{above}
 use Rattle.plan_rules.specs.Rules.{RuleInstance, zone_of, line_of, reply_to, upper_of, pair_of, twin_of, as_list, facts_of, barred}
@@ -25,7 +29,8 @@ use Rattle.plan_rules.specs.Calm.{is_calm}
 use Rattle.plan_rules.specs.Laws.{IsLineOf, Answers, AreTrue, Owns, IsHeld}
 use Rattle.plan_rules.specs.Plan.{empty_part, IsMember, IsPlan, plan_reply, after_turn, after_turns, duel, is_playable_list, is_nil, IsKept, IsAnswered, IsTurn}
 use Rattle.plan_rules.proofs.Squares.{Among-get, get-Among, find_one}
-use Rattle.plan_rules.proofs.Turns.{man_from, has_man_from, playable_from, playable_on_board, playable_room, playable_man, beside, stays, side_after, Turned, turn}
+use Rattle.plan_rules.proofs.Turns.{man_from, has_man_from, playable_from, playable_on_board, playable_room, playable_man, beside, stays, side_after, Turned,
+    turn}
 use Rattle.plan_rules.proofs.Table.{always_calm, zones_apart}
 use Rattle.plan_rules.specs.Lawful.{Lawful}
 use Rattle.plan_rules.proofs.Plans.{any_member}
@@ -54,7 +59,8 @@ line_squares q side h =
     let line = has_line_gives q side h in (
       group_on (board_of q) line.way line.anchor,
       lies_from (board_of q) line.way line.anchor (from_steps (on_board (board_of q)) q.len line.way line.anchor line.on_the_board),
-      λ u owned. all_gives (has_man q side) (line_at q.len line.way line.anchor) u (from_steps (has_man q side) q.len line.way line.anchor line.owned) (has_gives (line_at q.len line.way line.anchor) u owned),
+      λ u owned. all_gives (has_man q side) (line_at q.len line.way line.anchor) u (from_steps (has_man q side) q.len line.way line.anchor line.owned)
+          (has_gives (line_at q.len line.way line.anchor) u owned),
     )
 
 group_gives_line : (q : Position) (side : Side) (g : Group) → lies_on (board_of q) g ≡ true → Owns side q (has_square (squares_of g)) → has_line q side ≡ true
@@ -70,7 +76,8 @@ group_gives_line q side g lies owns =
 
 module _ (laws : (w : RuleInstance) → Lawful w) (p : Position) (ws : List RuleInstance) (plan : IsPlan p ws) where
   -- what members promise of White's men is true wherever all are calm
-  facts_true : (q : Position) → ((i : ℕ) (w : RuleInstance) → IsMember ws i w → is_calm w q ≡ true) → AreTrue (facts_of p ws).upper (facts_of p ws).pair (facts_of p ws).twin q
+  facts_true : (q : Position) → ((i : ℕ) (w : RuleInstance) → IsMember ws i w → is_calm w q ≡ true)
+      → AreTrue (facts_of p ws).upper (facts_of p ws).pair (facts_of p ws).twin q
   facts_true q calms = record {
     uppers = λ u h.
         let found = Among-flat_map_gives upper_of ws u (has_gives (flat_map upper_of ws) u h) in
@@ -140,7 +147,8 @@ module _ (laws : (w : RuleInstance) → Lawful w) (p : Position) (ws : List Rule
           turned = turn q s answer.to kept.white playable answer.playable
 
           -- the squares of another zone are neither White's nor Black's
-          other_zone : (j : ℕ) (v : RuleInstance) → IsMember ws j v → j ≢ i → (t u : Square) → has_square (zone_of w) t ≡ true → has_square (zone_of v) u ≡ true → same_square u t ≡ false
+          other_zone : (j : ℕ) (v : RuleInstance) → IsMember ws j v → j ≢ i → (t u : Square) → has_square (zone_of w) t ≡ true → has_square (zone_of v) u ≡ true
+              → same_square u t ≡ false
           other_zone j v other beside t u in_w in_v = false_from_ne_true _ (λ same.
               zones_apart v w t (members_together p q ws plan kept.stay kept.calms j i v w beside other member)
               (subst (λ u. has_square (zone_of v) u ≡ true) (same_square_is u t same) in_v) in_w)
@@ -152,12 +160,14 @@ module _ (laws : (w : RuleInstance) → Lawful w) (p : Position) (ws : List Rule
           calm j v other (inl same) = subst (λ w. is_calm w (after_move (after_move q s.0) answer.to.0) ≡ true) (one_member j v other same) answer.calm_after
           calm j v other (inr beside) =
               (laws v).is_local q (after_move (after_move q s.0) answer.to.0)
-              (λ u owned_v. sym (turned.rest u (other_zone j v other beside s u owned owned_v) (other_zone j v other beside answer.to u answer.in_zone owned_v)))
+              (λ u owned_v. sym (turned.rest u (other_zone j v other beside s u owned owned_v)
+                  (other_zone j v other beside answer.to u answer.in_zone owned_v)))
               (kept.calms j v other)
 
   -- ---- White has no line
 
-  no_line_after : (q : Position) → IsKept p ws q → end_of q ≡ None → (s : Square) → is_playable q s ≡ true → Reply q s → has_line (after_move q s.0) White ≡ false
+  no_line_after : (q : Position) → IsKept p ws q → end_of q ≡ None → (s : Square) → is_playable q s ≡ true → Reply q s
+      → has_line (after_move q s.0) White ≡ false
   no_line_after q kept going s playable answer = false_from_ne_true _ (λ held.
       let line = line_squares (after_move q s.0) White held in against line.0 line.1 line.2)
     where
@@ -194,13 +204,15 @@ module _ (laws : (w : RuleInstance) → Lawful w) (p : Position) (ws : List Rule
           → barred w (facts_of p ws) (empty_part p g) ≡ true → (line : Option Group) → line_of w ≡ line → ⊥
       barring g owns i w member is_barred None line =
           subst (λ line. IsHeld line (after_move (after_move q s.0) answer.to.0)) line
-          ((laws w).bars p (after_move (after_move q s.0) answer.to.0) (facts_of p ws) (empty_part p g) (plan.fitting i w member) (λ u. refl) (plan.supported i w member)
+          ((laws w).bars p (after_move (after_move q s.0) answer.to.0) (facts_of p ws) (empty_part p g) (plan.fitting i w member) (λ u. refl)
+              (plan.supported i w member)
           (answer.calms i w member) facts_next stay_next is_barred
           (λ u in_part. white_same u ∙ owns u (and_parts (is_empty p u) (has_square (squares_of g) u) in_part).1))
       barring g owns i w member is_barred (Some h) line =
           let held : IsHeld (Some h) (after_move q s.0) = subst (λ line. IsHeld line (after_move q s.0)) line
           ((laws w).bars p (after_move q s.0) (facts_of p ws) (empty_part p g) (plan.fitting i w member) (λ u. refl) (plan.supported i w member)
-          (always_calm w h line (after_move q s.0)) (facts_same _ _ _ (after_move (after_move q s.0) answer.to.0) (after_move q s.0) white_same facts_next) stay_now is_barred
+          (always_calm w h line (after_move q s.0)) (facts_same _ _ _ (after_move (after_move q s.0) answer.to.0) (after_move q s.0) white_same facts_next)
+              stay_now is_barred
           (λ u in_part. owns u (and_parts (is_empty p u) (has_square (squares_of g) u) in_part).1)) in
           let lies : lies_on (board_of p) h ≡ true = subst (λ line. IsLineOf line p) line ((laws w).starts p (plan.fitting i w member)).line_on_board in
           both_ways (has_line q Black) (ended_parts q going).1
@@ -219,8 +231,10 @@ module _ (laws : (w : RuleInstance) → Lawful w) (p : Position) (ws : List Rule
   going_after q kept going s playable answer =
       let white : has_line (after_move q s.0) White ≡ false = no_line_after q kept going s playable answer in
       let black : has_line (after_move q s.0) Black ≡ false = black_none in
-      let full : is_full (after_move q s.0) ≡ false = not_from_true _ (any_from (has_room (after_move q s.0)) (below (length (after_move q s.0).columns)) answer.to.0
-      (Among-below (length (after_move q s.0).columns) answer.to.0 (room_column (after_move q s.0) answer.to.0 (playable_room (after_move q s.0) answer.to answer.playable)))
+      let full : is_full (after_move q s.0)
+          ≡ false = not_from_true _ (any_from (has_room (after_move q s.0)) (below (length (after_move q s.0).columns)) answer.to.0
+      (Among-below (length (after_move q s.0).columns) answer.to.0
+          (room_column (after_move q s.0) answer.to.0 (playable_room (after_move q s.0) answer.to answer.playable)))
       (playable_room (after_move q s.0) answer.to answer.playable)) in
       rw (white, black, full) refl
     where
@@ -242,7 +256,8 @@ module _ (laws : (w : RuleInstance) → Lawful w) (p : Position) (ws : List Rule
         (λ u m man. stays (after_move q s.0) answer.to u m answer.playable (stays q s u m playable (kept.stay u m man))) answer.calms;
     facts = facts_true (after_move (after_move q s.0) answer.to.0) answer.calms;
     no_line = ap (λ side. has_line (after_move (after_move q s.0) answer.to.0) (other side)) (sym turn_now)
-        ∙ has_line_same (after_move (after_move q s.0) answer.to.0) (after_move q s.0) (other (side_to_move (after_move q s.0))) (board_moved (after_move q s.0) answer.to.0)
+        ∙ has_line_same (after_move (after_move q s.0) answer.to.0) (after_move q s.0) (other (side_to_move (after_move q s.0)))
+            (board_moved (after_move q s.0) answer.to.0)
         (other_kept (after_move q s.0) answer.to.0 (playable_room (after_move q s.0) answer.to answer.playable))
         ∙ ap (λ side. has_line (after_move q s.0) (other side)) turn_now
         ∙ no_line_after q kept going s playable answer;
@@ -288,14 +303,16 @@ module _ (laws : (w : RuleInstance) → Lawful w) (p : Position) (ws : List Rule
           going_now = going_after q kept going (column, height q column + 1) playable answer
 
           after_known : (e : Option End) → e ≡ None → (t : Option Square) → t ≡ Some answer.to
-              → cond (is_none e) (option_map (λ (to : Square). after_move (after_move q column) to.0) t) None ≡ Some (after_move (after_move q column) answer.to.0)
+              → cond (is_none e) (option_map (λ (to : Square). after_move (after_move q column) to.0) t) None
+                  ≡ Some (after_move (after_move q column) answer.to.0)
           after_known e none t some = rw (none, some) refl
 
   -- ---- the whole play
 
   pub kept_along : (columns : List ℕ) (q r : Position) → IsKept p ws q → after_turns ws q columns ≡ Some r → IsKept p ws r
   kept_along [] q r kept h = let same : q ≡ r = cc in subst (IsKept p ws) same kept
-  kept_along (column ∷ columns) q r kept h = elim (chosen (is_legal q column) (option_and_then (λ next. after_turns ws next columns) (after_turn ws q column)) None (Some r) h) [
+  kept_along (column ∷ columns) q r kept h =
+      elim (chosen (is_legal q column) (option_and_then (λ next. after_turns ws next columns) (after_turn ws q column)) None (Some r) h) [
     | inr illegal ↦ absurd (cc illegal.1)
     | inl legal ↦
         let one = take_turn q kept column legal.0 in
@@ -315,7 +332,8 @@ module _ (laws : (w : RuleInstance) → Lawful w) (p : Position) (ws : List Rule
       cond-true (is_legal q column) (q ∷ after_move q column ∷ option_map_or (λ next. duel ws next columns) (after_turn ws q column) []) (q ∷ []) legal
       ∙ ap (λ t. q ∷ after_move q column ∷ option_map_or (λ next. duel ws next columns) t []) one.is_next
 
-  list_opens : (q : Position) (column : ℕ) (columns : List ℕ) → is_playable_list ws q (column ∷ columns) ≡ true → (one : Turn q column) → is_playable_list ws one.next columns ≡ true
+  list_opens : (q : Position) (column : ℕ) (columns : List ℕ) → is_playable_list ws q (column ∷ columns) ≡ true → (one : Turn q column)
+      → is_playable_list ws one.next columns ≡ true
   list_opens q column columns played one =
       sym (ap (λ t. option_map_or (λ next. is_playable_list ws next columns) t (is_nil columns)) one.is_next) ∙ (and_parts (is_legal q column) _ played).1
 
@@ -328,7 +346,8 @@ module _ (laws : (w : RuleInstance) → Lawful w) (p : Position) (ws : List Rule
       either false rest = refl
 
   -- no position of the duel has a line of White's
-  no_line_along : (columns : List ℕ) (q : Position) → IsKept p ws q → is_playable_list ws q columns ≡ true → (i : ℕ) (r : Position) → slice_get (duel ws q columns) i ≡ Some r → has_line r White ≡ false
+  no_line_along : (columns : List ℕ) (q : Position) → IsKept p ws q → is_playable_list ws q columns ≡ true → (i : ℕ) (r : Position)
+      → slice_get (duel ws q columns) i ≡ Some r → has_line r White ≡ false
   no_line_along [] q kept played zero r h = let same : q ≡ r = cc in subst (λ q. has_line q White ≡ false) same kept.no_line
   no_line_along [] q kept played (suc i) r h = absurd (cc h)
   no_line_along (column ∷ columns) q kept played i r h =
@@ -337,13 +356,15 @@ module _ (laws : (w : RuleInstance) → Lawful w) (p : Position) (ws : List Rule
       at i one (λ j. no_line_along columns one.next one.is_kept (list_opens q column columns played one) j r)
       (ap (λ positions. slice_get positions i) (sym (duel_opens q column columns both.0 one)) ∙ h)
     where
-      at : (i : ℕ) (one : Turn q column) → ((j : ℕ) → slice_get (duel ws one.next columns) j ≡ Some r → has_line r White ≡ false) → slice_get (q ∷ after_move q column ∷ duel ws one.next columns) i ≡ Some r → has_line r White ≡ false
+      at : (i : ℕ) (one : Turn q column) → ((j : ℕ) → slice_get (duel ws one.next columns) j ≡ Some r → has_line r White ≡ false)
+          → slice_get (q ∷ after_move q column ∷ duel ws one.next columns) i ≡ Some r → has_line r White ≡ false
       at zero one later h = let same : q ≡ r = cc in subst (λ q. has_line q White ≡ false) same kept.no_line
       at (suc zero) one later h = let same : after_move q column ≡ r = cc in subst (λ q. has_line q White ≡ false) same one.is_answered.no_line
       at (suc (suc i)) one later h = later i h
 
   -- each of White's columns opens a turn of the duel
-  turn_along : (columns : List ℕ) (q : Position) → IsKept p ws q → is_playable_list ws q columns ≡ true → (i column : ℕ) → slice_get columns i ≡ Some column → IsTurn p ws (duel ws q columns) i column
+  turn_along : (columns : List ℕ) (q : Position) → IsKept p ws q → is_playable_list ws q columns ≡ true → (i column : ℕ) → slice_get columns i ≡ Some column
+      → IsTurn p ws (duel ws q columns) i column
   turn_along [] q kept played i column at = absurd (cc at)
   turn_along (first ∷ columns) q kept played zero column at =
       let here : first ≡ column = cc in
@@ -360,20 +381,24 @@ module _ (laws : (w : RuleInstance) → Lawful w) (p : Position) (ws : List Rule
             legal = legal;
             answered = one.is_answered;
             after_white = ap (λ positions. slice_get positions 1) (duel_opens q first columns legal one);
-            after_black = ap (λ positions. slice_get positions 2) (duel_opens q first columns legal one) ∙ duel_first one.next columns ∙ ap (λ r. Some r) one.next_is;
+            after_black = ap (λ positions. slice_get positions 2) (duel_opens q first columns legal one) ∙ duel_first one.next columns
+                ∙ ap (λ r. Some r) one.next_is;
           }
   turn_along (first ∷ columns) q kept played (suc i) column at =
       let legal = (and_parts (is_legal q first) _ played).0 in
       let one = take_turn q kept first legal in
       later legal one (turn_along columns one.next one.is_kept (list_opens q first columns played one) i column at)
     where
-      shifted : (legal : is_legal q first ≡ true) (one : Turn q first) (j k : ℕ) → k ≡ j + 2 → slice_get (duel ws q (first ∷ columns)) k ≡ slice_get (duel ws one.next columns) j
-      shifted legal one j k two = ap (λ positions. slice_get positions k) (duel_opens q first columns legal one) ∙ ap (λ k. slice_get (q ∷ after_move q first ∷ duel ws one.next columns) k) place
+      shifted : (legal : is_legal q first ≡ true) (one : Turn q first) (j k : ℕ) → k ≡ j + 2
+          → slice_get (duel ws q (first ∷ columns)) k ≡ slice_get (duel ws one.next columns) j
+      shifted legal one j k two = ap (λ positions. slice_get positions k) (duel_opens q first columns legal one)
+          ∙ ap (λ k. slice_get (q ∷ after_move q first ∷ duel ws one.next columns) k) place
         where
           place : k ≡ suc (suc j)
           place = omega arith
 
-      later : (legal : is_legal q first ≡ true) (one : Turn q first) → IsTurn p ws (duel ws one.next columns) i column → IsTurn p ws (duel ws q (first ∷ columns)) (suc i) column
+      later : (legal : is_legal q first ≡ true) (one : Turn q first) → IsTurn p ws (duel ws one.next columns) i column
+          → IsTurn p ws (duel ws q (first ∷ columns)) (suc i) column
       later legal one rest = record {
         now = rest.now;
         is_now = shifted legal one (2 * i) (2 * suc i) (omega arith) ∙ rest.is_now;
@@ -384,10 +409,12 @@ module _ (laws : (w : RuleInstance) → Lawful w) (p : Position) (ws : List Rule
         after_black = shifted legal one (2 * i + 2) (2 * suc i + 2) (omega arith) ∙ rest.after_black;
       }
 
-  pub turn_in_duel : (columns : List ℕ) → is_playable_list ws p columns ≡ true → (i column : ℕ) → slice_get columns i ≡ Some column → IsTurn p ws (duel ws p columns) i column
+  pub turn_in_duel : (columns : List ℕ) → is_playable_list ws p columns ≡ true → (i column : ℕ) → slice_get columns i ≡ Some column
+      → IsTurn p ws (duel ws p columns) i column
   turn_in_duel columns played i column at = turn_along columns p first_kept played i column at
 
-  pub no_line_in_duel : (columns : List ℕ) → is_playable_list ws p columns ≡ true → (i : ℕ) (r : Position) → slice_get (duel ws p columns) i ≡ Some r → has_line r White ≡ false
+  pub no_line_in_duel : (columns : List ℕ) → is_playable_list ws p columns ≡ true → (i : ℕ) (r : Position) → slice_get (duel ws p columns) i ≡ Some r
+      → has_line r White ≡ false
   no_line_in_duel columns played i r h = no_line_along columns p first_kept played i r h
 
   -- ---- the value
@@ -411,7 +438,8 @@ module _ (laws : (w : RuleInstance) → Lawful w) (p : Position) (ws : List Rule
           let next_won = all_gives (wins White) (moved (after_move q column)) (after_move (after_move q column) one.is_answered.reply.0) each
           (Among-map (after_move (after_move q column)) (open_columns (after_move q column)) one.is_answered.reply.0
           (Among-filter (has_room (after_move q column)) (below (length (after_move q column).columns)) one.is_answered.reply.0
-          (Among-below (length (after_move q column).columns) one.is_answered.reply.0 (room_column (after_move q column) one.is_answered.reply.0 one.room)) one.room)) in
+          (Among-below (length (after_move q column).columns) one.is_answered.reply.0 (room_column (after_move q column) one.is_answered.reply.0 one.room))
+              one.room)) in
           let fewer = empty_count_moved q column room in
           let fewer_again = empty_count_moved (after_move q column) one.is_answered.reply.0 one.room in
           both_ways (wins White one.next) (lower one.next (omega (arith, ap empty_count one.next_is)) one.is_kept) (ap (wins White) one.next_is ∙ next_won)

@@ -93,9 +93,11 @@ one_passes : (test : ℕ → Bool) (m a n : ℕ) → ((i j : ℕ) → test i ≡
 one_passes test m a zero one = omega arith
 one_passes test m a (suc n) one = elim (cases_Bool (test a)) [
   | inl passes ↦
-      let rest = none_passes test (λ i. m) (range_with_len (a + 1) n) (λ i among. false_from_ne_true (test i) (λ too. later i (Among-range_gives (a + 1) n i among).0 (one a i passes too))) in
+      let rest = none_passes test (λ i. m) (range_with_len (a + 1) n)
+          (λ i among. false_from_ne_true (test i) (λ too. later i (Among-range_gives (a + 1) n i among).0 (one a i passes too))) in
       omega (arith, rest, sum_by-cons (where_passes test (λ i. m)) a (range_with_len (a + 1) n), ap (λ b. cond b m 0) passes)
-  | inr fails ↦ omega (arith, one_passes test m (a + 1) n one, sum_by-cons (where_passes test (λ i. m)) a (range_with_len (a + 1) n), ap (λ b. cond b m 0) fails)
+  | inr fails ↦ omega (arith, one_passes test m (a + 1) n one, sum_by-cons (where_passes test (λ i. m)) a (range_with_len (a + 1) n),
+      ap (λ b. cond b m 0) fails)
 ]
   where
     later : (i : ℕ) → a + 1 ≤ i → a ≡ i → ⊥
@@ -113,7 +115,8 @@ by_columns board test f one =
     column : (c : ℕ) → sum_by (where_passes test (λ u. f u.0)) (squares_in_column board.rows c) ≤ f c
     column c =
         let as_rows = sum_map (where_passes test (λ u. f u.0)) (λ i. (c, i + 1)) (below board.rows) in
-        let most = one_passes (λ i. test (c, i + 1)) (f c) 0 board.rows (λ i j first second. let same : i + 1 ≡ j + 1 = one c (i + 1) (j + 1) first second in omega arith) in
+        let most = one_passes (λ i. test (c, i + 1)) (f c) 0 board.rows (λ i j first second. let same : i + 1 ≡ j + 1 = one c (i + 1) (j + 1) first second in
+            omega arith) in
         omega (arith, as_rows, most)
 
 -- a longer range has the greater sum, and so has a wider and higher board
@@ -124,7 +127,8 @@ range_more f a (suc m) (suc n) less =
     let rest = range_more f (a + 1) m n (omega arith) in
     omega (arith, rest, sum_by-cons f a (range_with_len (a + 1) m), sum_by-cons f a (range_with_len (a + 1) n))
 
-pub board_more : (f : Square → ℕ) (b wider : Board) → b.cols ≤ wider.cols → b.rows ≤ wider.rows → sum_by f (squares_of_board b) ≤ sum_by f (squares_of_board wider)
+pub board_more : (f : Square → ℕ) (b wider : Board) → b.cols ≤ wider.cols → b.rows ≤ wider.rows
+    → sum_by f (squares_of_board b) ≤ sum_by f (squares_of_board wider)
 unfolding squares_of_board
 board_more f b wider cols rows =
     let own = sum_flat f (squares_in_column b.rows) (below b.cols) in

@@ -2,7 +2,8 @@
 -- square, and an inverse over two floors rests on one Baseinverse.
 use Rattle.std.proofs.Common.{◌≡◌, ◌+◌, ◌-◌, ◌<◌, ◌≤◌, true, false, not, ◌||◌, ◌==◌, List, [], ◌∷◌, Some, refl, sym, ap, subst, inl, inr, arith}
 use Rattle.std.specs.List.{list_all}
-use Rattle.std.proofs.lemmas.Bool.{both_ways, and_parts, and_from, or_cases, or_left, or_right, ltb-true, eqb-true, eq-eqb, not-true, not_from_false, false_from_ne_true}
+use Rattle.std.proofs.lemmas.Bool.{both_ways, and_parts, and_from, or_cases, or_left, or_right, ltb-true, eqb-true, eq-eqb, not-true, not_from_false,
+    false_from_ne_true}
 use Rattle.game_rules.specs.Board.{Square}
 use Rattle.game_rules.specs.Position.{Position}
 use Rattle.game_rules.specs.Squares.{has_square}
@@ -10,7 +11,8 @@ use Rattle.game_rules.specs.Groups.{Group}
 use Rattle.game_rules.proofs.Lists.{Among, all_gives, all_from}
 use Rattle.game_rules.proofs.Squares.{same_square_is, has_gives, has_from}
 use Rattle.plan_rules.specs.Squares.{above, under}
-use Rattle.plan_rules.specs.Rules.{RuleInstance, claimeven, baseinverse, lowinverse, highinverse, baseclaim, vertical, aftereven, before, specialbefore, zone_of, line_of, owns_no_zone, no_shared_square, no_shared_column, is_over, rests_on, stands_over, together}
+use Rattle.plan_rules.specs.Rules.{RuleInstance, claimeven, baseinverse, lowinverse, highinverse, baseclaim, vertical, aftereven, before, specialbefore,
+    zone_of, line_of, owns_no_zone, no_shared_square, no_shared_column, is_over, rests_on, stands_over, together}
 use Rattle.plan_rules.specs.Calm.{is_calm}
 
 pub zoneless_owns_none : (w : RuleInstance) → owns_no_zone w ≡ true → (u : Square) → has_square (zone_of w) u ≡ true → ⊥
@@ -42,7 +44,8 @@ pub no_shared : (us vs : List Square) (u : Square) → no_shared_square us vs �
 no_shared us vs u none left right = both_ways (has_square vs u) (not-true _ (all_gives (λ u. not (has_square vs u)) us u none (has_gives us u left))) right
 
 no_shared_sym : (us vs : List Square) → no_shared_square us vs ≡ true → no_shared_square vs us ≡ true
-no_shared_sym us vs none = all_from (λ v. not (has_square us v)) vs (λ v among. not_from_false _ (false_from_ne_true _ (λ left. no_shared us vs v none left (has_from vs v among))))
+no_shared_sym us vs none = all_from (λ v. not (has_square us v)) vs
+    (λ v among. not_from_false _ (false_from_ne_true _ (λ left. no_shared us vs v none left (has_from vs v among))))
 
 pub no_column : (us vs : List Square) (u v : Square) → no_shared_column us vs ≡ true → has_square us u ≡ true → has_square vs v ≡ true → u.0 ≡ v.0 → ⊥
 no_column us vs u v none left right same =
@@ -113,7 +116,8 @@ pub record RestsOn (x y : Square) (v : RuleInstance) : Type 0 where
 
 pub rests_gives : (x y : Square) (v : RuleInstance) → rests_on x y v ≡ true → RestsOn x y v
 rests_gives x y (claimeven z) h = absurd (cc h)
-rests_gives x y (baseinverse s t) h = let both = and_parts _ _ h in record { s = s; t = t; is_inverse = refl; below_x = same_square_is (above s) x both.0; below_y = same_square_is (above t) y both.1 }
+rests_gives x y (baseinverse s t) h = let both = and_parts _ _ h in
+    record { s = s; t = t; is_inverse = refl; below_x = same_square_is (above s) x both.0; below_y = same_square_is (above t) y both.1 }
 rests_gives x y (lowinverse u u_top v v_top) h = absurd (cc h)
 rests_gives x y (highinverse u v) h = absurd (cc h)
 rests_gives x y (baseclaim a b e) h = absurd (cc h)
@@ -123,7 +127,8 @@ rests_gives x y (before g) h = absurd (cc h)
 rests_gives x y (specialbefore g f e0) h = absurd (cc h)
 
 -- over an inverse nothing stands but a Claimeven, and that is above each of its squares
-over_gives : (v w : RuleInstance) → ((a b : Square) → rests_on a b w ≡ false) → stands_over v w ≡ true → (z : Square) × (v ≡ claimeven z) × (is_over z (zone_of w) ≡ true)
+over_gives : (v w : RuleInstance) → ((a b : Square) → rests_on a b w ≡ false) → stands_over v w ≡ true
+    → (z : Square) × (v ≡ claimeven z) × (is_over z (zone_of w) ≡ true)
 over_gives (claimeven z) w none h = (z, refl, h)
 over_gives (baseinverse s t) w none h = absurd (cc h)
 over_gives (lowinverse u u_top v v_top) w none h = absurd (both_ways (rests_on u v w) (none u v) h)
@@ -135,7 +140,8 @@ over_gives (before g) w none h = absurd (cc h)
 over_gives (specialbefore g f e0) w none h = absurd (cc h)
 
 -- whoever owns the square below one bottom of an inverse is the Baseinverse that it rests on
-pub floor_owner : (x y u : Square) (w v : RuleInstance) → owns_no_zone w ≡ false → ((a b : Square) → rests_on a b w ≡ false) → (stands_over w v ≡ true → rests_on x y v ≡ true)
+pub floor_owner : (x y u : Square) (w v : RuleInstance) → owns_no_zone w ≡ false → ((a b : Square) → rests_on a b w ≡ false)
+    → (stands_over w v ≡ true → rests_on x y v ≡ true)
     → has_square (zone_of w) u ≡ true → 1 ≤ u.1 → together v w ≡ true → has_square (zone_of v) (under u) ≡ true → RestsOn x y v
 floor_owner x y u w v moving none over owned low h below = by_case (apart_gives v w h)
   where

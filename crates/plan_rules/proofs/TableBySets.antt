@@ -2,14 +2,16 @@
 -- Claimeven is above a zone, each as whether two sets meet.
 use Rattle.std.proofs.Common.{◌≡◌, ◌≤◌, Bool, true, not, ◌&&◌, ◌||◌, ◌==◌, nat_lt, nat_le, List, refl, sym, ap, ◌∙◌, inl, inr, arith}
 use Rattle.std.specs.List.{list_all, list_any}
-use Rattle.std.proofs.lemmas.Bool.{cases_Bool, cases_lt, both_ways, and_parts, and_from, or_cases, or_left, or_right, not-true, not_from_false, false_from_ne_true, lt-ltb, ltb-true, le-leb, leb-true, eq-eqb, eqb-true}
+use Rattle.std.proofs.lemmas.Bool.{cases_Bool, cases_lt, both_ways, and_parts, and_from, or_cases, or_left, or_right, not-true, not_from_false,
+    false_from_ne_true, lt-ltb, ltb-true, le-leb, leb-true, eq-eqb, eqb-true}
 use Rattle.game_rules.specs.Board.{Square, on_board}
 use Rattle.game_rules.specs.Squares.{has_square, widest, IsSetOf}
 use Rattle.game_rules.proofs.Ends.{on_board_parts}
 use Rattle.game_rules.proofs.Lists.{any_gives, any_from, all_gives, all_from}
 use Rattle.game_rules.proofs.Squares.{agree, has_gives, has_from, set_on}
 use Rattle.plan_rules.specs.Rules.{RuleInstance, zone_of, no_shared_square, no_shared_column, is_over, stands_over, together}
-use Rattle.plan_rules.proofs.Table.{Apart, left_zoneless, right_zoneless, columns_apart, left_over, right_over, apart_gives, apart_from, no_shared, no_column, zoneless_owns_none}
+use Rattle.plan_rules.proofs.Table.{Apart, left_zoneless, right_zoneless, columns_apart, left_over, right_over, apart_gives, apart_from, no_shared, no_column,
+    zoneless_owns_none}
 
 -- ---- by columns first
 
@@ -23,11 +25,13 @@ none_left : (us vs : List Square) → ((u : Square) → has_square us u ≡ true
 none_left us vs none = all_from (λ u. list_all (λ v. not (u.0 == v.0)) vs) us (λ u among. absurd (none u (has_from us u among)))
 
 none_right : (us vs : List Square) → ((v : Square) → has_square vs v ≡ true → ⊥) → no_shared_column us vs ≡ true
-none_right us vs none = all_from (λ u. list_all (λ v. not (u.0 == v.0)) vs) us (λ u _. all_from (λ v. not (u.0 == v.0)) vs (λ v among. absurd (none v (has_from vs v among))))
+none_right us vs none = all_from (λ u. list_all (λ v. not (u.0 == v.0)) vs) us
+    (λ u _. all_from (λ v. not (u.0 == v.0)) vs (λ v among. absurd (none v (has_from vs v among))))
 
 -- Two may stand together exactly where they share no column, or share no square and one is over the other. So of two
 -- that share no column nothing else has to be asked, whether they own a zone or not.
-pub together_by_columns : (v w : RuleInstance) → together v w ≡ (no_shared_column (zone_of v) (zone_of w) || (no_shared_square (zone_of v) (zone_of w) && (stands_over v w || stands_over w v)))
+pub together_by_columns : (v w : RuleInstance)
+    → together v w ≡ (no_shared_column (zone_of v) (zone_of w) || (no_shared_square (zone_of v) (zone_of w) && (stands_over v w || stands_over w v)))
 together_by_columns v w = agree _ _ (λ h. to (apart_gives v w h)) from
   where
     to : Apart v w → (no_shared_column (zone_of v) (zone_of w) || (no_shared_square (zone_of v) (zone_of w) && (stands_over v w || stands_over w v))) ≡ true
@@ -37,7 +41,8 @@ together_by_columns v w = agree _ _ (λ h. to (apart_gives v w h)) from
     to (left_over squares over) = or_right _ _ (and_from _ _ squares (or_left _ _ over))
     to (right_over squares over) = or_right _ _ (and_from _ _ squares (or_right _ _ over))
 
-    from : (no_shared_column (zone_of v) (zone_of w) || (no_shared_square (zone_of v) (zone_of w) && (stands_over v w || stands_over w v))) ≡ true → together v w ≡ true
+    from : (no_shared_column (zone_of v) (zone_of w) || (no_shared_square (zone_of v) (zone_of w) && (stands_over v w || stands_over w v))) ≡ true
+        → together v w ≡ true
     from h = elim (or_cases _ _ h) [
       | inl columns ↦ apart_from v w (columns_apart (columns_give (zone_of v) (zone_of w) columns) columns)
       | inr over ↦ let both = and_parts _ _ over in elim (or_cases (stands_over v w) (stands_over w v) both.1) [
@@ -55,7 +60,8 @@ meets a b = list_any (has_square b) a
 meets_from : (a b : List Square) (u : Square) → has_square a u ≡ true → has_square b u ≡ true → meets a b ≡ true
 meets_from a b u in_a in_b = any_from (has_square b) a u (has_gives a u in_a) in_b
 
-pub squares_by_sets : (us vs a b : List Square) → IsSetOf (has_square us) a → IsSetOf (has_square vs) b → no_shared_square us vs ≡ not (list_any (has_square b) a)
+pub squares_by_sets : (us vs a b : List Square) → IsSetOf (has_square us) a → IsSetOf (has_square vs) b
+    → no_shared_square us vs ≡ not (list_any (has_square b) a)
 squares_by_sets us vs a b left right = agree _ _ to from
   where
     to : no_shared_square us vs ≡ true → not (meets a b) ≡ true
@@ -68,7 +74,8 @@ squares_by_sets us vs a b left right = agree _ _ to from
         both_ways (meets a b) (not-true _ h) (meets_from a b u (left.has u ∙ has_from us u among) (right.has u ∙ shared)))))
 
 -- the whole columns of one set, and the other
-pub columns_by_sets : (us vs a b columns : List Square) → IsSetOf (has_square us) a → IsSetOf (has_square vs) b → IsSetOf (λ u. on_board widest u && list_any (λ v. v.0 == u.0) a) columns
+pub columns_by_sets : (us vs a b columns : List Square) → IsSetOf (has_square us) a → IsSetOf (has_square vs) b
+    → IsSetOf (λ u. on_board widest u && list_any (λ v. v.0 == u.0) a) columns
     → no_shared_column us vs ≡ not (list_any (has_square b) columns)
 columns_by_sets us vs a b columns left right whole = agree _ _ to from
   where
@@ -77,17 +84,20 @@ columns_by_sets us vs a b columns left right whole = agree _ _ to from
         let found = any_gives (has_square b) columns h in
         let both = and_parts (on_board widest found.0) _ (sym (whole.has found.0) ∙ has_from columns found.0 found.1) in
         let beside = any_gives (λ v. v.0 == found.0.0) a both.1 in
-        no_column us vs beside.0 found.0 apart (sym (left.has beside.0) ∙ has_from a beside.0 beside.1) (sym (right.has found.0) ∙ found.2) (eqb-true beside.0.0 found.0.0 beside.2)))
+        no_column us vs beside.0 found.0 apart (sym (left.has beside.0) ∙ has_from a beside.0 beside.1) (sym (right.has found.0) ∙ found.2)
+            (eqb-true beside.0.0 found.0.0 beside.2)))
 
     from : not (meets columns b) ≡ true → no_shared_column us vs ≡ true
-    from h = all_from (λ u. list_all (λ v. not (u.0 == v.0)) vs) us (λ u in_u. all_from (λ v. not (u.0 == v.0)) vs (λ v in_v. not_from_false _ (false_from_ne_true (u.0 == v.0) (λ same.
+    from h = all_from (λ u. list_all (λ v. not (u.0 == v.0)) vs) us
+        (λ u in_u. all_from (λ v. not (u.0 == v.0)) vs (λ v in_v. not_from_false _ (false_from_ne_true (u.0 == v.0) (λ same.
         let in_b = right.has v ∙ has_from vs v in_v in
         let in_column = any_from (λ u. u.0 == v.0) a u (has_gives a u (left.has u ∙ has_from us u in_u)) same in
         both_ways (meets columns b) (not-true _ h)
         (meets_from columns b v (whole.has v ∙ and_from _ _ (set_on (has_square vs) b right v (has_from vs v in_v)) in_column) in_b)))))
 
 -- the column part from a square up, and the set that the square is to be above
-pub over_by_sets : (x : Square) (us a up : List Square) (top : Square) → IsSetOf (has_square us) a → IsSetOf (λ u. (u.0 == x.0) && (nat_le x.1 u.1 && nat_le u.1 top.1)) up → 10 ≤ top.1
+pub over_by_sets : (x : Square) (us a up : List Square) (top : Square) → IsSetOf (has_square us) a
+    → IsSetOf (λ u. (u.0 == x.0) && (nat_le x.1 u.1 && nat_le u.1 top.1)) up → 10 ≤ top.1
     → is_over x us ≡ not (list_any (has_square a) up)
 over_by_sets x us a up top set part high = agree _ _ to from
   where
@@ -97,7 +107,8 @@ over_by_sets x us a up top set part high = agree _ _ to from
         let column = and_parts (found.0.0 == x.0) _ (sym (part.has found.0) ∙ has_from up found.0 found.1) in
         let rows = and_parts (nat_le x.1 found.0.1) (nat_le found.0.1 top.1) column.1 in
         let in_us = sym (set.has found.0) ∙ found.2 in
-        not_over found.0 (eqb-true found.0.0 x.0 column.0) (leb-true x.1 found.0.1 rows.0) (all_gives (λ u. not (x.0 == u.0) || nat_lt u.1 x.1) us found.0 over (has_gives us found.0 in_us))))
+        not_over found.0 (eqb-true found.0.0 x.0 column.0) (leb-true x.1 found.0.1 rows.0)
+            (all_gives (λ u. not (x.0 == u.0) || nat_lt u.1 x.1) us found.0 over (has_gives us found.0 in_us))))
       where
         not_over : (u : Square) → u.0 ≡ x.0 → x.1 ≤ u.1 → (not (x.0 == u.0) || nat_lt u.1 x.1) ≡ true → ⊥
         not_over u same low h = elim (or_cases (not (x.0 == u.0)) (nat_lt u.1 x.1) h) [
@@ -113,7 +124,8 @@ over_by_sets x us a up top set part high = agree _ _ to from
         | inr above ↦
             let in_us = has_from us u among in
             let on = on_board_parts widest u.0 u.1 (set_on (has_square us) a set u in_us) in
-            let in_up = part.has u ∙ and_from _ _ (eq-eqb u.0 x.0 (sym (eqb-true x.0 u.0 same))) (and_from _ _ (le-leb x.1 u.1 above) (le-leb u.1 top.1 (omega (arith, on.2)))) in
+            let in_up = part.has u ∙ and_from _ _ (eq-eqb u.0 x.0 (sym (eqb-true x.0 u.0 same)))
+                (and_from _ _ (le-leb x.1 u.1 above) (le-leb u.1 top.1 (omega (arith, on.2)))) in
             absurd (both_ways (meets up a) (not-true _ h) (meets_from up a u in_up (set.has u ∙ in_us)))
       ]
     ])
@@ -126,5 +138,7 @@ pub together_of_sets : (v w : RuleInstance) (a b columns : List Square) → IsSe
     → together v w ≡ (not (list_any (has_square b) columns) || (not (list_any (has_square b) a) && (stands_over v w || stands_over w v)))
 together_of_sets v w a b columns left right whole =
     together_by_columns v w
-    ∙ ap (λ apart. apart || (no_shared_square (zone_of v) (zone_of w) && (stands_over v w || stands_over w v))) (columns_by_sets (zone_of v) (zone_of w) a b columns left right whole)
-    ∙ ap (λ apart. not (list_any (has_square b) columns) || (apart && (stands_over v w || stands_over w v))) (squares_by_sets (zone_of v) (zone_of w) a b left right)
+    ∙ ap (λ apart. apart || (no_shared_square (zone_of v) (zone_of w) && (stands_over v w || stands_over w v)))
+        (columns_by_sets (zone_of v) (zone_of w) a b columns left right whole)
+    ∙ ap (λ apart. not (list_any (has_square b) columns) || (apart && (stands_over v w || stands_over w v)))
+        (squares_by_sets (zone_of v) (zone_of w) a b left right)

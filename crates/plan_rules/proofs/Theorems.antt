@@ -29,23 +29,31 @@ one_zone p ws i j v w u is left right in_v in_w =
     let plan = plan_gives p ws is in
     elim (cases_eq i j) [
       | inl same ↦ same
-      | inr apart ↦ absurd (zones_apart v w u (members_together p p ws plan (λ u m h. h) (first_kept lawful p ws plan).calms i j v w apart left right) in_v in_w)
+      | inr apart ↦ absurd (zones_apart v w u (members_together p p ws plan (λ u m h. h) (first_kept lawful p ws plan).calms i j v w apart left right) in_v
+          in_w)
     ]
 
-pub zones_empty : (p : Position) (ws : List RuleInstance) (i : ℕ) (w : RuleInstance) (u : Square) → is_plan p ws ≡ true → IsMember ws i w → has_square (zone_of w) u ≡ true → is_empty p u ≡ true
-zones_empty p ws i w u is member owned = all_gives (is_empty p) (zone_of w) u (fits_empty w p ((plan_gives p ws is).fitting i w member)) (has_gives (zone_of w) u owned)
+pub zones_empty : (p : Position) (ws : List RuleInstance) (i : ℕ) (w : RuleInstance) (u : Square) → is_plan p ws ≡ true → IsMember ws i w
+    → has_square (zone_of w) u ≡ true → is_empty p u ≡ true
+zones_empty p ws i w u is member owned = all_gives (is_empty p) (zone_of w) u (fits_empty w p ((plan_gives p ws is).fitting i w member))
+    (has_gives (zone_of w) u owned)
 
-pub plan_kept : (p : Position) (ws : List RuleInstance) (columns : List ℕ) (q : Position) → is_plan p ws ≡ true → after_turns ws p columns ≡ Some q → IsKept p ws q
+pub plan_kept : (p : Position) (ws : List RuleInstance) (columns : List ℕ) (q : Position) → is_plan p ws ≡ true → after_turns ws p columns ≡ Some q
+    → IsKept p ws q
 plan_kept p ws columns q is h = kept_at lawful p ws (plan_gives p ws is) columns q h
 
-pub plan_answers : (p : Position) (ws : List RuleInstance) (columns : List ℕ) (q : Position) (column : ℕ) → is_plan p ws ≡ true → after_turns ws p columns ≡ Some q → is_legal q column ≡ true → IsAnswered ws q column
+pub plan_answers : (p : Position) (ws : List RuleInstance) (columns : List ℕ) (q : Position) (column : ℕ) → is_plan p ws ≡ true
+    → after_turns ws p columns ≡ Some q → is_legal q column ≡ true → IsAnswered ws q column
 plan_answers p ws columns q column is h legal = answered_at lawful p ws (plan_gives p ws is) columns q h column legal
 
-pub duel_turns : (p : Position) (ws : List RuleInstance) (columns : List ℕ) (i column : ℕ) → is_plan p ws ≡ true → is_playable_list ws p columns ≡ true → slice_get columns i ≡ Some column → IsTurn p ws (duel ws p columns) i column
+pub duel_turns : (p : Position) (ws : List RuleInstance) (columns : List ℕ) (i column : ℕ) → is_plan p ws ≡ true → is_playable_list ws p columns ≡ true
+    → slice_get columns i ≡ Some column → IsTurn p ws (duel ws p columns) i column
 duel_turns p ws columns i column is played at = turn_in_duel lawful p ws (plan_gives p ws is) columns played i column at
 
-pub duel_no_line : (p : Position) (ws : List RuleInstance) (columns : List ℕ) (i : ℕ) (q : Position) → is_plan p ws ≡ true → is_playable_list ws p columns ≡ true → slice_get (duel ws p columns) i ≡ Some q → HasLine q sides.White → ⊥
-duel_no_line p ws columns i q is played at line = both_ways (has_line q sides.White) (no_line_in_duel lawful p ws (plan_gives p ws is) columns played i q at) (has_line_from q sides.White line)
+pub duel_no_line : (p : Position) (ws : List RuleInstance) (columns : List ℕ) (i : ℕ) (q : Position) → is_plan p ws ≡ true
+    → is_playable_list ws p columns ≡ true → slice_get (duel ws p columns) i ≡ Some q → HasLine q sides.White → ⊥
+duel_no_line p ws columns i q is played at line = both_ways (has_line q sides.White) (no_line_in_duel lawful p ws (plan_gives p ws is) columns played i q at)
+    (has_line_from q sides.White line)
 
 pub plan_wins : (p : Position) (ws : List RuleInstance) → is_plan p ws ≡ true → wins sides.White p ≡ false
 plan_wins p ws is = white_never_wins lawful p ws (plan_gives p ws is)

@@ -11,7 +11,8 @@ use Rattle.game_rules.specs.Groups.{Group}
 use Rattle.game_rules.specs.declared.Length.TheVariants.{Four, Five}
 use Rattle.game_rules.specs.declared.Way.{Way}
 use Rattle.game_rules.specs.declared.Way.TheVariants.{H, U}
-use Rattle.plan_rules.specs.Rules.{RuleInstance, claimeven, baseinverse, lowinverse, highinverse, baseclaim, vertical, aftereven, before, specialbefore, is_shaped, facts_of, barred, together}
+use Rattle.plan_rules.specs.Rules.{RuleInstance, claimeven, baseinverse, lowinverse, highinverse, baseclaim, vertical, aftereven, before, specialbefore,
+    is_shaped, facts_of, barred, together}
 use Rattle.plan_rules.specs.Plan.{is_plan, plan_reply, after_turn, duel, is_playable_list}
 
 -- a group of four squares
@@ -63,7 +64,8 @@ only_claimevens : planned 4 4 ([]) (columns_a_b ++ claimeven (2, 1) ∷ claimeve
 only_claimevens = refl
 
 -- a board that no line of five fits leaves no line to bar
-no_line_of_five : planned_on (record { cols = 4; rows = 4; len = Five }) [] (columns_a_b ++ claimeven (2, 1) ∷ claimeven (2, 3) ∷ claimeven (3, 1) ∷ claimeven (3, 3) ∷ []) ≡ Some true
+no_line_of_five : planned_on (record { cols = 4; rows = 4; len = Five }) []
+    (columns_a_b ++ claimeven (2, 1) ∷ claimeven (2, 3) ∷ claimeven (3, 1) ∷ claimeven (3, 3) ∷ []) ≡ Some true
 no_line_of_five = refl
 
 with_highinverse : planned 4 4 ([]) (columns_a_b ++ baseinverse (2, 1) (3, 1) ∷ highinverse (2, 2) (3, 2) ∷ []) ≡ Some true
@@ -76,11 +78,15 @@ crossed = baseinverse (0, 1) (2, 1) ∷ baseinverse (1, 1) (3, 1) ∷ lowinverse
 clashing_zones : planned 4 4 ([]) (crossed) ≡ Some false
 clashing_zones = refl
 
-the_clash : (together (baseinverse (0, 1) (2, 1)) (baseinverse (1, 1) (3, 1)) ≡ true) × (together (baseinverse (0, 1) (2, 1)) (lowinverse (0, 2) (0, 4) (1, 2) (1, 4)) ≡ false) × (together (claimeven (0, 1)) (highinverse (0, 2) (1, 2)) ≡ false)
+the_clash : (together (baseinverse (0, 1) (2, 1)) (baseinverse (1, 1) (3, 1)) ≡ true)
+    × (together (baseinverse (0, 1) (2, 1)) (lowinverse (0, 2) (0, 4) (1, 2) (1, 4)) ≡ false)
+    × (together (claimeven (0, 1)) (highinverse (0, 2) (1, 2)) ≡ false)
 the_clash = (refl, refl, refl)
 
 abbrev six_by_six : List RuleInstance
-six_by_six = claimeven (0, 1) ∷ claimeven (0, 3) ∷ claimeven (0, 5) ∷ claimeven (1, 1) ∷ claimeven (1, 3) ∷ claimeven (1, 5) ∷ claimeven (4, 1) ∷ claimeven (4, 3) ∷ claimeven (4, 5) ∷ claimeven (5, 1) ∷ claimeven (5, 3) ∷ claimeven (5, 5) ∷ baseinverse (2, 1) (3, 1) ∷ lowinverse (2, 2) (2, 6) (3, 2) (3, 6) ∷ []
+six_by_six = claimeven (0, 1) ∷ claimeven (0, 3) ∷ claimeven (0, 5) ∷ claimeven (1, 1) ∷ claimeven (1, 3) ∷ claimeven (1, 5) ∷ claimeven (4, 1)
+    ∷ claimeven (4, 3) ∷ claimeven (4, 5) ∷ claimeven (5, 1) ∷ claimeven (5, 3) ∷ claimeven (5, 5) ∷ baseinverse (2, 1) (3, 1)
+    ∷ lowinverse (2, 2) (2, 6) (3, 2) (3, 6) ∷ []
 
 six_by_six_plan : planned 6 6 ([]) (six_by_six) ≡ Some true
 six_by_six_plan = refl
@@ -89,7 +95,8 @@ six_by_six_with_verticals : planned 6 6 ([]) (six_by_six ++ vertical (2, 2) ∷ 
 six_by_six_with_verticals = refl
 
 abbrev narrow : List RuleInstance
-narrow = claimeven (0, 1) ∷ claimeven (0, 3) ∷ claimeven (0, 5) ∷ claimeven (1, 1) ∷ claimeven (1, 3) ∷ claimeven (1, 5) ∷ lowinverse (2, 4) (2, 6) (3, 4) (3, 6) ∷ []
+narrow = claimeven (0, 1) ∷ claimeven (0, 3) ∷ claimeven (0, 5) ∷ claimeven (1, 1) ∷ claimeven (1, 3) ∷ claimeven (1, 5)
+    ∷ lowinverse (2, 4) (2, 6) (3, 4) (3, 6) ∷ []
 
 with_vertical : planned 4 6 (3 ∷ 2 ∷ 2 ∷ 3 ∷ 2 ∷ 3 ∷ []) (narrow ++ vertical (2, 4) ∷ []) ≡ Some true
 with_vertical = refl
@@ -106,7 +113,8 @@ play_aftereven = refl
 without_aftereven : planned 4 4 (2 ∷ 2 ∷ 2 ∷ 3 ∷ 2 ∷ 3 ∷ []) (even_line) ≡ Some false
 without_aftereven = refl
 
-aftereven_replies : answered 4 4 (2 ∷ 2 ∷ 2 ∷ 3 ∷ 2 ∷ 3 ∷ []) (even_line ++ aftereven (line_of_four (0, 2) H) ∷ []) (0 ∷ 1 ∷ []) ≡ Some (((0, 1), Some (0, 2)) ∷ ((1, 1), Some (1, 2)) ∷ [], Some ends.Black)
+aftereven_replies : answered 4 4 (2 ∷ 2 ∷ 2 ∷ 3 ∷ 2 ∷ 3 ∷ []) (even_line ++ aftereven (line_of_four (0, 2) H) ∷ []) (0 ∷ 1 ∷ [])
+    ≡ Some (((0, 1), Some (0, 2)) ∷ ((1, 1), Some (1, 2)) ∷ [], Some ends.Black)
 aftereven_replies = refl
 
 abbrev claim : List RuleInstance
@@ -124,28 +132,36 @@ baseclaim_replies = refl
 baseclaim_replies_turned : answered 4 4 (3 ∷ 0 ∷ 3 ∷ 3 ∷ 2 ∷ 3 ∷ []) (claim) (2 ∷ 1 ∷ []) ≡ Some (((2, 2), Some (1, 1)) ∷ ((1, 2), Some (0, 2)) ∷ [], None)
 baseclaim_replies_turned = refl
 
-highinverse_replies : answered 4 4 ([]) (columns_a_b ++ baseinverse (2, 1) (3, 1) ∷ highinverse (2, 2) (3, 2) ∷ []) (2 ∷ 2 ∷ 3 ∷ 3 ∷ []) ≡ Some (((2, 1), Some (3, 1)) ∷ ((2, 2), Some (2, 3)) ∷ ((3, 2), Some (2, 4)) ∷ ((3, 3), Some (3, 4)) ∷ [], None)
+highinverse_replies : answered 4 4 ([]) (columns_a_b ++ baseinverse (2, 1) (3, 1) ∷ highinverse (2, 2) (3, 2) ∷ []) (2 ∷ 2 ∷ 3 ∷ 3 ∷ [])
+    ≡ Some (((2, 1), Some (3, 1)) ∷ ((2, 2), Some (2, 3)) ∷ ((3, 2), Some (2, 4)) ∷ ((3, 3), Some (3, 4)) ∷ [], None)
 highinverse_replies = refl
 
-lowinverse_replies : answered 4 4 ([]) (six_zones) (2 ∷ 2 ∷ 3 ∷ 2 ∷ 0 ∷ 0 ∷ 1 ∷ 1 ∷ []) ≡ Some (((2, 1), Some (3, 1)) ∷ ((2, 2), Some (2, 3)) ∷ ((3, 2), Some (3, 3)) ∷ ((2, 4), Some (3, 4)) ∷ ((0, 1), Some (0, 2)) ∷ ((0, 3), Some (0, 4)) ∷ ((1, 1), Some (1, 2)) ∷ ((1, 3), Some (1, 4)) ∷ [], Some ends.Draw)
+lowinverse_replies : answered 4 4 ([]) (six_zones) (2 ∷ 2 ∷ 3 ∷ 2 ∷ 0 ∷ 0 ∷ 1 ∷ 1 ∷ [])
+    ≡ Some (((2, 1), Some (3, 1)) ∷ ((2, 2), Some (2, 3)) ∷ ((3, 2), Some (3, 3)) ∷ ((2, 4), Some (3, 4)) ∷ ((0, 1), Some (0, 2)) ∷ ((0, 3), Some (0, 4))
+    ∷ ((1, 1), Some (1, 2)) ∷ ((1, 3), Some (1, 4)) ∷ [], Some ends.Draw)
 lowinverse_replies = refl
 
-shifted_replies : answered 4 4 ([]) (six_zones) (2 ∷ 2 ∷ 2 ∷ 3 ∷ []) ≡ Some (((2, 1), Some (3, 1)) ∷ ((2, 2), Some (2, 3)) ∷ ((2, 4), Some (3, 2)) ∷ ((3, 3), Some (3, 4)) ∷ [], None)
+shifted_replies : answered 4 4 ([]) (six_zones) (2 ∷ 2 ∷ 2 ∷ 3 ∷ [])
+    ≡ Some (((2, 1), Some (3, 1)) ∷ ((2, 2), Some (2, 3)) ∷ ((2, 4), Some (3, 2)) ∷ ((3, 3), Some (3, 4)) ∷ [], None)
 shifted_replies = refl
 
 abbrev diagonal : List RuleInstance
 diagonal = baseinverse (2, 2) (3, 4) ∷ claimeven (2, 3) ∷ []
 
-play_specialbefore : planned 5 4 (0 ∷ 1 ∷ 1 ∷ 0 ∷ 0 ∷ 1 ∷ 1 ∷ 0 ∷ 3 ∷ 3 ∷ 2 ∷ 4 ∷ 4 ∷ 3 ∷ 4 ∷ 4 ∷ []) (diagonal ++ specialbefore (line_of_four (1, 1) U) (3, 4) (2, 2) ∷ []) ≡ Some true
+play_specialbefore : planned 5 4 (0 ∷ 1 ∷ 1 ∷ 0 ∷ 0 ∷ 1 ∷ 1 ∷ 0 ∷ 3 ∷ 3 ∷ 2 ∷ 4 ∷ 4 ∷ 3 ∷ 4 ∷ 4 ∷ [])
+    (diagonal ++ specialbefore (line_of_four (1, 1) U) (3, 4) (2, 2) ∷ []) ≡ Some true
 play_specialbefore = refl
 
 without_specialbefore : planned 5 4 (0 ∷ 1 ∷ 1 ∷ 0 ∷ 0 ∷ 1 ∷ 1 ∷ 0 ∷ 3 ∷ 3 ∷ 2 ∷ 4 ∷ 4 ∷ 3 ∷ 4 ∷ 4 ∷ []) (diagonal) ≡ Some false
 without_specialbefore = refl
 
-specialbefore_replies : answered 5 4 (0 ∷ 1 ∷ 1 ∷ 0 ∷ 0 ∷ 1 ∷ 1 ∷ 0 ∷ 3 ∷ 3 ∷ 2 ∷ 4 ∷ 4 ∷ 3 ∷ 4 ∷ 4 ∷ []) (diagonal ++ specialbefore (line_of_four (1, 1) U) (3, 4) (2, 2) ∷ []) (3 ∷ []) ≡ Some (((3, 4), Some (2, 2)) ∷ [], Some ends.Black)
+specialbefore_replies : answered 5 4 (0 ∷ 1 ∷ 1 ∷ 0 ∷ 0 ∷ 1 ∷ 1 ∷ 0 ∷ 3 ∷ 3 ∷ 2 ∷ 4 ∷ 4 ∷ 3 ∷ 4 ∷ 4 ∷ [])
+    (diagonal ++ specialbefore (line_of_four (1, 1) U) (3, 4) (2, 2) ∷ []) (3 ∷ []) ≡ Some (((3, 4), Some (2, 2)) ∷ [], Some ends.Black)
 specialbefore_replies = refl
 
-specialbefore_to_the_end : answered 5 4 (0 ∷ 1 ∷ 1 ∷ 0 ∷ 0 ∷ 1 ∷ 1 ∷ 0 ∷ 3 ∷ 3 ∷ 2 ∷ 4 ∷ 4 ∷ 3 ∷ 4 ∷ 4 ∷ []) (diagonal ++ specialbefore (line_of_four (1, 1) U) (3, 4) (2, 2) ∷ []) (2 ∷ 2 ∷ []) ≡ Some (((2, 2), Some (3, 4)) ∷ ((2, 3), Some (2, 4)) ∷ [], Some ends.Draw)
+specialbefore_to_the_end : answered 5 4 (0 ∷ 1 ∷ 1 ∷ 0 ∷ 0 ∷ 1 ∷ 1 ∷ 0 ∷ 3 ∷ 3 ∷ 2 ∷ 4 ∷ 4 ∷ 3 ∷ 4 ∷ 4 ∷ [])
+    (diagonal ++ specialbefore (line_of_four (1, 1) U) (3, 4) (2, 2) ∷ []) (2 ∷ 2 ∷ [])
+    ≡ Some (((2, 2), Some (3, 4)) ∷ ((2, 3), Some (2, 4)) ∷ [], Some ends.Draw)
 specialbefore_to_the_end = refl
 
 -- White may own the bottom and the middle of one column of a Highinverse
@@ -154,7 +170,8 @@ bottom_and_middle p = refl
 
 -- whether a list of White's columns is playable, and how many positions the duel over it has
 abbrev dueled : List RuleInstance → List ℕ → Option (Bool × ℕ)
-dueled ws columns = option_map (λ p. (is_playable_list ws p columns, length (duel ws p columns))) (played (empty_position (record { cols = 4; rows = 4; len = Four })) [])
+dueled ws columns = option_map (λ p. (is_playable_list ws p columns, length (duel ws p columns)))
+    (played (empty_position (record { cols = 4; rows = 4; len = Four })) [])
 
 -- eight turns fill the board; a ninth column isn't legal, nor is one that is full
 whole_duel : dueled six_zones (2 ∷ 2 ∷ 3 ∷ 2 ∷ 0 ∷ 0 ∷ 1 ∷ 1 ∷ []) ≡ Some (true, 17)
@@ -176,5 +193,6 @@ whole_on_the_board = refl
 line_off_the_board : special_shape 4 4 (specialbefore (line_of_four (1, 1) U) (3, 4) (2, 2)) ≡ false
 line_off_the_board = refl
 
-square_off_the_board : (special_shape 4 4 (specialbefore (line_of_four (0, 2) H) (4, 1) (0, 2)) ≡ false) × (special_shape 4 4 (specialbefore (line_of_four (0, 2) H) (3, 5) (0, 2)) ≡ false)
+square_off_the_board : (special_shape 4 4 (specialbefore (line_of_four (0, 2) H) (4, 1) (0, 2)) ≡ false)
+    × (special_shape 4 4 (specialbefore (line_of_four (0, 2) H) (3, 5) (0, 2)) ≡ false)
 square_off_the_board = (refl, refl)

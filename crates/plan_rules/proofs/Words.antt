@@ -1,5 +1,6 @@
 -- What stands on the squares of a zone, as one of a list of words; and what each rule needs of its own zone.
-use Rattle.std.proofs.Common.{◌≡◌, ◌⊎◌, ℕ, ◌+◌, ◌≤◌, Bool, true, false, not, ◌&&◌, List, [], ◌∷◌, filter, Option, Some, None, is_none, refl, ap, ◌∙◌, subst, inl, inr, arith}
+use Rattle.std.proofs.Common.{◌≡◌, ◌⊎◌, ℕ, ◌+◌, ◌≤◌, Bool, true, false, not, ◌&&◌, List, [], ◌∷◌, filter, Option, Some, None, is_none, refl, ap, ◌∙◌, subst,
+    inl, inr, arith}
 use Rattle.std.specs.List.{list_all, slice_index_or}
 use Rattle.std.proofs.lemmas.Bool.{and_parts, and_from, and_right, or_cases, false_from_ne_true}
 use Rattle.game_rules.specs.Board.{Square, on_board}
@@ -80,21 +81,26 @@ words_local words zone p q same calm = subst (λ word. is_one_of words word ≡ 
 
 -- ---- zones
 
-pub zone_on_board : (w : RuleInstance) (p q : Position) → fits w p ≡ true → board_of p ≡ board_of q → (u : Square) → Among u (zone_of w) → on_board (board_of q) u ≡ true
-zone_on_board w p q fitted board u among = subst (λ b. on_board b u ≡ true) board (all_gives (on_board (board_of p)) (zone_of w) u (fits_on_board w p fitted) among)
+pub zone_on_board : (w : RuleInstance) (p q : Position) → fits w p ≡ true → board_of p ≡ board_of q → (u : Square) → Among u (zone_of w)
+    → on_board (board_of q) u ≡ true
+zone_on_board w p q fitted board u among = subst (λ b. on_board b u ≡ true) board
+    (all_gives (on_board (board_of p)) (zone_of w) u (fits_on_board w p fitted) among)
 
 pub zone_none : (w : RuleInstance) (p : Position) → fits w p ≡ true → (u : Square) → Among u (zone_of w) → man_at p u ≡ None
 zone_none w p fitted u among = (empty_parts p u (all_gives (is_empty p) (zone_of w) u (fits_empty w p fitted) among)).1
 
 -- the lowest square of a zone in its column stands on the column
-pub foot_low : (zone : List Square) (q : Position) → IsFounded zone q → (v : Square) → has_square zone v ≡ true → ((u : Square) → has_square zone u ≡ true → u.0 ≡ v.0 → v.1 ≤ u.1) → v.1 ≤ height q v.0 + 1
-foot_low zone q founded v owned lowest = founded v owned (λ r low. false_from_ne_true _ (λ below. let high : v.1 ≤ r = lowest (v.0, r) below refl in omega arith))
+pub foot_low : (zone : List Square) (q : Position) → IsFounded zone q → (v : Square) → has_square zone v ≡ true
+    → ((u : Square) → has_square zone u ≡ true → u.0 ≡ v.0 → v.1 ≤ u.1) → v.1 ≤ height q v.0 + 1
+foot_low zone q founded v owned lowest =
+    founded v owned (λ r low. false_from_ne_true _ (λ below. let high : v.1 ≤ r = lowest (v.0, r) below refl in omega arith))
 
 -- a playable square is empty, and the square below it in the zone filled
 pub free_from : (q : Position) (u : Square) → is_playable q u ≡ true → is_none (man_at q u) ≡ true
 free_from q u playable = ap is_none (playable_man q u playable)
 
-pub free_over_from : (q : Position) (u : Square) → 1 ≤ u.1 → is_playable q (above u) ≡ true → (not (is_none (man_at q u)) && is_none (man_at q (above u))) ≡ true
+pub free_over_from : (q : Position) (u : Square) → 1 ≤ u.1 → is_playable q (above u) ≡ true
+    → (not (is_none (man_at q u)) && is_none (man_at q (above u))) ≡ true
 free_over_from q u low playable =
     let parts = playable_parts q (above u) playable in
     let some = filled_under q u low (omega (arith, parts.1)) in
@@ -107,7 +113,8 @@ no_facts q = record { uppers = λ u h. absurd (cc h); pairs = λ u h white. absu
 -- ---- after White's move
 
 -- another square that was empty still is
-pub empty_now : (q : Position) (s u : Square) → is_playable q s ≡ true → on_board (board_of q) u ≡ true → same_square u s ≡ false → man_at q u ≡ None → is_empty (after_move q s.0) u ≡ true
+pub empty_now : (q : Position) (s u : Square) → is_playable q s ≡ true → on_board (board_of q) u ≡ true → same_square u s ≡ false → man_at q u ≡ None
+    → is_empty (after_move q s.0) u ≡ true
 empty_now q s u playable on apart none = and_from _ _ (ap (λ b. on_board b u) (board_moved q s.0) ∙ on) (ap is_none (beside q s u playable apart ∙ none))
 
 pub filled_now : (q : Position) (s u : Square) (m : Side) → is_playable q s ≡ true → man_at q u ≡ Some m → is_empty (after_move q s.0) u ≡ false
@@ -120,5 +127,6 @@ one_of_all test words word one all =
     ap test (same_word_is word found.0 found.2) ∙ all_gives test words found.0 all found.1
 
 -- words of one list, changed each in the same way, are words of another
-pub mapped : (change : Word → Word) (words targets : List Word) (word : Word) → is_one_of words word ≡ true → list_all (λ v. is_one_of targets (change v)) words ≡ true → is_one_of targets (change word) ≡ true
+pub mapped : (change : Word → Word) (words targets : List Word) (word : Word) → is_one_of words word ≡ true
+    → list_all (λ v. is_one_of targets (change v)) words ≡ true → is_one_of targets (change word) ≡ true
 mapped change words targets word one all = one_of_all (λ v. is_one_of targets (change v)) words word one all

@@ -1,6 +1,7 @@
 -- The zones of a list: what only an element with a zone can pass is found among the zones alone, and how the zones of
 -- longer and of other lists are made of them.
-use Rattle.std.proofs.Common.{◌≡◌, ℕ, suc, ◌+◌, ◌≤◌, Bool, true, false, not, ◌||◌, cond, List, [], ◌∷◌, ◌++◌, length, map, filter, refl, ap, ◌∙◌, inl, inr, arith}
+use Rattle.std.proofs.Common.{◌≡◌, ℕ, suc, ◌+◌, ◌≤◌, Bool, true, false, not, ◌||◌, cond, List, [], ◌∷◌, ◌++◌, length, map, filter, refl, ap, ◌∙◌, inl, inr,
+    arith}
 use Rattle.std.specs.List.{list_any, find, enumerate_from, position_from}
 use Rattle.std.specs.Option.{option_map}
 use Rattle.std.proofs.lemmas.Bool.{cases_Bool, not-false, not_from_true, false_from_ne_true, or_left, or_right}
@@ -18,7 +19,8 @@ use Rattle.plan_rules.proofs.Table.{zoneless_owns_none}
 abbrev pub ZonesAlone : {X : Type 0} → (X → Bool) → (X → Bool) → Type 0
 ZonesAlone {X} owns test = (x : X) → owns x ≡ false → test x ≡ false
 
-pub first_zone : {X : Type 0} (owns test : X → Bool) (n : ℕ) (xs : List X) → ZonesAlone owns test → position_from test n xs ≡ option_map (λ zone. zone.0) (find (λ zone. test zone.1) (zones_from owns n xs))
+pub first_zone : {X : Type 0} (owns test : X → Bool) (n : ℕ) (xs : List X) → ZonesAlone owns test
+    → position_from test n xs ≡ option_map (λ zone. zone.0) (find (λ zone. test zone.1) (zones_from owns n xs))
 first_zone owns test n [] alone = refl
 first_zone owns test n (x ∷ xs) alone = elim (cases_Bool (owns x)) [
   | inl zone ↦ elim (cases_Bool (test x)) [
@@ -28,7 +30,8 @@ first_zone owns test n (x ∷ xs) alone = elim (cases_Bool (owns x)) [
   | inr none ↦ rw (none, alone x none) (first_zone owns test (n + 1) xs alone)
 ]
 
-pub owner_of_zone : {X : Type 0} (owns test : X → Bool) (n : ℕ) (xs : List X) → ZonesAlone owns test → find test xs ≡ option_map (λ zone. zone.1) (find (λ zone. test zone.1) (zones_from owns n xs))
+pub owner_of_zone : {X : Type 0} (owns test : X → Bool) (n : ℕ) (xs : List X) → ZonesAlone owns test
+    → find test xs ≡ option_map (λ zone. zone.1) (find (λ zone. test zone.1) (zones_from owns n xs))
 owner_of_zone owns test n [] alone = refl
 owner_of_zone owns test n (x ∷ xs) alone = elim (cases_Bool (owns x)) [
   | inl zone ↦ elim (cases_Bool (test x)) [
@@ -38,7 +41,8 @@ owner_of_zone owns test n (x ∷ xs) alone = elim (cases_Bool (owns x)) [
   | inr none ↦ rw (none, alone x none) (owner_of_zone owns test (n + 1) xs alone)
 ]
 
-pub any_of_zone : {X : Type 0} (owns test : X → Bool) (n : ℕ) (xs : List X) → ZonesAlone owns test → list_any test xs ≡ list_any (λ zone. test zone.1) (zones_from owns n xs)
+pub any_of_zone : {X : Type 0} (owns test : X → Bool) (n : ℕ) (xs : List X) → ZonesAlone owns test
+    → list_any test xs ≡ list_any (λ zone. test zone.1) (zones_from owns n xs)
 any_of_zone owns test n [] alone = refl
 any_of_zone owns test n (x ∷ xs) alone = elim (cases_Bool (owns x)) [
   | inl zone ↦ rw zone (ap (λ b. test x || b) (any_of_zone owns test (n + 1) xs alone))
@@ -65,19 +69,23 @@ stands_with_all v w standing = or_left _ _ (or_right (owns_no_zone v) (owns_no_z
 
 enumerate_append : {X : Type 0} (n : ℕ) (xs ys : List X) → enumerate_from n (xs ++ ys) ≡ enumerate_from n xs ++ enumerate_from (n + length xs) ys
 enumerate_append n [] ys = ap (λ k. enumerate_from k ys) (omega arith)
-enumerate_append n (x ∷ xs) ys = ap (λ rest. (n, x) ∷ rest) (enumerate_append (n + 1) xs ys ∙ ap (λ k. enumerate_from (n + 1) xs ++ enumerate_from k ys) (omega arith))
+enumerate_append n (x ∷ xs) ys =
+    ap (λ rest. (n, x) ∷ rest) (enumerate_append (n + 1) xs ys ∙ ap (λ k. enumerate_from (n + 1) xs ++ enumerate_from k ys) (omega arith))
 
-pub zones_append : {X : Type 0} (owns : X → Bool) (n : ℕ) (xs ys : List X) → zones_from owns n (xs ++ ys) ≡ zones_from owns n xs ++ zones_from owns (n + length xs) ys
+pub zones_append : {X : Type 0} (owns : X → Bool) (n : ℕ) (xs ys : List X)
+    → zones_from owns n (xs ++ ys) ≡ zones_from owns n xs ++ zones_from owns (n + length xs) ys
 zones_append owns n xs ys =
     ap (filter (λ zone. owns zone.1)) (enumerate_append n xs ys)
     ∙ filter-append (λ zone. owns zone.1) (enumerate_from n xs) (enumerate_from (n + length xs) ys)
 
 -- one element more
-pub zones_more : {X : Type 0} (owns : X → Bool) (n : ℕ) (xs : List X) (x : X) → zones_from owns n (xs ++ x ∷ []) ≡ zones_from owns n xs ++ cond (owns x) ((n + length xs, x) ∷ []) []
+pub zones_more : {X : Type 0} (owns : X → Bool) (n : ℕ) (xs : List X) (x : X)
+    → zones_from owns n (xs ++ x ∷ []) ≡ zones_from owns n xs ++ cond (owns x) ((n + length xs, x) ∷ []) []
 zones_more owns n xs x = zones_append owns n xs (x ∷ [])
 
 -- of elements that stand for others
-pub zones_map : {X Y : Type 0} (owns : Y → Bool) (f : X → Y) (n : ℕ) (xs : List X) → zones_from owns n (map f xs) ≡ map (λ zone. (zone.0, f zone.1)) (zones_from (λ x. owns (f x)) n xs)
+pub zones_map : {X Y : Type 0} (owns : Y → Bool) (f : X → Y) (n : ℕ) (xs : List X)
+    → zones_from owns n (map f xs) ≡ map (λ zone. (zone.0, f zone.1)) (zones_from (λ x. owns (f x)) n xs)
 zones_map owns f n [] = refl
 zones_map owns f n (x ∷ xs) = elim (cases_Bool (owns (f x))) [
   | inl zone ↦ rw zone (ap (λ rest. (n, f x) ∷ rest) (zones_map owns f (n + 1) xs))

@@ -1,5 +1,6 @@
 -- The words of a plan's line: those that are read are the texts of instances of the board, and such texts are read.
-use Rattle.std.proofs.Common.{◌≡◌, ℕ, ◌*◌, ◌≤◌, true, ◌&&◌, nat_le, List, [], ◌∷◌, map, flat_map, length, Option, Some, None, codes, refl, sym, ap, ◌∙◌, subst, arith, lit≤}
+use Rattle.std.proofs.Common.{◌≡◌, ℕ, ◌*◌, ◌≤◌, true, ◌&&◌, nat_le, List, [], ◌∷◌, map, flat_map, length, Option, Some, None, codes, refl, sym, ap, ◌∙◌, subst,
+    arith, lit≤}
 use Rattle.std.specs.List.{AllByRecursion}
 use Rattle.std.specs.Str.{bytes_eq}
 use Rattle.std.specs.Option.{option_map_or}
@@ -22,7 +23,8 @@ use Rattle.plan_text.proofs.Instances.{instance_plain, instance_short, instance_
 abbrev AreNamed : Board → List RuleInstance → Type 0
 AreNamed board ws = AllByRecursion (λ w. is_named board w ≡ true) ws
 
-instances_read : (board : Board) (words : List (List ℕ)) (ws : List RuleInstance) → instances_of board words ≡ Some ws → (words ≡ map instance_text ws) × AreNamed board ws
+instances_read : (board : Board) (words : List (List ℕ)) (ws : List RuleInstance) → instances_of board words ≡ Some ws
+    → (words ≡ map instance_text ws) × AreNamed board ws
 instances_read board [] ws h = let same : [] ≡ ws = cc in subst (λ ws. ([] ≡ map instance_text ws) × AreNamed board ws) same (refl, tt)
 instances_read board (word ∷ words) ws h =
     let first = bind_some (instance_of board word) _ ws h in
@@ -40,7 +42,8 @@ instances_spelled board (w ∷ ws) h =
     ∙ ap (λ found. found >>= λ ws. Some (w ∷ ws)) (instances_spelled board ws h.1)
 
 -- what is read is spelled so, and fits a line
-pub members_read : (board : Board) (words : List (List ℕ)) (ws : List RuleInstance) → members_of board words ≡ Some ws → (words ≡ map instance_text ws) × PlanFits board ws
+pub members_read : (board : Board) (words : List (List ℕ)) (ws : List RuleInstance) → members_of board words ≡ Some ws
+    → (words ≡ map instance_text ws) × PlanFits board ws
 members_read board words ws h =
     let found = chosen_some (nat_le 1 (length words) && nat_le (length words) most_members) (instances_of board words) ws h in
     let size = and_parts (nat_le 1 (length words)) (nat_le (length words) most_members) found.0 in
@@ -56,7 +59,8 @@ members_spelled board ws h =
     let size : length (map instance_text ws) ≡ length ws = length-map ws instance_text in
     found (and_from _ _ (le-leb 1 (length (map instance_text ws)) (omega arith)) (le-leb (length (map instance_text ws)) most_members (omega arith)))
   where
-    found : (nat_le 1 (length (map instance_text ws)) && nat_le (length (map instance_text ws)) most_members) ≡ true → members_of board (map instance_text ws) ≡ Some ws
+    found : (nat_le 1 (length (map instance_text ws)) && nat_le (length (map instance_text ws)) most_members) ≡ true
+        → members_of board (map instance_text ws) ≡ Some ws
     found e = rw e (instances_spelled board ws h.2)
 
 -- no byte of an instance's text is below `+`
@@ -64,12 +68,14 @@ pub member_plain : (board : Board) (w : RuleInstance) → is_named board w ≡ t
 member_plain = instance_plain
 
 -- the words with a space before each
-pub members_length : (board : Board) (ws : List RuleInstance) → PlanFits board ws → length (flat_map (λ word. 32 ∷ word) (map instance_text ws)) ≤ 17 * length ws
+pub members_length : (board : Board) (ws : List RuleInstance) → PlanFits board ws
+    → length (flat_map (λ word. 32 ∷ word) (map instance_text ws)) ≤ 17 * length ws
 members_length board ws h = each ws h.2
   where
     each : (ws : List RuleInstance) → AreNamed board ws → length (flat_map (λ word. 32 ∷ word) (map instance_text ws)) ≤ 17 * length ws
     each [] h = lit≤ tt
-    each (w ∷ ws) h = omega (arith, each ws h.1, instance_short board w h.0, length-append (32 ∷ instance_text w) (flat_map (λ word. 32 ∷ word) (map instance_text ws)))
+    each (w ∷ ws) h = omega (arith, each ws h.1, instance_short board w h.0, length-append (32 ∷ instance_text w)
+        (flat_map (λ word. 32 ∷ word) (map instance_text ws)))
 
 -- what fits at a position has a spelling on its board
 pub fitting_named : (p : Position) (w : RuleInstance) → is_board (board_of p) ≡ true → fits w p ≡ true → is_named (board_of p) w ≡ true
@@ -99,12 +105,14 @@ plan_read board bytes ws h = of_words (words_of bytes) refl h
     of_words (word ∷ words) e h =
         let found = chosen_some (bytes_eq word (codes "plan")) (members_of board words) ws h in
         let read = members_read board words ws found.1 in
-        (read.1, spaced_words bytes (word ∷ words) e ∙ ap spaced (ap (λ word. word ∷ words) (is_text word (codes "plan") found.0) ∙ ap (λ words. codes "plan" ∷ words) read.0))
+        (read.1, spaced_words bytes (word ∷ words) e
+            ∙ ap spaced (ap (λ word. word ∷ words) (is_text word (codes "plan") found.0) ∙ ap (λ words. codes "plan" ∷ words) read.0))
 
 -- what is in the grammar is read
 pub plan_spelled : (board : Board) (bytes : List ℕ) (ws : List RuleInstance) → IsPlanLine board bytes ws → read_plan board bytes ≡ Some ws
 plan_spelled board bytes ws h =
-    ap (read_plan board) h.1 ∙ ap (plan_of_words board) (words_of_spaced (codes "plan") (map instance_text ws) (plan_plain board ws h.0.2)) ∙ members_spelled board ws h.0
+    ap (read_plan board) h.1 ∙ ap (plan_of_words board) (words_of_spaced (codes "plan") (map instance_text ws) (plan_plain board ws h.0.2))
+        ∙ members_spelled board ws h.0
 
 -- bytes are the line of one list
 pub one_plan : (board : Board) (bytes : List ℕ) (ws vs : List RuleInstance) → IsPlanLine board bytes ws → IsPlanLine board bytes vs → ws ≡ vs
@@ -117,4 +125,5 @@ plan_bytes board bytes ws h = subst (AllByRecursion (λ byte. 32 ≤ byte)) (sym
 -- the longest line has 5,104 bytes
 pub plan_length : (board : Board) (ws : List RuleInstance) → PlanFits board ws → length (plan_text ws) ≤ 5104
 plan_length board ws h =
-    omega (arith, ap length (spaced_behind (codes "plan") (map instance_text ws)), length-append (codes "plan") (flat_map (λ word. 32 ∷ word) (map instance_text ws)), members_length board ws h)
+    omega (arith, ap length (spaced_behind (codes "plan") (map instance_text ws)),
+        length-append (codes "plan") (flat_map (λ word. 32 ∷ word) (map instance_text ws)), members_length board ws h)

@@ -1,6 +1,7 @@
 -- Words with a single space between each two, and parts with a mark between them: how they are told apart, and what
 -- bytes they have.
-use Rattle.std.proofs.Common.{◌≡◌, ℕ, ◌+◌, ◌%◌, ◌<◌, ◌≤◌, ◌^◌, Bool, true, false, cond, ◌==◌, nat_le, nat_lt, List, [], ◌∷◌, ◌++◌, flat_map, Option, Some, None, refl, sym, ap, ◌∙◌, subst, append-nil, inl, inr, arith, lit≤}
+use Rattle.std.proofs.Common.{◌≡◌, ℕ, ◌+◌, ◌%◌, ◌<◌, ◌≤◌, ◌^◌, Bool, true, false, cond, ◌==◌, nat_le, nat_lt, List, [], ◌∷◌, ◌++◌, flat_map, Option, Some, None,
+    refl, sym, ap, ◌∙◌, subst, append-nil, inl, inr, arith, lit≤}
 use Rattle.std.specs.List.{All, AllByRecursion, list_all}
 use Rattle.std.specs.Str.{bytes_eq}
 use Rattle.std.specs.Fmt.{decimal}
@@ -125,7 +126,8 @@ split_once_gives mark (byte ∷ bytes) parts h = elim (chosen (byte == mark) (So
       subst (λ (parts : List ℕ × List ℕ). byte ∷ bytes ≡ parts.0 ++ mark ∷ parts.1) same (ap (λ b. b ∷ bytes) (eqb-true byte mark here.0))
   | inr later ↦
       let rest = map_some (λ parts. (byte ∷ parts.0, parts.1)) (split_once mark bytes) parts later.1 in
-      subst (λ (parts : List ℕ × List ℕ). byte ∷ bytes ≡ parts.0 ++ mark ∷ parts.1) rest.2 (ap (λ bytes. byte ∷ bytes) (split_once_gives mark bytes rest.0 rest.1))
+      subst (λ (parts : List ℕ × List ℕ). byte ∷ bytes ≡ parts.0 ++ mark ∷ parts.1) rest.2
+          (ap (λ bytes. byte ∷ bytes) (split_once_gives mark bytes rest.0 rest.1))
 ]
 
 -- and what has no mark before it is cut there
@@ -136,5 +138,6 @@ split_once_at mark (byte ∷ left) right h = rw h.0 (ap (option_map (λ parts. (
 -- ---- one spelling
 
 -- what is read from its own text has no other's
-pub read_apart : {X : Type 0} (read : List ℕ → Option X) (text : X → List ℕ) (x y : X) → read (text x) ≡ Some x → read (text y) ≡ Some y → text x ≡ text y → x ≡ y
+pub read_apart : {X : Type 0} (read : List ℕ → Option X) (text : X → List ℕ) (x y : X) → read (text x) ≡ Some x → read (text y) ≡ Some y → text x ≡ text y
+    → x ≡ y
 read_apart read text x y x_is y_is same = let found : Some x ≡ Some y = sym x_is ∙ ap read same ∙ y_is in cc

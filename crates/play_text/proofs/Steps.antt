@@ -1,5 +1,6 @@
 -- Play goes line by line, and what whole inputs give.
-use Rattle.std.proofs.Common.{◌≡◌, ◌≢◌, ◌⊎◌, ℕ, suc, ◌+◌, true, nat_le, List, [], ◌∷◌, ◌++◌, map, length, Option, Some, None, is_none, Result, Ok, Err, refl, sym, ap, ◌∙◌, inl, inr, arith, append_assoc, append-nil}
+use Rattle.std.proofs.Common.{◌≡◌, ◌≢◌, ◌⊎◌, ℕ, suc, ◌+◌, true, nat_le, List, [], ◌∷◌, ◌++◌, map, length, Option, Some, None, is_none, Result, Ok, Err, refl,
+    sym, ap, ◌∙◌, inl, inr, arith, append_assoc, append-nil}
 use Rattle.std.proofs.lemmas.Bool.{le-leb}
 use Rattle.game_rules.specs.Board.{Square}
 use Rattle.game_rules.specs.Position.{Position, board_of, after_move}
@@ -13,7 +14,8 @@ use Rattle.plan_text.specs.PlanLine.{PlanFits, plan_text}
 use Rattle.plan_text.proofs.PlanLines.{plan_spelled, plan_length}
 use Rattle.proof_text.specs.Spelling.{longest_line}
 use Rattle.proof_text.specs.Texts.{pieces, game_of, behind_game}
-use Rattle.play_text.specs.Play.{PlayEnd, NoMove, AllPlayed, NoReply, move_line, Played, behind, turn_text, column_in, move_refusal, answer_to, with_answer, with_column, play_from, first_move, plan_in, play_by, play_list, play_lines, play_game, play_of}
+use Rattle.play_text.specs.Play.{PlayEnd, NoMove, AllPlayed, NoReply, move_line, Played, behind, turn_text, column_in, move_refusal, answer_to, with_answer,
+    with_column, play_from, first_move, plan_in, play_by, play_list, play_lines, play_game, play_of}
 use Rattle.play_text.specs.Told.{TellsPlay, IsTold}
 use Rattle.play_text.specs.declared.PlayFault.{PlayFault}
 use Rattle.play_text.specs.declared.PlayKind.{PlayKind}
@@ -30,25 +32,33 @@ behind_more xs ys played = ap (λ lines. record { lines = lines; end = played.en
 abbrev pub GoesOn : List RuleInstance → Position → ℕ → List (List ℕ) → List (List ℕ) → Type 0
 GoesOn ws q at xs ys =
     (((play_from ws q at xs).end ≢ AllPlayed) × (play_from ws q at (xs ++ ys) ≡ play_from ws q at xs))
-    ⊎ (((play_from ws q at xs).end ≡ AllPlayed) × ((r : Position) × (play_from ws q at (xs ++ ys) ≡ behind (play_from ws q at xs).lines (play_from ws r (at + length xs) ys))))
+    ⊎ (((play_from ws q at xs).end ≡ AllPlayed)
+        × ((r : Position) × (play_from ws q at (xs ++ ys) ≡ behind (play_from ws q at xs).lines (play_from ws r (at + length xs) ys))))
 
 pub goes_on : (ws : List RuleInstance) (q : Position) (at : ℕ) (xs ys : List (List ℕ)) → GoesOn ws q at xs ys
 goes_on ws q at [] ys = inr (refl, (q, ap (λ at. play_from ws q at ys) (let same : at ≡ at + 0 = omega arith in same)))
 goes_on ws q at (x ∷ xs) ys =
     of_column (column_in (board_of q) x) (move_refusal q (column_in (board_of q) x)) refl refl (λ next. goes_on ws next (at + 1) xs ys)
   where
-    of_answer : (column : ℕ) (answer : Option Square) → answer_to ws q column ≡ answer → column_in (board_of q) x ≡ Some column → move_refusal q (column_in (board_of q) x) ≡ None
+    of_answer : (column : ℕ) (answer : Option Square) → answer_to ws q column ≡ answer → column_in (board_of q) x ≡ Some column
+        → move_refusal q (column_in (board_of q) x) ≡ None
         → ((next : Position) → GoesOn ws next (at + 1) xs ys) → GoesOn ws q at (x ∷ xs) ys
     of_answer column None f e g later = rw (g, e, f) (inl (λ same. cc, refl))
     of_answer column (Some reply) f e g later = rw (g, e, f) (further (later (after_move (after_move q column) reply.0)))
       where
         further : GoesOn ws (after_move (after_move q column) reply.0) (at + 1) xs ys
             → (((play_from ws (after_move (after_move q column) reply.0) (at + 1) xs).end ≢ AllPlayed)
-            × (behind (turn_text q column reply ∷ []) (play_from ws (after_move (after_move q column) reply.0) (at + 1) (xs ++ ys)) ≡ behind (turn_text q column reply ∷ []) (play_from ws (after_move (after_move q column) reply.0) (at + 1) xs)))
+            × (behind (turn_text q column reply ∷ []) (play_from ws (after_move (after_move q column) reply.0) (at + 1) (xs ++ ys))
+                ≡ behind (turn_text q column reply ∷ []) (play_from ws (after_move (after_move q column) reply.0) (at + 1) xs)))
             ⊎ (((play_from ws (after_move (after_move q column) reply.0) (at + 1) xs).end ≡ AllPlayed)
-            × ((r : Position) × (behind (turn_text q column reply ∷ []) (play_from ws (after_move (after_move q column) reply.0) (at + 1) (xs ++ ys)) ≡ behind (turn_text q column reply ∷ (play_from ws (after_move (after_move q column) reply.0) (at + 1) xs).lines) (play_from ws r (at + suc (length xs)) ys))))
+            × ((r : Position) × (behind (turn_text q column reply ∷ []) (play_from ws (after_move (after_move q column) reply.0) (at + 1) (xs ++ ys))
+                ≡ behind (turn_text q column reply ∷ (play_from ws (after_move (after_move q column) reply.0) (at + 1) xs).lines)
+                (play_from ws r (at + suc (length xs)) ys))))
         further (inl (stops, same)) = inl (stops, ap (behind (turn_text q column reply ∷ [])) same)
-        further (inr (all, (r, same))) = inr (all, (r, ap (behind (turn_text q column reply ∷ [])) (same ∙ ap (λ n. behind (play_from ws (after_move (after_move q column) reply.0) (at + 1) xs).lines (play_from ws r n ys)) (let more : at + 1 + length xs ≡ at + suc (length xs) = omega arith in more))))
+        further (inr (all, (r, same))) =
+            inr (all, (r, ap (behind (turn_text q column reply ∷ []))
+            (same ∙ ap (λ n. behind (play_from ws (after_move (after_move q column) reply.0) (at + 1) xs).lines (play_from ws r n ys))
+            (let more : at + 1 + length xs ≡ at + suc (length xs) = omega arith in more))))
 
     of_column : (column : Option ℕ) (refusal : Option PlayKind) → column_in (board_of q) x ≡ column → move_refusal q (column_in (board_of q) x) ≡ refusal
         → ((next : Position) → GoesOn ws next (at + 1) xs ys) → GoesOn ws q at (x ∷ xs) ys
@@ -56,7 +66,8 @@ goes_on ws q at (x ∷ xs) ys =
     of_column None None e f later = absurd (cc (rw e at f))
     of_column (Some column) None e f later = of_answer column (answer_to ws q column) refl e f later
 
-pub play_stops : (ws : List RuleInstance) (q : Position) (at : ℕ) (xs ys : List (List ℕ)) → (play_from ws q at xs).end ≢ AllPlayed → play_from ws q at (xs ++ ys) ≡ play_from ws q at xs
+pub play_stops : (ws : List RuleInstance) (q : Position) (at : ℕ) (xs ys : List (List ℕ)) → (play_from ws q at xs).end ≢ AllPlayed
+    → play_from ws q at (xs ++ ys) ≡ play_from ws q at xs
 play_stops ws q at xs ys stops = of_case (goes_on ws q at xs ys)
   where
     of_case : GoesOn ws q at xs ys → play_from ws q at (xs ++ ys) ≡ play_from ws q at xs
@@ -72,7 +83,8 @@ play_more ws q at xs ys all = of_case (goes_on ws q at xs ys)
     of_case (inr (also, some)) = some
 
 -- what fewer lines give stands at the beginning
-pub fewer_lines : (ws : List RuleInstance) (q : Position) (at : ℕ) (xs ys : List (List ℕ)) → (more : List (List ℕ)) × ((play_from ws q at (xs ++ ys)).lines ≡ (play_from ws q at xs).lines ++ more)
+pub fewer_lines : (ws : List RuleInstance) (q : Position) (at : ℕ) (xs ys : List (List ℕ))
+    → (more : List (List ℕ)) × ((play_from ws q at (xs ++ ys)).lines ≡ (play_from ws q at xs).lines ++ more)
 fewer_lines ws q at xs ys = of_case (goes_on ws q at xs ys)
   where
     of_case : GoesOn ws q at xs ys → (more : List (List ℕ)) × ((play_from ws q at (xs ++ ys)).lines ≡ (play_from ws q at xs).lines ++ more)
@@ -86,23 +98,28 @@ pub is_one : (p : Position) (ws : List RuleInstance) → plan_refusal p ws ≡ N
 is_one p ws none = sym (refusal_is p ws) ∙ ap is_none none
 
 -- by further lines play ends at one that is no move, behind the last, or for want of an answer
-ends_so : (P : PlayEnd → Type 0) → ((fault : PlayFault) → P (NoMove fault)) → P AllPlayed → P NoReply → (ws : List RuleInstance) (q : Position) (at : ℕ) (moves : List (List ℕ)) → P (play_from ws q at moves).end
+ends_so : (P : PlayEnd → Type 0) → ((fault : PlayFault) → P (NoMove fault)) → P AllPlayed → P NoReply
+    → (ws : List RuleInstance) (q : Position) (at : ℕ) (moves : List (List ℕ)) → P (play_from ws q at moves).end
 ends_so P stops all none ws q at [] = all
 ends_so P stops all none ws q at (move ∷ moves) =
     of_column (column_in (board_of q) move) (move_refusal q (column_in (board_of q) move)) (λ next. ends_so P stops all none ws next (at + 1) moves)
   where
-    of_answer : (column : ℕ) (answer : Option Square) → ((next : Position) → P (play_from ws next (at + 1) moves).end) → P (with_answer q column answer (λ next. play_from ws next (at + 1) moves)).end
+    of_answer : (column : ℕ) (answer : Option Square) → ((next : Position) → P (play_from ws next (at + 1) moves).end)
+        → P (with_answer q column answer (λ next. play_from ws next (at + 1) moves)).end
     of_answer column None later = none
     of_answer column (Some reply) later = later (after_move (after_move q column) reply.0)
 
-    of_column : (column : Option ℕ) (refusal : Option PlayKind) → ((next : Position) → P (play_from ws next (at + 1) moves).end) → P (with_column ws q at column refusal (λ next. play_from ws next (at + 1) moves)).end
+    of_column : (column : Option ℕ) (refusal : Option PlayKind) → ((next : Position) → P (play_from ws next (at + 1) moves).end)
+        → P (with_column ws q at column refusal (λ next. play_from ws next (at + 1) moves)).end
     of_column column (Some kind) later = stops (record { kind = kind; at = at })
     of_column None None later = stops (record { kind = BadMove; at = at })
     of_column (Some column) None later = of_answer column (answer_to ws q column) later
 
 -- what is told by an end that further lines lead to
-told_at : (bytes : List ℕ) (ws : List RuleInstance) (q : Position) (at : ℕ) (moves lines : List (List ℕ)) → (play_from ws q at moves).end ≢ NoReply → TellsPlay bytes lines → IsTold bytes lines (play_from ws q at moves).end
-told_at bytes ws q at moves lines answered tells = ends_so (λ end. end ≢ NoReply → IsTold bytes lines end) (λ fault answered. tells) (λ answered. tells) (λ answered. answered refl) ws q at moves answered
+told_at : (bytes : List ℕ) (ws : List RuleInstance) (q : Position) (at : ℕ) (moves lines : List (List ℕ)) → (play_from ws q at moves).end ≢ NoReply
+    → TellsPlay bytes lines → IsTold bytes lines (play_from ws q at moves).end
+told_at bytes ws q at moves lines answered tells = ends_so (λ end. end ≢ NoReply → IsTold bytes lines end) (λ fault answered. tells) (λ answered. tells)
+    (λ answered. answered refl) ws q at moves answered
 
 pub told : (bytes : List ℕ) → IsTold bytes (play_of bytes).lines (play_of bytes).end
 unfolding play_of
@@ -111,7 +128,8 @@ told bytes = of_game (game_at (game_of (pieces bytes))) (behind_game (pieces byt
     Told : Played → Type 0
     Told played = IsTold bytes played.lines played.end
 
-    of_refusal : (root : Position) (first : List ℕ) (moves : List (List ℕ)) (ws : List RuleInstance) (refusal : Option PlanFault) → plan_refusal root ws ≡ refusal → game_at (game_of (pieces bytes)) ≡ Ok root
+    of_refusal : (root : Position) (first : List ℕ) (moves : List (List ℕ)) (ws : List RuleInstance) (refusal : Option PlanFault)
+        → plan_refusal root ws ≡ refusal → game_at (game_of (pieces bytes)) ≡ Ok root
         → behind_game (pieces bytes) ≡ first ∷ moves → plan_in (board_of root) first ≡ Some ws → Told (play_by root ws refusal moves)
     of_refusal root first moves ws (Some fault) d e f g = refl
     of_refusal root first moves ws None d e f g =
@@ -124,16 +142,19 @@ told bytes = of_game (game_at (game_of (pieces bytes))) (behind_game (pieces byt
     of_list root first moves None e f g = refl
     of_list root first moves (Some ws) e f g = of_refusal root first moves ws (plan_refusal root ws) refl e f g
 
-    of_lines : (root : Position) (lines : List (List ℕ)) → game_at (game_of (pieces bytes)) ≡ Ok root → behind_game (pieces bytes) ≡ lines → Told (play_lines root lines)
+    of_lines : (root : Position) (lines : List (List ℕ)) → game_at (game_of (pieces bytes)) ≡ Ok root → behind_game (pieces bytes) ≡ lines
+        → Told (play_lines root lines)
     of_lines root [] e f = refl
     of_lines root (first ∷ moves) e f = of_list root first moves (plan_in (board_of root) first) e f refl
 
-    of_game : (game : Result Position InputFault) (lines : List (List ℕ)) → game_at (game_of (pieces bytes)) ≡ game → behind_game (pieces bytes) ≡ lines → Told (play_game game lines)
+    of_game : (game : Result Position InputFault) (lines : List (List ℕ)) → game_at (game_of (pieces bytes)) ≡ game → behind_game (pieces bytes) ≡ lines
+        → Told (play_game game lines)
     of_game (Err fault) lines e f = refl
     of_game (Ok root) lines e f = of_lines root lines e f
 
 -- an input with a game, a plan's line and legal moves is played to its end
-pub input_played : (bytes : List ℕ) (root : Position) (ws : List RuleInstance) (columns : List ℕ) → game_at (game_of (pieces bytes)) ≡ Ok root → behind_game (pieces bytes) ≡ plan_text ws ∷ map move_line columns
+pub input_played : (bytes : List ℕ) (root : Position) (ws : List RuleInstance) (columns : List ℕ) → game_at (game_of (pieces bytes)) ≡ Ok root
+    → behind_game (pieces bytes) ≡ plan_text ws ∷ map move_line columns
     → PlanFits (board_of root) ws → is_plan root ws ≡ true → is_playable_list ws root columns ≡ true → (play_of bytes).end ≡ AllPlayed
 unfolding play_of
 input_played bytes root ws columns game lines fits is playable =

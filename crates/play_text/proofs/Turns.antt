@@ -1,5 +1,6 @@
 -- By a plan the lines of play tell the turns of a duel.
-use Rattle.std.proofs.Common.{◌≡◌, ◌≢◌, ℕ, zero, suc, ◌+◌, ◌*◌, Bool, true, false, cond, List, [], ◌∷◌, ◌++◌, map, length, Option, Some, None, refl, sym, ap, ◌∙◌, arith}
+use Rattle.std.proofs.Common.{◌≡◌, ◌≢◌, ℕ, zero, suc, ◌+◌, ◌*◌, Bool, true, false, cond, List, [], ◌∷◌, ◌++◌, map, length, Option, Some, None, refl, sym, ap,
+    ◌∙◌, arith}
 use Rattle.std.specs.Bool.{⊤}
 use Rattle.std.specs.List.{slice_get}
 use Rattle.std.proofs.lemmas.Bool.{and_parts}
@@ -50,9 +51,11 @@ pub answer_is : (ws : List RuleInstance) (q : Position) (column : ℕ) (answered
 answer_is ws q column answered = rw answered.going answered.is_reply
 
 -- so its line gives the line of the turn
-pub line_played : (ws : List RuleInstance) (q : Position) (at : ℕ) (line : List ℕ) (more : List (List ℕ)) (column : ℕ) (answered : IsAnswered ws q column) → column_in (board_of q) line ≡ Some column
+pub line_played : (ws : List RuleInstance) (q : Position) (at : ℕ) (line : List ℕ) (more : List (List ℕ)) (column : ℕ) (answered : IsAnswered ws q column)
+    → column_in (board_of q) line ≡ Some column
     → is_legal q column ≡ true
-    → play_from ws q at (line ∷ more) ≡ behind (turn_text q column answered.reply ∷ []) (play_from ws (after_move (after_move q column) answered.reply.0) (at + 1) more)
+    → play_from ws q at (line ∷ more)
+        ≡ behind (turn_text q column answered.reply ∷ []) (play_from ws (after_move (after_move q column) answered.reply.0) (at + 1) more)
 line_played ws q at line more column answered named legal = rw (named, legal_unrefused q column legal, answer_is ws q column answered) refl
 
 -- ---- turns
@@ -80,17 +83,21 @@ record GoesInTurns (ws : List RuleInstance) (q : Position) (moves : List (List �
   turns : AreTurns ws q moves played.lines columns
   answered : played.end ≢ NoReply
 
-played_in_turns : (p : Position) (ws : List RuleInstance) → is_plan p ws ≡ true → (before : List ℕ) (q : Position) (at : ℕ) (moves : List (List ℕ)) → after_turns ws p before ≡ Some q
+played_in_turns : (p : Position) (ws : List RuleInstance) → is_plan p ws ≡ true → (before : List ℕ) (q : Position) (at : ℕ) (moves : List (List ℕ))
+    → after_turns ws p before ≡ Some q
     → GoesInTurns ws q moves (play_from ws q at moves)
 played_in_turns p ws is before q at [] reached = record { columns = []; turns = tt; answered = λ same. cc }
 played_in_turns p ws is before q at (move ∷ moves) reached =
     of_column (column_in (board_of q) move) (move_refusal q (column_in (board_of q) move)) refl refl
-    (λ column legal. played_in_turns p ws is (before ++ column ∷ []) (after_move (after_move q column) (plan_answers p ws before q column is reached legal).reply.0) (at + 1) moves
-    (turns_more ws p q (after_move (after_move q column) (plan_answers p ws before q column is reached legal).reply.0) before column reached legal (turn_made ws q column (plan_answers p ws before q column is reached legal))))
+    (λ column legal. played_in_turns p ws is (before ++ column ∷ [])
+        (after_move (after_move q column) (plan_answers p ws before q column is reached legal).reply.0) (at + 1) moves
+    (turns_more ws p q (after_move (after_move q column) (plan_answers p ws before q column is reached legal).reply.0) before column reached legal
+        (turn_made ws q column (plan_answers p ws before q column is reached legal))))
   where
     of_column : (column : Option ℕ) (refusal : Option PlayKind) → column_in (board_of q) move ≡ column → move_refusal q (column_in (board_of q) move) ≡ refusal
         → ((column : ℕ) (legal : is_legal q column ≡ true)
-        → GoesInTurns ws (after_move (after_move q column) (plan_answers p ws before q column is reached legal).reply.0) moves (play_from ws (after_move (after_move q column) (plan_answers p ws before q column is reached legal).reply.0) (at + 1) moves))
+        → GoesInTurns ws (after_move (after_move q column) (plan_answers p ws before q column is reached legal).reply.0) moves
+            (play_from ws (after_move (after_move q column) (plan_answers p ws before q column is reached legal).reply.0) (at + 1) moves))
         → GoesInTurns ws q (move ∷ moves) (play_from ws q at (move ∷ moves))
     of_column column (Some kind) e f later = rw f (record { columns = []; turns = tt; answered = λ same. cc })
     of_column None None e f later = absurd (cc (rw e at f))
@@ -104,7 +111,8 @@ played_in_turns p ws is before q at (move ∷ moves) reached =
           columns = column ∷ behind.columns;
           turns = (
             next,
-            record { letter = column_letter (board_of q) move column e; legal = legal; reply = answered.reply; is_reply = answered.is_reply; turn = turn_made ws q column answered; told = refl },
+            record { letter = column_letter (board_of q) move column e; legal = legal; reply = answered.reply; is_reply = answered.is_reply; turn =
+                turn_made ws q column answered; told = refl },
             behind.turns,
           );
           answered = behind.answered;
@@ -112,15 +120,18 @@ played_in_turns p ws is before q at (move ∷ moves) reached =
 
 -- ---- the duel of some turns
 
-turns_playable : (ws : List RuleInstance) (q : Position) (moves lines : List (List ℕ)) (columns : List ℕ) → AreTurns ws q moves lines columns → is_playable_list ws q columns ≡ true
+turns_playable : (ws : List RuleInstance) (q : Position) (moves lines : List (List ℕ)) (columns : List ℕ) → AreTurns ws q moves lines columns
+    → is_playable_list ws q columns ≡ true
 turns_playable ws q moves [] [] turns = refl
 turns_playable ws q [] (line ∷ lines) columns turns = absurd turns
 turns_playable ws q (move ∷ moves) (line ∷ lines) [] turns = absurd turns
 turns_playable ws q [] [] (column ∷ columns) turns = absurd turns
 turns_playable ws q (move ∷ moves) [] (column ∷ columns) turns = absurd turns
-turns_playable ws q (move ∷ moves) (line ∷ lines) (column ∷ columns) (next, one, later) = rw (one.legal, one.turn) (turns_playable ws next moves lines columns later)
+turns_playable ws q (move ∷ moves) (line ∷ lines) (column ∷ columns) (next, one, later) =
+    rw (one.legal, one.turn) (turns_playable ws next moves lines columns later)
 
-turns_as_many : (ws : List RuleInstance) (q : Position) (moves lines : List (List ℕ)) (columns : List ℕ) → AreTurns ws q moves lines columns → length lines ≡ length columns
+turns_as_many : (ws : List RuleInstance) (q : Position) (moves lines : List (List ℕ)) (columns : List ℕ) → AreTurns ws q moves lines columns
+    → length lines ≡ length columns
 turns_as_many ws q moves [] [] turns = refl
 turns_as_many ws q [] (line ∷ lines) columns turns = absurd turns
 turns_as_many ws q (move ∷ moves) (line ∷ lines) [] turns = absurd turns
@@ -128,14 +139,17 @@ turns_as_many ws q [] [] (column ∷ columns) turns = absurd turns
 turns_as_many ws q (move ∷ moves) [] (column ∷ columns) turns = absurd turns
 turns_as_many ws q (move ∷ moves) (line ∷ lines) (column ∷ columns) (next, one, later) = ap suc (turns_as_many ws next moves lines columns later)
 
-turns_named : (ws : List RuleInstance) (q : Position) (moves lines : List (List ℕ)) (columns : List ℕ) → AreTurns ws q moves lines columns → (i column : ℕ) → slice_get columns i ≡ Some column → slice_get moves i ≡ Some (letter_of column ∷ [])
+turns_named : (ws : List RuleInstance) (q : Position) (moves lines : List (List ℕ)) (columns : List ℕ) → AreTurns ws q moves lines columns → (i column : ℕ)
+    → slice_get columns i ≡ Some column → slice_get moves i ≡ Some (letter_of column ∷ [])
 turns_named ws q moves [] [] turns i column at = cc
 turns_named ws q [] (line ∷ lines) columns turns i column at = absurd turns
 turns_named ws q (move ∷ moves) (line ∷ lines) [] turns i column at = absurd turns
 turns_named ws q [] [] (first ∷ columns) turns i column at = absurd turns
 turns_named ws q (move ∷ moves) [] (first ∷ columns) turns i column at = absurd turns
-turns_named ws q (move ∷ moves) (line ∷ lines) (first ∷ columns) (next, one, later) zero column at = ap (λ move. Some move) (one.letter ∙ ap (λ column. letter_of column ∷ []) (same_Some first column at))
-turns_named ws q (move ∷ moves) (line ∷ lines) (first ∷ columns) (next, one, later) (suc i) column at = turns_named ws next moves lines columns later i column at
+turns_named ws q (move ∷ moves) (line ∷ lines) (first ∷ columns) (next, one, later) zero column at =
+    ap (λ move. Some move) (one.letter ∙ ap (λ column. letter_of column ∷ []) (same_Some first column at))
+turns_named ws q (move ∷ moves) (line ∷ lines) (first ∷ columns) (next, one, later) (suc i) column at = turns_named ws next moves lines columns later i column
+    at
 
 -- the turn at a place: its position stands at twice the place in the duel
 record IsTold (ws : List RuleInstance) (q : Position) (columns : List ℕ) (i : ℕ) (line : List ℕ) : Type 0 where
@@ -151,7 +165,8 @@ duel_opens : (ws : List RuleInstance) (q next : Position) (column : ℕ) (column
     → duel ws q (column ∷ columns) ≡ q ∷ after_move q column ∷ duel ws next columns
 duel_opens ws q next column columns legal turn = rw (legal, turn) refl
 
-turns_told : (ws : List RuleInstance) (q : Position) (moves lines : List (List ℕ)) (columns : List ℕ) → AreTurns ws q moves lines columns → (i : ℕ) (line : List ℕ) → slice_get lines i ≡ Some line → IsTold ws q columns i line
+turns_told : (ws : List RuleInstance) (q : Position) (moves lines : List (List ℕ)) (columns : List ℕ) → AreTurns ws q moves lines columns
+    → (i : ℕ) (line : List ℕ) → slice_get lines i ≡ Some line → IsTold ws q columns i line
 turns_told ws q moves [] columns turns i line at = absurd (cc at)
 turns_told ws q [] (first ∷ lines) columns turns i line at = absurd turns
 turns_told ws q (move ∷ moves) (first ∷ lines) [] turns i line at = absurd turns
@@ -197,7 +212,8 @@ tells_duel p ws at moves is =
       goes.answered,
     )
   where
-    turn_told : (p : Position) (ws : List RuleInstance) (columns : List ℕ) (i : ℕ) (line : List ℕ) (told : IsTold ws p columns i line) → IsTurn p ws (duel ws p columns) i told.column → TellsTurn p ws columns i line
+    turn_told : (p : Position) (ws : List RuleInstance) (columns : List ℕ) (i : ℕ) (line : List ℕ) (told : IsTold ws p columns i line)
+        → IsTurn p ws (duel ws p columns) i told.column → TellsTurn p ws columns i line
     turn_told p ws columns i line told turn =
         let now : turn.now ≡ told.now = same_Some turn.now told.now (sym turn.is_now ∙ told.is_now) in
         let here : plan_reply ws (after_move told.now told.column) (told.column, height told.now told.column + 1) ≡ Some turn.answered.reply =
@@ -206,7 +222,8 @@ tells_duel p ws at moves is =
           column = told.column;
           is_column = told.is_column;
           turn = turn;
-          told = told.told ∙ ap (λ q. turn_text q told.column told.reply) (sym now) ∙ ap (turn_text turn.now told.column) (same_Some told.reply turn.answered.reply (sym told.is_reply ∙ here));
+          told = told.told ∙ ap (λ q. turn_text q told.column told.reply) (sym now)
+              ∙ ap (turn_text turn.now told.column) (same_Some told.reply turn.answered.reply (sym told.is_reply ∙ here));
         }
 
 -- ---- columns that are all legal
@@ -217,7 +234,8 @@ legal_line q column legal =
     rw letter.0 (ap (λ column. Some column) letter.1)
 
 -- their lines are all played
-legal_played : (p : Position) (ws : List RuleInstance) → is_plan p ws ≡ true → (before : List ℕ) (q : Position) (at : ℕ) (columns : List ℕ) → after_turns ws p before ≡ Some q
+legal_played : (p : Position) (ws : List RuleInstance) → is_plan p ws ≡ true → (before : List ℕ) (q : Position) (at : ℕ) (columns : List ℕ)
+    → after_turns ws p before ≡ Some q
     → is_playable_list ws q columns ≡ true → (play_from ws q at (map move_line columns)).end ≡ AllPlayed
 legal_played p ws is before q at [] reached playable = refl
 legal_played p ws is before q at (column ∷ columns) reached playable =
@@ -225,7 +243,8 @@ legal_played p ws is before q at (column ∷ columns) reached playable =
     let answered = plan_answers p ws before q column is reached legal in
     let next = after_move (after_move q column) (plan_answers p ws before q column is reached legal).reply.0 in
     let turn : after_turn ws q column ≡ Some next = turn_made ws q column answered in
-    let later = legal_played p ws is (before ++ column ∷ []) next (at + 1) columns (turns_more ws p q next before column reached legal turn) (rw turn at (and_parts (is_legal q column) _ playable).1) in
+    let later = legal_played p ws is (before ++ column ∷ []) next (at + 1) columns (turns_more ws p q next before column reached legal turn)
+        (rw turn at (and_parts (is_legal q column) _ playable).1) in
     rw (legal_line q column legal, legal_unrefused q column legal, answer_is ws q column answered) later
 
 pub all_legal_played : (p : Position) (ws : List RuleInstance) (at : ℕ) (columns : List ℕ) → is_plan p ws ≡ true → is_playable_list ws p columns ≡ true

@@ -1,5 +1,6 @@
 -- What the look-ups find after an entry was used or kept.
-use Rattle.std.proofs.Common.{◌≡◌, ℕ, zero, suc, ◌-◌, ◌<◌, ◌≤◌, Bool, true, false, ◌⊎◌, cond, List, [], ◌∷◌, length, take, Option, Some, None, option_map, refl, sym, ap, ◌∙◌, inl, inr, arith}
+use Rattle.std.proofs.Common.{◌≡◌, ℕ, zero, suc, ◌-◌, ◌<◌, ◌≤◌, Bool, true, false, ◌⊎◌, cond, List, [], ◌∷◌, length, take, Option, Some, None, option_map, refl,
+    sym, ap, ◌∙◌, inl, inr, arith}
 use Rattle.std.specs.Option.{option_map_or}
 use Rattle.std.specs.Map.{lookup, lookup_entry, remove_entry}
 use Rattle.std.proofs.lemmas.Bool.{cases_Bool}
@@ -13,9 +14,11 @@ use Rattle.position_table.proofs.Kept.{lookup_of_entry}
 
 module _ {K X : Type 0} where
   -- an entry that goes takes no other key's
-  lookup_without : (gone test : K → Bool) (es : List (K × X)) (e : K × X) → lookup_entry gone es ≡ Some e → test e.0 ≡ false → lookup test (remove_entry gone es) ≡ lookup test es
+  lookup_without : (gone test : K → Bool) (es : List (K × X)) (e : K × X) → lookup_entry gone es ≡ Some e → test e.0 ≡ false
+      → lookup test (remove_entry gone es) ≡ lookup test es
   lookup_without gone test [] e there other = cc
-  lookup_without gone test (d ∷ es) e there other = (elim (gone d.0) as (λ b. gone d.0 ≡ b → lookup test (cond b es (d ∷ remove_entry gone es)) ≡ lookup test (d ∷ es)) [
+  lookup_without gone test (d ∷ es) e there other =
+      (elim (gone d.0) as (λ b. gone d.0 ≡ b → lookup test (cond b es (d ∷ remove_entry gone es)) ≡ lookup test (d ∷ es)) [
     | true ↦ λ t. let h = rw t at there in let same : d ≡ e = cc in sym (rw (ap (λ (e : K × X). test e.0) same ∙ other) refl)
     | false ↦ λ t. ap (cond (test d.0) (Some d.1)) (lookup_without gone test es e (rw t at there) other)
   ]) refl
@@ -23,7 +26,8 @@ module _ {K X : Type 0} where
   lookup_take : (test : K → Bool) (n : ℕ) (es : List (K × X)) (x : X) → lookup test (take n es) ≡ Some x → lookup test es ≡ Some x
   lookup_take test zero es x h = cc
   lookup_take test (suc n) [] x h = cc
-  lookup_take test (suc n) (e ∷ es) x h = (elim (test e.0) as (λ b. cond b (Some e.1) (lookup test (take n es)) ≡ Some x → cond b (Some e.1) (lookup test es) ≡ Some x) [
+  lookup_take test (suc n) (e ∷ es) x h =
+      (elim (test e.0) as (λ b. cond b (Some e.1) (lookup test (take n es)) ≡ Some x → cond b (Some e.1) (lookup test es) ≡ Some x) [
     | true ↦ λ h. h
     | false ↦ λ h. lookup_take test n es x h
   ]) h
@@ -39,7 +43,8 @@ pub lookup_used : (k other : Key) (es : List (Key × Found)) → lookup (same_ke
 unfolding used
 lookup_used k other es = by (lookup_entry (same_key k) es) refl
   where
-    by : (o : Option (Key × Found)) → lookup_entry (same_key k) es ≡ o → lookup (same_key other) (option_map_or (λ e. e ∷ remove_entry (same_key k) es) o es) ≡ lookup (same_key other) es
+    by : (o : Option (Key × Found)) → lookup_entry (same_key k) es ≡ o → lookup (same_key other) (option_map_or (λ e. e ∷ remove_entry (same_key k) es) o es)
+        ≡ lookup (same_key other) es
     by None none = refl
     by (Some e) there = elim (cases_Bool (same_key other e.0)) [
       | inl same ↦
@@ -60,10 +65,13 @@ module _ (p : Position) (q : Question) (f : Found) (t : Entries) (absent : looku
   lookup_kept = ap (lookup (same_key own)) in_front ∙ ap (λ b. cond b (Some f) (lookup (same_key own) (take (t.room - 1) t.entries))) (same_key_equiv.refl own)
 
   -- what is found is what was kept, or was there
-  pub lookup_kept_from : (other : Key) (g : Found) → lookup (same_key other) (entries_kept p q f t) ≡ Some g → (lookup (same_key other) t.entries ≡ Some g) ⊎ ((other ≡ own) × (g ≡ f))
+  pub lookup_kept_from : (other : Key) (g : Found) → lookup (same_key other) (entries_kept p q f t) ≡ Some g → (lookup (same_key other) t.entries ≡ Some g)
+      ⊎ ((other ≡ own) × (g ≡ f))
   lookup_kept_from other g h = elim (cases_Bool (same_key other own)) [
-    | inl same ↦ inr ((same_key_Decides other own).0 same, sym (some_same (sym (ap (λ b. cond b (Some f) (lookup (same_key other) (take (t.room - 1) t.entries))) same) ∙ front)))
-    | inr apart ↦ inl (lookup_take (same_key other) (t.room - 1) t.entries g (sym (ap (λ b. cond b (Some f) (lookup (same_key other) (take (t.room - 1) t.entries))) apart) ∙ front))
+    | inl same ↦ inr ((same_key_Decides other own).0 same,
+        sym (some_same (sym (ap (λ b. cond b (Some f) (lookup (same_key other) (take (t.room - 1) t.entries))) same) ∙ front)))
+    | inr apart ↦ inl (lookup_take (same_key other) (t.room - 1) t.entries g
+        (sym (ap (λ b. cond b (Some f) (lookup (same_key other) (take (t.room - 1) t.entries))) apart) ∙ front))
   ]
     where
       front : lookup (same_key other) ((own, f) ∷ take (t.room - 1) t.entries) ≡ Some g
@@ -73,10 +81,12 @@ module _ (p : Position) (q : Question) (f : Found) (t : Entries) (absent : looku
       some_same e = cc
 
   -- where there was room, all others are still there
-  pub lookup_kept_stays : length t.entries < t.room → (other : Key) → lookup (same_key other) (entries_kept p q f t) ≡ None → lookup (same_key other) t.entries ≡ None
+  pub lookup_kept_stays : length t.entries < t.room → (other : Key) → lookup (same_key other) (entries_kept p q f t) ≡ None
+      → lookup (same_key other) t.entries ≡ None
   lookup_kept_stays room other h = elim (cases_Bool (same_key other own)) [
     | inl same ↦ absurd (some_none (sym (ap (λ b. cond b (Some f) (lookup (same_key other) (take (t.room - 1) t.entries))) same) ∙ front))
-    | inr apart ↦ ap (lookup (same_key other)) (sym (take_whole (t.room - 1) t.entries (omega (arith, room)))) ∙ sym (ap (λ b. cond b (Some f) (lookup (same_key other) (take (t.room - 1) t.entries))) apart) ∙ front
+    | inr apart ↦ ap (lookup (same_key other)) (sym (take_whole (t.room - 1) t.entries (omega (arith, room))))
+        ∙ sym (ap (λ b. cond b (Some f) (lookup (same_key other) (take (t.room - 1) t.entries))) apart) ∙ front
   ]
     where
       front : lookup (same_key other) ((own, f) ∷ take (t.room - 1) t.entries) ≡ None

@@ -28,7 +28,8 @@ open_leaf false Yes z i = cc
 open_leaf true No z i = cc
 open_leaf false No z i = cc
 
-module _ (side : Side) {slots : List (Option Node)} {at : ℕ} {node : Node} (row : Placed) (others : List (Cell Node)) (proof : Bool) (n : Count) (found : same_count (number_in proof node.numbers) n ≡ true) where
+module _ (side : Side) {slots : List (Option Node)} {at : ℕ} {node : Node} (row : Placed) (others : List (Cell Node)) (proof : Bool) (n : Count)
+    (found : same_count (number_in proof node.numbers) n ≡ true) where
   -- ---- a leaf
 
   module _ (l : LeafFirst side slots at node row others) where
@@ -41,27 +42,35 @@ module _ (side : Side) {slots : List (Option Node)} {at : ℕ} {node : Node} (ro
     pub going_leaf : is_zero n ≡ false → is_infinite n ≡ false → IsGoingLeaf slots at
     going_leaf unsettled finite =
         let number = count_same (leaf_number proof l.verdict) n found_leaf in
-        record { node = node; others = _; owns = l.owns; going = l.going.0 (open_leaf proof l.verdict (ap is_zero number ∙ unsettled) (ap is_infinite number ∙ finite)) }
+        record { node = node; others = _; owns = l.owns; going =
+            l.going.0 (open_leaf proof l.verdict (ap is_zero number ∙ unsettled) (ap is_infinite number ∙ finite)) }
 
     module _ (closed : Side → Position → Bool) where
-      updated_leaf : (kids : Row) → kids ≡ leaves side closed (moves_out node.position) → updated side closed proof n (row_of row) ≡ node_as (verdict_on side node.position kids) node.position kids (row_of l.rest)
+      updated_leaf : (kids : Row) → kids ≡ leaves side closed (moves_out node.position)
+          → updated side closed proof n (row_of row) ≡ node_as (verdict_on side node.position kids) node.position kids (row_of l.rest)
       updated_leaf kids e = ap (updated side closed proof n) l.row_is ∙ (rw (found_leaf, e) refl)
 
-      pub leaf_grew : {new : List (Option Node)} (kids : Placed) → row_of kids ≡ leaves side closed (moves_out node.position) → AreGoing (row_of kids) → Owns new (renewed side at node kids ++ (cells_of side l.rest ++ others)) → Grew side new at (updated side closed proof n (row_of row)) others
+      pub leaf_grew : {new : List (Option Node)} (kids : Placed) → row_of kids ≡ leaves side closed (moves_out node.position) → AreGoing (row_of kids)
+          → Owns new (renewed side at node kids ++ (cells_of side l.rest ++ others)) → Grew side new at (updated side closed proof n (row_of row)) others
       leaf_grew {new} kids e going owns =
           record {
             placed = as_placed side (verdict_on side node.position (row_of kids)) at node.position kids l.rest;
             is = as_row side (verdict_on side node.position (row_of kids)) at node.position kids l.rest ∙ sym (updated_leaf (row_of kids) e);
-            lies = as_lies side at node.position kids l.rest others None (leaf_numbers l.verdict) (subst (λ m. Owns new (renewed side at m kids ++ (cells_of side l.rest ++ others))) l.node_is owns)
+            lies = as_lies side at node.position kids l.rest others None (leaf_numbers l.verdict)
+                (subst (λ m. Owns new (renewed side at m kids ++ (cells_of side l.rest ++ others))) l.node_is owns)
                 (subst (IsClean side) (sym e) (clean_leaves side closed (moves_out node.position))) l.clean going l.going.1;
           }
 
-      pub leaf_numbers_same : node.numbers ≡ node_numbers side node.position (leaves side closed (moves_out node.position)) → (b smallest : Bool) → number_of side b smallest (updated side closed proof n (row_of row)) ≡ number_of side b smallest (row_of row)
+      pub leaf_numbers_same : node.numbers ≡ node_numbers side node.position (leaves side closed (moves_out node.position)) → (b smallest : Bool)
+          → number_of side b smallest (updated side closed proof n (row_of row)) ≡ number_of side b smallest (row_of row)
       leaf_numbers_same same b smallest =
           let p = node.position in
           let kids = leaves side closed (moves_out p) in
-          let number : node_number side b p kids ≡ leaf_number b l.verdict = sym (in_node side b p kids) ∙ (sym (ap (number_in b) same) ∙ (ap (λ m. number_in b m.numbers) l.node_is ∙ in_leaf side b l.verdict)) in
-          ap (number_of side b smallest) (updated_leaf kids refl) ∙ (as_number side p kids kids (row_of l.rest) (λ c w. refl) b smallest ∙ (ap (λ m. joined smallest m (number_of side b smallest (row_of l.rest))) number ∙ sym (ap (number_of side b smallest) l.row_is)))
+          let number : node_number side b p kids ≡ leaf_number b l.verdict = sym (in_node side b p kids)
+              ∙ (sym (ap (number_in b) same) ∙ (ap (λ m. number_in b m.numbers) l.node_is ∙ in_leaf side b l.verdict)) in
+          ap (number_of side b smallest) (updated_leaf kids refl)
+              ∙ (as_number side p kids kids (row_of l.rest) (λ c w. refl) b smallest
+              ∙ (ap (λ m. joined smallest m (number_of side b smallest (row_of l.rest))) number ∙ sym (ap (number_of side b smallest) l.row_is)))
 
   -- ---- an inner node
 
@@ -100,44 +109,60 @@ module _ (side : Side) {slots : List (Option Node)} {at : ℕ} {node : Node} (ro
       infinite_own = pick own
         where
           pick : (b : Bool) → is_infinite (node_number side b node.position (row_of i.kids)) ≡ false
-          pick true = sym (node_dual side node.position (row_of i.kids) false) ∙ (neither_zero (node_number side true node.position (row_of i.kids)) (node_number side false node.position (row_of i.kids)) i.clean.0).1
-          pick false = sym (node_dual side node.position (row_of i.kids) true) ∙ (neither_zero (node_number side true node.position (row_of i.kids)) (node_number side false node.position (row_of i.kids)) i.clean.0).0
+          pick true = sym (node_dual side node.position (row_of i.kids) false)
+              ∙ (neither_zero (node_number side true node.position (row_of i.kids)) (node_number side false node.position (row_of i.kids)) i.clean.0).1
+          pick false = sym (node_dual side node.position (row_of i.kids) true)
+              ∙ (neither_zero (node_number side true node.position (row_of i.kids)) (node_number side false node.position (row_of i.kids)) i.clean.0).0
 
       module _ {first : ℕ} (some : node.first ≡ Some first) where
         kids_begin : first_of i.kids ≡ Some first
         kids_begin = sym (ap (λ m. m.first) i.node_is) ∙ some
 
         pub kids_lie : Lies side slots (Some first) i.kids ((at, node) ∷ (cells_of side i.rest ++ others))
-        kids_lie = record { owns = first_to_front (at, node) (cells_of side i.kids) (cells_of side i.rest) others i.owns; first = kids_begin; clean = i.clean.1; going = i.going.0 }
+        kids_lie = record { owns = first_to_front (at, node) (cells_of side i.kids) (cells_of side i.rest) others i.owns; first = kids_begin; clean =
+            i.clean.1; going = i.going.0 }
 
         pub asked_below : IsAsked side slots first own (number_in own node.numbers)
-        asked_below = record { row = i.kids; others = _; lies = kids_lie; number = least_here; unsettled = ap is_zero own_number ∙ zero_own; finite = ap is_infinite own_number ∙ infinite_own }
+        asked_below = record { row = i.kids; others = _; lies = kids_lie; number = least_here; unsettled = ap is_zero own_number
+            ∙ zero_own; finite = ap is_infinite own_number ∙ infinite_own }
 
         -- new children lie there
-        pub new_below : {mid : List (Option Node)} (kids : Placed) → Lies side mid (Some first) kids ((at, node) ∷ (cells_of side i.rest ++ others)) → LiesBelow side mid at (Some first) node kids (cells_of side i.rest ++ others)
-        new_below kids l = record { owns = exchanged (cells_of side kids) ((at, node) ∷ []) (cells_of side i.rest ++ others) l.owns; begins = l.first; clean = l.clean; going = l.going }
+        pub new_below : {mid : List (Option Node)} (kids : Placed) → Lies side mid (Some first) kids ((at, node) ∷ (cells_of side i.rest ++ others))
+            → LiesBelow side mid at (Some first) node kids (cells_of side i.rest ++ others)
+        new_below kids l = record { owns = exchanged (cells_of side kids) ((at, node) ∷ []) (cells_of side i.rest ++ others) l.owns; begins = l.first; clean =
+            l.clean; going = l.going }
 
         module _ (closed : Side → Position → Bool) where
-          updated_inner : (kids : Row) → kids ≡ updated side closed own (number_in own node.numbers) (row_of i.kids) → updated side closed proof n (row_of row) ≡ node_as (verdict_on side node.position kids) node.position kids (row_of i.rest)
+          updated_inner : (kids : Row) → kids ≡ updated side closed own (number_in own node.numbers) (row_of i.kids)
+              → updated side closed proof n (row_of row) ≡ node_as (verdict_on side node.position kids) node.position kids (row_of i.rest)
           updated_inner kids e = ap (updated side closed proof n) i.row_is ∙ (rw (found_inner, ← to_move, least_here, ← e) refl)
 
-          pub inner_grew : {mid new : List (Option Node)} (kids : Placed) → row_of kids ≡ updated side closed own (number_in own node.numbers) (row_of i.kids) → Lies side mid (Some first) kids ((at, node) ∷ (cells_of side i.rest ++ others))
+          pub inner_grew : {mid new : List (Option Node)} (kids : Placed) → row_of kids ≡ updated side closed own (number_in own node.numbers) (row_of i.kids)
+              → Lies side mid (Some first) kids ((at, node) ∷ (cells_of side i.rest ++ others))
               → Owns new (renewed side at node kids ++ (cells_of side i.rest ++ others)) → Grew side new at (updated side closed proof n (row_of row)) others
           inner_grew {mid} {new} kids e l owns =
               record {
                 placed = as_placed side (verdict_on side node.position (row_of kids)) at node.position kids i.rest;
                 is = as_row side (verdict_on side node.position (row_of kids)) at node.position kids i.rest ∙ sym (updated_inner (row_of kids) e);
-                lies = as_lies side at node.position kids i.rest others (first_of i.kids) (node_numbers side node.position (row_of i.kids)) (subst (λ m. Owns new (renewed side at m kids ++ (cells_of side i.rest ++ others))) i.node_is owns) l.clean i.clean.2 l.going i.going.1;
+                lies = as_lies side at node.position kids i.rest others (first_of i.kids) (node_numbers side node.position (row_of i.kids))
+                    (subst (λ m. Owns new (renewed side at m kids ++ (cells_of side i.rest ++ others))) i.node_is owns) l.clean i.clean.2 l.going i.going.1;
               }
 
           -- where the node keeps its numbers, so does the row
-          pub inner_numbers_same : (kids : Row) → kids ≡ updated side closed own (number_in own node.numbers) (row_of i.kids) → node.numbers ≡ node_numbers side node.position kids → (b smallest : Bool) → number_of side b smallest (updated side closed proof n (row_of row)) ≡ number_of side b smallest (row_of row)
+          pub inner_numbers_same : (kids : Row) → kids ≡ updated side closed own (number_in own node.numbers) (row_of i.kids)
+              → node.numbers ≡ node_numbers side node.position kids → (b smallest : Bool) → number_of side b smallest (updated side closed proof n (row_of row))
+              ≡ number_of side b smallest (row_of row)
           inner_numbers_same kids e same b smallest =
               let p = node.position in
-              let number : node_number side b p kids ≡ node_number side b p (row_of i.kids) = sym (in_node side b p kids) ∙ (sym (ap (number_in b) same) ∙ (ap (λ m. number_in b m.numbers) i.node_is ∙ in_node side b p (row_of i.kids))) in
-              ap (number_of side b smallest) (updated_inner kids e) ∙ (as_number side p kids kids (row_of i.rest) (λ c w. refl) b smallest ∙ (ap (λ m. joined smallest m (number_of side b smallest (row_of i.rest))) number ∙ sym (ap (number_of side b smallest) i.row_is)))
+              let number : node_number side b p kids ≡ node_number side b p (row_of i.kids) = sym (in_node side b p kids)
+                  ∙ (sym (ap (number_in b) same) ∙ (ap (λ m. number_in b m.numbers) i.node_is ∙ in_node side b p (row_of i.kids))) in
+              ap (number_of side b smallest) (updated_inner kids e)
+                  ∙ (as_number side p kids kids (row_of i.rest) (λ c w. refl) b smallest
+                  ∙ (ap (λ m. joined smallest m (number_of side b smallest (row_of i.rest))) number ∙ sym (ap (number_of side b smallest) i.row_is)))
 
-          module _ (kids : Placed) (e : row_of kids ≡ updated side closed own (number_in own node.numbers) (row_of i.kids)) (same : (b smallest : Bool) → number_of side b smallest (updated side closed own (number_in own node.numbers) (row_of i.kids)) ≡ number_of side b smallest (row_of i.kids)) where
+          module _ (kids : Placed) (e : row_of kids ≡ updated side closed own (number_in own node.numbers) (row_of i.kids)) (same : (b smallest : Bool)
+              → number_of side b smallest (updated side closed own (number_in own node.numbers) (row_of i.kids)) ≡ number_of side b smallest (row_of i.kids))
+              where
             kept_number : (b : Bool) → node_number side b node.position (row_of kids) ≡ node_number side b node.position (row_of i.kids)
             kept_number b = ap (number_of side b (takes_least side b node.position)) e ∙ same b (takes_least side b node.position)
 
@@ -145,17 +170,21 @@ module _ (side : Side) {slots : List (Option Node)} {at : ℕ} {node : Node} (ro
             kept_numbers = ap (λ m. m.numbers) i.node_is ∙ (rw (kept_number true, kept_number false) refl)
 
             -- the path ends here: the node stays as it is
-            pub inner_stays : {new : List (Option Node)} → Lies side new (Some first) kids ((at, node) ∷ (cells_of side i.rest ++ others)) → Grew side new at (updated side closed proof n (row_of row)) others
+            pub inner_stays : {new : List (Option Node)} → Lies side new (Some first) kids ((at, node) ∷ (cells_of side i.rest ++ others))
+                → Grew side new at (updated side closed proof n (row_of row)) others
             inner_stays {new} l =
                 let p = node.position in
                 let unsettled : verdict_on side p (row_of kids) ≡ Unsettled = (rw (kept_number true, kept_number false) refl) ∙ i.clean.0 in
                 let node_is : node ≡ record { position = p; first = first_of kids; next = first_of i.rest; numbers = node_numbers side p (row_of kids) } =
-                i.node_is ∙ (ap (λ f. record { position = p; first = f; next = first_of i.rest; numbers = node_numbers side p (row_of i.kids) }) (kids_begin ∙ sym l.first) ∙ ap (λ m. record { position = p; first = first_of kids; next = first_of i.rest; numbers = m }) (sym (ap (λ m. m.numbers) i.node_is) ∙ kept_numbers)) in
+                i.node_is ∙ (ap (λ f. record { position = p; first = f; next = first_of i.rest; numbers = node_numbers side p (row_of i.kids) })
+                    (kids_begin ∙ sym l.first) ∙ ap (λ m. record { position = p; first = first_of kids; next = first_of i.rest; numbers = m })
+                    (sym (ap (λ m. m.numbers) i.node_is) ∙ kept_numbers)) in
                 record {
                   placed = inner_at at p kids i.rest;
                   is = sym (updated_inner (row_of kids) e ∙ ap (λ v. node_as v p (row_of kids) (row_of i.rest)) unsettled);
                   lies = record {
-                    owns = subst (λ m. Owns new ((at, m) ∷ ((cells_of side kids ++ cells_of side i.rest) ++ others))) node_is (first_from_front (at, node) (cells_of side kids) (cells_of side i.rest) others l.owns);
+                    owns = subst (λ m. Owns new ((at, m) ∷ ((cells_of side kids ++ cells_of side i.rest) ++ others))) node_is
+                        (first_from_front (at, node) (cells_of side kids) (cells_of side i.rest) others l.owns);
                     first = refl;
                     clean = (unsettled, l.clean, i.clean.2);
                     going = (l.going, i.going.1);

@@ -45,17 +45,21 @@ module _ {T : Type 0} where
   -- ---- a cell and two parts behind it
 
   -- the first part comes to the front
-  pub first_to_front : {slots : List (Option T)} (c : Cell T) (k r others : List (Cell T)) → Owns slots (c ∷ ((k ++ r) ++ others)) → Owns slots (k ++ (c ∷ (r ++ others)))
+  pub first_to_front : {slots : List (Option T)} (c : Cell T) (k r others : List (Cell T)) → Owns slots (c ∷ ((k ++ r) ++ others))
+      → Owns slots (k ++ (c ∷ (r ++ others)))
   first_to_front {slots} c k r others owns = exchanged (c ∷ []) k (r ++ others) (subst (λ w. Owns slots (c ∷ w)) (append_assoc k r others) owns)
 
-  pub first_from_front : {slots : List (Option T)} (c : Cell T) (k r others : List (Cell T)) → Owns slots (k ++ (c ∷ (r ++ others))) → Owns slots (c ∷ ((k ++ r) ++ others))
+  pub first_from_front : {slots : List (Option T)} (c : Cell T) (k r others : List (Cell T)) → Owns slots (k ++ (c ∷ (r ++ others)))
+      → Owns slots (c ∷ ((k ++ r) ++ others))
   first_from_front {slots} c k r others owns = subst (λ w. Owns slots (c ∷ w)) (sym (append_assoc k r others)) (exchanged k (c ∷ []) (r ++ others) owns)
 
   -- the second part comes to the front
-  pub second_to_front : {slots : List (Option T)} (c : Cell T) (k r others : List (Cell T)) → Owns slots (c ∷ ((k ++ r) ++ others)) → Owns slots (r ++ (c ∷ (k ++ others)))
+  pub second_to_front : {slots : List (Option T)} (c : Cell T) (k r others : List (Cell T)) → Owns slots (c ∷ ((k ++ r) ++ others))
+      → Owns slots (r ++ (c ∷ (k ++ others)))
   second_to_front {slots} c k r others owns = exchanged (c ∷ k) r others (subst (λ w. Owns slots (c ∷ w)) (append_assoc k r others) owns)
 
-  pub second_from_front : {slots : List (Option T)} (c : Cell T) (k r others : List (Cell T)) → Owns slots (r ++ (c ∷ (k ++ others))) → Owns slots (c ∷ ((k ++ r) ++ others))
+  pub second_from_front : {slots : List (Option T)} (c : Cell T) (k r others : List (Cell T)) → Owns slots (r ++ (c ∷ (k ++ others)))
+      → Owns slots (c ∷ ((k ++ r) ++ others))
   second_from_front {slots} c k r others owns = subst (λ w. Owns slots (c ∷ w)) (sym (append_assoc k r others)) (exchanged r (c ∷ k) others owns)
 
   -- ---- what a pool's calls do
@@ -88,7 +92,8 @@ module _ {T : Type 0} where
       ]
 
   -- a value is put into a slot in place of another
-  pub changed_to : {slots : List (Option T)} (i : ℕ) (v w : T) (others : List (Cell T)) → Owns slots ((i, v) ∷ others) → live_slots (set slots i (Some w)) ≡ live_slots slots → Owns (set slots i (Some w)) ((i, w) ∷ others)
+  pub changed_to : {slots : List (Option T)} (i : ℕ) (v w : T) (others : List (Cell T)) → Owns slots ((i, v) ∷ others)
+      → live_slots (set slots i (Some w)) ≡ live_slots slots → Owns (set slots i (Some w)) ((i, w) ∷ others)
   changed_to {slots} i v w others owns same =
       record {
         holds = λ j. elim (cases_Bool (i == j)) [
@@ -102,13 +107,15 @@ module _ {T : Type 0} where
       put j here =
           let e : i ≡ j = grind arith in
           subst (λ j. values_at j ((i, w) ∷ others) ≡ listed (held (set slots i (Some w)) j)) e
-          (at_own i w others ∙ (ap (λ xs. w ∷ xs) (no_other i v others owns) ∙ ap listed (sym (get_or-set_same slots i (Some w) None (within slots i v (mine i v others owns))))))
+          (at_own i w others ∙ (ap (λ xs. w ∷ xs) (no_other i v others owns)
+              ∙ ap listed (sym (get_or-set_same slots i (Some w) None (within slots i v (mine i v others owns))))))
 
       apart : (j : ℕ) → (i == j) ≡ false → j ≢ i
       apart j past e = grind arith
 
   -- a value is put into a slot that held nothing
-  pub placed_to : {slots : List (Option T)} (i : ℕ) (w : T) (others : List (Cell T)) → i < length slots → held slots i ≡ None → Owns slots others → live_slots (set slots i (Some w)) ≡ live_slots slots + 1
+  pub placed_to : {slots : List (Option T)} (i : ℕ) (w : T) (others : List (Cell T)) → i < length slots → held slots i ≡ None → Owns slots others
+      → live_slots (set slots i (Some w)) ≡ live_slots slots + 1
       → Owns (set slots i (Some w)) ((i, w) ∷ others)
   placed_to {slots} i w others inside none owns more =
       record {
@@ -135,7 +142,8 @@ module _ {T : Type 0} where
       apart j past e = grind arith
 
   -- a value is taken out
-  pub given_to : {slots : List (Option T)} (i : ℕ) (v : T) (others : List (Cell T)) → Owns slots ((i, v) ∷ others) → live_slots (set slots i None) + 1 ≡ live_slots slots → Owns (set slots i None) others
+  pub given_to : {slots : List (Option T)} (i : ℕ) (v : T) (others : List (Cell T)) → Owns slots ((i, v) ∷ others)
+      → live_slots (set slots i None) + 1 ≡ live_slots slots → Owns (set slots i None) others
   given_to {slots} i v others owns fewer =
       record {
         holds = λ j. elim (cases_Bool (i == j)) [

@@ -44,7 +44,8 @@ no_zero a b h =
       | inl zero ↦ absurd (other (sym (ap (λ t. if t then Yes else (if is_zero b then No else Unsettled)) zero) ∙ h))
       | inr more ↦ elim (cases_Bool (is_zero b)) [
         | inl zero ↦ zero
-        | inr second ↦ absurd (neither (sym (ap (λ t. if t then No else Unsettled) second) ∙ (sym (ap (λ t. if t then Yes else (if is_zero b then No else Unsettled)) more) ∙ h)))
+        | inr second ↦ absurd (neither (sym (ap (λ t. if t then No else Unsettled) second)
+            ∙ (sym (ap (λ t. if t then Yes else (if is_zero b then No else Unsettled)) more) ∙ h)))
       ]
     ]
   where
@@ -102,12 +103,21 @@ module _ (side : Side) where
     abbrev again : Node
     again = record { position = p; first = f; next = first_of rest; numbers = node_numbers side p (row_of kids) }
 
-    as_cells : {new : List (Option Node)} (v : Verdict) → verdict_on side p (row_of kids) ≡ v → Owns new (kept_below v at again (first_of kids) (cells_of side kids) ++ (cells_of side rest ++ others)) → Owns new (cells_of side (as_placed v at p kids rest) ++ others)
-    as_cells {new} Unsettled h owns = subst (λ w. Owns new ((at, record { position = p; first = first_of kids; next = first_of rest; numbers = node_numbers side p (row_of kids) }) ∷ w)) (sym (append_assoc (cells_of side kids) (cells_of side rest) others)) owns
-    as_cells {new} Yes h owns = subst (λ n. Owns new ((at, record { position = p; first = None; next = first_of rest; numbers = n }) ∷ (cells_of side rest ++ others))) (settled_numbers_yes p (row_of kids) h) owns
-    as_cells {new} No h owns = subst (λ n. Owns new ((at, record { position = p; first = None; next = first_of rest; numbers = n }) ∷ (cells_of side rest ++ others))) (settled_numbers_no p (row_of kids) h) owns
+    as_cells : {new : List (Option Node)} (v : Verdict) → verdict_on side p (row_of kids) ≡ v
+        → Owns new (kept_below v at again (first_of kids) (cells_of side kids) ++ (cells_of side rest ++ others))
+        → Owns new (cells_of side (as_placed v at p kids rest) ++ others)
+    as_cells {new} Unsettled h owns =
+        subst (λ w. Owns new ((at, record { position = p; first = first_of kids; next = first_of rest; numbers = node_numbers side p (row_of kids) }) ∷ w))
+        (sym (append_assoc (cells_of side kids) (cells_of side rest) others)) owns
+    as_cells {new} Yes h owns = subst
+        (λ n. Owns new ((at, record { position = p; first = None; next = first_of rest; numbers = n }) ∷ (cells_of side rest ++ others)))
+        (settled_numbers_yes p (row_of kids) h) owns
+    as_cells {new} No h owns = subst
+        (λ n. Owns new ((at, record { position = p; first = None; next = first_of rest; numbers = n }) ∷ (cells_of side rest ++ others)))
+        (settled_numbers_no p (row_of kids) h) owns
 
-    pub as_lies : {new : List (Option Node)} → Owns new (renewed side at before kids ++ (cells_of side rest ++ others)) → IsClean side (row_of kids) → IsClean side (row_of rest) → AreGoing (row_of kids) → AreGoing (row_of rest)
+    pub as_lies : {new : List (Option Node)} → Owns new (renewed side at before kids ++ (cells_of side rest ++ others)) → IsClean side (row_of kids)
+        → IsClean side (row_of rest) → AreGoing (row_of kids) → AreGoing (row_of rest)
         → Lies side new (Some at) (as_placed (verdict_on side p (row_of kids)) at p kids rest) others
     as_lies owns clean_kids clean_rest going_kids going_rest =
         let v = verdict_on side p (row_of kids) in
@@ -136,7 +146,8 @@ module _ (side : Side) where
     pub kids : Placed
     pub rest : Placed
     pub row_is : row_of row ≡ inner node.position (row_of kids) (row_of rest)
-    pub node_is : node ≡ record { position = node.position; first = first_of kids; next = first_of rest; numbers = node_numbers side node.position (row_of kids) }
+    pub node_is : node ≡ record { position = node.position; first = first_of kids; next = first_of rest; numbers = node_numbers side node.position (row_of kids)
+        }
     pub owns : Owns slots ((at, node) ∷ ((cells_of side kids ++ cells_of side rest) ++ others))
     pub clean : (verdict_on side node.position (row_of kids) ≡ Unsettled) × IsClean side (row_of kids) × IsClean side (row_of rest)
     pub going : AreGoing (row_of kids) × AreGoing (row_of rest)
@@ -158,14 +169,17 @@ module _ (side : Side) where
           rest = rest;
           row_is = ap (λ q. leaf q v (row_of rest)) position;
           node_is = sym cell ∙ ap (λ q. record { position = q; first = None; next = first_of rest; numbers = leaf_numbers v }) position;
-          owns = subst (λ c. Owns slots (c ∷ (cells_of side rest ++ others))) (ap (λ k. (k, record { position = p; first = None; next = first_of rest; numbers = leaf_numbers v })) (same_some lies.first) ∙ ap (λ n. (at, n)) cell) lies.owns;
+          owns = subst (λ c. Owns slots (c ∷ (cells_of side rest ++ others)))
+              (ap (λ k. (k, record { position = p; first = None; next = first_of rest; numbers = leaf_numbers v })) (same_some lies.first)
+              ∙ ap (λ n. (at, n)) cell) lies.owns;
           clean = lies.clean;
           going = (λ e. sym (ap end_of position) ∙ lies.going.0 e, lies.going.1);
         }
     leaf_first (inner_at j p kids rest) others lies none =
         absurd (no_kids p kids (ap (λ n. n.first) (inner_cell side here j p kids rest others lies) ∙ none) lies.clean.0)
 
-    pub inner_first : (row : Placed) (others : List (Cell Node)) → Lies side slots (Some at) row others → {first : ℕ} → node.first ≡ Some first → InnerFirst slots at node row others
+    pub inner_first : (row : Placed) (others : List (Cell Node)) → Lies side slots (Some at) row others → {first : ℕ} → node.first ≡ Some first
+        → InnerFirst slots at node row others
     inner_first end others lies some = absurd (none-some at lies.first)
     inner_first (leaf_at j p v rest) others lies some = absurd (none-some _ (ap (λ n. n.first) (leaf_cell side here j p v rest others lies) ∙ some))
     inner_first (inner_at j p kids rest) others lies some =
@@ -175,8 +189,11 @@ module _ (side : Side) where
           kids = kids;
           rest = rest;
           row_is = ap (λ q. inner q (row_of kids) (row_of rest)) position;
-          node_is = sym cell ∙ ap (λ q. record { position = q; first = first_of kids; next = first_of rest; numbers = node_numbers side q (row_of kids) }) position;
-          owns = subst (λ c. Owns slots (c ∷ ((cells_of side kids ++ cells_of side rest) ++ others))) (ap (λ k. (k, record { position = p; first = first_of kids; next = first_of rest; numbers = node_numbers side p (row_of kids) })) (same_some lies.first) ∙ ap (λ n. (at, n)) cell) lies.owns;
+          node_is = sym cell ∙ ap (λ q. record { position = q; first = first_of kids; next = first_of rest; numbers = node_numbers side q (row_of kids) })
+              position;
+          owns = subst (λ c. Owns slots (c ∷ ((cells_of side kids ++ cells_of side rest) ++ others)))
+              (ap (λ k. (k, record { position = p; first = first_of kids; next = first_of rest; numbers = node_numbers side p (row_of kids) }))
+              (same_some lies.first) ∙ ap (λ n. (at, n)) cell) lies.owns;
           clean = (ap (λ q. verdict_on side q (row_of kids)) (sym position) ∙ lies.clean.0, lies.clean.1, lies.clean.2);
           going = lies.going;
         }

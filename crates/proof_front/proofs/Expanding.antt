@@ -36,7 +36,8 @@ module _ {slots : List (Option Node)} {at : ℕ} (leaf : IsGoingLeaf slots at) (
     pub move_count : length (filter (has_room read.position) order) ≡ length (moves_out read.position)
     move_count = sym (length-map (filter (has_room read.position) order) (after_move read.position)) ∙ ap length moves_are
 
-    module _ (node : Node) (others : List (Cell Node)) (owns : Owns slots ((at, node) ∷ others)) (side : Side) (reach : ℕ) {short : Bool} (is : short ≡ nat_lt (free_slots slots) (length (filter (has_room read.position) order))) where
+    module _ (node : Node) (others : List (Cell Node)) (owns : Owns slots ((at, node) ∷ others)) (side : Side) (reach : ℕ) {short : Bool}
+        (is : short ≡ nat_lt (free_slots slots) (length (filter (has_room read.position) order))) where
       count_here : length (filter (has_room read.position) order) ≡ length (moves_out node.position)
       count_here = move_count ∙ ap (λ n. length (moves_out n.position)) (read_is node others owns)
 
@@ -50,7 +51,8 @@ module _ {slots : List (Option Node)} {at : ℕ} (leaf : IsGoingLeaf slots at) (
 
       module _ {mid : List (Option Node)} {first : Option ℕ} (l : LeavesLie read.position side (planned reach) mid order first ((at, node) ∷ others)) where
         leaves_are : row_of l.row ≡ leaves side (planned reach) (moves_out node.position)
-        leaves_are = l.is ∙ (ap (leaves side (planned reach)) moves_are ∙ ap (λ n. leaves side (planned reach) (moves_out n.position)) (read_is node others owns))
+        leaves_are = l.is ∙ (ap (leaves side (planned reach)) moves_are
+            ∙ ap (λ n. leaves side (planned reach) (moves_out n.position)) (read_is node others owns))
 
         pub leaves_below : LiesBelow side mid at first node l.row others
         leaves_below =
@@ -62,7 +64,8 @@ module _ {slots : List (Option Node)} {at : ℕ} (leaf : IsGoingLeaf slots at) (
             }
 
         pub expanded : {new : List (Option Node)} {step : Step} → short ≡ false → step ≢ steps.Full
-            → ((node : Node) (kids : Placed) (others : List (Cell Node)) → LiesBelow side mid at first node kids others → IsRenewed side new at node kids others step) → IsExpanded side reach slots new at node others step
+            → ((node : Node) (kids : Placed) (others : List (Cell Node)) → LiesBelow side mid at first node kids others
+                → IsRenewed side new at node kids others step) → IsExpanded side reach slots new at node others step
         expanded h done renewed =
             let again = renewed node l.row others leaves_below in
             record {

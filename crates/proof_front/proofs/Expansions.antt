@@ -17,7 +17,8 @@ use Rattle.proof_front.proofs.Opening.{opened, kids_of, rest_of}
 use Rattle.proof_front.proofs.Parts.{fewer_below, fewer_beside}
 use Rattle.proof_front.proofs.Skipping.{asked_skipped, updated_skipped, numbers_skipped, lies_with, with_rest, asked_beside}
 use Rattle.proof_front.proofs.Descending.{InnerFirst, leaf_first, inner_first}
-use Rattle.proof_front.proofs.Branches.{asked_leaf, going_leaf, leaf_grew, leaf_numbers_same, asked_inner, kids_lie, asked_below, new_below, inner_grew, inner_numbers_same, kept_numbers, inner_stays}
+use Rattle.proof_front.proofs.Branches.{asked_leaf, going_leaf, leaf_grew, leaf_numbers_same, asked_inner, kids_lie, asked_below, new_below, inner_grew,
+    inner_numbers_same, kept_numbers, inner_stays}
 
 changed_not_full : {s : Step} → s ≡ steps.Changed → s ≢ steps.Full
 changed_not_full e f = cc
@@ -35,7 +36,8 @@ room_as : {s : Step} {free m n : ℕ} → m ≡ n → s ≡ steps.Full ↔ (free
 room_as {s} {free} e told = subst (λ k. s ≡ steps.Full ↔ (free < k)) e told
 
 -- what the code tests of the first node's number
-pub tested : (proof : Bool) (node : Node) {number : Count} (least : Count) {test answer : Bool} → number ≡ number_in proof node.numbers → test ≡ same_count number least → test ≡ answer
+pub tested : (proof : Bool) (node : Node) {number : Count} (least : Count) {test answer : Bool} → number ≡ number_in proof node.numbers
+    → test ≡ same_count number least → test ≡ answer
     → same_count (number_in proof node.numbers) least ≡ answer
 tested proof node least is same answers = sym (ap (λ m. same_count m least) is) ∙ (sym same ∙ answers)
 
@@ -46,11 +48,13 @@ module _ {side : Side} {old : List (Option Node)} {at : ℕ} {node : Node} (here
     pub beside_asked : {next : ℕ} (g : IsAsked side old at proof least) → node.next ≡ Some next → IsAsked side old next proof least
     beside_asked g e = asked_beside side g (opened side at node g.row g.others g.lies here) apart e
 
-    pub beside_less : {next : ℕ} (g : IsAsked side old at proof least) → node.next ≡ Some next → node_count (row_at old (Some next)) < node_count (row_at old (Some at))
+    pub beside_less : {next : ℕ} (g : IsAsked side old at proof least) → node.next ≡ Some next
+        → node_count (row_at old (Some next)) < node_count (row_at old (Some at))
     beside_less g e =
         omega (arith, fewer_beside side g.row g.others g.lies (opened side at node g.row g.others g.lies here), ap (λ a. node_count (row_at old a)) e)
 
-    pub beside_grown : {reach next : ℕ} {new : List (Option Node)} {step : Step} {row : Placed} {others : List (Cell Node)} → Lies side old (Some at) row others → node.next ≡ Some next
+    pub beside_grown : {reach next : ℕ} {new : List (Option Node)} {step : Step} {row : Placed} {others : List (Cell Node)} → Lies side old (Some at) row others
+        → node.next ≡ Some next
         → ((row : Placed) (others : List (Cell Node)) → Lies side old (Some next) row others → IsGrown side reach old new next proof least row others step)
         → IsGrown side reach old new at proof least row others step
     beside_grown {reach} {new = new} {row = row} {others} lies e grown =
@@ -75,7 +79,8 @@ module _ {side : Side} {old : List (Option Node)} {at : ℕ} {node : Node} (here
     pub leaf_going : (g : IsAsked side old at proof least) → node.first ≡ None → IsGoingLeaf old at
     leaf_going g none = going_leaf side g.row g.others proof least found (leaf_first side here g.row g.others g.lies none) g.unsettled g.finite
 
-    pub leaf_grown : {reach : ℕ} {new : List (Option Node)} {step : Step} {row : Placed} {others : List (Cell Node)} → Lies side old (Some at) row others → node.first ≡ None
+    pub leaf_grown : {reach : ℕ} {new : List (Option Node)} {step : Step} {row : Placed} {others : List (Cell Node)} → Lies side old (Some at) row others
+        → node.first ≡ None
         → ((node : Node) (others : List (Cell Node)) → Owns old ((at, node) ∷ others) → IsExpanded side reach old new at node others step)
         → IsGrown side reach old new at proof least row others step
     leaf_grown {reach} {row = row} {others} lies none expanded =
@@ -90,12 +95,14 @@ module _ {side : Side} {old : List (Option Node)} {at : ℕ} {node : Node} (here
 
     -- ---- below it
 
-    module _ {own : Bool} (to_move : own ≡ is_own side node.position) {first : ℕ} (some : node.first ≡ Some first) {below : Count} (least_below : below ≡ number_in own node.numbers) where
+    module _ {own : Bool} (to_move : own ≡ is_own side node.position) {first : ℕ} (some : node.first ≡ Some first) {below : Count}
+        (least_below : below ≡ number_in own node.numbers) where
       first_inner : {row : Placed} {others : List (Cell Node)} → Lies side old (Some at) row others → InnerFirst side old at node row others
       first_inner {row} {others} lies = inner_first side here row others lies some
 
       pub below_asked : (g : IsAsked side old at proof least) → IsAsked side old first own below
-      below_asked g = subst (IsAsked side old first own) (sym least_below) (asked_below side g.row g.others proof least found (first_inner g.lies) own to_move some)
+      below_asked g = subst (IsAsked side old first own) (sym least_below)
+          (asked_below side g.row g.others proof least found (first_inner g.lies) own to_move some)
 
       pub below_less : (g : IsAsked side old at proof least) → node_count (row_at old (Some first)) < node_count (row_at old (Some at))
       below_less g =
@@ -103,12 +110,14 @@ module _ {side : Side} {old : List (Option Node)} {at : ℕ} {node : Node} (here
 
       -- what an expansion below it leaves in the pool
       module _ {reach : ℕ} {mid : List (Option Node)} {went : Step}
-          (grown : (row : Placed) (others : List (Cell Node)) → Lies side old (Some first) row others → IsGrown side reach old mid first own below row others went) where
+          (grown : (row : Placed) (others : List (Cell Node)) → Lies side old (Some first) row others
+              → IsGrown side reach old mid first own below row others went) where
         pub kids_below : went ≡ steps.Changed → IsAsked side old at proof least → IsBelow side mid at (Some first)
         kids_below changed g =
             let i = first_inner g.lies in
             let kids = (grown i.kids _ (kids_lie side g.row g.others proof least found i own to_move some)).grown (changed_not_full changed) in
-            record { node = node; kids = kids.placed; others = _; lies = new_below side g.row g.others proof least found i own to_move some kids.placed kids.lies }
+            record { node = node; kids = kids.placed; others = _; lies = new_below side g.row g.others proof least found i own to_move some kids.placed
+                kids.lies }
 
         module _ {row : Placed} {others : List (Cell Node)} (lies : Lies side old (Some at) row others) where
           inside : InnerFirst side old at node row others
@@ -118,29 +127,36 @@ module _ {side : Side} {old : List (Option Node)} {at : ℕ} {node : Node} (here
           did = grown inside.kids _ (kids_lie side row others proof least found inside own to_move some)
 
           room_below : went ≡ steps.Full ↔ (free_slots old < asked_in side proof least (row_of row))
-          room_below = room_as (sym (asked_inner side row others proof least found inside own to_move ∙ ap (λ m. asked_in side own m (row_of inside.kids)) (sym least_below))) did.full
+          room_below = room_as (sym (asked_inner side row others proof least found inside own to_move
+              ∙ ap (λ m. asked_in side own m (row_of inside.kids)) (sym least_below))) did.full
 
-          updated_below : updated side (planned reach) own below (row_of inside.kids) ≡ updated side (planned reach) own (number_in own node.numbers) (row_of inside.kids)
+          updated_below : updated side (planned reach) own below (row_of inside.kids) ≡ updated side (planned reach) own (number_in own node.numbers)
+              (row_of inside.kids)
           updated_below = ap (λ m. updated side (planned reach) own m (row_of inside.kids)) least_below
 
           -- the first child has other numbers, so the node is looked at again
           pub changed_grown : {new : List (Option Node)} {step : Step} → went ≡ steps.Changed → step ≢ steps.Full
-              → ((node : Node) (kids : Placed) (others : List (Cell Node)) → LiesBelow side mid at (Some first) node kids others → IsRenewed side new at node kids others step)
+              → ((node : Node) (kids : Placed) (others : List (Cell Node)) → LiesBelow side mid at (Some first) node kids others
+                  → IsRenewed side new at node kids others step)
               → IsGrown side reach old new at proof least row others step
           changed_grown changed done renewed =
               let kids = did.grown (changed_not_full changed) in
               let again = renewed node kids.placed _ (new_below side row others proof least found inside own to_move some kids.placed kids.lies) in
               record {
                 full = (λ full. absurd (done full), λ few. absurd (changed_not_full changed (room_below.1 few)));
-                grown = λ step. inner_grew side row others proof least found inside own to_move some (planned reach) kids.placed (kids.is ∙ updated_below) kids.lies again.owns;
-                numbers = λ same. inner_numbers_same side row others proof least found inside own to_move some (planned reach) (row_of kids.placed) (kids.is ∙ updated_below) (again.numbers same);
+                grown = λ step. inner_grew side row others proof least found inside own to_move some (planned reach) kids.placed (kids.is ∙ updated_below)
+                    kids.lies again.owns;
+                numbers = λ same. inner_numbers_same side row others proof least found inside own to_move some (planned reach) (row_of kids.placed)
+                    (kids.is ∙ updated_below) (again.numbers same);
               }
 
           -- it has the same, so the path ends here
           same_below : went ≡ steps.Same → (b smallest : Bool)
-              → number_of side b smallest (updated side (planned reach) own (number_in own node.numbers) (row_of inside.kids)) ≡ number_of side b smallest (row_of inside.kids)
+              → number_of side b smallest (updated side (planned reach) own (number_in own node.numbers) (row_of inside.kids))
+                  ≡ number_of side b smallest (row_of inside.kids)
           same_below same =
-              subst (λ m. (b smallest : Bool) → number_of side b smallest (updated side (planned reach) own m (row_of inside.kids)) ≡ number_of side b smallest (row_of inside.kids)) least_below (did.numbers same)
+              subst (λ m. (b smallest : Bool) → number_of side b smallest (updated side (planned reach) own m (row_of inside.kids))
+                  ≡ number_of side b smallest (row_of inside.kids)) least_below (did.numbers same)
 
           pub same_grown : went ≢ steps.Changed → IsGrown side reach old mid at proof least row others went
           same_grown kept =
@@ -148,9 +164,11 @@ module _ {side : Side} {old : List (Option Node)} {at : ℕ} {node : Node} (here
                 full = room_below;
                 grown = λ done.
                     let kids = did.grown done in
-                    inner_stays side row others proof least found inside own to_move some (planned reach) kids.placed (kids.is ∙ updated_below) (same_below (the_same went done kept)) kids.lies;
+                    inner_stays side row others proof least found inside own to_move some (planned reach) kids.placed (kids.is ∙ updated_below)
+                        (same_below (the_same went done kept)) kids.lies;
                 numbers = λ same.
                     let kids = did.grown (same_not_full same) in
                     inner_numbers_same side row others proof least found inside own to_move some (planned reach) (row_of kids.placed) (kids.is ∙ updated_below)
-                    (kept_numbers side row others proof least found inside own to_move some (planned reach) kids.placed (kids.is ∙ updated_below) (same_below same));
+                    (kept_numbers side row others proof least found inside own to_move some (planned reach) kids.placed (kids.is ∙ updated_below)
+                        (same_below same));
               }

@@ -1,6 +1,7 @@
 -- The leaves of a position's moves, placed side by side from the last to the first.
 use Rattle.std.specs.List.{filter}
-use Rattle.std.proofs.Common.{◌≡◌, ℕ, ◌+◌, ◌-◌, ◌<◌, ◌≤◌, Bool, true, false, List, [], ◌∷◌, ◌++◌, length, map, set, take, drop, get_or, Option, None, Some, IfSome, refl, sym, ap, subst, ◌∙◌, arith, inl, inr}
+use Rattle.std.proofs.Common.{◌≡◌, ℕ, ◌+◌, ◌-◌, ◌<◌, ◌≤◌, Bool, true, false, List, [], ◌∷◌, ◌++◌, length, map, set, take, drop, get_or, Option, None, Some,
+    IfSome, refl, sym, ap, subst, ◌∙◌, arith, inl, inr}
 use Rattle.std.proofs.Math.Seq.{take-length}
 use Rattle.std.proofs.lemmas.Bool.{cases_Bool}
 use Rattle.game_rules.specs.Position.{Position, has_room, is_legal, after_move, end_of}
@@ -24,7 +25,8 @@ first_and_rest (x ∷ xs) c some is =
     rw (is, short) (ap (λ ys. x ∷ ys) (sym (take-length xs)))
 
 module _ (p : Position) where
-  pub more_open : (order rest : List ℕ) (column : ℕ) → order ≡ column ∷ rest → has_room p column ≡ true → filter (has_room p) order ≡ column ∷ filter (has_room p) rest
+  pub more_open : (order rest : List ℕ) (column : ℕ) → order ≡ column ∷ rest → has_room p column ≡ true
+      → filter (has_room p) order ≡ column ∷ filter (has_room p) rest
   more_open order rest column e room = rw (e, room) refl
 
   -- at a position at which the game goes on the legal moves are the columns with room
@@ -39,10 +41,12 @@ module _ (p : Position) where
   going_moves going = ap (map (after_move p)) (sym (going_legal (centre_out (length p.columns)) going))
 
   module _ (side : Side) (closed : Side → Position → Bool) where
-    pub leaf_before : {mid new : List (Option Node)} (order rest : List ℕ) (column : ℕ) (beside result : Option ℕ) (made : Node) (others : List (Cell Node)) → order ≡ column ∷ rest → has_room p column ≡ true
+    pub leaf_before : {mid new : List (Option Node)} (order rest : List ℕ) (column : ℕ) (beside result : Option ℕ) (made : Node) (others : List (Cell Node))
+        → order ≡ column ∷ rest → has_room p column ≡ true
         → made ≡ record { position = after_move p column; first = None; next = beside; numbers = leaf_numbers (verdict_at side closed (after_move p column)) }
         → (result ≡ None → live_slots mid ≡ length mid) → live_slots mid < length mid
-        → IfSome result (λ at. at < length mid) → IfSome result (λ at. held mid at ≡ None) → IfSome result (λ at. new ≡ set mid at (Some made)) → IfSome result (λ at. live_slots new ≡ live_slots mid + 1)
+        → IfSome result (λ at. at < length mid) → IfSome result (λ at. held mid at ≡ None) → IfSome result (λ at. new ≡ set mid at (Some made))
+            → IfSome result (λ at. live_slots new ≡ live_slots mid + 1)
         → LeavesLie p side closed mid rest beside others → LeavesLie p side closed new order result others
     leaf_before order rest column beside None made others e room m full some inside free put count l = absurd (omega (arith, some, full refl))
     leaf_before {mid} {new} order rest column beside (Some at) made others e room m full some inside free put count l =
@@ -58,14 +62,18 @@ module _ (p : Position) where
           is = is;
           going = subst AreGoing (sym is) (going_leaves side closed (map (after_move p) (filter (has_room p) order)));
           begins = refl;
-          owns = subst (λ s. Owns s (cells_of side row ++ others)) (sym there) (placed_to at node (cells_of side l.row ++ others) inside free l.owns (sym (ap live_slots there) ∙ count));
+          owns = subst (λ s. Owns s (cells_of side row ++ others)) (sym there)
+              (placed_to at node (cells_of side l.row ++ others) inside free l.owns (sym (ap live_slots there) ∙ count));
         }
 
     -- no columns, and a column without room
-    pub no_leaf : {slots : List (Option Node)} (order : List ℕ) (others : List (Cell Node)) → length order ≤ 0 → Owns slots others → LeavesLie p side closed slots order None others
+    pub no_leaf : {slots : List (Option Node)} (order : List ℕ) (others : List (Cell Node)) → length order ≤ 0 → Owns slots others
+        → LeavesLie p side closed slots order None others
     no_leaf [] others none owns = record { row = end; is = refl; going = tt; begins = refl; owns = owns }
     no_leaf (c ∷ order) others none owns = absurd (omega (arith, none))
 
-    pub leaf_skipped : {slots : List (Option Node)} (order rest : List ℕ) (column : ℕ) (beside : Option ℕ) (others : List (Cell Node)) → order ≡ column ∷ rest → has_room p column ≡ false → LeavesLie p side closed slots rest beside others → LeavesLie p side closed slots order beside others
+    pub leaf_skipped : {slots : List (Option Node)} (order rest : List ℕ) (column : ℕ) (beside : Option ℕ) (others : List (Cell Node)) → order ≡ column ∷ rest
+        → has_room p column ≡ false → LeavesLie p side closed slots rest beside others → LeavesLie p side closed slots order beside others
     leaf_skipped order rest column beside others e full l =
-        record { row = l.row; is = l.is ∙ ap (λ cs. leaves side closed (map (after_move p) cs)) (sym (rw (e, full) refl)); going = l.going; begins = l.begins; owns = l.owns }
+        record { row = l.row; is = l.is ∙ ap (λ cs. leaves side closed (map (after_move p) cs)) (sym (rw (e, full) refl)); going = l.going; begins =
+            l.begins; owns = l.owns }

@@ -40,7 +40,8 @@ module _ (side : Side) where
       settled_yes : Yes ≡ Unsettled → ⊥
       settled_yes e = cc
 
-  beside_kids : (node : Node) (p : Position) (kids : Placed) (below beside : Row) → verdict_on side p (row_of kids) ≡ Unsettled → row_beside node (first_of kids) below beside ≡ inner node.position below beside
+  beside_kids : (node : Node) (p : Position) (kids : Placed) (below beside : Row) → verdict_on side p (row_of kids) ≡ Unsettled
+      → row_beside node (first_of kids) below beside ≡ inner node.position below beside
   beside_kids node p end below beside h = absurd (childless p h)
   beside_kids node p (leaf_at i q v rest) below beside h = refl
   beside_kids node p (inner_at i q kids rest) below beside h = refl
@@ -51,7 +52,8 @@ module _ (side : Side) where
   length_cells (inner_at i p kids rest) = omega (arith, length-append (cells_of side kids) (cells_of side rest), length_cells kids, length_cells rest)
 
   module _ {slots : List (Option Node)} where
-    reads : (row : Placed) (others : List (Cell Node)) (n : ℕ) → Owns slots (cells_of side row ++ others) → IsClean side (row_of row) → node_count (row_of row) ≤ n → row_within n slots (first_of row) ≡ row_of row
+    reads : (row : Placed) (others : List (Cell Node)) (n : ℕ) → Owns slots (cells_of side row ++ others) → IsClean side (row_of row)
+        → node_count (row_of row) ≤ n → row_within n slots (first_of row) ≡ row_of row
     unfolding row_within
     reads end others zero owns clean few = refl
     reads end others (suc n) owns clean few = refl
@@ -69,9 +71,12 @@ module _ (side : Side) where
         rw (here, below, beside) (beside_kids node p kids (row_of kids) (row_of rest) clean.0)
 
     -- a row has no more nodes than there are slots
-    pub few_nodes : (row : Placed) (others : List (Cell Node)) → Owns slots (cells_of side row ++ others) → node_count (row_of row) + length others ≤ length slots
-    few_nodes row others owns = omega (arith, length_cells row, length-append (cells_of side row) others, owns.live, count_by-le-length {X = Option Node} is_some slots)
+    pub few_nodes : (row : Placed) (others : List (Cell Node)) → Owns slots (cells_of side row ++ others)
+        → node_count (row_of row) + length others ≤ length slots
+    few_nodes row others owns = omega (arith, length_cells row, length-append (cells_of side row) others, owns.live, count_by-le-length {X = Option Node}
+        is_some slots)
 
     -- what is read from a row's first slot on is the row
     pub reads_at : (at : Option ℕ) (row : Placed) (others : List (Cell Node)) → Lies side slots at row others → row_at slots at ≡ row_of row
-    reads_at at row others lies = subst (λ a. row_at slots a ≡ row_of row) lies.first (reads row others (length slots) lies.owns lies.clean (omega (arith, few_nodes row others lies.owns)))
+    reads_at at row others lies = subst (λ a. row_at slots a ≡ row_of row) lies.first
+        (reads row others (length slots) lies.owns lies.clean (omega (arith, few_nodes row others lies.owns)))

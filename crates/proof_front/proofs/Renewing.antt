@@ -38,7 +38,8 @@ numbers_same a b h =
 abbrev pub put_as : Side → Node → Placed → Option ℕ → Node
 put_as side node kids first = record { position = node.position; first = first; next = node.next; numbers = node_numbers side node.position (row_of kids) }
 
-module _ (side : Side) {slots : List (Option Node)} {at : ℕ} {first : Option ℕ} (node : Node) (kids : Placed) (others : List (Cell Node)) (b : LiesBelow side slots at first node kids others) where
+module _ (side : Side) {slots : List (Option Node)} {at : ℕ} {first : Option ℕ} (node : Node) (kids : Placed) (others : List (Cell Node))
+    (b : LiesBelow side slots at first node kids others) where
   pub kids_lie : Lies side slots first kids ((at, node) ∷ others)
   kids_lie = record { owns = exchanged ((at, node) ∷ []) (cells_of side kids) others b.owns; first = b.begins; clean = b.clean; going = b.going }
 
@@ -67,35 +68,49 @@ module _ (side : Side) {slots : List (Option Node)} {at : ℕ} {first : Option �
     still_live Yes k = ap is_some (mine at node others (settled_owns k (λ e. cc)))
     still_live No k = ap is_some (mine at node others (settled_owns k (λ e. cc)))
 
-    put_back : (v : Verdict) → Kept v mid kept → v ≡ verdict_on side node.position (row_of kids) → live_slots (set mid at (Some (put_as side node kids kept))) ≡ live_slots mid
+    put_back : (v : Verdict) → Kept v mid kept → v ≡ verdict_on side node.position (row_of kids)
+        → live_slots (set mid at (Some (put_as side node kids kept))) ≡ live_slots mid
         → Owns (set mid at (Some (put_as side node kids kept))) (renewed side at node kids ++ others)
     put_back Unsettled k e count =
         let begins : kept ≡ first_of kids = (k.same refl).1 ∙ sym b.begins in
         rw (← e) (subst (λ f. Owns (set mid at (Some (put_as side node kids kept))) ((at, put_as side node kids f) ∷ (cells_of side kids ++ others))) begins
         (changed_to at node _ (cells_of side kids ++ others) (unsettled_owns k) count))
-    put_back Yes k e count = rw (← e) (rw (k.none (λ e. cc)) (changed_to at node _ others (settled_owns k (λ e. cc)) (subst (λ f. live_slots (set mid at (Some (put_as side node kids f))) ≡ live_slots mid) (k.none (λ e. cc)) count)))
-    put_back No k e count = rw (← e) (rw (k.none (λ e. cc)) (changed_to at node _ others (settled_owns k (λ e. cc)) (subst (λ f. live_slots (set mid at (Some (put_as side node kids f))) ≡ live_slots mid) (k.none (λ e. cc)) count)))
+    put_back Yes k e count = rw (← e)
+        (rw (k.none (λ e. cc)) (changed_to at node _ others (settled_owns k (λ e. cc))
+        (subst (λ f. live_slots (set mid at (Some (put_as side node kids f))) ≡ live_slots mid) (k.none (λ e. cc)) count)))
+    put_back No k e count = rw (← e)
+        (rw (k.none (λ e. cc)) (changed_to at node _ others (settled_owns k (λ e. cc))
+        (subst (λ f. live_slots (set mid at (Some (put_as side node kids f))) ≡ live_slots mid) (k.none (λ e. cc)) count)))
 
   -- the node was put back with the numbers that its children have
-  renewed_owns : (read : Node) (n : Numbers) (v : Verdict) (kept : Option ℕ) (mid new : List (Option Node)) → held slots at ≡ Some read → n ≡ node_numbers side node.position (row_of kids) → v ≡ verdict_of n.proof n.disproof → Kept v mid kept
-      → new ≡ set mid at (Some (record { position = read.position; first = kept; next = read.next; numbers = n })) → live_slots new ≡ live_slots mid → Owns new (renewed side at node kids ++ others)
+  renewed_owns : (read : Node) (n : Numbers) (v : Verdict) (kept : Option ℕ) (mid new : List (Option Node)) → held slots at ≡ Some read
+      → n ≡ node_numbers side node.position (row_of kids) → v ≡ verdict_of n.proof n.disproof → Kept v mid kept
+      → new ≡ set mid at (Some (record { position = read.position; first = kept; next = read.next; numbers = n })) → live_slots new ≡ live_slots mid
+          → Owns new (renewed side at node kids ++ others)
   renewed_owns read n v kept mid new here e f k put count =
-      let made : record { position = read.position; first = kept; next = read.next; numbers = n } ≡ put_as side node kids kept = rw (read_is read here, e) refl in
+      let made : record { position = read.position; first = kept; next = read.next; numbers = n } ≡ put_as side node kids kept = rw (read_is read here, e) refl
+          in
       let is : new ≡ set mid at (Some (put_as side node kids kept)) = put ∙ ap (λ m. set mid at (Some m)) made in
-      subst (λ s. Owns s (renewed side at node kids ++ others)) (sym is) (put_back v k (f ∙ ap (λ n. verdict_of n.proof n.disproof) e) (sym (ap live_slots is) ∙ count))
+      subst (λ s. Owns s (renewed side at node kids ++ others)) (sym is)
+          (put_back v k (f ∙ ap (λ n. verdict_of n.proof n.disproof) e) (sym (ap live_slots is) ∙ count))
 
   -- the numbers of the children, as a node's
-  numbers_are : (read : Node) (own : Bool) (n : Numbers) → held slots at ≡ Some read → own ≡ is_own side read.position → n ≡ row_numbers side own (row_of kids) → n ≡ node_numbers side node.position (row_of kids)
-  numbers_are read own n here e f = f ∙ (ap (λ b. row_numbers side b (row_of kids)) e ∙ ap (λ m. node_numbers side m.position (row_of kids)) (read_is read here))
+  numbers_are : (read : Node) (own : Bool) (n : Numbers) → held slots at ≡ Some read → own ≡ is_own side read.position → n ≡ row_numbers side own (row_of kids)
+      → n ≡ node_numbers side node.position (row_of kids)
+  numbers_are read own n here e f = f
+      ∙ (ap (λ b. row_numbers side b (row_of kids)) e ∙ ap (λ m. node_numbers side m.position (row_of kids)) (read_is read here))
 
   -- where the numbers are as before, they were the children's before
-  before_is : (read : Node) (n : Numbers) → held slots at ≡ Some read → n ≡ node_numbers side node.position (row_of kids) → same_numbers n read.numbers ≡ true → node.numbers ≡ node_numbers side node.position (row_of kids)
+  before_is : (read : Node) (n : Numbers) → held slots at ≡ Some read → n ≡ node_numbers side node.position (row_of kids) → same_numbers n read.numbers ≡ true
+      → node.numbers ≡ node_numbers side node.position (row_of kids)
   before_is read n here e alike = sym (ap (λ m. m.numbers) (read_is read here)) ∙ (sym (numbers_same n read.numbers alike) ∙ e)
 
   -- the node after it was looked at again
-  pub renewed_again : {read : Node} {own : Bool} {n : Numbers} {v : Verdict} {kept : Option ℕ} {mid new : List (Option Node)} {step : Step} → held slots at ≡ Some read → own ≡ is_own side read.position
+  pub renewed_again : {read : Node} {own : Bool} {n : Numbers} {v : Verdict} {kept : Option ℕ} {mid new : List (Option Node)} {step : Step}
+      → held slots at ≡ Some read → own ≡ is_own side read.position
       → n ≡ row_numbers side own (row_of kids) → v ≡ verdict_of n.proof n.disproof → Kept v mid kept
-      → new ≡ set mid at (Some (record { position = read.position; first = kept; next = read.next; numbers = n })) → live_slots new ≡ live_slots mid → (step ≡ steps.Same → same_numbers n read.numbers ≡ true)
+      → new ≡ set mid at (Some (record { position = read.position; first = kept; next = read.next; numbers = n })) → live_slots new ≡ live_slots mid
+          → (step ≡ steps.Same → same_numbers n read.numbers ≡ true)
       → IsRenewed side new at node kids others step
   renewed_again {read} {own} {n} {v} {kept} {mid} {new} here moves e f k put count alike =
       let numbers = numbers_are read own n here moves e in

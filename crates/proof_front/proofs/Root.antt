@@ -1,11 +1,13 @@
 -- A front's tree has one root, whose numbers are the tree's.
-use Rattle.std.proofs.Common.{◌≡◌, ◌≢◌, ◌↔◌, ℕ, ◌+◌, ◌-◌, ◌<◌, ◌≤◌, Bool, true, false, ◌||◌, List, [], ◌∷◌, length, replicate, set, Option, None, Some, IfSome, refl, sym, ap, subst, ◌∙◌, arith, length-set, add-one, if◌then◌else◌, inl, inr}
+use Rattle.std.proofs.Common.{◌≡◌, ◌≢◌, ◌↔◌, ℕ, ◌+◌, ◌-◌, ◌<◌, ◌≤◌, Bool, true, false, ◌||◌, List, [], ◌∷◌, length, replicate, set, Option, None, Some, IfSome,
+    refl, sym, ap, subst, ◌∙◌, arith, length-set, add-one, if◌then◌else◌, inl, inr}
 use Rattle.std.proofs.lemmas.Bool.{cases_lt, ltb-true, lt-ltb}
 use Rattle.std.proofs.lemmas.List.{length-append, get_or-replicate, get_or_past, length-replicate}
 use Rattle.game_rules.specs.Position.{Position}
 use Rattle.game_rules.specs.declared.Side.{Side}
 use Rattle.front_rules.specs.Counts.{least, same_count, is_zero, is_infinite}
-use Rattle.front_rules.specs.Front.{Row, nothing, leaf, inner, node_count, leaf_number, joined, number_of, node_number, root_number, verdict_of, node_as, verdict_at, leaves, moves_out, grown, asked, asked_in, is_settled, planned, front_within, front}
+use Rattle.front_rules.specs.Front.{Row, nothing, leaf, inner, node_count, leaf_number, joined, number_of, node_number, root_number, verdict_of, node_as,
+    verdict_at, leaves, moves_out, grown, asked, asked_in, is_settled, planned, front_within, front}
 use Rattle.front_rules.specs.Path.{updated}
 use Rattle.front_rules.proofs.Numbers.{row_dual}
 use Rattle.front_rules.proofs.Updated.{grown_is}
@@ -48,15 +50,20 @@ beside_as Yes p kids rest = refl
 beside_as No p kids rest = refl
 
 -- an expansion of a tree of one root leaves one root
-updated_alone : (side : Side) (closed : Side → Position → Bool) (tree : Row) → beside tree ≡ nothing → beside (updated side closed true (root_number side true tree) tree) ≡ nothing
+updated_alone : (side : Side) (closed : Side → Position → Bool) (tree : Row) → beside tree ≡ nothing
+    → beside (updated side closed true (root_number side true tree) tree) ≡ nothing
 updated_alone side closed nothing h = refl
 updated_alone side closed (leaf p v rest) h =
-    let number : root_number side true (leaf p v rest) ≡ leaf_number true v = ap (λ r. least (leaf_number true v) (number_of side true true r)) h ∙ alone_joined true side true (leaf_number true v) in
-    let found : same_count (leaf_number true v) (root_number side true (leaf p v rest)) ≡ true = ap (same_count (leaf_number true v)) number ∙ same_itself (leaf_number true v) in
+    let number : root_number side true (leaf p v rest) ≡ leaf_number true v = ap (λ r. least (leaf_number true v) (number_of side true true r)) h
+        ∙ alone_joined true side true (leaf_number true v) in
+    let found : same_count (leaf_number true v) (root_number side true (leaf p v rest)) ≡ true = ap (same_count (leaf_number true v)) number
+        ∙ same_itself (leaf_number true v) in
     rw found (beside_as _ p (leaves side closed (moves_out p)) rest ∙ h)
 updated_alone side closed (inner p kids rest) h =
-    let number : root_number side true (inner p kids rest) ≡ node_number side true p kids = ap (λ r. least (node_number side true p kids) (number_of side true true r)) h ∙ alone_joined true side true (node_number side true p kids) in
-    let found : same_count (node_number side true p kids) (root_number side true (inner p kids rest)) ≡ true = ap (same_count (node_number side true p kids)) number ∙ same_itself (node_number side true p kids) in
+    let number : root_number side true (inner p kids rest) ≡ node_number side true p kids =
+        ap (λ r. least (node_number side true p kids) (number_of side true true r)) h ∙ alone_joined true side true (node_number side true p kids) in
+    let found : same_count (node_number side true p kids) (root_number side true (inner p kids rest))
+        ≡ true = ap (same_count (node_number side true p kids)) number ∙ same_itself (node_number side true p kids) in
     rw found (beside_as _ p _ rest ∙ h)
 
 module _ {side : Side} {slots : List (Option Node)} {root : ℕ} (f : IsFront side slots root) where
@@ -76,7 +83,8 @@ module _ {side : Side} {slots : List (Option Node)} {root : ℕ} (f : IsFront si
     number_of_tree : (proof smallest : Bool) → number_of side proof smallest (row_of f.tree) ≡ number_in proof node.numbers
     number_of_tree proof smallest =
         let o = opened side root node f.tree [] f.lies here in
-        o.number proof smallest ∙ (ap (λ r. joined smallest (number_in proof node.numbers) (number_of side proof smallest r)) (rest_beside f.tree ∙ f.alone) ∙ alone_joined smallest side proof (number_in proof node.numbers))
+        o.number proof smallest ∙ (ap (λ r. joined smallest (number_in proof node.numbers) (number_of side proof smallest r)) (rest_beside f.tree ∙ f.alone)
+            ∙ alone_joined smallest side proof (number_in proof node.numbers))
 
     pub number_is : (proof : Bool) → root_number side proof (row_at slots (Some root)) ≡ number_in proof node.numbers
     number_is proof = ap (root_number side proof) tree_is ∙ number_of_tree proof true
@@ -90,11 +98,14 @@ module _ {side : Side} {slots : List (Option Node)} {root : ℕ} (f : IsFront si
           lies = f.lies;
           number = number_of_tree true true;
           unsettled = zeros.0;
-          finite = sym (ap is_infinite (number_of_tree true true)) ∙ (sym (row_dual side (row_of f.tree) false false) ∙ (ap is_zero (number_of_tree false false) ∙ zeros.1));
+          finite = sym (ap is_infinite (number_of_tree true true))
+              ∙ (sym (row_dual side (row_of f.tree) false false) ∙ (ap is_zero (number_of_tree false false) ∙ zeros.1));
         }
 
-    module _ (closed : Side → Position → Bool) {new : List (Option Node)} (grew : Grew side new root (updated side closed true node.numbers.proof (row_of f.tree)) []) where
-      updated_is : updated side closed true node.numbers.proof (row_of f.tree) ≡ updated side closed true (root_number side true (row_of f.tree)) (row_of f.tree)
+    module _ (closed : Side → Position → Bool) {new : List (Option Node)}
+        (grew : Grew side new root (updated side closed true node.numbers.proof (row_of f.tree)) []) where
+      updated_is : updated side closed true node.numbers.proof (row_of f.tree) ≡ updated side closed true (root_number side true (row_of f.tree))
+          (row_of f.tree)
       updated_is = ap (λ n. updated side closed true n (row_of f.tree)) (sym (number_of_tree true true))
 
       pub front_after : length new ≡ length slots → IsFront side new root
@@ -107,7 +118,8 @@ module _ {side : Side} {slots : List (Option Node)} {root : ℕ} (f : IsFront si
           }
 
       pub grown_after : row_at new (Some root) ≡ grown side closed (row_at slots (Some root))
-      grown_after = reads_at side (Some root) grew.placed [] grew.lies ∙ (grew.is ∙ (updated_is ∙ (sym (grown_is side closed (row_of f.tree) f.lies.clean) ∙ ap (grown side closed) (sym tree_is))))
+      grown_after = reads_at side (Some root) grew.placed [] grew.lies
+          ∙ (grew.is ∙ (updated_is ∙ (sym (grown_is side closed (row_of f.tree) f.lies.clean) ∙ ap (grown side closed) (sym tree_is))))
 
 -- ---- what the root's numbers settle
 
@@ -138,7 +150,8 @@ no_first a b h = look (is_zero a) h
 
 module _ {side : Side} {slots : List (Option Node)} {root : ℕ} (f : IsFront side slots root) (node : Node) (here : held slots root ≡ Some node) where
   zero_infinite : is_zero node.numbers.proof ≡ true → is_zero node.numbers.disproof ≡ false
-  zero_infinite zero = look node.numbers.disproof (sym (ap is_infinite (number_of_tree f node here false false)) ∙ (sym (row_dual side (row_of f.tree) true true) ∙ (ap is_zero (number_of_tree f node here true true) ∙ zero)))
+  zero_infinite zero = look node.numbers.disproof (sym (ap is_infinite (number_of_tree f node here false false))
+      ∙ (sym (row_dual side (row_of f.tree) true true) ∙ (ap is_zero (number_of_tree f node here true true) ∙ zero)))
     where
       look : (a : Count) → is_infinite a ≡ true → is_zero a ≡ false
       look (Finite m) e = cc
@@ -194,11 +207,15 @@ module _ {side : Side} {slots : List (Option Node)} {root : ℕ} (f : IsFront si
         where
           short : (free_slots slots < asked_in side true node.numbers.proof (row_of f.tree)) ↔ (is_full side (length slots) (row_at slots (Some root)) ≡ true)
           short =
-              let asked_is : asked side (row_at slots (Some root)) ≡ asked_in side true node.numbers.proof (row_of f.tree) = ap (asked side) (tree_is f) ∙ ap (λ m. asked_in side true m (row_of f.tree)) (number_of_tree f node here true true) in
+              let asked_is : asked side (row_at slots (Some root)) ≡ asked_in side true node.numbers.proof (row_of f.tree) = ap (asked side) (tree_is f)
+                  ∙ ap (λ m. asked_in side true m (row_of f.tree)) (number_of_tree f node here true true) in
               let free_is : length slots - node_count (row_at slots (Some root)) ≡ free_slots slots = ap (λ m. length slots - m) (sym (live_is f)) in
-              (λ few. rw (asked_is, free_is) (lt-ltb (free_slots slots) _ few), λ full. ltb-true (free_slots slots) _ (sym (rw (asked_is, free_is) refl) ∙ full))
+              (λ few. rw (asked_is, free_is) (lt-ltb (free_slots slots) _ few), λ full.
+                  ltb-true (free_slots slots) _ (sym (rw (asked_is, free_is) refl) ∙ full))
 
-          look : (v : Verdict) (step : Step) → (v ≡ Unsettled → (step ≡ steps.Full) ↔ (free_slots slots < asked_in side true node.numbers.proof (row_of f.tree))) → (answer_of v step ≡ Full) ↔ (((is_yes v || is_no v) ≡ false) × (is_full side (length slots) (row_at slots (Some root)) ≡ true))
+          look : (v : Verdict) (step : Step)
+              → (v ≡ Unsettled → (step ≡ steps.Full) ↔ (free_slots slots < asked_in side true node.numbers.proof (row_of f.tree))) → (answer_of v step ≡ Full)
+              ↔ (((is_yes v || is_no v) ≡ false) × (is_full side (length slots) (row_at slots (Some root)) ≡ true))
           look Yes step room = (λ e. cc, λ h. absurd (settled h.0))
             where
               settled : true ≡ false → ⊥
@@ -239,8 +256,10 @@ if_some P some h = subst (λ o. IfSome o P) some h
 abbrev pub root_node : Side → ℕ → Position → Node
 root_node side reach p = record { position = p; first = None; next = None; numbers = leaf_numbers (verdict_at side (planned reach) p) }
 
-module _ (side : Side) (reach : ℕ) (p : Position) (mid new : List (Option Node)) (result : Option ℕ) (root : ℕ) (made : Node) (owns : Owns mid []) (few : length mid ≤ 1000000) (some : result ≡ Some root) (is : made ≡ root_node side reach p)
-    (inside : IfSome result (λ at. at < length mid)) (free : IfSome result (λ at. held mid at ≡ None)) (put : IfSome result (λ at. new ≡ set mid at (Some made))) (count : IfSome result (λ at. live_slots new ≡ live_slots mid + 1)) where
+module _ (side : Side) (reach : ℕ) (p : Position) (mid new : List (Option Node)) (result : Option ℕ) (root : ℕ) (made : Node) (owns : Owns mid [])
+    (few : length mid ≤ 1000000) (some : result ≡ Some root) (is : made ≡ root_node side reach p)
+    (inside : IfSome result (λ at. at < length mid)) (free : IfSome result (λ at. held mid at ≡ None))
+        (put : IfSome result (λ at. new ≡ set mid at (Some made))) (count : IfSome result (λ at. live_slots new ≡ live_slots mid + 1)) where
   put_root : new ≡ set mid root (Some made)
   put_root = if_some (λ at. new ≡ set mid at (Some made)) some put
 
@@ -249,7 +268,8 @@ module _ (side : Side) (reach : ℕ) (p : Position) (mid new : List (Option Node
       let there : new ≡ set mid root (Some (root_node side reach p)) = put_root ∙ ap (λ m. set mid root (Some m)) is in
       record {
         owns = subst (λ s. Owns s ((root, root_node side reach p) ∷ [])) (sym there)
-            (placed_to root (root_node side reach p) [] (if_some (λ at. at < length mid) some inside) (if_some (λ at. held mid at ≡ None) some free) owns (sym (ap live_slots there) ∙ if_some (λ at. live_slots new ≡ live_slots mid + 1) some count));
+            (placed_to root (root_node side reach p) [] (if_some (λ at. at < length mid) some inside) (if_some (λ at. held mid at ≡ None) some free) owns
+                (sym (ap live_slots there) ∙ if_some (λ at. live_slots new ≡ live_slots mid + 1) some count));
         first = refl;
         clean = tt;
         going = going_leaves side (planned reach) (p ∷ []);
@@ -271,8 +291,10 @@ unfolding front_within front
 front_more p side reach n = ap (front_within side (planned reach) p) (add-one n)
 
 -- the front after an expansion, or after none where there was no room
-module _ {side : Side} {slots new : List (Option Node)} {root : ℕ} (f : IsFront side slots root) (node : Node) (here : held slots root ≡ Some node) (closed : Side → Position → Bool) (same : length new ≡ length slots) where
-  pub front_kept : (step : Step) → (step ≡ steps.Full → new ≡ slots) → (step ≢ steps.Full → Grew side new root (updated side closed true node.numbers.proof (row_of f.tree)) []) → IsFront side new root
+module _ {side : Side} {slots new : List (Option Node)} {root : ℕ} (f : IsFront side slots root) (node : Node) (here : held slots root ≡ Some node)
+    (closed : Side → Position → Bool) (same : length new ≡ length slots) where
+  pub front_kept : (step : Step) → (step ≡ steps.Full → new ≡ slots)
+      → (step ≢ steps.Full → Grew side new root (updated side closed true node.numbers.proof (row_of f.tree)) []) → IsFront side new root
   front_kept steps.Full kept grew = subst (λ s. IsFront side s root) (sym (kept refl)) f
   front_kept steps.Same kept grew = front_after f node here closed (grew (λ e. cc)) same
   front_kept steps.Changed kept grew = front_after f node here closed (grew (λ e. cc)) same

@@ -8,7 +8,8 @@ use Rattle.proof_text.specs.Right.{Shown, AreRight, IsVerdict}
 use Rattle.proof_text.specs.Checked.{Why, unless, CheckerState, line_refusal, shown_of, with_line}
 use Rattle.proof_text.specs.Spelling.{lemma_text, verdict_text, VerdictFits, IsLine}
 use Rattle.proof_text.specs.Reading.{read_line}
-use Rattle.proof_text.specs.Texts.{most_lines, said_refusal, bytes_refusal, CheckAnswer, Accepted, verdict_answer, with_said, with_bytes, line_answer, check_from, Entry, LemmaEntry, RemarkEntry, entry_text, lemmas_among, EntryFits}
+use Rattle.proof_text.specs.Texts.{most_lines, said_refusal, bytes_refusal, CheckAnswer, Accepted, verdict_answer, with_said, with_bytes, line_answer,
+    check_from, Entry, LemmaEntry, RemarkEntry, entry_text, lemmas_among, EntryFits}
 use Rattle.proof_text.proofs.Refusals.{none_or, line_of_none, none_of_line, right_of_none, none_of_right, verdict_of_none, none_of_verdict}
 use Rattle.proof_text.proofs.Spelled.{line_read, line_spelled}
 use Rattle.proof_text.proofs.Fold.{bytes_of_none}
@@ -29,12 +30,14 @@ pub record AreAccepted (root : Position) (known : List Shown) (at : ℕ) (lines 
 
 -- ---- what is accepted is right
 
-answer_parts : (r : Option Why) (at : ℕ) (later : CheckAnswer) (v : Verdict) (count : ℕ) → line_answer r at later ≡ Accepted v count → (r ≡ None) × (later ≡ Accepted v count)
+answer_parts : (r : Option Why) (at : ℕ) (later : CheckAnswer) (v : Verdict) (count : ℕ) → line_answer r at later ≡ Accepted v count
+    → (r ≡ None) × (later ≡ Accepted v count)
 answer_parts None at later v count h = (refl, h)
 answer_parts (Some why) at later v count h = cc
 
 -- nothing follows a verdict
-ended_lines : (s : CheckerState) (at : ℕ) (lines : List (List ℕ)) (w v : Verdict) (count : ℕ) → s.verdict ≡ Some w → check_from s at lines ≡ Accepted v count → (lines ≡ []) × (w ≡ v) × (count ≡ length s.known)
+ended_lines : (s : CheckerState) (at : ℕ) (lines : List (List ℕ)) (w v : Verdict) (count : ℕ) → s.verdict ≡ Some w → check_from s at lines ≡ Accepted v count
+    → (lines ≡ []) × (w ≡ v) × (count ≡ length s.known)
 ended_lines s at [] w v count ended h =
     let same : verdict_answer at (length s.known) (Some w) ≡ Accepted v count = sym (ap (verdict_answer at (length s.known)) ended) ∙ h in
     (refl, cc, cc)
@@ -53,8 +56,10 @@ going root known = record { root = root; known = known; verdict = None }
 
 -- one more line at the start
 with_first : (root : Position) (known : List Shown) (at : ℕ) (bytes : List ℕ) (lines : List (List ℕ)) (v : Verdict) (count : ℕ) (line : Line)
-    → at ≤ most_lines → IsLine (board_of root) bytes line → line_refusal (going root known) line ≡ None → check_from (with_line (going root known) line) (at + 1) lines ≡ Accepted v count
-    → ((known : List Shown) → check_from (going root known) (at + 1) lines ≡ Accepted v count → AreAccepted root known (at + 1) lines v count) → AreAccepted root known at (bytes ∷ lines) v count
+    → at ≤ most_lines → IsLine (board_of root) bytes line → line_refusal (going root known) line ≡ None
+        → check_from (with_line (going root known) line) (at + 1) lines ≡ Accepted v count
+    → ((known : List Shown) → check_from (going root known) (at + 1) lines ≡ Accepted v count → AreAccepted root known (at + 1) lines v count)
+        → AreAccepted root known at (bytes ∷ lines) v count
 with_first root known at bytes lines v count (ALemma l) within is_line none rest later =
     let one = right_of_none root known l (line_of_none (going root known) (ALemma l) none).1 in
     let shown : known ++ shown_of root l ≡ known ++ (one.0, l.claim) ∷ [] = ap (λ more. known ++ more) (shown_along root l one.0 one.1.along) in
@@ -98,20 +103,23 @@ with_first root known at bytes lines v count (AVerdict w) within is_line none re
       spelled = ap (λ first. first ∷ lines) (is_line.1 ∙ ap verdict_text end.1) ∙ ap (λ lines. verdict_text v ∷ lines) end.0;
     }
 
-pub accepted_lines : (root : Position) (known : List Shown) (at : ℕ) (lines : List (List ℕ)) (v : Verdict) (count : ℕ) → check_from (going root known) at lines ≡ Accepted v count → AreAccepted root known at lines v count
+pub accepted_lines : (root : Position) (known : List Shown) (at : ℕ) (lines : List (List ℕ)) (v : Verdict) (count : ℕ)
+    → check_from (going root known) at lines ≡ Accepted v count → AreAccepted root known at lines v count
 accepted_lines root known at [] v count h = cc
 accepted_lines root known at (bytes ∷ lines) v count h =
     let s = going root known in
     let parts = answer_parts (bytes_refusal s at bytes) at (check_from (with_bytes s bytes) (at + 1) lines) v count h in
     let found = bytes_of_none s at bytes parts.0 in
-    let rest : check_from (with_line s found.0) (at + 1) lines ≡ Accepted v count = sym (ap (λ said. check_from (with_said s said) (at + 1) lines) found.1) ∙ parts.1 in
+    let rest : check_from (with_line s found.0) (at + 1) lines ≡ Accepted v count = sym (ap (λ said. check_from (with_said s said) (at + 1) lines) found.1)
+        ∙ parts.1 in
     with_first root known at bytes lines v count found.0 (leb-true at most_lines found.3) (line_read (board_of root) bytes found.0 found.1) found.2 rest
     (λ known accepted. accepted_lines root known (at + 1) lines v count accepted)
 
 -- ---- what is right is accepted
 
 -- a right line isn't refused
-none_of_bytes : (s : CheckerState) (at : ℕ) (bytes : List ℕ) (line : Line) → at ≤ most_lines → read_line (board_of s.root) bytes ≡ Some line → line_refusal s line ≡ None → bytes_refusal s at bytes ≡ None
+none_of_bytes : (s : CheckerState) (at : ℕ) (bytes : List ℕ) (line : Line) → at ≤ most_lines → read_line (board_of s.root) bytes ≡ Some line
+    → line_refusal s line ≡ None → bytes_refusal s at bytes ≡ None
 none_of_bytes s at bytes line within read none =
     none_or (unless (nat_le at most_lines) BadLine) (said_refusal s (read_line (board_of s.root) bytes))
     (passed (nat_le at most_lines) (le-leb at most_lines within))
@@ -121,7 +129,8 @@ none_of_bytes s at bytes line within read none =
     passed b e = rw e refl
 
 -- the answer goes on behind a right line
-past_line : (s : CheckerState) (at : ℕ) (bytes : List ℕ) (lines : List (List ℕ)) (line : Line) → at ≤ most_lines → read_line (board_of s.root) bytes ≡ Some line → line_refusal s line ≡ None
+past_line : (s : CheckerState) (at : ℕ) (bytes : List ℕ) (lines : List (List ℕ)) (line : Line) → at ≤ most_lines → read_line (board_of s.root) bytes ≡ Some line
+    → line_refusal s line ≡ None
     → check_from s at (bytes ∷ lines) ≡ check_from (with_line s line) (at + 1) lines
 past_line s at bytes lines line within read none =
     ap (λ r. line_answer r at (check_from (with_bytes s bytes) (at + 1) lines)) (none_of_bytes s at bytes line within read none)
@@ -132,15 +141,18 @@ pub lines_accepted : (root : Position) (known : List Shown) (at : ℕ) (entries 
     → length entries + at ≤ most_lines
     → check_from (going root known) at (map entry_text entries ++ verdict_text v ∷ []) ≡ Accepted v (length after)
 lines_accepted root known at [] after v fit right verdict_fits verdict_right few =
-    past_line (going root known) at (verdict_text v) [] (AVerdict v) (omega arith) (line_spelled (board_of root) (verdict_text v) (AVerdict v) (verdict_fits, refl))
+    past_line (going root known) at (verdict_text v) [] (AVerdict v) (omega arith)
+        (line_spelled (board_of root) (verdict_text v) (AVerdict v) (verdict_fits, refl))
     (none_of_line (going root known) (AVerdict v) refl (none_of_verdict root known v (subst (λ known. IsVerdict root known v) right verdict_right)))
     ∙ ap (λ known. Accepted v (length known)) (sym right)
 lines_accepted root known at (LemmaEntry l ∷ entries) after v fit (p, one, rest) verdict_fits verdict_right few =
-    past_line (going root known) at (lemma_text l) (map entry_text entries ++ verdict_text v ∷ []) (ALemma l) (omega arith) (line_spelled (board_of root) (lemma_text l) (ALemma l) (fit.0, refl))
+    past_line (going root known) at (lemma_text l) (map entry_text entries ++ verdict_text v ∷ []) (ALemma l) (omega arith)
+        (line_spelled (board_of root) (lemma_text l) (ALemma l) (fit.0, refl))
     (none_of_line (going root known) (ALemma l) refl (none_of_right root known l p one))
     ∙ ap (λ more. check_from (going root (known ++ more)) (at + 1) (map entry_text entries ++ verdict_text v ∷ [])) (shown_along root l p one.along)
     ∙ lines_accepted root (known ++ (p, l.claim) ∷ []) (at + 1) entries after v fit.1 rest verdict_fits verdict_right (omega arith)
 lines_accepted root known at (RemarkEntry bytes ∷ entries) after v fit right verdict_fits verdict_right few =
-    past_line (going root known) at bytes (map entry_text entries ++ verdict_text v ∷ []) ARemark (omega arith) (line_spelled (board_of root) bytes ARemark fit.0)
+    past_line (going root known) at bytes (map entry_text entries ++ verdict_text v ∷ []) ARemark (omega arith)
+        (line_spelled (board_of root) bytes ARemark fit.0)
     (none_of_line (going root known) ARemark refl refl)
     ∙ lines_accepted root known (at + 1) entries after v fit.1 right verdict_fits verdict_right (omega arith)

@@ -7,12 +7,14 @@ use Rattle.proof_text.proofs.Refusals.{line_of_none, right_of_none, verdict_of_n
 use Rattle.proof_text.proofs.Accepted.{shown_along}
 use Rattle.proof_text.specs.declared.Verdict.{Verdict}
 
-checked_parts : (r : Option Why) (at : ℕ) (later : Result CheckerState (ℕ × Why)) (t : CheckerState) → checked_on r at later ≡ Ok t → (r ≡ None) × (later ≡ Ok t)
+checked_parts : (r : Option Why) (at : ℕ) (later : Result CheckerState (ℕ × Why)) (t : CheckerState) → checked_on r at later ≡ Ok t
+    → (r ≡ None) × (later ≡ Ok t)
 checked_parts None at later t h = (refl, h)
 checked_parts (Some why) at later t h = cc
 
 -- nothing was accepted behind a verdict
-checked_behind : (s : CheckerState) (at : ℕ) (lines : List Line) (t : CheckerState) (v : Verdict) → s.verdict ≡ Some v → checked s at lines ≡ Ok t → (lines ≡ []) × (s ≡ t)
+checked_behind : (s : CheckerState) (at : ℕ) (lines : List Line) (t : CheckerState) (v : Verdict) → s.verdict ≡ Some v → checked s at lines ≡ Ok t
+    → (lines ≡ []) × (s ≡ t)
 checked_behind s at [] t v ended h = (refl, cc)
 checked_behind s at (line ∷ lines) t v ended h =
     let parts = checked_parts (line_refusal s line) at (checked (with_line s line) (at + 1) lines) t h in
@@ -52,11 +54,13 @@ checked_right s at (AVerdict v ∷ lines) t going h =
       root = ap (λ (s : CheckerState). s.root) (sym end.1);
       right = subst (λ lines. AreRight s.root s.known (lemmas_in lines) t.known) (sym end.0) (ap (λ (s : CheckerState). s.known) (sym end.1));
       verdict = verdict;
-      verdict_right = λ w some. subst (λ (t : CheckerState). IsVerdict t.root t.known w) end.1 (let same : v ≡ w = cc (some, verdict) in subst (IsVerdict s.root s.known) same right);
+      verdict_right = λ w some. subst (λ (t : CheckerState). IsVerdict t.root t.known w) end.1
+          (let same : v ≡ w = cc (some, verdict) in subst (IsVerdict s.root s.known) same right);
     }
 
 -- lines and further lines
-pub checked_append : (s t : CheckerState) (at : ℕ) (lines more : List Line) → checked s at lines ≡ Ok t → checked s at (lines ++ more) ≡ checked t (at + length lines) more
+pub checked_append : (s t : CheckerState) (at : ℕ) (lines more : List Line) → checked s at lines ≡ Ok t
+    → checked s at (lines ++ more) ≡ checked t (at + length lines) more
 checked_append s t at [] more h = let same : s ≡ t = cc in ap (λ s. checked s at more) same ∙ ap (λ n. checked t n more) (omega arith)
 checked_append s t at (line ∷ lines) more h =
     let parts = checked_parts (line_refusal s line) at (checked (with_line s line) (at + 1) lines) t h in

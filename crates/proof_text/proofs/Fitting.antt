@@ -1,5 +1,6 @@
 -- Every right lemma behind a game has a spelling, while its number has one; and no spelling is long.
-use Rattle.std.proofs.Common.{◌≡◌, ℕ, ◌+◌, ◌*◌, ◌<◌, ◌≤◌, true, ◌&&◌, ◌==◌, nat_le, List, [], ◌∷◌, ◌++◌, map, filter, length, Option, Some, None, refl, sym, ap, ◌∙◌, subst, inl, inr, arith, lit<, flat_map, zero, suc}
+use Rattle.std.proofs.Common.{◌≡◌, ℕ, ◌+◌, ◌*◌, ◌<◌, ◌≤◌, true, ◌&&◌, ◌==◌, nat_le, List, [], ◌∷◌, ◌++◌, map, filter, length, Option, Some, None, refl, sym, ap,
+    ◌∙◌, subst, inl, inr, arith, lit<, flat_map, zero, suc}
 use Rattle.std.specs.List.{AllByRecursion, list_all}
 use Rattle.std.specs.Fmt.{decimal}
 use Rattle.std.proofs.lemmas.List.{length-append, length-map}
@@ -17,7 +18,8 @@ use Rattle.game_rules.proofs.BoardLine.{empty_count_within}
 use Rattle.game_rules.proofs.Grammar.{board_along}
 use Rattle.proof_text.specs.Lemma.{Cite, Reason, ByEnd, ByOne, ByAll, ByPlan, Lemma, Line, ALemma, ARemark, AVerdict}
 use Rattle.proof_text.specs.Right.{Shown, IsCited, HasReason, IsRight, AreRight, IsVerdict}
-use Rattle.proof_text.specs.Spelling.{claim_word, cite_word, reason_words, lemma_text, verdict_text, greatest_number, longest_path, most_cites, IsNumber, CiteFits, ReasonFits, Fits, VerdictFits, longest_line, is_printable, IsLine, members_in, IsShort}
+use Rattle.proof_text.specs.Spelling.{claim_word, cite_word, reason_words, lemma_text, verdict_text, greatest_number, longest_path, most_cites, IsNumber,
+    CiteFits, ReasonFits, Fits, VerdictFits, longest_line, is_printable, IsLine, members_in, IsShort}
 use Rattle.proof_text.specs.Reading.{read_line}
 use Rattle.proof_text.proofs.Append.{Shows_number}
 use Rattle.proof_text.proofs.Spelled.{line_read}
@@ -50,7 +52,8 @@ path_within : (path : List ℕ) (p q : Position) (cols : ℕ) → length p.colum
 path_within [] p q cols same h = tt
 path_within (column ∷ path) p q cols same h = elim (chosen (is_legal p column) (played (after_move p column) path) None (Some q) h) [
   | inr illegal ↦ absurd (cc illegal.1)
-  | inl legal ↦ (subst (λ n. column < n) same (room_column p column (legal_parts p column legal.0).1), path_within path (after_move p column) q cols (cols_moved p column ∙ same) legal.1)
+  | inl legal ↦ (subst (λ n. column < n) same (room_column p column (legal_parts p column legal.0).1), path_within path (after_move p column) q cols
+      (cols_moved p column ∙ same) legal.1)
 ]
 
 -- ---- cites
@@ -68,7 +71,8 @@ all_among P [] each = tt
 all_among P (x ∷ xs) each = (each x (inl refl), all_among P xs (λ y among. each y (inr among)))
 
 open_columns_within : (p : Position) → AllByRecursion (λ column. column < length p.columns) (open_columns p)
-open_columns_within p = all_among (λ column. column < length p.columns) (open_columns p) (λ column among. Among-below_gives (length p.columns) column (Among-filter_gives (has_room p) (below (length p.columns)) column among).0)
+open_columns_within p = all_among (λ column. column < length p.columns) (open_columns p)
+    (λ column among. Among-below_gives (length p.columns) column (Among-filter_gives (has_room p) (below (length p.columns)) column among).0)
 
 some_open : (p : Position) → end_of p ≡ None → 1 ≤ length (open_columns p)
 some_open p goes =
@@ -80,7 +84,8 @@ some_open p goes =
     some column (first ∷ columns) among = omega arith
 
 cites_fit : (known : List Shown) (p : Position) (claim : Claim) (cols : ℕ) → length known ≤ greatest_number → (cites : List Cite)
-    → AllByRecursion (λ column. column < cols) (map (λ cite. cite.column) cites) → AllByRecursion (IsCited known p claim) cites → AllByRecursion (CiteFits cols) cites
+    → AllByRecursion (λ column. column < cols) (map (λ cite. cite.column) cites) → AllByRecursion (IsCited known p claim) cites
+        → AllByRecursion (CiteFits cols) cites
 cites_fit known p claim cols few [] within cited = tt
 cites_fit known p claim cols few (cite ∷ cites) within cited =
     let number = Shows_number known cite.lemma (after_move p cite.column) claim cited.0 in
@@ -96,7 +101,8 @@ narrow_board board h =
     leb-true board.cols 10 wide.1
 
 -- the members of a plan have texts, and there is one at least, since some square is empty
-pub plan_fits : (p : Position) (ws : List RuleInstance) → is_board (board_of p) ≡ true → length ws ≤ most_members → is_plan p ws ≡ true → PlanFits (board_of p) ws
+pub plan_fits : (p : Position) (ws : List RuleInstance) → is_board (board_of p) ≡ true → length ws ≤ most_members → is_plan p ws ≡ true
+    → PlanFits (board_of p) ws
 plan_fits p ws board short h =
     let plan = plan_gives p ws h in
     let found = any_gives (has_room p) (below (length p.columns)) (goes_on_room p plan.going) in
@@ -107,11 +113,13 @@ plan_fits p ws board short h =
     some [] i w member = cc
     some (w ∷ ws) i v member = omega arith
 
-    named : (ws : List RuleInstance) → ((i : ℕ) (w : RuleInstance) → IsMember ws i w → is_named (board_of p) w ≡ true) → AllByRecursion (λ w. is_named (board_of p) w ≡ true) ws
+    named : (ws : List RuleInstance) → ((i : ℕ) (w : RuleInstance) → IsMember ws i w → is_named (board_of p) w ≡ true)
+        → AllByRecursion (λ w. is_named (board_of p) w ≡ true) ws
     named [] each = tt
     named (w ∷ ws) each = (each zero w refl, named ws (λ i v member. each (suc i) v member))
 
-reason_fits : (known : List Shown) (p : Position) (claim : Claim) (reason : Reason) → is_board (board_of p) ≡ true → length known ≤ greatest_number → length (members_in reason) ≤ most_members
+reason_fits : (known : List Shown) (p : Position) (claim : Claim) (reason : Reason) → is_board (board_of p) ≡ true → length known ≤ greatest_number
+    → length (members_in reason) ≤ most_members
     → HasReason known p claim reason → ReasonFits (board_of p) reason
 reason_fits known p claim ByEnd board few short h = tt
 reason_fits known p claim (ByPlan ws) board few short h = plan_fits p ws board short h.plan
@@ -126,11 +134,13 @@ reason_fits known p claim (ByAll cites) board few short h =
     let cols : length (below (length p.columns)) ≡ length p.columns = length-range_with_len 0 (length p.columns) in (
       omega arith,
       omega arith,
-      cites_fit known p claim (length p.columns) few cites (subst (AllByRecursion (λ column. column < length p.columns)) (sym h.playable) (open_columns_within p)) h.cited,
+      cites_fit known p claim (length p.columns) few cites
+          (subst (AllByRecursion (λ column. column < length p.columns)) (sym h.playable) (open_columns_within p)) h.cited,
     )
 
 -- a right lemma has a spelling while its number has one
-pub right_fits : (root : Position) (known : List Shown) (l : Lemma) (p : Position) → is_board (board_of root) ≡ true → length known < greatest_number → IsShort l → IsRight root known l p → Fits (board_of root) l
+pub right_fits : (root : Position) (known : List Shown) (l : Lemma) (p : Position) → is_board (board_of root) ≡ true → length known < greatest_number
+    → IsShort l → IsRight root known l p → Fits (board_of root) l
 right_fits root known l p board few short right =
     let fills : empty_count p + length l.path ≡ empty_count root = path_fills l.path root p right.along in
     let empty : empty_count root ≤ 100 = empty_count_within root board in
@@ -140,10 +150,12 @@ right_fits root known l p board few short right =
       number = (omega arith, omega arith);
       short = omega arith;
       columns = path_within l.path root p (length root.columns) refl right.along;
-      reason = subst (λ board. ReasonFits board l.reason) same (reason_fits known p l.claim l.reason (ap is_board same ∙ board) (omega arith) short right.reason);
+      reason = subst (λ board. ReasonFits board l.reason) same
+          (reason_fits known p l.claim l.reason (ap is_board same ∙ board) (omega arith) short right.reason);
     }
 
-pub right_all_fit : (root : Position) (known : List Shown) (ls : List Lemma) (after : List Shown) → is_board (board_of root) ≡ true → length known + length ls ≤ greatest_number → AllByRecursion IsShort ls → AreRight root known ls after → AllByRecursion (Fits (board_of root)) ls
+pub right_all_fit : (root : Position) (known : List Shown) (ls : List Lemma) (after : List Shown) → is_board (board_of root) ≡ true
+    → length known + length ls ≤ greatest_number → AllByRecursion IsShort ls → AreRight root known ls after → AllByRecursion (Fits (board_of root)) ls
 right_all_fit root known [] after board few short right = tt
 right_all_fit root known (l ∷ ls) after board few short (p, one, rest) =
     let longer : length (known ++ (p, l.claim) ∷ []) ≡ length known + 1 = length-append known ((p, l.claim) ∷ []) in
@@ -167,7 +179,8 @@ further (word ∷ words) = 1 + (length word + further words)
 
 further_is : (words : List (List ℕ)) → length (flat_map (λ word. 32 ∷ word) words) ≡ further words
 further_is [] = refl
-further_is (word ∷ words) = ap length (flat_map-cons (λ word. 32 ∷ word) word words) ∙ omega (arith, length-append (32 ∷ word) (flat_map (λ word. 32 ∷ word) words), further_is words)
+further_is (word ∷ words) = ap length (flat_map-cons (λ word. 32 ∷ word) word words)
+    ∙ omega (arith, length-append (32 ∷ word) (flat_map (λ word. 32 ∷ word) words), further_is words)
 
 length_spaced : (word : List ℕ) (words : List (List ℕ)) → length (spaced (word ∷ words)) ≡ length word + further words
 length_spaced word [] = omega arith
@@ -202,7 +215,8 @@ reason_length board (ByPlan ws) h = omega (arith, members_length board ws h, fur
 -- a lemma's text has at most 5,217 bytes, and a verdict's at most 28
 pub lemma_length : (board : Board) (l : Lemma) → Fits board l → length (lemma_text l) ≤ 5217
 lemma_length board l h =
-    let all : length (lemma_text l) ≡ length (decimal l.number) + further (move_list l.path ∷ claim_word l.claim ∷ reason_words l.reason) = length_spaced (decimal l.number) (move_list l.path ∷ claim_word l.claim ∷ reason_words l.reason) in
+    let all : length (lemma_text l) ≡ length (decimal l.number) + further (move_list l.path ∷ claim_word l.claim ∷ reason_words l.reason) =
+        length_spaced (decimal l.number) (move_list l.path ∷ claim_word l.claim ∷ reason_words l.reason) in
     let number : length (decimal l.number) ≤ 8 = number_length l.number h.number in
     let path : length (move_list l.path) ≤ longest_path = moves_length l.path h.short in
     let claim : length (claim_word l.claim) ≡ 2 = claim_length l.claim in

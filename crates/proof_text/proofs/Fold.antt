@@ -1,5 +1,6 @@
 -- Looking for the first line that fails is going through the lines one by one.
-use Rattle.std.proofs.Common.{◌≡◌, ℕ, ◌+◌, Bool, true, false, nat_le, List, [], ◌∷◌, ◌++◌, length, Option, Some, None, refl, sym, ap, ◌∙◌, append_assoc, append-nil, arith}
+use Rattle.std.proofs.Common.{◌≡◌, ℕ, ◌+◌, Bool, true, false, nat_le, List, [], ◌∷◌, ◌++◌, length, Option, Some, None, refl, sym, ap, ◌∙◌, append_assoc,
+    append-nil, arith}
 use Rattle.std.specs.List.{range_with_len, filter_map, slice_index_or}
 use Rattle.std.proofs.lemmas.List.{length-append}
 use Rattle.std.proofs.lemmas.List.Elements.{filter_map-append}
@@ -9,7 +10,8 @@ use Rattle.proof_text.specs.Lemma.{Line, ALemma, ARemark, AVerdict}
 use Rattle.proof_text.specs.Right.{Shown}
 use Rattle.proof_text.specs.Checked.{Why, first_verdict, unless, CheckerState, line_refusal, shown_of, with_line}
 use Rattle.proof_text.specs.Reading.{read_line}
-use Rattle.proof_text.specs.Texts.{most_lines, first_number, shown_by, state_after, said_refusal, bytes_refusal, refusal_at, first_or, first_some, verdict_answer, lines_answer, with_said, with_bytes, line_answer, check_from, start, answer_of}
+use Rattle.proof_text.specs.Texts.{most_lines, first_number, shown_by, state_after, said_refusal, bytes_refusal, refusal_at, first_or, first_some,
+    verdict_answer, lines_answer, with_said, with_bytes, line_answer, check_from, start, answer_of}
 use Rattle.proof_text.proofs.Refusals.{or_none, line_of_none}
 use Rattle.proof_text.specs.declared.Verdict.{Verdict}
 use Rattle.proof_text.specs.declared.Why.TheVariants.{BadLine}
@@ -18,7 +20,8 @@ use Rattle.proof_text.specs.declared.Why.TheVariants.{BadLine}
 
 shown_push : (root : Position) (said : List Line) (line : Line) → shown_by root (said ++ line ∷ []) ≡ shown_by root said ++ shown_by root (line ∷ [])
 shown_push root [] line = refl
-shown_push root (ALemma l ∷ said) line = ap (λ more. shown_of root l ++ more) (shown_push root said line) ∙ sym (append_assoc (shown_of root l) (shown_by root said) (shown_by root (line ∷ [])))
+shown_push root (ALemma l ∷ said) line = ap (λ more. shown_of root l ++ more) (shown_push root said line)
+    ∙ sym (append_assoc (shown_of root l) (shown_by root said) (shown_by root (line ∷ [])))
 shown_push root (ARemark ∷ said) line = shown_push root said line
 shown_push root (AVerdict v ∷ said) line = shown_push root said line
 
@@ -38,8 +41,10 @@ said_push root said line h =
     ap (λ known. stand root known (first_verdict (said ++ line ∷ []))) (shown_push root said line)
     ∙ ap (λ verdict. stand root (shown_by root said ++ shown_by root (line ∷ [])) verdict) (verdict_push said line h) ∙ of_line line
   where
-    of_line : (line : Line) → stand root (shown_by root said ++ shown_by root (line ∷ [])) (first_verdict (line ∷ [])) ≡ with_line (stand root (shown_by root said) (first_verdict said)) line
-    of_line (ALemma l) = ap (λ more. stand root (shown_by root said ++ more) None) (append-nil (shown_of root l)) ∙ ap (λ verdict. stand root (shown_by root said ++ shown_of root l) verdict) (sym h)
+    of_line : (line : Line) → stand root (shown_by root said ++ shown_by root (line ∷ [])) (first_verdict (line ∷ []))
+        ≡ with_line (stand root (shown_by root said) (first_verdict said)) line
+    of_line (ALemma l) = ap (λ more. stand root (shown_by root said ++ more) None) (append-nil (shown_of root l))
+        ∙ ap (λ verdict. stand root (shown_by root said ++ shown_of root l) verdict) (sym h)
     of_line ARemark = ap (λ known. stand root known None) (append-nil (shown_by root said)) ∙ ap (λ verdict. stand root (shown_by root said) verdict) (sym h)
     of_line (AVerdict v) = ap (λ known. stand root known (Some v)) (append-nil (shown_by root said))
 
@@ -66,7 +71,8 @@ state_after_push root before at bytes h =
     let found = bytes_of_none (state_after root before) at bytes h in
     let board = board_of root in
     let said = filter_map (read_line board) before in
-    let more : filter_map (read_line board) (before ++ bytes ∷ []) ≡ said ++ found.0 ∷ [] = filter_map-append (read_line board) before (bytes ∷ []) ∙ ap (λ more. said ++ more) (one (read_line board bytes) found.0 found.1) in
+    let more : filter_map (read_line board) (before ++ bytes ∷ []) ≡ said ++ found.0 ∷ [] = filter_map-append (read_line board) before (bytes ∷ [])
+        ∙ ap (λ more. said ++ more) (one (read_line board bytes) found.0 found.1) in
     ap (λ said. stand root (shown_by root said) (first_verdict said)) more
     ∙ said_push root said found.0 (line_of_none (state_after root before) found.0 found.2).0
     ∙ ap (with_said (state_after root before)) (sym found.1)
@@ -81,29 +87,39 @@ index_seam [] line rest = refl
 index_seam (first ∷ before) line rest = index_seam before line rest
 
 fold_from : (root : Position) (rest before : List (List ℕ))
-    → lines_answer root (before ++ rest) (first_some (refusal_at root (before ++ rest)) (range_with_len (length before) (length rest))) ≡ check_from (state_after root before) (length before + first_number) rest
-fold_from root [] before = ap (λ lines. verdict_answer (length lines + first_number) (length (state_after root lines).known) (state_after root lines).verdict) (append-nil before)
-fold_from root (line ∷ rest) before = of_refusal (bytes_refusal (state_after root before) (length before + first_number) line) refl (fold_from root rest (before ++ line ∷ []))
+    → lines_answer root (before ++ rest) (first_some (refusal_at root (before ++ rest)) (range_with_len (length before) (length rest)))
+        ≡ check_from (state_after root before) (length before + first_number) rest
+fold_from root [] before = ap (λ lines. verdict_answer (length lines + first_number) (length (state_after root lines).known) (state_after root lines).verdict)
+    (append-nil before)
+fold_from root (line ∷ rest) before = of_refusal (bytes_refusal (state_after root before) (length before + first_number) line) refl
+    (fold_from root rest (before ++ line ∷ []))
   where
     whole : List (List ℕ)
     whole = before ++ line ∷ rest
 
     here : refusal_at root (before ++ line ∷ rest) (length before) ≡ bytes_refusal (state_after root before) (length before + first_number) line
-    here = ap (λ prefix. bytes_refusal (state_after root prefix) (length before + first_number) (slice_index_or (before ++ line ∷ rest) (length before) [])) (take-append_seam before (line ∷ rest))
+    here = ap (λ prefix. bytes_refusal (state_after root prefix) (length before + first_number) (slice_index_or (before ++ line ∷ rest) (length before) []))
+        (take-append_seam before (line ∷ rest))
         ∙ ap (bytes_refusal (state_after root before) (length before + first_number)) (index_seam before line rest)
 
     longer : length (before ++ line ∷ []) ≡ length before + 1
     longer = length-append before (line ∷ [])
 
     of_refusal : (r : Option Why) → bytes_refusal (state_after root before) (length before + first_number) line ≡ r
-        → lines_answer root ((before ++ line ∷ []) ++ rest) (first_some (refusal_at root ((before ++ line ∷ []) ++ rest)) (range_with_len (length (before ++ line ∷ [])) (length rest)))
+        → lines_answer root ((before ++ line ∷ []) ++ rest)
+            (first_some (refusal_at root ((before ++ line ∷ []) ++ rest)) (range_with_len (length (before ++ line ∷ [])) (length rest)))
         ≡ check_from (state_after root (before ++ line ∷ [])) (length (before ++ line ∷ []) + first_number) rest
-        → lines_answer root (before ++ line ∷ rest) (first_or (refusal_at root (before ++ line ∷ rest) (length before)) (length before) (first_some (refusal_at root (before ++ line ∷ rest)) (range_with_len (length before + 1) (length rest))))
-        ≡ line_answer (bytes_refusal (state_after root before) (length before + first_number) line) (length before + first_number) (check_from (with_bytes (state_after root before) line) (length before + first_number + 1) rest)
+        → lines_answer root (before ++ line ∷ rest)
+            (first_or (refusal_at root (before ++ line ∷ rest) (length before)) (length before)
+            (first_some (refusal_at root (before ++ line ∷ rest)) (range_with_len (length before + 1) (length rest))))
+        ≡ line_answer (bytes_refusal (state_after root before) (length before + first_number) line) (length before + first_number)
+            (check_from (with_bytes (state_after root before) line) (length before + first_number + 1) rest)
     of_refusal (Some why) e later = rw (here, e) refl
     of_refusal None e later = rw (here, e) (
-        ap (λ lines. lines_answer root lines (first_some (refusal_at root lines) (range_with_len (length before + 1) (length rest)))) (sym (append_assoc before (line ∷ []) rest))
-        ∙ ap (λ n. lines_answer root ((before ++ line ∷ []) ++ rest) (first_some (refusal_at root ((before ++ line ∷ []) ++ rest)) (range_with_len n (length rest)))) (sym longer)
+        ap (λ lines. lines_answer root lines (first_some (refusal_at root lines) (range_with_len (length before + 1) (length rest))))
+            (sym (append_assoc before (line ∷ []) rest))
+        ∙ ap (λ n. lines_answer root ((before ++ line ∷ []) ++ rest)
+            (first_some (refusal_at root ((before ++ line ∷ []) ++ rest)) (range_with_len n (length rest)))) (sym longer)
         ∙ later
         ∙ ap (λ s. check_from s (length (before ++ line ∷ []) + first_number) rest) (state_after_push root before (length before + first_number) line e)
         ∙ ap (λ n. check_from (with_bytes (state_after root before) line) n rest) (omega (arith, longer)))

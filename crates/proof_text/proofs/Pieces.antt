@@ -69,7 +69,8 @@ joined bytes = join_with_byte-slice_split 10 bytes
 pub cut_lines : (lines : List (List ℕ)) (rest : List ℕ) → AllByRecursion IsFeedless lines → pieces (flat_map as_line lines ++ rest) ≡ lines ++ pieces rest
 cut_lines [] rest h = refl
 cut_lines (line ∷ lines) rest h =
-    ap pieces (ap (λ text. text ++ rest) (flat_map-cons as_line line lines) ∙ append_assoc (as_line line) (flat_map as_line lines) rest ∙ append_assoc line (10 ∷ []) (flat_map as_line lines ++ rest))
+    ap pieces (ap (λ text. text ++ rest) (flat_map-cons as_line line lines) ∙ append_assoc (as_line line) (flat_map as_line lines) rest
+        ∙ append_assoc line (10 ∷ []) (flat_map as_line lines ++ rest))
     ∙ pieces_line line (flat_map as_line lines ++ rest) h.0
     ∙ ap (λ more. line ∷ more) (cut_lines lines rest h.1)
 
@@ -106,7 +107,8 @@ no_lines (byte ∷ bytes) [] h = cc
 no_lines next (piece ∷ more) h = cc
 
 -- What text it is that has these lines: each with its line feed, but for that of the last, which may be missing.
-pub joined_lines : (ps lines : List (List ℕ)) (last : List ℕ) → lines_in ps ≡ lines ++ last ∷ [] → (ended : Bool) × (join_with_byte 10 ps ≡ flat_map as_line lines ++ (last ++ last_feed ended))
+pub joined_lines : (ps lines : List (List ℕ)) (last : List ℕ) → lines_in ps ≡ lines ++ last ∷ []
+    → (ended : Bool) × (join_with_byte 10 ps ≡ flat_map as_line lines ++ (last ++ last_feed ended))
 joined_lines [] [] last h = cc
 joined_lines [] (line ∷ lines) last h = cc
 joined_lines ([] ∷ []) [] last h = cc
@@ -126,5 +128,6 @@ joined_lines (piece ∷ next ∷ more) (line ∷ lines) last h =
     let later = joined_lines (next ∷ more) lines last rest in (
       later.0,
       ap (λ piece. piece ++ 10 ∷ join_with_byte 10 (next ∷ more)) same ∙ ap (λ text. line ++ 10 ∷ text) later.1
-          ∙ sym (ap (λ text. text ++ (last ++ last_feed later.0)) (flat_map-cons as_line line lines) ∙ append_assoc (as_line line) (flat_map as_line lines) _ ∙ append_assoc line (10 ∷ []) _),
+          ∙ sym (ap (λ text. text ++ (last ++ last_feed later.0)) (flat_map-cons as_line line lines) ∙ append_assoc (as_line line) (flat_map as_line lines) _
+              ∙ append_assoc line (10 ∷ []) _),
     )

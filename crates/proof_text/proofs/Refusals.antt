@@ -10,7 +10,8 @@ use Rattle.game_rules.proofs.Moves.{same_position_Decides}
 use Rattle.game_rules.specs.declared.End.{End}
 use Rattle.proof_text.specs.Lemma.{same_claim, claim_of_end, Cite, Reason, ByEnd, ByOne, ByAll, ByPlan, Lemma, Line}
 use Rattle.proof_text.specs.Right.{Shown, lemma_at, goes_by_one, IsCited, HasReason, IsRight, IsVerdict}
-use Rattle.proof_text.specs.Checked.{Why, unless, or_then, end_refusal, shown_refusal, cite_refusal, cites_refusal, move_refusal, reason_refusal, path_refusal, lemma_refusal, is_shown, verdict_stands, CheckerState, content_refusal, line_refusal}
+use Rattle.proof_text.specs.Checked.{Why, unless, or_then, end_refusal, shown_refusal, cite_refusal, cites_refusal, move_refusal, reason_refusal, path_refusal,
+    lemma_refusal, is_shown, verdict_stands, CheckerState, content_refusal, line_refusal}
 use Rattle.proof_text.specs.declared.Claim.{Claim}
 use Rattle.proof_text.specs.declared.Claim.TheVariants.{WhiteWins, WhiteFails, BlackWins, BlackFails}
 use Rattle.proof_text.specs.declared.Verdict.{Verdict}
@@ -77,13 +78,15 @@ cited_of_none q claim (Some (at, said)) h =
 none_of_cited : (q : Position) (claim : Claim) (shown : Option Shown) → shown ≡ Some (q, claim) → shown_refusal q claim shown ≡ None
 none_of_cited q claim shown h = rw (h, (same_position_Decides q q).1 refl, (same_claim_Decides claim claim).1 refl) refl
 
-cites_of_none : (known : List Shown) (p : Position) (claim : Claim) (cites : List Cite) → cites_refusal known p claim cites ≡ None → AllByRecursion (IsCited known p claim) cites
+cites_of_none : (known : List Shown) (p : Position) (claim : Claim) (cites : List Cite) → cites_refusal known p claim cites ≡ None
+    → AllByRecursion (IsCited known p claim) cites
 cites_of_none known p claim [] h = tt
 cites_of_none known p claim (cite ∷ cites) h =
     let both = or_none (cite_refusal known p claim cite) (cites_refusal known p claim cites) h in
     (cited_of_none (after_move p cite.column) claim (lemma_at known cite.lemma) both.0, cites_of_none known p claim cites both.1)
 
-none_of_cites : (known : List Shown) (p : Position) (claim : Claim) (cites : List Cite) → AllByRecursion (IsCited known p claim) cites → cites_refusal known p claim cites ≡ None
+none_of_cites : (known : List Shown) (p : Position) (claim : Claim) (cites : List Cite) → AllByRecursion (IsCited known p claim) cites
+    → cites_refusal known p claim cites ≡ None
 none_of_cites known p claim [] h = refl
 none_of_cites known p claim (cite ∷ cites) h = none_or (cite_refusal known p claim cite) (cites_refusal known p claim cites)
     (none_of_cited (after_move p cite.column) claim (lemma_at known cite.lemma) h.0) (none_of_cites known p claim cites h.1)
@@ -94,12 +97,14 @@ move_of_none : (p : Position) (serves playable : Bool) → move_refusal p serves
 move_of_none p serves playable h =
     let first = or_none (unless serves WrongClaim) _ h in
     let second = or_none (unless (is_none (end_of p)) WrongPosition) (unless playable MissingMove) first.1 in
-    (unless_none serves WrongClaim first.0, none_is (end_of p) (unless_none (is_none (end_of p)) WrongPosition second.0), unless_none playable MissingMove second.1)
+    (unless_none serves WrongClaim first.0, none_is (end_of p) (unless_none (is_none (end_of p)) WrongPosition second.0),
+        unless_none playable MissingMove second.1)
 
 none_of_move : (p : Position) (serves playable : Bool) → serves ≡ true → end_of p ≡ None → playable ≡ true → move_refusal p serves playable ≡ None
 none_of_move p serves playable serving goes may = rw (serving, goes, may) refl
 
-pub reason_of_none : (known : List Shown) (p : Position) (claim : Claim) (reason : Reason) → reason_refusal known p claim reason ≡ None → HasReason known p claim reason
+pub reason_of_none : (known : List Shown) (p : Position) (claim : Claim) (reason : Reason) → reason_refusal known p claim reason ≡ None
+    → HasReason known p claim reason
 reason_of_none known p claim ByEnd h = ended (end_of p) refl h
   where
     ended : (e : Option End) → end_of p ≡ e → end_refusal claim e ≡ None → HasReason known p claim ByEnd
@@ -130,7 +135,8 @@ reason_of_none known p claim (ByPlan ws) h =
     none None h = refl
     none (Some fault) h = cc
 
-pub none_of_reason : (known : List Shown) (p : Position) (claim : Claim) (reason : Reason) → HasReason known p claim reason → reason_refusal known p claim reason ≡ None
+pub none_of_reason : (known : List Shown) (p : Position) (claim : Claim) (reason : Reason) → HasReason known p claim reason
+    → reason_refusal known p claim reason ≡ None
 none_of_reason known p claim ByEnd h = rw (h.ended, h.holds) refl
 none_of_reason known p claim (ByOne cite) h =
     none_or (move_refusal p (goes_by_one claim p) (has_room p cite.column)) (cite_refusal known p claim cite)
@@ -139,7 +145,8 @@ none_of_reason known p claim (ByOne cite) h =
 none_of_reason known p claim (ByAll cites) h =
     let columns = map (λ (cite : Cite). cite.column) cites in
     none_or (move_refusal p (not (goes_by_one claim p)) (bytes_eq columns (open_columns p))) (cites_refusal known p claim cites)
-    (none_of_move p (not (goes_by_one claim p)) (bytes_eq columns (open_columns p)) (not_from_false (goes_by_one claim p) h.serves) h.goes_on ((bytes_eq-Decides columns (open_columns p)).1 h.playable))
+    (none_of_move p (not (goes_by_one claim p)) (bytes_eq columns (open_columns p)) (not_from_false (goes_by_one claim p) h.serves) h.goes_on
+        ((bytes_eq-Decides columns (open_columns p)).1 h.playable))
     (none_of_cites known p claim cites h.cited)
 none_of_reason known p claim (ByPlan ws) h =
     none_or (unless (same_claim claim WhiteFails) WrongClaim) (option_map BadPlan (plan_refusal p ws))
@@ -154,7 +161,8 @@ right_of_none root known l h =
     let both = or_none (unless (l.number == length known + 1) BadLine) (path_refusal known l (played root l.path)) h in
     along (played root l.path) refl (eqb-true l.number (length known + 1) (unless_none (l.number == length known + 1) BadLine both.0)) both.1
   where
-    along : (at : Option Position) → played root l.path ≡ at → l.number ≡ length known + 1 → path_refusal known l at ≡ None → (p : Position) × IsRight root known l p
+    along : (at : Option Position) → played root l.path ≡ at → l.number ≡ length known + 1 → path_refusal known l at ≡ None
+        → (p : Position) × IsRight root known l p
     along None same next h = cc
     along (Some p) same next h = (p, record { next = next; along = same; reason = reason_of_none known p l.claim l.reason h })
 
@@ -205,4 +213,5 @@ line_of_none s line h =
     (no_verdict s.verdict (unless_none (is_none s.verdict) BadLine both.0), both.1)
 
 pub none_of_line : (s : CheckerState) (line : Line) → s.verdict ≡ None → content_refusal s line ≡ None → line_refusal s line ≡ None
-none_of_line s line going content = none_or (unless (is_none s.verdict) BadLine) (content_refusal s line) (none_unless (is_none s.verdict) BadLine (rw going refl)) content
+none_of_line s line going content = none_or (unless (is_none s.verdict) BadLine) (content_refusal s line)
+    (none_unless (is_none s.verdict) BadLine (rw going refl)) content

@@ -27,29 +27,36 @@ use Rattle.plan_rules.proofs.Theorems.{plan_wins}
 own_turn : (side : Side) (p : Position) → same_side side (side_to_move p) ≡ true → side_to_move p ≡ side
 own_turn side p h = sym (same_side_is side (side_to_move p) h)
 
-win_by_one : (side : Side) (p q : Position) → end_of p ≡ None → same_side side (side_to_move p) ≡ true → Among q (moved p) → wins side q ≡ true → wins side p ≡ true
+win_by_one : (side : Side) (p q : Position) → end_of p ≡ None → same_side side (side_to_move p) ≡ true → Among q (moved p) → wins side q ≡ true
+    → wins side p ≡ true
 win_by_one side p q goes own among won = wins_own side p goes (own_turn side p own) ∙ any_from (wins side) (moved p) q among won
 
-fail_by_one : (side : Side) (p q : Position) → end_of p ≡ None → same_side side (side_to_move p) ≡ false → Among q (moved p) → wins side q ≡ false → wins side p ≡ false
+fail_by_one : (side : Side) (p q : Position) → end_of p ≡ None → same_side side (side_to_move p) ≡ false → Among q (moved p) → wins side q ≡ false
+    → wins side p ≡ false
 fail_by_one side p q goes turn among failed =
     wins_other side p goes (other_side side (side_to_move p) turn)
     ∙ false_from_ne_true (list_all (wins side) (moved p)) (λ all. both_ways (wins side q) failed (all_gives (wins side) (moved p) q all among))
 
-win_by_all : (side : Side) (p : Position) → end_of p ≡ None → same_side side (side_to_move p) ≡ false → ((q : Position) → Among q (moved p) → wins side q ≡ true) → wins side p ≡ true
+win_by_all : (side : Side) (p : Position) → end_of p ≡ None → same_side side (side_to_move p) ≡ false
+    → ((q : Position) → Among q (moved p) → wins side q ≡ true) → wins side p ≡ true
 win_by_all side p goes turn each = wins_other side p goes (other_side side (side_to_move p) turn) ∙ all_from (wins side) (moved p) each
 
-fail_by_all : (side : Side) (p : Position) → end_of p ≡ None → same_side side (side_to_move p) ≡ true → ((q : Position) → Among q (moved p) → wins side q ≡ false) → wins side p ≡ false
+fail_by_all : (side : Side) (p : Position) → end_of p ≡ None → same_side side (side_to_move p) ≡ true
+    → ((q : Position) → Among q (moved p) → wins side q ≡ false) → wins side p ≡ false
 fail_by_all side p goes own each =
     wins_own side p goes (own_turn side p own)
-    ∙ false_from_ne_true (list_any (wins side) (moved p)) (λ some. let found = any_gives (wins side) (moved p) some in both_ways (wins side found.0) (each found.0 found.1) found.2)
+    ∙ false_from_ne_true (list_any (wins side) (moved p))
+        (λ some. let found = any_gives (wins side) (moved p) some in both_ways (wins side found.0) (each found.0 found.1) found.2)
 
-by_one : (claim : Claim) (p q : Position) → end_of p ≡ None → goes_by_one claim p ≡ true → Among q (moved p) → claim_holds claim q ≡ true → claim_holds claim p ≡ true
+by_one : (claim : Claim) (p q : Position) → end_of p ≡ None → goes_by_one claim p ≡ true → Among q (moved p) → claim_holds claim q ≡ true
+    → claim_holds claim p ≡ true
 by_one WhiteWins p q goes serves among holds = win_by_one sides.White p q goes serves among holds
 by_one BlackWins p q goes serves among holds = win_by_one sides.Black p q goes serves among holds
 by_one WhiteFails p q goes serves among holds = not_from_false _ (fail_by_one sides.White p q goes (not-true _ serves) among (not-true _ holds))
 by_one BlackFails p q goes serves among holds = not_from_false _ (fail_by_one sides.Black p q goes (not-true _ serves) among (not-true _ holds))
 
-by_all : (claim : Claim) (p : Position) → end_of p ≡ None → goes_by_one claim p ≡ false → ((q : Position) → Among q (moved p) → claim_holds claim q ≡ true) → claim_holds claim p ≡ true
+by_all : (claim : Claim) (p : Position) → end_of p ≡ None → goes_by_one claim p ≡ false → ((q : Position) → Among q (moved p) → claim_holds claim q ≡ true)
+    → claim_holds claim p ≡ true
 by_all WhiteWins p goes serves each = win_by_all sides.White p goes serves each
 by_all BlackWins p goes serves each = win_by_all sides.Black p goes serves each
 by_all WhiteFails p goes serves each = not_from_false _ (fail_by_all sides.White p goes (not-false _ serves) (λ q among. not-true _ (each q among)))
@@ -57,21 +64,26 @@ by_all BlackFails p goes serves each = not_from_false _ (fail_by_all sides.Black
 
 -- the position after a move into a column with room is among those after moves
 moved_among : (p : Position) (column : ℕ) → has_room p column ≡ true → Among (after_move p column) (moved p)
-moved_among p column room = Among-map (after_move p) (open_columns p) column (Among-filter (has_room p) (below (length p.columns)) column (Among-below (length p.columns) column (room_column p column room)) room)
+moved_among p column room = Among-map (after_move p) (open_columns p) column
+    (Among-filter (has_room p) (below (length p.columns)) column (Among-below (length p.columns) column (room_column p column room)) room)
 
 -- ---- lemmas
 
 -- what a right reason shows is true, where everything shown before is
-pub true_reason : (known : List Shown) (p : Position) (claim : Claim) (reason : Reason) → AreTrue known → HasReason known p claim reason → claim_holds claim p ≡ true
+pub true_reason : (known : List Shown) (p : Position) (claim : Claim) (reason : Reason) → AreTrue known → HasReason known p claim reason
+    → claim_holds claim p ≡ true
 true_reason known p claim ByEnd true_before h = ap (claim_of_end claim) (value_at_end p h.end h.ended) ∙ h.holds
-true_reason known p claim (ByOne cite) true_before h = by_one claim p (after_move p cite.column) h.goes_on h.serves (moved_among p cite.column h.playable) (true_before cite.lemma (after_move p cite.column) claim h.cited)
+true_reason known p claim (ByOne cite) true_before h = by_one claim p (after_move p cite.column) h.goes_on h.serves (moved_among p cite.column h.playable)
+    (true_before cite.lemma (after_move p cite.column) claim h.cited)
 true_reason known p claim (ByAll cites) true_before h = by_all claim p h.goes_on h.serves (λ q among. each cites (open_columns p) q h.playable h.cited among)
   where
-    each : (cites : List Cite) (columns : List ℕ) (q : Position) → map (λ cite. cite.column) cites ≡ columns → AllByRecursion (IsCited known p claim) cites → Among q (map (after_move p) columns) → claim_holds claim q ≡ true
+    each : (cites : List Cite) (columns : List ℕ) (q : Position) → map (λ cite. cite.column) cites ≡ columns → AllByRecursion (IsCited known p claim) cites
+        → Among q (map (after_move p) columns) → claim_holds claim q ≡ true
     each [] [] q same cited among = absurd among
     each [] (column ∷ columns) q same cited among = cc
     each (cite ∷ cites) [] q same cited among = cc
-    each (cite ∷ cites) (column ∷ columns) q same cited (inr later) = let rest : map (λ cite. cite.column) cites ≡ columns = cc in each cites columns q rest cited.1 later
+    each (cite ∷ cites) (column ∷ columns) q same cited (inr later) = let rest : map (λ cite. cite.column) cites
+        ≡ columns = cc in each cites columns q rest cited.1 later
     each (cite ∷ cites) (column ∷ columns) q same cited (inl here) =
         let first : cite.column ≡ column = cc in
         ap (claim_holds claim) (sym here ∙ ap (after_move p) (sym first)) ∙ true_before cite.lemma (after_move p cite.column) claim cited.0

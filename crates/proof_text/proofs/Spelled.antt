@@ -1,5 +1,6 @@
 -- A line is read exactly where it is in the grammar; no spelling has a line feed, and none is that of two lines.
-use Rattle.std.proofs.Common.{◌≡◌, ℕ, ◌<◌, ◌≤◌, ◌^◌, Bool, true, false, ◌&&◌, ◌==◌, nat_le, cond, List, [], ◌∷◌, map, length, Some, codes, refl, sym, ap, ◌∙◌, subst, inl, inr, arith, lit<, lit≤}
+use Rattle.std.proofs.Common.{◌≡◌, ℕ, ◌<◌, ◌≤◌, ◌^◌, Bool, true, false, ◌&&◌, ◌==◌, nat_le, cond, List, [], ◌∷◌, map, length, Some, codes, refl, sym, ap, ◌∙◌,
+    subst, inl, inr, arith, lit<, lit≤}
 use Rattle.std.specs.List.{AllByRecursion, list_all}
 use Rattle.std.specs.Str.{bytes_eq}
 use Rattle.std.specs.Fmt.{decimal}
@@ -16,7 +17,8 @@ use Rattle.plan_text.specs.Items.{instance_text, is_named}
 use Rattle.plan_text.proofs.Spaced.{IsPlain, IsDigits, digits_decimal, plain_text, words_of_spaced, spaced_words, spaced_bytes, map_some, all_each}
 use Rattle.plan_text.proofs.PlanLines.{member_plain}
 use Rattle.proof_text.specs.Lemma.{Cite, Reason, ByEnd, ByOne, ByAll, ByPlan, Lemma, Line, ALemma, ARemark, AVerdict}
-use Rattle.proof_text.specs.Spelling.{claim_word, cite_word, reason_words, lemma_words, verdict_words, lemma_text, verdict_text, is_printable, is_remark, IsNumber, CiteFits, ReasonFits, Fits, VerdictFits, IsLine, longest_line}
+use Rattle.proof_text.specs.Spelling.{claim_word, cite_word, reason_words, lemma_words, verdict_words, lemma_text, verdict_text, is_printable, is_remark,
+    IsNumber, CiteFits, ReasonFits, Fits, VerdictFits, IsLine, longest_line}
 use Rattle.proof_text.specs.Reading.{lemma_of, verdict_of, line_of_words, read_line}
 use Rattle.proof_text.proofs.Words.{lemma_read, lemma_spelled, verdict_read, verdict_spelled}
 use Rattle.proof_text.specs.declared.Claim.{Claim}
@@ -31,7 +33,8 @@ number_small : (n : ℕ) → IsNumber n → n < 2 ^ 64
 number_small n h = omega (arith, h.1)
 
 pub plain_decimal : (n : ℕ) → IsNumber n → IsPlain (decimal n)
-plain_decimal n h = all_each (λ byte. (48 ≤ byte) × (byte ≤ 57)) (λ byte. 43 ≤ byte) (decimal n) (λ byte digit. omega arith) (digits_decimal n (number_small n h))
+plain_decimal n h = all_each (λ byte. (48 ≤ byte) × (byte ≤ 57)) (λ byte. 43 ≤ byte) (decimal n) (λ byte digit. omega arith)
+    (digits_decimal n (number_small n h))
 
 plain_letters : (columns : List ℕ) → IsPlain (map letter_of columns)
 plain_letters [] = tt
@@ -97,7 +100,8 @@ line_read board bytes line h = elim (chosen (is_remark bytes) (Some ARemark) (li
   where
     of_words : (words : List (List ℕ)) → words_of bytes ≡ words → line_of_words board words ≡ Some line → IsLine board bytes line
     of_words [] e h = cc
-    of_words (word ∷ words) e h = elim (chosen (bytes_eq word (codes "value")) (option_map AVerdict (verdict_of words)) (option_map ALemma (lemma_of board (word ∷ words))) (Some line) h) [
+    of_words (word ∷ words) e h = elim
+        (chosen (bytes_eq word (codes "value")) (option_map AVerdict (verdict_of words)) (option_map ALemma (lemma_of board (word ∷ words))) (Some line) h) [
       | inl value ↦
           let found = map_some AVerdict (verdict_of words) line value.1 in
           let read = verdict_read words found.0 found.1 in
@@ -121,7 +125,8 @@ lemma_text_read board l h =
   where
     of_number : (word : List ℕ) → bytes_eq word (codes "value") ≡ false → word ≡ decimal l.number
         → line_of_words board (word ∷ move_list l.path ∷ claim_word l.claim ∷ reason_words l.reason) ≡ Some (ALemma l)
-    of_number word past e = rw past (ap (λ word. option_map ALemma (lemma_of board (word ∷ move_list l.path ∷ claim_word l.claim ∷ reason_words l.reason))) e ∙ ap (option_map ALemma) (lemma_spelled board l h))
+    of_number word past e = rw past (ap (λ word. option_map ALemma (lemma_of board (word ∷ move_list l.path ∷ claim_word l.claim ∷ reason_words l.reason))) e
+        ∙ ap (option_map ALemma) (lemma_spelled board l h))
 
 -- and so is a verdict's
 pub verdict_text_read : (board : Board) (v : Verdict) → VerdictFits v → read_line board (verdict_text v) ≡ Some (AVerdict v)
@@ -136,7 +141,8 @@ verdict_text_read board v h = of_words (verdict_words v) (rest v) refl
     value_plain : IsPlain (codes "value")
     value_plain = plain_text (codes "value") refl
 
-    of_words : (words : List (List ℕ)) → (more : List (List ℕ)) × (words ≡ codes "value" ∷ more) → words ≡ verdict_words v → read_line board (spaced words) ≡ Some (AVerdict v)
+    of_words : (words : List (List ℕ)) → (more : List (List ℕ)) × (words ≡ codes "value" ∷ more) → words ≡ verdict_words v
+        → read_line board (spaced words) ≡ Some (AVerdict v)
     of_words words (more, e) same =
         let plain : AllByRecursion IsPlain (codes "value" ∷ more) = subst (AllByRecursion IsPlain) (sym same ∙ e) (plain_verdict v h) in
         ap (λ words. read_line board (spaced words)) e
@@ -144,7 +150,8 @@ verdict_text_read board v h = of_words (verdict_words v) (rest v) refl
         ∙ ap (line_of_words board) (words_of_spaced (codes "value") more plain)
         ∙ ap (option_map AVerdict) (verdict_spelled v more h (sym e ∙ same))
       where
-        past : (remark : Bool) → remark ≡ false → cond remark (Some ARemark) (line_of_words board (words_of (spaced (codes "value" ∷ more)))) ≡ line_of_words board (words_of (spaced (codes "value" ∷ more)))
+        past : (remark : Bool) → remark ≡ false → cond remark (Some ARemark) (line_of_words board (words_of (spaced (codes "value" ∷ more))))
+            ≡ line_of_words board (words_of (spaced (codes "value" ∷ more)))
         past remark e = rw e refl
 
 -- what is in the grammar is read
@@ -175,7 +182,8 @@ line_bytes board bytes (ALemma l) h = subst (AllByRecursion (λ byte. 32 ≤ byt
 line_bytes board bytes (AVerdict v) h = subst (AllByRecursion (λ byte. 32 ≤ byte)) (sym h.1) (spaced_bytes (verdict_words v) (plain_verdict v h.0))
 line_bytes board [] ARemark h = tt
 line_bytes board (byte ∷ bytes) ARemark h =
-    let both = and_parts (byte == 35) (list_all is_printable bytes) (and_parts (byte == 35 && list_all is_printable bytes) (nat_le (length (byte ∷ bytes)) longest_line) h).0 in
+    let both = and_parts (byte == 35) (list_all is_printable bytes)
+        (and_parts (byte == 35 && list_all is_printable bytes) (nat_le (length (byte ∷ bytes)) longest_line) h).0 in
     let hash : byte ≡ 35 = eqb-true byte 35 both.0 in
     (omega arith, printable bytes both.1)
   where

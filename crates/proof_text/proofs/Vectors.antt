@@ -29,7 +29,8 @@ four_at_root = refl
 
 -- two squares are left
 abbrev two_left : List (List ℕ)
-two_left = codes "1 bb W- end" ∷ codes "2 b W- one b 1" ∷ codes "3 - W- all b:2" ∷ codes "4 bb B- end" ∷ codes "5 b B- all b:4" ∷ codes "6 - B- one b 5" ∷ codes "value draw 3 6" ∷ []
+two_left = codes "1 bb W- end" ∷ codes "2 b W- one b 1" ∷ codes "3 - W- all b:2" ∷ codes "4 bb B- end" ∷ codes "5 b B- all b:4" ∷ codes "6 - B- one b 5"
+    ∷ codes "value draw 3 6" ∷ []
 
 two_squares_left : check_of (four (codes "cdccddcdaaaabb") two_left) ≡ Accepted (Draw 3 6) 6
 unfolding check_of game_at read_game board_at digits
@@ -38,8 +39,10 @@ two_squares_left = refl
 -- two paths lead to one position
 abbrev shared : List (List ℕ)
 shared =
-    codes "1 aabb W- end" ∷ codes "2 aab W- one b 1" ∷ codes "3 aa W- all b:2" ∷ codes "4 a W- one a 3" ∷ codes "5 bba W- one a 1" ∷ codes "6 bb W- all a:5" ∷ codes "7 b W- one b 6" ∷ codes "8 - W- all a:4 b:7"
-    ∷ codes "9 aabb B- end" ∷ codes "10 aab B- all b:9" ∷ codes "11 aa B- one b 10" ∷ codes "12 abab B- end" ∷ codes "13 aba B- all b:12" ∷ codes "14 ab B- one a 13" ∷ codes "15 a B- all a:11 b:14" ∷ codes "16 - B- one a 15" ∷ codes "value draw 8 16" ∷ []
+    codes "1 aabb W- end" ∷ codes "2 aab W- one b 1" ∷ codes "3 aa W- all b:2" ∷ codes "4 a W- one a 3" ∷ codes "5 bba W- one a 1" ∷ codes "6 bb W- all a:5"
+        ∷ codes "7 b W- one b 6" ∷ codes "8 - W- all a:4 b:7"
+    ∷ codes "9 aabb B- end" ∷ codes "10 aab B- all b:9" ∷ codes "11 aa B- one b 10" ∷ codes "12 abab B- end" ∷ codes "13 aba B- all b:12"
+        ∷ codes "14 ab B- one a 13" ∷ codes "15 a B- all a:11 b:14" ∷ codes "16 - B- one a 15" ∷ codes "value draw 8 16" ∷ []
 
 shared_position : check_of (four (codes "cdccddcdaabb") shared) ≡ Accepted (Draw 8 16) 16
 unfolding check_of game_at read_game board_at digits
@@ -158,11 +161,13 @@ unfolding digits
 letters = (refl, refl, refl)
 
 -- a column twice, or out of order, is a line
-cites : (is_read (codes "1 - W- all b:1 a:2 b:3") ≡ true) × (is_read (codes "1 - W- all") ≡ false) × (is_read (codes "1 - W- all a:1 a:1 a:1 a:1 a:1 a:1 a:1 a:1 a:1 a:1 a:1") ≡ false)
+cites : (is_read (codes "1 - W- all b:1 a:2 b:3") ≡ true) × (is_read (codes "1 - W- all") ≡ false)
+    × (is_read (codes "1 - W- all a:1 a:1 a:1 a:1 a:1 a:1 a:1 a:1 a:1 a:1 a:1") ≡ false)
 unfolding digits
 cites = (refl, refl, refl)
 
-verdicts : (is_read (codes "value win 1") ≡ true) × (is_read (codes "value win 1 2") ≡ false) × (is_read (codes "value unknown 1") ≡ false) × (is_read (codes "value draw 1") ≡ false)
+verdicts : (is_read (codes "value win 1") ≡ true) × (is_read (codes "value win 1 2") ≡ false) × (is_read (codes "value unknown 1") ≡ false)
+    × (is_read (codes "value draw 1") ≡ false)
 unfolding digits
 verdicts = (refl, refl, refl, refl)
 

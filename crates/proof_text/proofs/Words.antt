@@ -1,5 +1,6 @@
 -- The words of a line: what is read is spelled so and has a spelling, and what is spelled so is read.
-use Rattle.std.proofs.Common.{◌≡◌, ℕ, ◌+◌, ◌<◌, ◌≤◌, ◌^◌, true, false, ◌&&◌, ◌==◌, nat_le, List, [], ◌∷◌, ◌++◌, map, length, Some, None, codes, refl, ap, ◌∙◌, subst, inl, inr, arith}
+use Rattle.std.proofs.Common.{◌≡◌, ℕ, ◌+◌, ◌<◌, ◌≤◌, ◌^◌, true, false, ◌&&◌, ◌==◌, nat_le, List, [], ◌∷◌, ◌++◌, map, length, Some, None, codes, refl, ap, ◌∙◌,
+    subst, inl, inr, arith}
 use Rattle.std.specs.List.{AllByRecursion, list_all}
 use Rattle.std.specs.Str.{bytes_eq}
 use Rattle.std.specs.Fmt.{decimal}
@@ -18,8 +19,10 @@ use Rattle.plan_text.specs.PlanLine.{members_of}
 use Rattle.plan_text.proofs.Spaced.{bind_some, map_some, is_text, letter_read, letter_spelled}
 use Rattle.plan_text.proofs.PlanLines.{members_read, members_spelled}
 use Rattle.proof_text.specs.Lemma.{Cite, Reason, ByEnd, ByOne, ByAll, ByPlan, Lemma}
-use Rattle.proof_text.specs.Spelling.{claim_word, cite_word, reason_words, lemma_words, verdict_words, greatest_number, longest_path, most_cites, IsNumber, CiteFits, ReasonFits, Fits, VerdictFits}
-use Rattle.proof_text.specs.Reading.{number_of, path_of, claim_of, letter_word, cite_of, cites_of, one_of, all_of, plan_of, only, reason_of, lemma_of, with_one, with_two, verdict_of}
+use Rattle.proof_text.specs.Spelling.{claim_word, cite_word, reason_words, lemma_words, verdict_words, greatest_number, longest_path, most_cites, IsNumber,
+    CiteFits, ReasonFits, Fits, VerdictFits}
+use Rattle.proof_text.specs.Reading.{number_of, path_of, claim_of, letter_word, cite_of, cites_of, one_of, all_of, plan_of, only, reason_of, lemma_of, with_one,
+    with_two, verdict_of}
 use Rattle.proof_text.specs.declared.Claim.{Claim}
 use Rattle.proof_text.specs.declared.Claim.TheVariants.{WhiteWins, WhiteFails, BlackWins, BlackFails}
 use Rattle.proof_text.specs.declared.Verdict.{Verdict}
@@ -38,7 +41,8 @@ number_spelled n h = numbers.number_spelled 1 greatest_number n (decimal n) h.0 
 
 -- ---- paths
 
-letters_read : (cols : ℕ) (word : List ℕ) → list_all (is_letter cols) word ≡ true → (word ≡ map letter_of (map column_of word)) × AllByRecursion (λ column. column < cols) (map column_of word)
+letters_read : (cols : ℕ) (word : List ℕ) → list_all (is_letter cols) word ≡ true → (word ≡ map letter_of (map column_of word))
+    × AllByRecursion (λ column. column < cols) (map column_of word)
 letters_read cols [] h = (refl, tt)
 letters_read cols (byte ∷ word) h =
     let both = and_parts (is_letter cols byte) (list_all (is_letter cols) word) h in
@@ -49,12 +53,15 @@ letters_read cols (byte ∷ word) h =
     cons_same : (a b : ℕ) (xs ys : List ℕ) → a ≡ b → xs ≡ ys → a ∷ xs ≡ b ∷ ys
     cons_same a b xs ys e f = cc
 
-pub path_read : (cols : ℕ) (word path : List ℕ) → path_of cols word ≡ Some path → (word ≡ move_list path) × (length path ≤ longest_path) × AllByRecursion (λ column. column < cols) path
+pub path_read : (cols : ℕ) (word path : List ℕ) → path_of cols word ≡ Some path → (word ≡ move_list path) × (length path ≤ longest_path)
+    × AllByRecursion (λ column. column < cols) path
 path_read cols word path h = elim (chosen (bytes_eq word (codes "-")) (Some []) _ (Some path) h) [
   | inl dash ↦
       let same : [] ≡ path = cc in
-      subst (λ path. (word ≡ move_list path) × (length path ≤ longest_path) × AllByRecursion (λ column. column < cols) path) same (is_text word (codes "-") dash.0, omega arith, tt)
-  | inr other ↦ elim (chosen (nat_le 1 (length word) && nat_le (length word) longest_path && list_all (is_letter cols) word) (Some (map column_of word)) None (Some path) other.1) [
+      subst (λ path. (word ≡ move_list path) × (length path ≤ longest_path) × AllByRecursion (λ column. column < cols) path) same
+          (is_text word (codes "-") dash.0, omega arith, tt)
+  | inr other ↦ elim (chosen (nat_le 1 (length word) && nat_le (length word) longest_path && list_all (is_letter cols) word) (Some (map column_of word)) None
+      (Some path) other.1) [
     | inr fails ↦ absurd (cc fails.1)
     | inl letters ↦
         let same : map column_of word ≡ path = cc in
@@ -65,21 +72,25 @@ path_read cols word path h = elim (chosen (bytes_eq word (codes "-")) (Some []) 
   ]
 ]
   where
-    some_letters : (word : List ℕ) → 1 ≤ length word → length word ≤ longest_path → (word ≡ map letter_of (map column_of word)) × AllByRecursion (λ column. column < cols) (map column_of word)
+    some_letters : (word : List ℕ) → 1 ≤ length word → length word ≤ longest_path → (word ≡ map letter_of (map column_of word))
+        × AllByRecursion (λ column. column < cols) (map column_of word)
         → (word ≡ move_list (map column_of word)) × (length (map column_of word) ≤ longest_path) × AllByRecursion (λ column. column < cols) (map column_of word)
     some_letters [] some short h = absurd (omega arith)
     some_letters (byte ∷ word) some short h = (h.0, omega (arith, length-map word column_of), h.1)
 
-pub path_spelled : (cols : ℕ) (path : List ℕ) → length path ≤ longest_path → AllByRecursion (λ column. column < cols) path → path_of cols (move_list path) ≡ Some path
+pub path_spelled : (cols : ℕ) (path : List ℕ) → length path ≤ longest_path → AllByRecursion (λ column. column < cols) path
+    → path_of cols (move_list path) ≡ Some path
 path_spelled cols [] short within = refl
 path_spelled cols (column ∷ columns) short within =
     let word = map letter_of (column ∷ columns) in
     let back = letters_spelled (column ∷ columns) within in
     let no_dash : ((97 + column) == 45) ≡ false = ne_eqb (97 + column) 45 (λ (e : 97 + column ≡ 45). omega arith) in
     let size : length word ≡ length (column ∷ columns) = length-map (column ∷ columns) letter_of in
-    rw no_dash (found word (column ∷ columns) (and_from _ _ (and_from _ _ (le-leb 1 (length word) (omega arith)) (le-leb (length word) longest_path (omega arith))) back.0) back.1)
+    rw no_dash (found word (column ∷ columns)
+        (and_from _ _ (and_from _ _ (le-leb 1 (length word) (omega arith)) (le-leb (length word) longest_path (omega arith))) back.0) back.1)
   where
-    letters_spelled : (path : List ℕ) → AllByRecursion (λ column. column < cols) path → (list_all (is_letter cols) (map letter_of path) ≡ true) × (map column_of (map letter_of path) ≡ path)
+    letters_spelled : (path : List ℕ) → AllByRecursion (λ column. column < cols) path → (list_all (is_letter cols) (map letter_of path) ≡ true)
+        × (map column_of (map letter_of path) ≡ path)
     letters_spelled [] within = (refl, refl)
     letters_spelled (column ∷ path) within =
         let first = letter_spelled cols column within.0 in
@@ -89,8 +100,10 @@ path_spelled cols (column ∷ columns) short within =
         cons_same : (a b : ℕ) (xs ys : List ℕ) → a ≡ b → xs ≡ ys → a ∷ xs ≡ b ∷ ys
         cons_same a b xs ys e f = cc
 
-    found : (word path : List ℕ) → (nat_le 1 (length word) && nat_le (length word) longest_path && list_all (is_letter cols) word) ≡ true → map column_of word ≡ path
-        → (if nat_le 1 (length word) && nat_le (length word) longest_path && list_all (is_letter cols) word then Some (map column_of word) else None) ≡ Some path
+    found : (word path : List ℕ) → (nat_le 1 (length word) && nat_le (length word) longest_path && list_all (is_letter cols) word) ≡ true
+        → map column_of word ≡ path
+        → (if nat_le 1 (length word) && nat_le (length word) longest_path && list_all (is_letter cols) word then Some (map column_of word) else None)
+            ≡ Some path
     found word path h same = rw (h, same) refl
 
 -- ---- claims
@@ -138,7 +151,9 @@ letter_word_spelled cols column h = let letter = letter_spelled cols column h in
 pub cite_read : (cols : ℕ) (word : List ℕ) (cite : Cite) → cite_of cols word ≡ Some cite → (word ≡ cite_word cite) × CiteFits cols cite
 cite_read cols [] cite h = cc
 cite_read cols (letter ∷ []) cite h = cc
-cite_read cols (letter ∷ colon ∷ digits) cite h = elim (chosen (is_letter cols letter && colon == 58) (option_map (λ n. record { column = column_of letter; lemma = n }) (number_of digits)) None (Some cite) h) [
+cite_read cols (letter ∷ colon ∷ digits) cite h =
+    elim (chosen (is_letter cols letter && colon == 58) (option_map (λ n. record { column = column_of letter; lemma = n }) (number_of digits)) None (Some cite)
+    h) [
   | inr other ↦ absurd (cc other.1)
   | inl found ↦
       let both = and_parts (is_letter cols letter) (colon == 58) found.0 in
@@ -148,7 +163,8 @@ cite_read cols (letter ∷ colon ∷ digits) cite h = elim (chosen (is_letter co
       at number.0 number.2 named (eqb-true colon 58 both.1) read
 ]
   where
-    at : (n : ℕ) → record { column = column_of letter; lemma = n } ≡ cite → (letter ≡ letter_of (column_of letter)) × (column_of letter < cols) → colon ≡ 58 → (digits ≡ decimal n) × IsNumber n
+    at : (n : ℕ) → record { column = column_of letter; lemma = n } ≡ cite → (letter ≡ letter_of (column_of letter)) × (column_of letter < cols) → colon ≡ 58
+        → (digits ≡ decimal n) × IsNumber n
         → (letter ∷ colon ∷ digits ≡ cite_word cite) × CiteFits cols cite
     at n same named colon_is read = subst (λ cite. (letter ∷ colon ∷ digits ≡ cite_word cite) × CiteFits cols cite) same
         (spelled (letter_of (column_of letter)) (decimal n) named.0 read.0, (named.1, read.1))
@@ -161,7 +177,8 @@ cite_spelled cols cite h =
     let letter = letter_spelled cols cite.column h.0 in
     rw (letter.0, letter.1, number_spelled cite.lemma h.1) refl
 
-pub cites_read : (cols : ℕ) (words : List (List ℕ)) (cites : List Cite) → cites_of cols words ≡ Some cites → (words ≡ map cite_word cites) × AllByRecursion (CiteFits cols) cites
+pub cites_read : (cols : ℕ) (words : List (List ℕ)) (cites : List Cite) → cites_of cols words ≡ Some cites
+    → (words ≡ map cite_word cites) × AllByRecursion (CiteFits cols) cites
 cites_read cols [] cites h = let same : [] ≡ cites = cc in subst (λ cites. ([] ≡ map cite_word cites) × AllByRecursion (CiteFits cols) cites) same (refl, tt)
 cites_read cols (word ∷ words) cites h =
     let first = bind_some (cite_of cols word) _ cites h in
@@ -169,7 +186,8 @@ cites_read cols (word ∷ words) cites h =
     let one = cite_read cols word first.0 first.1 in
     let more = cites_read cols words rest.0 rest.1 in
     let same : first.0 ∷ rest.0 ≡ cites = cc (rest.2) in
-    subst (λ cites. (word ∷ words ≡ map cite_word cites) × AllByRecursion (CiteFits cols) cites) same (cons_same word (cite_word first.0) words (map cite_word rest.0) one.0 more.0, (one.1, more.1))
+    subst (λ cites. (word ∷ words ≡ map cite_word cites) × AllByRecursion (CiteFits cols) cites) same
+        (cons_same word (cite_word first.0) words (map cite_word rest.0) one.0 more.0, (one.1, more.1))
   where
     cons_same : (a b : List ℕ) (xs ys : List (List ℕ)) → a ≡ b → xs ≡ ys → a ∷ xs ≡ b ∷ ys
     cons_same a b xs ys e f = cc
@@ -182,7 +200,8 @@ cites_spelled cols (cite ∷ cites) h =
 
 -- ---- reasons
 
-one_read : (board : Board) (words : List (List ℕ)) (reason : Reason) → one_of board.cols words ≡ Some reason → (codes "one" ∷ words ≡ reason_words reason) × ReasonFits board reason
+one_read : (board : Board) (words : List (List ℕ)) (reason : Reason) → one_of board.cols words ≡ Some reason → (codes "one" ∷ words ≡ reason_words reason)
+    × ReasonFits board reason
 one_read board [] reason h = cc
 one_read board (letter ∷ []) reason h = cc
 one_read board (letter ∷ number ∷ more ∷ words) reason h = cc
@@ -198,8 +217,10 @@ one_read board (letter ∷ number ∷ []) reason h =
     both : (a b : List ℕ) → letter ≡ a → number ≡ b → codes "one" ∷ letter ∷ number ∷ [] ≡ codes "one" ∷ a ∷ b ∷ []
     both a b e f = rw (e, f) refl
 
-all_read : (board : Board) (words : List (List ℕ)) (reason : Reason) → all_of board.cols words ≡ Some reason → (codes "all" ∷ words ≡ reason_words reason) × ReasonFits board reason
-all_read board words reason h = elim (chosen (nat_le 1 (length words) && nat_le (length words) most_cites) (option_map ByAll (cites_of board.cols words)) None (Some reason) h) [
+all_read : (board : Board) (words : List (List ℕ)) (reason : Reason) → all_of board.cols words ≡ Some reason → (codes "all" ∷ words ≡ reason_words reason)
+    × ReasonFits board reason
+all_read board words reason h =
+    elim (chosen (nat_le 1 (length words) && nat_le (length words) most_cites) (option_map ByAll (cites_of board.cols words)) None (Some reason) h) [
   | inr other ↦ absurd (cc other.1)
   | inl found ↦
       let size = and_parts (nat_le 1 (length words)) (nat_le (length words) most_cites) found.0 in
@@ -212,7 +233,8 @@ all_read board words reason h = elim (chosen (nat_le 1 (length words) && nat_le 
       (ap (λ words. codes "all" ∷ words) read.0, (omega arith, omega arith, read.1))
 ]
 
-plan_read : (board : Board) (words : List (List ℕ)) (reason : Reason) → plan_of board words ≡ Some reason → (codes "plan" ∷ words ≡ reason_words reason) × ReasonFits board reason
+plan_read : (board : Board) (words : List (List ℕ)) (reason : Reason) → plan_of board words ≡ Some reason → (codes "plan" ∷ words ≡ reason_words reason)
+    × ReasonFits board reason
 plan_read board words reason h =
     let found = map_some ByPlan (members_of board words) reason h in
     let read = members_read board words found.0 found.1 in
@@ -222,7 +244,8 @@ only_read : {X : Type 0} (x y : X) (words : List (List ℕ)) → only x words �
 only_read x y [] h = (refl, cc)
 only_read x y (word ∷ words) h = cc
 
-pub reason_read : (board : Board) (words : List (List ℕ)) (reason : Reason) → reason_of board words ≡ Some reason → (words ≡ reason_words reason) × ReasonFits board reason
+pub reason_read : (board : Board) (words : List (List ℕ)) (reason : Reason) → reason_of board words ≡ Some reason
+    → (words ≡ reason_words reason) × ReasonFits board reason
 reason_read board [] reason h = cc
 reason_read board (word ∷ words) reason h = elim (chosen (bytes_eq word (codes "end")) (only ByEnd words) _ (Some reason) h) [
   | inl end ↦
@@ -246,13 +269,15 @@ reason_read board (word ∷ words) reason h = elim (chosen (bytes_eq word (codes
 pub reason_spelled : (board : Board) (reason : Reason) → ReasonFits board reason → reason_of board (reason_words reason) ≡ Some reason
 reason_spelled board ByEnd h = refl
 reason_spelled board (ByOne cite) h =
-    ap (λ found. found >>= λ column. number_of (decimal cite.lemma) >>= λ n. Some (ByOne (record { column = column; lemma = n }))) (letter_word_spelled board.cols cite.column h.0)
+    ap (λ found. found >>= λ column. number_of (decimal cite.lemma) >>= λ n. Some (ByOne (record { column = column; lemma = n })))
+        (letter_word_spelled board.cols cite.column h.0)
     ∙ ap (λ found. found >>= λ n. Some (ByOne (record { column = cite.column; lemma = n }))) (number_spelled cite.lemma h.1)
 reason_spelled board (ByAll cites) h =
     let size : length (map cite_word cites) ≡ length cites = length-map cites cite_word in
     found (and_from _ _ (le-leb 1 (length (map cite_word cites)) (omega arith)) (le-leb (length (map cite_word cites)) most_cites (omega arith)))
   where
-    found : (nat_le 1 (length (map cite_word cites)) && nat_le (length (map cite_word cites)) most_cites) ≡ true → all_of board.cols (map cite_word cites) ≡ Some (ByAll cites)
+    found : (nat_le 1 (length (map cite_word cites)) && nat_le (length (map cite_word cites)) most_cites) ≡ true
+        → all_of board.cols (map cite_word cites) ≡ Some (ByAll cites)
     found e = rw e (ap (option_map ByAll) (cites_spelled board.cols cites h.2))
 reason_spelled board (ByPlan ws) h = ap (option_map ByPlan) (members_spelled board ws h)
 
@@ -282,14 +307,19 @@ lemma_read board (number ∷ path ∷ claim ∷ reason) l h =
 
 pub lemma_spelled : (board : Board) (l : Lemma) → Fits board l → lemma_of board (lemma_words l) ≡ Some l
 lemma_spelled board l h =
-    ap (λ found. found >>= λ n. path_of board.cols (move_list l.path) >>= λ moves. claim_of (claim_word l.claim) >>= λ said. reason_of board (reason_words l.reason) >>= λ why. Some (record { number = n; path = moves; claim = said; reason = why })) (number_spelled l.number h.number)
-    ∙ ap (λ found. found >>= λ moves. claim_of (claim_word l.claim) >>= λ said. reason_of board (reason_words l.reason) >>= λ why. Some (record { number = l.number; path = moves; claim = said; reason = why })) (path_spelled board.cols l.path h.short h.columns)
-    ∙ ap (λ found. found >>= λ said. reason_of board (reason_words l.reason) >>= λ why. Some (record { number = l.number; path = l.path; claim = said; reason = why })) (claim_spelled l.claim)
+    ap (λ found. found >>= λ n. path_of board.cols (move_list l.path) >>= λ moves. claim_of (claim_word l.claim) >>= λ said.
+        reason_of board (reason_words l.reason) >>= λ why. Some (record { number = n; path = moves; claim = said; reason = why }))
+        (number_spelled l.number h.number)
+    ∙ ap (λ found. found >>= λ moves. claim_of (claim_word l.claim) >>= λ said. reason_of board (reason_words l.reason) >>= λ why.
+        Some (record { number = l.number; path = moves; claim = said; reason = why })) (path_spelled board.cols l.path h.short h.columns)
+    ∙ ap (λ found. found >>= λ said. reason_of board (reason_words l.reason) >>= λ why.
+        Some (record { number = l.number; path = l.path; claim = said; reason = why })) (claim_spelled l.claim)
     ∙ ap (λ found. found >>= λ why. Some (record { number = l.number; path = l.path; claim = l.claim; reason = why })) (reason_spelled board l.reason h.reason)
 
 -- ---- verdicts
 
-one_verdict_read : (verdict : ℕ → Verdict) (words : List (List ℕ)) (v : Verdict) → with_one verdict words ≡ Some v → (n : ℕ) × (words ≡ decimal n ∷ []) × IsNumber n × (verdict n ≡ v)
+one_verdict_read : (verdict : ℕ → Verdict) (words : List (List ℕ)) (v : Verdict) → with_one verdict words ≡ Some v
+    → (n : ℕ) × (words ≡ decimal n ∷ []) × IsNumber n × (verdict n ≡ v)
 one_verdict_read verdict [] v h = cc
 one_verdict_read verdict (number ∷ more ∷ words) v h = cc
 one_verdict_read verdict (number ∷ []) v h =
@@ -317,19 +347,23 @@ verdict_read [] v h = cc
 verdict_read (word ∷ words) v h = elim (chosen (bytes_eq word (codes "win")) (with_one Win words) _ (Some v) h) [
   | inl win ↦
       let read = one_verdict_read Win words v win.1 in
-      subst (λ v. (codes "value" ∷ word ∷ words ≡ verdict_words v) × VerdictFits v) read.3 (both (codes "win") (decimal read.0 ∷ []) (is_text word _ win.0) read.1, read.2)
+      subst (λ v. (codes "value" ∷ word ∷ words ≡ verdict_words v) × VerdictFits v) read.3
+          (both (codes "win") (decimal read.0 ∷ []) (is_text word _ win.0) read.1, read.2)
   | inr a ↦ elim (chosen (bytes_eq word (codes "loss")) (with_one Loss words) _ (Some v) a.1) [
     | inl loss ↦
         let read = one_verdict_read Loss words v loss.1 in
-        subst (λ v. (codes "value" ∷ word ∷ words ≡ verdict_words v) × VerdictFits v) read.3 (both (codes "loss") (decimal read.0 ∷ []) (is_text word _ loss.0) read.1, read.2)
+        subst (λ v. (codes "value" ∷ word ∷ words ≡ verdict_words v) × VerdictFits v) read.3
+            (both (codes "loss") (decimal read.0 ∷ []) (is_text word _ loss.0) read.1, read.2)
     | inr b ↦ elim (chosen (bytes_eq word (codes "draw")) (with_two Draw words) _ (Some v) b.1) [
       | inl draw ↦
           let read = two_verdict_read Draw words v draw.1 in
-          subst (λ v. (codes "value" ∷ word ∷ words ≡ verdict_words v) × VerdictFits v) read.5 (both (codes "draw") (decimal read.0 ∷ decimal read.1 ∷ []) (is_text word _ draw.0) read.2, (read.3, read.4))
+          subst (λ v. (codes "value" ∷ word ∷ words ≡ verdict_words v) × VerdictFits v) read.5
+              (both (codes "draw") (decimal read.0 ∷ decimal read.1 ∷ []) (is_text word _ draw.0) read.2, (read.3, read.4))
       | inr c ↦ elim (chosen (bytes_eq word (codes "unknown")) (only Unknown words) None (Some v) c.1) [
         | inl unknown ↦
             let nothing = only_read Unknown v words unknown.1 in
-            subst (λ v. (codes "value" ∷ word ∷ words ≡ verdict_words v) × VerdictFits v) nothing.1 (both (codes "unknown") [] (is_text word _ unknown.0) nothing.0, tt)
+            subst (λ v. (codes "value" ∷ word ∷ words ≡ verdict_words v) × VerdictFits v) nothing.1
+                (both (codes "unknown") [] (is_text word _ unknown.0) nothing.0, tt)
         | inr none ↦ absurd (cc none.1)
       ]
     ]

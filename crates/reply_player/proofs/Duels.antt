@@ -1,5 +1,6 @@
 -- Turns that a plan answers are those of the duel.
-use Rattle.std.proofs.Common.{◌≡◌, ℕ, ◌+◌, Bool, true, false, ◌&&◌, cond, List, [], ◌∷◌, ◌++◌, Option, Some, None, option_and_then, is_none, is_some, Ok, Err, refl, sym, ap, ◌∙◌, subst, inl, inr}
+use Rattle.std.proofs.Common.{◌≡◌, ℕ, ◌+◌, Bool, true, false, ◌&&◌, cond, List, [], ◌∷◌, ◌++◌, Option, Some, None, option_and_then, is_none, is_some, Ok, Err,
+    refl, sym, ap, ◌∙◌, subst, inl, inr}
 use Rattle.std.specs.Option.{option_map_or}
 use Rattle.std.proofs.lemmas.Bool.{cases_Bool, and_parts}
 use Rattle.std.proofs.lemmas.Option.{same_Some}
@@ -41,7 +42,8 @@ turns_end ws q r (column ∷ columns) turns = elim (cases_Bool (is_legal q colum
   | inr illegal ↦ absurd (cc (rw illegal at turns))
 ]
   where
-    of_turn : (turn : Option Position) → after_turn ws q column ≡ turn → is_legal q column ≡ true → option_and_then (λ next. after_turns ws next columns) (after_turn ws q column) ≡ Some r
+    of_turn : (turn : Option Position) → after_turn ws q column ≡ turn → is_legal q column ≡ true
+        → option_and_then (λ next. after_turns ws next columns) (after_turn ws q column) ≡ Some r
         → ((next : Position) → after_turns ws next columns ≡ Some r → (is_playable_list ws next columns ≡ true) × (last_of (duel ws next columns) ≡ Some r))
         → (is_playable_list ws q (column ∷ columns) ≡ true) × (last_of (duel ws q (column ∷ columns)) ≡ Some r)
     of_turn None e legal later ends = absurd (cc (rw e at later))
@@ -50,7 +52,8 @@ turns_end ws q r (column ∷ columns) turns = elim (cases_Bool (is_legal q colum
         (rw (legal, e) behind.0, last_later ws q next column columns legal e ∙ behind.1)
 
 -- by a plan the end of each duel is reached by turns
-ends_turns : (p : Position) (ws : List RuleInstance) → is_plan p ws ≡ true → (before : List ℕ) (q r : Position) (columns : List ℕ) → after_turns ws p before ≡ Some q
+ends_turns : (p : Position) (ws : List RuleInstance) → is_plan p ws ≡ true → (before : List ℕ) (q r : Position) (columns : List ℕ)
+    → after_turns ws p before ≡ Some q
     → is_playable_list ws q columns ≡ true → last_of (duel ws q columns) ≡ Some r → after_turns ws q columns ≡ Some r
 ends_turns p ws is before q r [] reached playable last = last
 ends_turns p ws is before q r (column ∷ columns) reached playable last =
@@ -79,7 +82,8 @@ answer_made plan q column reply under legal is_reply =
     let next = after_move (after_move q column) answered.reply.0 in
     let turn : after_turn ws q column ≡ Some next = turn_made ws q column answered in
     let leads = turns_more ws plan.at q next before column under.reached.leads legal turn in
-    let P : Square → Type 0 = λ reply. HasAnswered (record { plan = plan; stands = q }) (record { plan = plan; stands = after_move (after_move q column) reply.0 }) column
+    let P : Square → Type 0 = λ reply. HasAnswered (record { plan = plan; stands = q })
+        (record { plan = plan; stands = after_move (after_move q column) reply.0 }) column
     (reply_for (end_of (after_move (after_move q column) reply.0)) reply.0) in
     subst P same (record {
       same_plan = refl;
@@ -107,11 +111,14 @@ moved_to plan q now column last reached legal is lowest =
     subst (HasMoved plan now) (legal_square q column last legal lowest) (record { earlier = q; reached = reached; legal = legal; row = refl; now_is = is })
 
 -- what was played after it
-pub answers : (plan : Planned) (q now next : Position) (column : ℕ) (last reply : Square) → IsUnderWay plan q → is_legal q column ≡ true → now ≡ after_move q column
+pub answers : (plan : Planned) (q now next : Position) (column : ℕ) (last reply : Square) → IsUnderWay plan q → is_legal q column ≡ true
+    → now ≡ after_move q column
     → lowest_empty q column ≡ Some last → plan_reply (members plan) now last ≡ Some reply → next ≡ after_move now reply.0
     → HasAnswered (record { plan = plan; stands = q }) (record { plan = plan; stands = next }) column (reply_for (end_of next) reply.0)
 answers plan q now next column last reply under legal is lowest is_reply next_is =
     let from_now : plan_reply (members plan) (after_move q column) (column, height q column + 1) ≡ Some reply =
-    ap (λ now. plan_reply (members plan) now (column, height q column + 1)) (sym is) ∙ ap (plan_reply (members plan) now) (legal_square q column last legal lowest) ∙ is_reply in
-    let P : Position → Type 0 = λ next. HasAnswered (record { plan = plan; stands = q }) (record { plan = plan; stands = next }) column (reply_for (end_of next) reply.0) in
+    ap (λ now. plan_reply (members plan) now (column, height q column + 1)) (sym is)
+        ∙ ap (plan_reply (members plan) now) (legal_square q column last legal lowest) ∙ is_reply in
+    let P : Position → Type 0 = λ next. HasAnswered (record { plan = plan; stands = q }) (record { plan = plan; stands = next }) column
+        (reply_for (end_of next) reply.0) in
     subst P (ap (λ now. after_move now reply.0) (sym is) ∙ sym next_is) (answer_made plan q column reply under legal from_now)

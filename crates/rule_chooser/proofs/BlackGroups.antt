@@ -1,6 +1,7 @@
 -- The groups of Black's that Aftereven and Before rest on, as a search finds them: by their empty squares, and a set that
 -- has to have those.
-use Rattle.std.proofs.Common.{◌≡◌, ◌+◌, Bool, true, false, not, ◌&&◌, ◌||◌, ◌==◌, nat_le, nat_lt, List, [], ◌∷◌, length, map, Option, Some, None, refl, sym, ap, ◌∙◌, inl, inr, arith}
+use Rattle.std.proofs.Common.{◌≡◌, ◌+◌, Bool, true, false, not, ◌&&◌, ◌||◌, ◌==◌, nat_le, nat_lt, List, [], ◌∷◌, length, map, Option, Some, None, refl, sym, ap,
+    ◌∙◌, inl, inr, arith}
 use Rattle.std.specs.List.{list_all, list_any, find}
 use Rattle.std.specs.Option.{option_map}
 use Rattle.std.proofs.Math.Path.{fun_ext}
@@ -92,8 +93,10 @@ module _ (p : Position) (g : Group) (board : is_board (board_of p) ≡ true) whe
       (has_gives (squares_where (empty_part p g)) found.0 (part_set.has found.0 ∙ and_from _ _ found.2 (has_from (squares_of g) found.0 found.1))) refl)
 
   -- a group of Black's that is open, and whose empty squares are all in a set
-  pub within_is : (set : List Square) → (is_free_for Black p g && is_open_within set (open_group_at p g)) ≡ (is_free_for Black p g && (list_any (is_empty p) (squares_of g) && each_of (is_empty p) (has_square set) (squares_of g)))
-  within_is set = ap (λ b. is_free_for Black p g && b) (ap (λ b. b && list_all (has_square set) (squares_where (empty_part p g))) part_some ∙ ap (λ b. list_any (is_empty p) (squares_of g) && b) (part_all set))
+  pub within_is : (set : List Square) → (is_free_for Black p g && is_open_within set (open_group_at p g))
+      ≡ (is_free_for Black p g && (list_any (is_empty p) (squares_of g) && each_of (is_empty p) (has_square set) (squares_of g)))
+  within_is set = ap (λ b. is_free_for Black p g && b) (ap (λ b. b && list_all (has_square set) (squares_where (empty_part p g))) part_some
+      ∙ ap (λ b. list_any (is_empty p) (squares_of g) && b) (part_all set))
 
 -- ---- the first group
 
@@ -112,7 +115,8 @@ first_along p groups set test same agrees =
     back None = refl
     back (Some g) = refl
 
-module _ (p : Position) (kept : Kept) (part : List Square) (board : is_board (board_of p) ≡ true) (empty : (u : Square) → has_square kept.empty u ≡ is_empty p u) where
+module _ (p : Position) (kept : Kept) (part : List Square) (board : is_board (board_of p) ≡ true) (empty : (u : Square)
+    → has_square kept.empty u ≡ is_empty p u) where
   pub has_empty : has_square kept.empty ≡ is_empty p
   has_empty = fun_ext empty
 
@@ -121,11 +125,14 @@ module _ (p : Position) (kept : Kept) (part : List Square) (board : is_board (bo
   rows_from (c, r) h = le-leb 1 r (on_board_parts (board_of p) c r (and_parts (on_board (board_of p) (c, r)) _ h).0).1
 
   pub each_low : (test : Square → Bool) (us : List Square) → each_of (is_empty p) (λ u. nat_le 1 u.1 && test u) us ≡ each_of (is_empty p) test us
-  each_low test us = each_of_same (is_empty p) (is_empty p) (λ u. nat_le 1 u.1 && test u) test us (λ u among. refl) (λ u among h. ap (λ b. b && test u) (rows_from u h))
+  each_low test us = each_of_same (is_empty p) (is_empty p) (λ u. nat_le 1 u.1 && test u) test us (λ u among. refl)
+      (λ u among h. ap (λ b. b && test u) (rows_from u h))
 
   -- the empty squares are in the one set, and pass the other's test
-  both_sets : (g : Group) (first second set : List Square) (test : Square → Bool) → IsSetOf (λ u. nat_le 1 u.1 && test u) second → IsSetOf (λ u. has_square first u && has_square second u) set
-      → each_of (is_empty p) (has_square set) (squares_of g) ≡ (each_of (is_empty p) (has_square first) (squares_of g) && each_of (is_empty p) test (squares_of g))
+  both_sets : (g : Group) (first second set : List Square) (test : Square → Bool) → IsSetOf (λ u. nat_le 1 u.1 && test u) second
+      → IsSetOf (λ u. has_square first u && has_square second u) set
+      → each_of (is_empty p) (has_square set) (squares_of g)
+          ≡ (each_of (is_empty p) (has_square first) (squares_of g) && each_of (is_empty p) test (squares_of g))
   both_sets g first second set test is both =
       ap (λ t. each_of (is_empty p) t (squares_of g)) (fun_ext (λ u. both.has u ∙ ap (λ b. has_square first u && b) (is.has u)))
       ∙ each_both (is_empty p) (has_square first) (λ u. nat_le 1 u.1 && test u) (squares_of g)
@@ -133,42 +140,56 @@ module _ (p : Position) (kept : Kept) (part : List Square) (board : is_board (bo
 
   pub first_aftereven : (groups : List OpenGroup) (below set : List Square) → groups ≡ map (open_group_at p) (groups_for Black p)
       → IsSetOf (λ u. nat_le 1 u.1 && some_above (has_square part) u) below → IsSetOf (λ u. has_square kept.upper u && has_square below u) set
-      → option_map (λ (group : OpenGroup). group.id) (find (is_open_within set) groups) ≡ find (λ g. does_answer p (facts_in kept) (has_square part) (aftereven g)) (groups_of (board_of p))
+      → option_map (λ (group : OpenGroup). group.id) (find (is_open_within set) groups)
+          ≡ find (λ g. does_answer p (facts_in kept) (has_square part) (aftereven g)) (groups_of (board_of p))
   first_aftereven groups below set same is both = first_along p groups set _ same (λ g lies.
       within_is p g board set
       ∙ ap (λ b. is_free_for Black p g && (list_any (is_empty p) (squares_of g) && b)) (both_sets g kept.upper below set (some_above (has_square part)) is both)
       ∙ grouped (lies_on (board_of p) g) (is_free_for Black p g) (list_any (is_empty p) (squares_of g)) _ lies
-      ∙ sym (ap (λ b. b && (each_of (is_empty p) (has_square kept.upper) (squares_of g) && each_of (is_empty p) (some_above (has_square part)) (squares_of g))) (open_is p g))
-      ∙ ap (λ e. is_open_line p g && (each_of e (has_square kept.upper) (squares_of g) && each_of e (some_above (has_square part)) (squares_of g))) (sym has_empty))
+      ∙ sym (ap (λ b. b && (each_of (is_empty p) (has_square kept.upper) (squares_of g) && each_of (is_empty p) (some_above (has_square part)) (squares_of g)))
+          (open_is p g))
+      ∙ ap (λ e. is_open_line p g && (each_of e (has_square kept.upper) (squares_of g) && each_of e (some_above (has_square part)) (squares_of g)))
+          (sym has_empty))
     where
       grouped : (l f a b : Bool) → l ≡ true → (f && (a && b)) ≡ (((l && f) && a) && b)
       grouped l true true b h = rw h refl
       grouped l true false b h = rw h refl
       grouped l false a b h = rw h refl
 
-  pub first_before : (groups : List OpenGroup) (held lowered set : List Square) → groups ≡ map (open_group_at p) (groups_for Black p) → ((u : Square) → has_square part u ≡ true → is_empty p u ≡ true)
-      → IsSetOf (λ u. has_square kept.upper u || has_square kept.pair u) held → IsSetOf (λ u. nat_le 1 u.1 && has_square part (u.0, u.1 + 1)) lowered → IsSetOf (λ u. has_square held u && has_square lowered u) set
-      → option_map (λ (group : OpenGroup). group.id) (find (is_open_within set) groups) ≡ find (λ g. does_answer p (facts_in kept) (has_square part) (before g)) (groups_of (board_of p))
+  pub first_before : (groups : List OpenGroup) (held lowered set : List Square) → groups ≡ map (open_group_at p) (groups_for Black p)
+      → ((u : Square) → has_square part u ≡ true → is_empty p u ≡ true)
+      → IsSetOf (λ u. has_square kept.upper u || has_square kept.pair u) held → IsSetOf (λ u. nat_le 1 u.1 && has_square part (u.0, u.1 + 1)) lowered
+          → IsSetOf (λ u. has_square held u && has_square lowered u) set
+      → option_map (λ (group : OpenGroup). group.id) (find (is_open_within set) groups) ≡ find (λ g. does_answer p (facts_in kept) (has_square part) (before g))
+          (groups_of (board_of p))
   first_before groups held lowered set same inside union low both = first_along p groups set _ same (λ g lies.
       within_is p g board set
       ∙ ap (λ b. is_free_for Black p g && (list_any (is_empty p) (squares_of g) && b)) (both_sets g held lowered set (λ u. has_square part (above u)) low both)
-      ∙ ap (λ t. is_free_for Black p g && (list_any (is_empty p) (squares_of g) && (each_of (is_empty p) t (squares_of g) && each_of (is_empty p) (λ u. has_square part (above u)) (squares_of g)))) (fun_ext union.has)
+      ∙ ap (λ t. is_free_for Black p g
+          && (list_any (is_empty p) (squares_of g)
+          && (each_of (is_empty p) t (squares_of g) && each_of (is_empty p) (λ u. has_square part (above u)) (squares_of g)))) (fun_ext union.has)
       ∙ grouped (lies_on (board_of p) g) (is_free_for Black p g) (list_any (is_empty p) (squares_of g)) _ _ _ lies (below_rows g)
-      ∙ sym (ap (λ b. (b && each_of (is_empty p) (λ u. nat_lt u.1 p.rows) (squares_of g)) && (each_of (is_empty p) (λ u. has_square kept.upper u || has_square kept.pair u) (squares_of g) && each_of (is_empty p) (λ u. has_square part (above u)) (squares_of g))) (open_is p g))
-      ∙ ap (λ e. is_low_line p g && (each_of e (λ u. has_square kept.upper u || has_square kept.pair u) (squares_of g) && each_of e (λ u. has_square part (above u)) (squares_of g))) (sym has_empty))
+      ∙ sym (ap (λ b. (b && each_of (is_empty p) (λ u. nat_lt u.1 p.rows) (squares_of g))
+          && (each_of (is_empty p) (λ u. has_square kept.upper u || has_square kept.pair u) (squares_of g)
+          && each_of (is_empty p) (λ u. has_square part (above u)) (squares_of g))) (open_is p g))
+      ∙ ap (λ e. is_low_line p g && (each_of e (λ u. has_square kept.upper u || has_square kept.pair u) (squares_of g)
+          && each_of e (λ u. has_square part (above u)) (squares_of g))) (sym has_empty))
     where
       -- where the squares above are empty ones, none of them is a top square
       row_under : (u : Square) → has_square part (above u) ≡ true → nat_lt u.1 p.rows ≡ true
-      row_under (c, r) h = let row = (on_board_parts (board_of p) c (r + 1) (and_parts (on_board (board_of p) (c, r + 1)) _ (inside (c, r + 1) h)).0).2 in lt-ltb r p.rows (omega (arith, row))
+      row_under (c, r) h = let row = (on_board_parts (board_of p) c (r + 1) (and_parts (on_board (board_of p) (c, r + 1)) _ (inside (c, r + 1) h)).0).2 in
+          lt-ltb r p.rows (omega (arith, row))
 
-      below_rows : (g : Group) → each_of (is_empty p) (λ u. has_square part (above u)) (squares_of g) ≡ true → each_of (is_empty p) (λ u. nat_lt u.1 p.rows) (squares_of g) ≡ true
+      below_rows : (g : Group) → each_of (is_empty p) (λ u. has_square part (above u)) (squares_of g) ≡ true
+          → each_of (is_empty p) (λ u. nat_lt u.1 p.rows) (squares_of g) ≡ true
       below_rows g h = each_more (squares_of g) h
         where
           one : (e a b : Bool) → (a ≡ true → b ≡ true) → (not e || a) ≡ true → (not e || b) ≡ true
           one false a b more h = refl
           one true a b more h = more h
 
-          each_more : (us : List Square) → each_of (is_empty p) (λ u. has_square part (above u)) us ≡ true → each_of (is_empty p) (λ u. nat_lt u.1 p.rows) us ≡ true
+          each_more : (us : List Square) → each_of (is_empty p) (λ u. has_square part (above u)) us ≡ true
+              → each_of (is_empty p) (λ u. nat_lt u.1 p.rows) us ≡ true
           each_more [] h = refl
           each_more (u ∷ us) h =
               let both = and_parts (not (is_empty p u) || has_square part (above u)) (each_of (is_empty p) (λ u. has_square part (above u)) us) h in

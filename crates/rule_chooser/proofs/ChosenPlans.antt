@@ -9,7 +9,8 @@ use Rattle.rule_compat.specs.Faults.{refusal_of}
 use Rattle.walk_rules.specs.Walk.{gave, choice_of}
 use Rattle.walk_rules.proofs.Choices.{choice_words}
 
-pub is_accepted : {X : Type 0} (p : Position) (k : ℕ) (ws : List RuleInstance) (result : Result X PlanFault) → refusal_of result ≡ plan_refusal p ws → choice_of p k ≡ gave ws → IsOk result
+pub is_accepted : {X : Type 0} (p : Position) (k : ℕ) (ws : List RuleInstance) (result : Result X PlanFault) → refusal_of result ≡ plan_refusal p ws
+    → choice_of p k ≡ gave ws → IsOk result
 is_accepted p k ws result told chosen = passes result (ap is_none told ∙ refusal_is p ws ∙ ((choice_words p k (gave ws)).0 chosen).is_plan_now)
   where
     passes : {X : Type 0} (result : Result X PlanFault) → is_none (refusal_of result) ≡ true → IsOk result

@@ -1,5 +1,6 @@
 -- The list that a set gives, one of White's groups after another.
-use Rattle.std.proofs.Common.{◌≡◌, ℕ, ◌+◌, ◌<◌, ◌≤◌, Bool, true, false, not, ◌||◌, if◌then◌else◌, List, [], ◌∷◌, ◌++◌, length, map, filter, take, drop, get_or, Some, refl, sym, ap, ◌∙◌, subst, inl, inr, arith}
+use Rattle.std.proofs.Common.{◌≡◌, ℕ, ◌+◌, ◌<◌, ◌≤◌, Bool, true, false, not, ◌||◌, if◌then◌else◌, List, [], ◌∷◌, ◌++◌, length, map, filter, take, drop, get_or,
+    Some, refl, sym, ap, ◌∙◌, subst, inl, inr, arith}
 use Rattle.std.specs.List.{list_any, slice_get}
 use Rattle.std.specs.Option.{option_map}
 use Rattle.std.proofs.lemmas.Bool.{cases_Bool}
@@ -22,7 +23,8 @@ use Rattle.rule_chooser.specs.Standing.{first_standing, some_bars}
 use Rattle.rule_chooser.proofs.GroupAnswers.{bars_is, answer_is}
 
 -- a group with its own squares, at its place in the list of the groups
-pub group_at : (p : Position) (gs : List Group) (groups : List OpenGroup) (i : ℕ) (group : OpenGroup) → groups ≡ map (open_group_at p) gs → i < length groups → group ≡ get_or groups i group
+pub group_at : (p : Position) (gs : List Group) (groups : List OpenGroup) (i : ℕ) (group : OpenGroup) → groups ≡ map (open_group_at p) gs → i < length groups
+    → group ≡ get_or groups i group
     → drop i gs ≡ group.id ∷ drop (i + 1) gs
 group_at p gs groups i group same within at =
     drop_more gs i group.id (omega (arith, within, ap length same, length-map gs (open_group_at p)))
@@ -41,7 +43,8 @@ group_at p gs groups i group same within at =
     found = sym (slice_get-map (open_group_at p) gs i) ∙ ap (λ ls. slice_get ls i) (sym same) ∙ slice_get_read groups (length groups) i group refl within at
 
     is_group : (g : Group) → slice_get gs i ≡ Some g → g ≡ group.id
-    is_group g is = let both : Some (open_group_at p g) ≡ Some group = ap (option_map (open_group_at p)) (sym is) ∙ found in let same : open_group_at p g ≡ group = cc both in ap (λ (l : OpenGroup). l.id) same
+    is_group g is = let both : Some (open_group_at p g) ≡ Some group = ap (option_map (open_group_at p)) (sym is) ∙ found in let same : open_group_at p g
+        ≡ group = cc both in ap (λ (l : OpenGroup). l.id) same
 
 module _ (p : Position) (set : List RuleInstance) where
   -- groups with a man of Black's need no answer
@@ -49,7 +52,9 @@ module _ (p : Position) (set : List RuleInstance) where
   answers_free [] ws = refl
   answers_free (g ∷ gs) ws = elim (cases_Bool (is_free_for White p g)) [
     | inl free ↦ rw free (answers_free gs (if is_left p set g then with_one ws (answer_to p set g) else ws))
-    | inr other ↦ rw other (answers_free gs ws ∙ ap (answers p set gs) (sym (ap (λ b. if b then with_one ws (answer_to p set g) else ws) (none_left (list_any (has_man p Black) (squares_of g)) (is_barred p set g) other))))
+    | inr other ↦ rw other (answers_free gs ws
+        ∙ ap (answers p set gs) (sym (ap (λ b. if b then with_one ws (answer_to p set g) else ws)
+        (none_left (list_any (has_man p Black) (squares_of g)) (is_barred p set g) other))))
   ]
     where
       none_left : (b d : Bool) → not b ≡ false → not (b || d) ≡ false
@@ -57,7 +62,8 @@ module _ (p : Position) (set : List RuleInstance) where
       none_left false d h = absurd (cc h)
 
   -- one group more
-  pub answers_one : (board : is_board (board_of p) ≡ true) (facts : Facts) (g : Group) (gs : List Group) (ws : List RuleInstance) → facts ≡ facts_of p set → is_free_for White p g ≡ true
+  pub answers_one : (board : is_board (board_of p) ≡ true) (facts : Facts) (g : Group) (gs : List Group) (ws : List RuleInstance) → facts ≡ facts_of p set
+      → is_free_for White p g ≡ true
       → answers p set (g ∷ gs) ws ≡ answers p set gs (
       if some_bars facts (has_square (squares_where (empty_part p g))) set then ws
       else with_one ws (first_standing p facts (has_square (squares_where (empty_part p g))))
@@ -80,11 +86,15 @@ module _ (p : Position) (set : List RuleInstance) where
       ap written_list (sym (take-append-drop zones items))
       ∙ map-append written (take zones items) (drop zones items)
       ∙ ap (λ ws. ws ++ written_list (drop zones items)) (ap written_list first ∙ sym is)
-      ∙ ap (λ ws. set ++ ws) (ap (λ gs. answers p set gs (written_list (drop zones items))) (sym (drop_all i (groups_for White p) past)) ∙ answered ∙ answers_free (groups_of (board_of p)) [])
+      ∙ ap (λ ws. set ++ ws) (ap (λ gs. answers p set gs (written_list (drop zones items))) (sym (drop_all i (groups_for White p) past)) ∙ answered
+          ∙ answers_free (groups_of (board_of p)) [])
 
 -- a group of the list is free for White
-pub group_free : (p : Position) (groups : List OpenGroup) (i : ℕ) (group : OpenGroup) → drop i (groups_for White p) ≡ group.id ∷ drop (i + 1) (groups_for White p) → is_free_for White p group.id ≡ true
-group_free p groups i group is = (Among-filter_gives (is_free_for White p) (groups_of (board_of p)) group.id (dropped (groups_for White p) i (subst (λ gs. Among group.id gs) (sym is) (inl refl)))).1
+pub group_free : (p : Position) (groups : List OpenGroup) (i : ℕ) (group : OpenGroup)
+    → drop i (groups_for White p) ≡ group.id ∷ drop (i + 1) (groups_for White p) → is_free_for White p group.id ≡ true
+group_free p groups i group is =
+    (Among-filter_gives (is_free_for White p) (groups_of (board_of p)) group.id
+    (dropped (groups_for White p) i (subst (λ gs. Among group.id gs) (sym is) (inl refl)))).1
   where
     dropped : (gs : List Group) (i : ℕ) → Among group.id (drop i gs) → Among group.id gs
     dropped gs i among = subst (λ hs. Among group.id hs) (take-append-drop i gs) (Among-append_right group.id (take i gs) (drop i gs) among)

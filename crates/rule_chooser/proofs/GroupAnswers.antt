@@ -25,9 +25,11 @@ use Rattle.rule_chooser.proofs.BlackGroups.{part_set}
 pub stand_together : (p : Position) (set : List RuleInstance) → is_zone_set p set ≡ true → StandTogether p set
 stand_together p set is =
     let both = and_parts (list_all (λ w. owns_zone w && fits w p) set) (each_two together set) is in
-    record { fitting = all_from (λ w. fits w p) set (λ w among. (and_parts (owns_zone w) (fits w p) (all_gives (λ w. owns_zone w && fits w p) set w both.0 among)).1); standing = both.1 }
+    record { fitting = all_from (λ w. fits w p) set
+        (λ w among. (and_parts (owns_zone w) (fits w p) (all_gives (λ w. owns_zone w && fits w p) set w both.0 among)).1); standing = both.1 }
 
-all_mapped : {X Y : Type 0} (test : Y → Bool) (f : X → Y) (keep : X → Bool) (xs : List X) → list_all test (map f (filter keep xs)) ≡ list_all (λ x. not (keep x) || test (f x)) xs
+all_mapped : {X Y : Type 0} (test : Y → Bool) (f : X → Y) (keep : X → Bool) (xs : List X)
+    → list_all test (map f (filter keep xs)) ≡ list_all (λ x. not (keep x) || test (f x)) xs
 all_mapped test f keep [] = refl
 all_mapped test f keep (x ∷ xs) = elim (cases_Bool (keep x)) [
   | inl kept ↦ rw kept (ap (λ b. test (f x) && b) (all_mapped test f keep xs))
@@ -40,16 +42,19 @@ module _ (p : Position) (set : List RuleInstance) (board : is_board (board_of p)
 
   -- whether a zone bars the group, and the first standing answer to it
   pub bars_is : (facts : Facts) (g : Group) → facts ≡ facts_of p set → some_bars facts (has_square (squares_where (empty_part p g))) set ≡ is_barred p set g
-  bars_is facts g same = ap (λ f. some_bars f (has_square (squares_where (empty_part p g))) set) same ∙ ap (λ part. some_bars (facts_of p set) part set) (part_is g)
+  bars_is facts g same = ap (λ f. some_bars f (has_square (squares_where (empty_part p g))) set) same
+      ∙ ap (λ part. some_bars (facts_of p set) part set) (part_is g)
 
-  pub answer_is : (facts : Facts) (g : Group) → facts ≡ facts_of p set → first_standing p facts (has_square (squares_where (empty_part p g))) ≡ answer_to p set g
+  pub answer_is : (facts : Facts) (g : Group) → facts ≡ facts_of p set → first_standing p facts (has_square (squares_where (empty_part p g)))
+      ≡ answer_to p set g
   answer_is facts g same =
       ap (λ f. first_standing p f (has_square (squares_where (empty_part p g)))) same
       ∙ ap (λ part. first_standing p (facts_of p set) part) (part_is g)
       ∙ sym (answer_by_kind p set g)
 
   pub all_answered : (facts : Facts) (groups : List OpenGroup) → facts ≡ facts_of p set → groups ≡ map (open_group_at p) (groups_for White p)
-      → list_all (λ (group : OpenGroup). is_answered_by p facts set group.empty) groups ≡ list_all (λ g. not (is_left p set g) || is_some (answer_to p set g)) (groups_of (board_of p))
+      → list_all (λ (group : OpenGroup). is_answered_by p facts set group.empty) groups ≡ list_all (λ g. not (is_left p set g) || is_some (answer_to p set g))
+          (groups_of (board_of p))
   all_answered facts groups same are =
       ap (list_all (λ (group : OpenGroup). is_answered_by p facts set group.empty)) are
       ∙ all_mapped (λ (group : OpenGroup). is_answered_by p facts set group.empty) (open_group_at p) (is_free_for White p) (groups_of (board_of p))
@@ -64,6 +69,7 @@ module _ (p : Position) (set : List RuleInstance) (board : is_board (board_of p)
       grouped false false a = refl
 
 -- the squares that are kept of a group are empty ones
-pub part_empty : (p : Position) → is_board (board_of p) ≡ true → (group : OpenGroup) → group ≡ open_group_at p group.id → (u : Square) → has_square group.empty u ≡ true → is_empty p u ≡ true
+pub part_empty : (p : Position) → is_board (board_of p) ≡ true → (group : OpenGroup) → group ≡ open_group_at p group.id → (u : Square)
+    → has_square group.empty u ≡ true → is_empty p u ≡ true
 part_empty p board group is u h =
     (and_parts (is_empty p u) _ (sym ((part_set p group.id board).has u) ∙ ap (λ (l : OpenGroup). has_square l.empty u) (sym is) ∙ h)).0

@@ -1,5 +1,6 @@
 -- Where a Specialbefore can answer a group: which squares and which groups of Black's are enough to look at.
-use Rattle.std.proofs.Common.{◌≡◌, ℕ, ◌+◌, ◌<◌, Bool, true, false, ◌&&◌, ◌||◌, ◌==◌, nat_le, List, [], ◌∷◌, length, map, filter, get_or, None, refl, sym, ap, ◌∙◌, subst, inl, inr, arith}
+use Rattle.std.proofs.Common.{◌≡◌, ℕ, ◌+◌, ◌<◌, Bool, true, false, ◌&&◌, ◌||◌, ◌==◌, nat_le, List, [], ◌∷◌, length, map, filter, get_or, None, refl, sym, ap,
+    ◌∙◌, subst, inl, inr, arith}
 use Rattle.std.specs.List.{list_all}
 use Rattle.std.specs.Option.{option_or}
 use Rattle.std.proofs.lemmas.Bool.{and_parts, and_from, or_cases, or_right, both_ways, false_from_ne_true, eqb-true}
@@ -40,9 +41,11 @@ twin_of_two twins f e h =
     ])
 
 playable_one : (p : Position) (u : Square) → is_playable p u ≡ true → has_square (playable_squares p) u ≡ true
-playable_one p u h = has_from (playable_squares p) u (Among-filter (is_playable p) (squares_of_board (board_of p)) u (Among-board (board_of p) u (and_parts (on_board (board_of p) u) _ h).0) h)
+playable_one p u h = has_from (playable_squares p) u
+    (Among-filter (is_playable p) (squares_of_board (board_of p)) u (Among-board (board_of p) u (and_parts (on_board (board_of p) u) _ h).0) h)
 
-module _ (p : Position) (kept : Kept) (part : List Square) (board : is_board (board_of p) ≡ true) (empty : (u : Square) → has_square kept.empty u ≡ is_empty p u) where
+module _ (p : Position) (kept : Kept) (part : List Square) (board : is_board (board_of p) ≡ true) (empty : (u : Square)
+    → has_square kept.empty u ≡ is_empty p u) where
   -- what answers the group
   record Answers (g : Group) (f e : Square) : Type 0 where
     pub low : is_low_line p g ≡ true
@@ -74,19 +77,26 @@ module _ (p : Position) (kept : Kept) (part : List Square) (board : is_board (bo
   -- ---- one group
 
   -- the playable squares that are looked at are enough
-  pub group_narrowed : (g : Group) (playable outside inside group : List Square) → group ≡ squares_where (empty_part p g) → IsSetOf (has_square (playable_squares p)) playable
+  pub group_narrowed : (g : Group) (playable outside inside group : List Square) → group ≡ squares_where (empty_part p g)
+      → IsSetOf (has_square (playable_squares p)) playable
       → IsSetOf (is_outside p (facts_in kept) (has_square part)) outside → IsSetOf (λ u. has_square playable u && has_square group u) inside
       → first_of p (facts_in kept) (has_square part) (λ two. specialbefore g two.0 two.1) (each_with outside inside)
       ≡ first_of p (facts_in kept) (has_square part) (λ two. specialbefore g two.0 two.1) (each_with (playable_squares p) (playable_squares p))
   group_narrowed g playable outside inside group same all outer inner =
-      ap (λ fs. first_of p (facts_in kept) (has_square part) (λ two. specialbefore g two.0 two.1) (each_with fs inside)) (some_playables p (λ u. is_of_twin kept.twin.items u && has_square part u) outside board outer)
-      ∙ ap (λ es. first_of p (facts_in kept) (has_square part) (λ two. specialbefore g two.0 two.1) (each_with (filter (λ u. is_of_twin kept.twin.items u && has_square part u) (playable_squares p)) es))
-      (some_playables p (empty_part p g) inside board (set_same _ _ inside inner (λ u. ap (λ b. b && has_square group u) (all.has u) ∙ ap (λ b. has_square (playable_squares p) u && b) (ap (λ us. has_square us u) same ∙ (part_set p g board).has u))))
-      ∙ first_narrowed p (facts_in kept) (has_square part) (λ two. specialbefore g two.0 two.1) (λ u. is_of_twin kept.twin.items u && has_square part u) (empty_part p g) (playable_squares p) (playable_squares p)
+      ap (λ fs. first_of p (facts_in kept) (has_square part) (λ two. specialbefore g two.0 two.1) (each_with fs inside))
+          (some_playables p (λ u. is_of_twin kept.twin.items u && has_square part u) outside board outer)
+      ∙ ap (λ es. first_of p (facts_in kept) (has_square part) (λ two. specialbefore g two.0 two.1)
+          (each_with (filter (λ u. is_of_twin kept.twin.items u && has_square part u) (playable_squares p)) es))
+      (some_playables p (empty_part p g) inside board
+          (set_same _ _ inside inner (λ u. ap (λ b. b && has_square group u) (all.has u)
+          ∙ ap (λ b. has_square (playable_squares p) u && b) (ap (λ us. has_square us u) same ∙ (part_set p g board).has u))))
+      ∙ first_narrowed p (facts_in kept) (has_square part) (λ two. specialbefore g two.0 two.1) (λ u. is_of_twin kept.twin.items u && has_square part u)
+          (empty_part p g) (playable_squares p) (playable_squares p)
       (λ f e h. let is = answers g f e h in (and_from _ _ is.of_twin is.in_part, and_from _ _ (playable_empty p e is.inner) is.in_group))
 
   -- a group of which some empty square lies under none of the group that is to be answered
-  pub group_none : (g : Group) (group lowered : List Square) → group ≡ squares_where (empty_part p g) → IsSetOf (λ u. nat_le 1 u.1 && has_square part (u.0, u.1 + 1)) lowered
+  pub group_none : (g : Group) (group lowered : List Square) → group ≡ squares_where (empty_part p g)
+      → IsSetOf (λ u. nat_le 1 u.1 && has_square part (u.0, u.1 + 1)) lowered
       → list_all (has_square lowered) group ≡ false
       → None ≡ first_of p (facts_in kept) (has_square part) (λ two. specialbefore g two.0 two.1) (each_with (playable_squares p) (playable_squares p))
   group_none g group lowered same low fails =
@@ -104,9 +114,11 @@ module _ (p : Position) (kept : Kept) (part : List Square) (board : is_board (bo
   -- ---- all groups
 
   -- without a square of a twin in the group there is none
-  pub none_outside : (outside : List Square) → IsSetOf (is_outside p (facts_in kept) (has_square part)) outside → (length outside == 0) ≡ true → None ≡ first_special p (facts_in kept) (has_square part)
+  pub none_outside : (outside : List Square) → IsSetOf (is_outside p (facts_in kept) (has_square part)) outside → (length outside == 0) ≡ true
+      → None ≡ first_special p (facts_in kept) (has_square part)
   none_outside outside is none =
-      first_none p (facts_in kept) (has_square part) (λ three. specialbefore three.0 three.1.0 three.1.1) (groups_of (board_of p)) (each_with (playable_squares p) (playable_squares p))
+      first_none p (facts_in kept) (has_square part) (λ three. specialbefore three.0 three.1.0 three.1.1) (groups_of (board_of p))
+          (each_with (playable_squares p) (playable_squares p))
       (λ g two. false_from_ne_true _ (λ h.
       let at = answers g two.0 two.1 h in
       no_square outside (eqb-true (length outside) 0 none) two.0
@@ -117,12 +129,16 @@ module _ (p : Position) (kept : Kept) (part : List Square) (board : is_board (bo
       no_square (v ∷ us) none u h = absurd (omega arith)
 
   -- Black's groups are enough
-  pub along_groups : (groups : List OpenGroup) → groups ≡ map (open_group_at p) (groups_for Black p) → special_along p (facts_in kept) (has_square part) groups ≡ first_special p (facts_in kept) (has_square part)
+  pub along_groups : (groups : List OpenGroup) → groups ≡ map (open_group_at p) (groups_for Black p)
+      → special_along p (facts_in kept) (has_square part) groups ≡ first_special p (facts_in kept) (has_square part)
   along_groups groups same =
-      ap (λ gs. first_of p (facts_in kept) (has_square part) (λ three. specialbefore three.0 three.1.0 three.1.1) (each_with gs (each_with (playable_squares p) (playable_squares p))))
+      ap (λ gs. first_of p (facts_in kept) (has_square part) (λ three. specialbefore three.0 three.1.0 three.1.1)
+          (each_with gs (each_with (playable_squares p) (playable_squares p))))
       (ap (map (λ (group : OpenGroup). group.id)) same ∙ back (groups_for Black p))
-      ∙ ap (λ ys. first_of p (facts_in kept) (has_square part) (λ three. specialbefore three.0 three.1.0 three.1.1) (each_with (groups_for Black p) ys)) (sym (filter_all (each_with (playable_squares p) (playable_squares p))))
-      ∙ first_narrowed p (facts_in kept) (has_square part) (λ three. specialbefore three.0 three.1.0 three.1.1) (is_free_for Black p) (λ two. true) (groups_of (board_of p)) (each_with (playable_squares p) (playable_squares p))
+      ∙ ap (λ ys. first_of p (facts_in kept) (has_square part) (λ three. specialbefore three.0 three.1.0 three.1.1) (each_with (groups_for Black p) ys))
+          (sym (filter_all (each_with (playable_squares p) (playable_squares p))))
+      ∙ first_narrowed p (facts_in kept) (has_square part) (λ three. specialbefore three.0 three.1.0 three.1.1) (is_free_for Black p) (λ two. true)
+          (groups_of (board_of p)) (each_with (playable_squares p) (playable_squares p))
       (λ g two h. (free g (answers g two.0 two.1 h).low, refl))
     where
       back : (gs : List Group) → map (λ (group : OpenGroup). group.id) (map (open_group_at p) gs) ≡ gs
@@ -134,11 +150,15 @@ module _ (p : Position) (kept : Kept) (part : List Square) (board : is_board (bo
 
 -- one group more
 pub along_more : (p : Position) (facts : Facts) (part : Square → Bool) (group : OpenGroup) (groups : List OpenGroup)
-    → special_along p facts part (group ∷ groups) ≡ option_or (first_of p facts part (λ two. specialbefore group.id two.0 two.1) (each_with (playable_squares p) (playable_squares p))) (special_along p facts part groups)
-along_more p facts part group groups = first_each p facts part (λ three. specialbefore three.0 three.1.0 three.1.1) (each_with (playable_squares p) (playable_squares p)) group.id (map (λ (group : OpenGroup). group.id) groups)
+    → special_along p facts part (group ∷ groups)
+        ≡ option_or (first_of p facts part (λ two. specialbefore group.id two.0 two.1) (each_with (playable_squares p) (playable_squares p)))
+        (special_along p facts part groups)
+along_more p facts part group groups = first_each p facts part (λ three. specialbefore three.0 three.1.0 three.1.1)
+    (each_with (playable_squares p) (playable_squares p)) group.id (map (λ (group : OpenGroup). group.id) groups)
 
 -- a group of the list is one of its group
-pub group_is : (p : Position) (gs : List Group) (groups : List OpenGroup) (i : ℕ) (group : OpenGroup) → groups ≡ map (open_group_at p) gs → i < length groups → group ≡ get_or groups i group → group ≡ open_group_at p group.id
+pub group_is : (p : Position) (gs : List Group) (groups : List OpenGroup) (i : ℕ) (group : OpenGroup) → groups ≡ map (open_group_at p) gs → i < length groups
+    → group ≡ get_or groups i group → group ≡ open_group_at p group.id
 group_is p gs groups i group same within at =
     let among = subst (λ ls. Among group ls) same (subst (λ x. Among x groups) (sym at) (Among-at groups i group within)) in
     let found = Among-map_gives (open_group_at p) gs group among in
@@ -146,11 +166,14 @@ group_is p gs groups i group same within at =
 
 -- the squares that are looked at
 pub outside_is : (p : Position) (twins : List (Square × Square)) (part playable of_twins both outside : List Square)
-    → IsSetOf (has_square (playable_squares p)) playable → IsSetOf (is_of_twin twins) of_twins → IsSetOf (λ u. has_square playable u && has_square of_twins u) both
-    → IsSetOf (λ u. has_square both u && has_square part u) outside → IsSetOf (λ u. has_square (playable_squares p) u && (is_of_twin twins u && has_square part u)) outside
+    → IsSetOf (has_square (playable_squares p)) playable → IsSetOf (is_of_twin twins) of_twins
+        → IsSetOf (λ u. has_square playable u && has_square of_twins u) both
+    → IsSetOf (λ u. has_square both u && has_square part u) outside
+        → IsSetOf (λ u. has_square (playable_squares p) u && (is_of_twin twins u && has_square part u)) outside
 outside_is p twins part playable of_twins both outside all twin two is =
     set_same _ _ outside is (λ u.
-    ap (λ b. b && has_square part u) (two.has u ∙ ap (λ b. b && has_square of_twins u) (all.has u) ∙ ap (λ b. has_square (playable_squares p) u && b) (twin.has u))
+    ap (λ b. b && has_square part u) (two.has u ∙ ap (λ b. b && has_square of_twins u) (all.has u)
+        ∙ ap (λ b. has_square (playable_squares p) u && b) (twin.has u))
     ∙ grouped (has_square (playable_squares p) u) (is_of_twin twins u) (has_square part u))
   where
     grouped : (a b c : Bool) → ((a && b) && c) ≡ (a && (b && c))

@@ -20,12 +20,14 @@ use Rattle.rule_chooser.specs.Standing.{does_answer}
 
 -- ---- Verticals
 
-module _ (p : Position) (kept : Kept) (part : List Square) (board : is_board (board_of p) ≡ true) (empty : (u : Square) → has_square part u ≡ true → is_empty p u ≡ true) where
+module _ (p : Position) (kept : Kept) (part : List Square) (board : is_board (board_of p) ≡ true) (empty : (u : Square) → has_square part u ≡ true
+    → is_empty p u ≡ true) where
   abbrev pub answers_by : Square → Bool
   answers_by e = does_answer p (facts_in kept) (has_square part) (vertical e)
 
   by_sets : (u : Square)
-      → (((has_square part u && (nat_le 1 u.1 && has_square part (above u))) && has_square kept.pair u) && not (on_board widest u && ((u.1 % 2) == 1))) ≡ answers_by u
+      → (((has_square part u && (nat_le 1 u.1 && has_square part (above u))) && has_square kept.pair u) && not (on_board widest u && ((u.1 % 2) == 1)))
+          ≡ answers_by u
   by_sets u = agree _ _
       (λ h.
       let all = and_parts ((has_square part u && (nat_le 1 u.1 && has_square part (above u))) && has_square kept.pair u) _ h in
@@ -69,7 +71,9 @@ pub vertical_new : (p : Position) (kept : Kept) (part : List Square) (size : Boa
     → (if is_shaped (vertical e) size then Some e else None) ≡ find (λ e. does_answer p (facts_in kept) (has_square part) (vertical e)) (squares_at p)
 vertical_new p kept part size e same is =
     ap (λ b. if b then Some e else None)
-    (ap (is_shaped (vertical e)) same ∙ vertical_shaped p e (and_parts (fits (vertical e) p) _ (find_among (λ e. does_answer p (facts_in kept) (has_square part) (vertical e)) (squares_at p) e is).1).0)
+    (ap (is_shaped (vertical e)) same
+        ∙ vertical_shaped p e (and_parts (fits (vertical e) p) _
+        (find_among (λ e. does_answer p (facts_in kept) (has_square part) (vertical e)) (squares_at p) e is).1).0)
     ∙ sym is
 
 -- ---- kind by kind

@@ -10,7 +10,8 @@ use Rattle.walk_rules.specs.Steps.{is_zone_set}
 use Rattle.rule_compat.specs.declared.instance.Instance.{Instance}
 use Rattle.rule_compat.specs.Written.{written, written_list}
 
-pub zone_at : (p : Position) (set : List Instance) (i : ℕ) (zone : Instance) → is_zone_set p (written_list set) ≡ true → i < length set → zone ≡ get_or set i zone → (owns_zone (written zone) && fits (written zone) p) ≡ true
+pub zone_at : (p : Position) (set : List Instance) (i : ℕ) (zone : Instance) → is_zone_set p (written_list set) ≡ true → i < length set
+    → zone ≡ get_or set i zone → (owns_zone (written zone) && fits (written zone) p) ≡ true
 zone_at p set i zone is within at =
     all_gives (λ w. owns_zone w && fits w p) (written_list set) (written zone) (and_parts (list_all (λ w. owns_zone w && fits w p) (written_list set)) _ is).0
     (Among-map written set zone (subst (λ z. Among z set) (sym at) (Among-at set i zone within)))

@@ -1,6 +1,7 @@
 -- Going through a list of instances by the second of two members: what each further one adds to the least two that may
 -- not stand together, and to the zones.
-use Rattle.std.proofs.Common.{◌≡◌, ℕ, ◌+◌, ◌<◌, ◌≤◌, Bool, true, false, not, cond, List, [], ◌∷◌, ◌++◌, length, map, take, drop, get_or, Option, Some, None, is_none, refl, sym, ap, ◌∙◌, arith}
+use Rattle.std.proofs.Common.{◌≡◌, ℕ, ◌+◌, ◌<◌, ◌≤◌, Bool, true, false, not, cond, List, [], ◌∷◌, ◌++◌, length, map, take, drop, get_or, Option, Some, None,
+    is_none, refl, sym, ap, ◌∙◌, arith}
 use Rattle.std.specs.List.{list_all, find, position_from}
 use Rattle.std.specs.Option.{option_map}
 use Rattle.std.proofs.lemmas.Bool.{and_parts}
@@ -33,7 +34,8 @@ clash_in zones x = option_map (λ zone. zone.0) (find (λ zone. not (stand zone.
 first_is : (xs : List Instance) (x : Instance) → position_from (λ y. not (stand y x)) 1 xs ≡ clash_in (zones_from owns 1 xs) x
 first_is xs x = first_zone owns (λ y. not (stand y x)) 1 xs (λ y standing. clash_alone (written x) (written y) standing)
 
-pub zones_step : (list : List Instance) (i : ℕ) (x : Instance) → i < length list → x ≡ get_or list i x → zones_from owns 1 (take (i + 1) list) ≡ zones_from owns 1 (take i list) ++ cond (owns x) ((i + 1, x) ∷ []) []
+pub zones_step : (list : List Instance) (i : ℕ) (x : Instance) → i < length list → x ≡ get_or list i x
+    → zones_from owns 1 (take (i + 1) list) ≡ zones_from owns 1 (take i list) ++ cond (owns x) ((i + 1, x) ∷ []) []
 zones_step list i x within at =
     ap (zones_from owns 1) (take_more list i x within ∙ ap (λ y. take i list ++ y ∷ []) (sym at))
     ∙ zones_more owns 1 (take i list) x
@@ -55,13 +57,15 @@ stands_with_all ((k, y) ∷ zones) x standing =
     let free : not (stand y x) ≡ false = ap not (together_orders (written y) (written x)) ∙ clash_alone (written y) (written x) standing in
     rw free (stands_with_all zones x standing)
 
-pub standing_step : (list : List Instance) (i : ℕ) (x : Instance) → i < length list → x ≡ get_or list i x → first_two_from stand 1 (take i list) ≡ None → owns x ≡ false
+pub standing_step : (list : List Instance) (i : ℕ) (x : Instance) → i < length list → x ≡ get_or list i x → first_two_from stand 1 (take i list) ≡ None
+    → owns x ≡ false
     → first_two_from stand 1 (take (i + 1) list) ≡ None
 standing_step list i x within at none standing =
     none_step list i x within at none ∙ ap (option_map (λ k. (k, i + 1))) (stands_with_all (zones_from owns 1 (take i list)) x standing)
 
 -- members that fit, no two of which clash, have at most fifty zones
-pub zones_fit : (p : Position) (xs : List Instance) → is_board (board_of p) ≡ true → list_all (λ w. fits w p) (written_list xs) ≡ true → first_two_from stand 1 xs ≡ None → length (zones_from owns 1 xs) ≤ 50
+pub zones_fit : (p : Position) (xs : List Instance) → is_board (board_of p) ≡ true → list_all (λ w. fits w p) (written_list xs) ≡ true
+    → first_two_from stand 1 xs ≡ None → length (zones_from owns 1 xs) ≤ 50
 zones_fit p xs board fitting none =
     let standing = sym (no_two together 1 (written_list xs)) ∙ ap is_none (two_map together written 1 xs ∙ none) in
     let most = fifty_zones p (written_list xs) 1 board (record { fitting = fitting; standing = standing }) in
@@ -69,23 +73,27 @@ zones_fit p xs board fitting none =
     omega (arith, most, same)
 
 -- from two known ones on, the zones of the members before the second one are enough
-pub some_step : (list : List Instance) (i m : ℕ) (x : Instance) (two : ℕ × ℕ) → i < length list → m ≤ i → x ≡ get_or list i x → first_two_from stand 1 (take i list) ≡ Some two → two.0 ≤ m + 1
+pub some_step : (list : List Instance) (i m : ℕ) (x : Instance) (two : ℕ × ℕ) → i < length list → m ≤ i → x ≡ get_or list i x
+    → first_two_from stand 1 (take i list) ≡ Some two → two.0 ≤ m + 1
     → first_two_from stand 1 (take (i + 1) list) ≡ lesser_two (Some two) (option_map (λ k. (k, i + 1)) (clash_in (zones_from owns 1 (take m list)) x))
 some_step list i m x two within before at some enough =
     ap (first_two_from stand 1) (take_more list i x within ∙ ap (λ y. take i list ++ y ∷ []) (sym at))
     ∙ two_next_from stand 1 (take i list) x two m some (omega arith)
     ∙ ap (λ ys. lesser_two (Some two) (option_map (λ k. (k, 1 + length (take i list))) (position_from (λ y. not (stand y x)) 1 ys))) (take-take m i list before)
     ∙ ap (λ place. lesser_two (Some two) (option_map (λ k. (k, 1 + length (take i list))) place)) (first_is (take m list) x)
-    ∙ ap (λ j. lesser_two (Some two) (option_map (λ k. (k, j)) (clash_in (zones_from owns 1 (take m list)) x))) (let size = length-take-le i list (omega arith) in omega (arith, size))
+    ∙ ap (λ j. lesser_two (Some two) (option_map (λ k. (k, j)) (clash_in (zones_from owns 1 (take m list)) x)))
+        (let size = length-take-le i list (omega arith) in omega (arith, size))
 
 -- the first members of a list fit where all do
-pub first_fit : (p : Position) (list : List Instance) (i : ℕ) → list_all (λ w. fits w p) (written_list list) ≡ true → list_all (λ w. fits w p) (written_list (take i list)) ≡ true
+pub first_fit : (p : Position) (list : List Instance) (i : ℕ) → list_all (λ w. fits w p) (written_list list) ≡ true
+    → list_all (λ w. fits w p) (written_list (take i list)) ≡ true
 first_fit p list i all =
     (and_parts _ _ (sym (list_all-append (λ w. fits w p) (written_list (take i list)) (written_list (drop i list)))
     ∙ ap (list_all (λ w. fits w p)) (sym (map-append written (take i list) (drop i list)) ∙ ap (map written) (take-append-drop i list)) ∙ all)).0
 
 -- so there is room for one more
-pub room_for_one : (p : Position) (list : List Instance) (i : ℕ) (x : Instance) → is_board (board_of p) ≡ true → list_all (λ w. fits w p) (written_list list) ≡ true → i < length list → x ≡ get_or list i x
+pub room_for_one : (p : Position) (list : List Instance) (i : ℕ) (x : Instance) → is_board (board_of p) ≡ true
+    → list_all (λ w. fits w p) (written_list list) ≡ true → i < length list → x ≡ get_or list i x
     → first_two_from stand 1 (take (i + 1) list) ≡ None → owns x ≡ true → length (zones_from owns 1 (take i list)) < 50
 room_for_one p list i x board fitting within at none owner =
     let most = zones_fit p (take (i + 1) list) board (first_fit p list (i + 1) fitting) none in

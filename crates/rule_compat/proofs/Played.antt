@@ -36,7 +36,8 @@ zones_answer list now last =
     let found = find (λ (zone : ℕ × Instance). has_square (zone_of (written zone.1)) last) (zones_from owns 1 list) in
     ap (option_and_then answer) (find_map (λ w. has_square (zone_of w) last) written list)
     ∙ then_mapped answer written (find (λ x. has_square (zone_of (written x)) last) list)
-    ∙ ap (option_and_then (λ x. answer (written x))) (owner_of_zone owns (λ x. has_square (zone_of (written x)) last) 1 list (λ x standing. owner_alone last (written x) standing))
+    ∙ ap (option_and_then (λ x. answer (written x)))
+        (owner_of_zone owns (λ x. has_square (zone_of (written x)) last) 1 list (λ x standing. owner_alone last (written x) standing))
     ∙ then_mapped (λ x. answer (written x)) (λ (zone : ℕ × Instance). zone.1) found
 
 -- a plan's answer to a move, and what it leaves
@@ -46,7 +47,8 @@ pub record IsAnswer (plan : Planned) (now : Position) (last reply : Square) : Ty
   pub next : IsReached plan (after_move now reply.0)
 
 -- each legal move at a position that is reached has one
-answer_after : (plan : Planned) (now : Position) (last : Square) → is_plan plan.at (members plan) ≡ true → HasMoved plan now last → (reply : Square) × IsAnswer plan now last reply
+answer_after : (plan : Planned) (now : Position) (last : Square) → is_plan plan.at (members plan) ≡ true → HasMoved plan now last
+    → (reply : Square) × IsAnswer plan now last reply
 answer_after plan now last is moved =
     let q = moved.earlier in
     let answered = plan_answers plan.at (members plan) moved.reached.columns q last.0 is moved.reached.leads moved.legal in
@@ -64,14 +66,16 @@ answer_after plan now last is moved =
     )
 
 -- so the zones that a plan is kept with answer
-pub zones_find : (plan : Planned) (zones : List (ℕ × Instance)) (facts : Facts) (now : Position) (last : Square) → IsKeptWith plan zones facts → HasMoved plan now last
+pub zones_find : (plan : Planned) (zones : List (ℕ × Instance)) (facts : Facts) (now : Position) (last : Square) → IsKeptWith plan zones facts
+    → HasMoved plan now last
     → (reply : Square) × (zone_answer zones now last ≡ Some reply) × IsAnswer plan now last reply
 zones_find plan zones facts now last kept moved =
     let answer = answer_after plan now last kept.is_one moved in
     (answer.0, ap (λ zones. zone_answer zones now last) kept.zones_are ∙ sym (zones_answer plan.list now last) ∙ answer.1.is_reply, answer.1)
 
 -- and what they answer is the plan's answer
-pub what_zones_find : (plan : Planned) (zones : List (ℕ × Instance)) (facts : Facts) (now : Position) (last reply : Square) → IsKeptWith plan zones facts → HasMoved plan now last
+pub what_zones_find : (plan : Planned) (zones : List (ℕ × Instance)) (facts : Facts) (now : Position) (last reply : Square) → IsKeptWith plan zones facts
+    → HasMoved plan now last
     → zone_answer zones now last ≡ Some reply → IsAnswer plan now last reply
 what_zones_find plan zones facts now last reply kept moved found =
     let answer = zones_find plan zones facts now last kept moved in
@@ -80,5 +84,7 @@ what_zones_find plan zones facts now last reply kept moved found =
 -- ---- lines
 
 -- the set of a line's squares meets Black's men where the line has one
-pub black_met : (p : Position) (us squares men : List Square) → IsSetOf (has_square us) squares → IsSetOf (has_man p Black) men → list_any (has_square men) squares ≡ list_any (has_man p Black) us
-black_met p us squares men line black = any_same (has_square men) (has_man p Black) squares (λ u among. black.has u) ∙ any_in_same (has_man p Black) squares us line.has
+pub black_met : (p : Position) (us squares men : List Square) → IsSetOf (has_square us) squares → IsSetOf (has_man p Black) men
+    → list_any (has_square men) squares ≡ list_any (has_man p Black) us
+black_met p us squares men line black = any_same (has_square men) (has_man p Black) squares (λ u among. black.has u)
+    ∙ any_in_same (has_man p Black) squares us line.has

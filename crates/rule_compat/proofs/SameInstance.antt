@@ -14,11 +14,13 @@ written_once (instances.Baseinverse (s, t)) (instances.Baseinverse (u, v)) h = l
 written_once (instances.Lowinverse (x, x_top, y, y_top)) (instances.Lowinverse (u, u_top, v, v_top)) h =
     let a : x ≡ u = cc h in let b : x_top ≡ u_top = cc h in let c : y ≡ v = cc h in let d : y_top ≡ v_top = cc h in cc (a, b, c, d)
 written_once (instances.Highinverse (s, t)) (instances.Highinverse (u, v)) h = let a : s ≡ u = cc h in let b : t ≡ v = cc h in cc (a, b)
-written_once (instances.Baseclaim (a, b, e)) (instances.Baseclaim (u, v, w)) h = let f : a ≡ u = cc h in let g : b ≡ v = cc h in let k : e ≡ w = cc h in cc (f, g, k)
+written_once (instances.Baseclaim (a, b, e)) (instances.Baseclaim (u, v, w)) h = let f : a ≡ u = cc h in let g : b ≡ v = cc h in let k : e
+    ≡ w = cc h in cc (f, g, k)
 written_once (instances.Vertical x) (instances.Vertical u) h = let a : x ≡ u = cc h in ap instances.Vertical a
 written_once (instances.Aftereven x) (instances.Aftereven u) h = let a : x ≡ u = cc h in ap instances.Aftereven a
 written_once (instances.Before x) (instances.Before u) h = let a : x ≡ u = cc h in ap instances.Before a
-written_once (instances.Specialbefore (g, f, e)) (instances.Specialbefore (u, v, w)) h = let a : g ≡ u = cc h in let b : f ≡ v = cc h in let c : e ≡ w = cc h in cc (a, b, c)
+written_once (instances.Specialbefore (g, f, e)) (instances.Specialbefore (u, v, w)) h = let a : g ≡ u = cc h in let b : f ≡ v = cc h in let c : e
+    ≡ w = cc h in cc (a, b, c)
 written_once v w h = absurd (cc h)
 
 pub same_is : (v w : Instance) (b : Bool) → IsTrue b ↔ (v ≡ w) → b ≡ same_instance (written v) (written w)

@@ -1,5 +1,6 @@
 -- The first line that no member bars, looked for among those without a Black man alone.
-use Rattle.std.proofs.Common.{◌≡◌, ℕ, ◌+◌, ◌&&◌, Bool, true, false, not, List, [], ◌∷◌, filter, Option, Some, None, is_none, is_some, inl, inr, refl, sym, ap, ◌∙◌}
+use Rattle.std.proofs.Common.{◌≡◌, ℕ, ◌+◌, ◌&&◌, Bool, true, false, not, List, [], ◌∷◌, filter, Option, Some, None, is_none, is_some, inl, inr, refl, sym, ap,
+    ◌∙◌}
 use Rattle.std.specs.List.{list_any, find, position_from}
 use Rattle.game_rules.specs.Position.{Position, board_of}
 use Rattle.game_rules.specs.Groups.{Group, lies_on, groups_of, groups_where, is_free_for}
@@ -12,7 +13,8 @@ use Rattle.std.proofs.lemmas.Bool.{cases_Bool}
 use Rattle.game_rules.proofs.Lists.{Among}
 
 -- what passes a test that all elements pass need not be asked for it
-pub found_among : {X : Type 0} (all keep test : X → Bool) (xs : List X) → ((x : X) → Among x xs → all x ≡ true) → find test (filter (λ x. all x && keep x) xs) ≡ find (λ x. keep x && test x) xs
+pub found_among : {X : Type 0} (all keep test : X → Bool) (xs : List X) → ((x : X) → Among x xs → all x ≡ true)
+    → find test (filter (λ x. all x && keep x) xs) ≡ find (λ x. keep x && test x) xs
 found_among all keep test [] h = refl
 found_among all keep test (x ∷ xs) h = elim (cases_Bool (keep x)) [
   | inl kept ↦ elim (cases_Bool (test x)) [
@@ -34,10 +36,12 @@ none_from None false h = absurd (cc h)
 none_from (Some x) true h = absurd (cc h)
 none_from (Some x) false h = refl
 
-pub none_bars : (p : Position) (ws : List RuleInstance) (g : Group) (found : Option ℕ) (none : Bool) → found ≡ first_barring p ws g → is_some found ≡ not none → not (is_barred p ws g) ≡ none
+pub none_bars : (p : Position) (ws : List RuleInstance) (g : Group) (found : Option ℕ) (none : Bool) → found ≡ first_barring p ws g → is_some found ≡ not none
+    → not (is_barred p ws g) ≡ none
 none_bars p ws g found none same is = sym (no_place (λ w. barred w (facts_of p ws) (empty_part p g)) 1 ws) ∙ ap is_none (sym same) ∙ none_from found none is
 
-pub first_open_line : (p : Position) (ws : List RuleInstance) (gs : List Group) → gs ≡ groups_where (board_of p) (λ g. lies_on (board_of p) g && is_free_for White p g)
+pub first_open_line : (p : Position) (ws : List RuleInstance) (gs : List Group)
+    → gs ≡ groups_where (board_of p) (λ g. lies_on (board_of p) g && is_free_for White p g)
     → find (λ g. not (is_barred p ws g)) gs ≡ find (is_unanswered p ws) (groups_of (board_of p))
 unfolding groups_where
 first_open_line p ws gs free =

@@ -13,7 +13,8 @@ use Rattle.game_rules.specs.Number.{number_between}
 use Rattle.game_rules.proofs.Numbers.{number_none}
 
 -- the number that one digit more makes
-pub digit_read : (bytes : List ℕ) (i : ℕ) → i < length bytes → IsInRange 48 57 (get_or bytes i 0) → digits_value 10 (take (i + 1) bytes) ≡ digits_value 10 (take i bytes) * 10 + (get_or bytes i 0 - 48)
+pub digit_read : (bytes : List ℕ) (i : ℕ) → i < length bytes → IsInRange 48 57 (get_or bytes i 0)
+    → digits_value 10 (take (i + 1) bytes) ≡ digits_value 10 (take i bytes) * 10 + (get_or bytes i 0 - 48)
 digit_read bytes i within range = omega (arith, digits_value_more 10 bytes i within, digit_value_digit (get_or bytes i 0) range)
 
 -- bytes that are digits one by one
@@ -25,7 +26,8 @@ pub power_more : (i : ℕ) → 10 ^ (i + 1) ≡ 10 ^ i * 10
 power_more i = rw add-one (pow-suc 10 i)
 
 -- one digit more among those below a place
-pub digits_more : (bytes : List ℕ) (i : ℕ) → ((k : ℕ) → k < i → IsInRange 48 57 (get_or bytes k 0)) → IsInRange 48 57 (get_or bytes i 0) → (k : ℕ) → k < i + 1 → IsInRange 48 57 (get_or bytes k 0)
+pub digits_more : (bytes : List ℕ) (i : ℕ) → ((k : ℕ) → k < i → IsInRange 48 57 (get_or bytes k 0)) → IsInRange 48 57 (get_or bytes i 0) → (k : ℕ) → k < i + 1
+    → IsInRange 48 57 (get_or bytes k 0)
 digits_more bytes i below here = below_more (λ k. IsInRange 48 57 (get_or bytes k 0)) i below here
 
 -- what the spelling of a number looks like

@@ -1,6 +1,7 @@
 -- The two questions of a proof, one behind the other.
 use mathlib.Core.Bool.{true≢false}
-use Rattle.std.proofs.Common.{◌≡◌, ◌≢◌, ℕ, ◌+◌, ◌<◌, ◌≤◌, Bool, true, false, List, [], ◌++◌, Option, None, Result, Ok, Err, IfOk, length, refl, sym, ap, ◌∙◌, subst, inl, inr, arith, append-nil, append_assoc}
+use Rattle.std.proofs.Common.{◌≡◌, ◌≢◌, ℕ, ◌+◌, ◌<◌, ◌≤◌, Bool, true, false, List, [], ◌++◌, Option, None, Result, Ok, Err, IfOk, length, refl, sym, ap, ◌∙◌,
+    subst, inl, inr, arith, append-nil, append_assoc}
 use Rattle.std.proofs.lemmas.Bool.{cases_Bool}
 use Rattle.device_rules.specs.Devices.{AppendsPrefix}
 use Rattle.device_rules.proofs.DeviceLaws.{AppendsPrefix_more}
@@ -34,7 +35,8 @@ use Rattle.deep_search.specs.declared.solving.SearchStop.{SearchStop}
 use Rattle.deep_search.specs.declared.solving.SearchStop.TheVariants.{Spent, WriteFault}
 
 -- a side's lemma gives the verdict for the side to move
-pub won_verdict : (root : Position) (after : List Shown) (winner to_move : Side) (n : ℕ) → to_move ≡ side_to_move root → Shows after n root (claim_for winner true) → IsVerdict root after (won_by winner to_move n)
+pub won_verdict : (root : Position) (after : List Shown) (winner to_move : Side) (n : ℕ) → to_move ≡ side_to_move root
+    → Shows after n root (claim_for winner true) → IsVerdict root after (won_by winner to_move n)
 won_verdict root after winner to_move n turn shown = elim (cases_Bool (same_side winner to_move)) [
   | inl own ↦ rw own (subst (λ side. Shows after n root (claim_for side true)) (same_side_is winner to_move own ∙ turn) shown)
   | inr against ↦ rw against (subst (λ side. Shows after n root (claim_for side true)) (winner_is against) shown)
@@ -52,19 +54,23 @@ won_known winner to_move n h = elim (cases_Bool (same_side winner to_move)) [
 -- ---- texts
 
 -- a text that stops stands as its search does
-stopped_text : (stop : SearchStop) (old new : Option (List ℕ)) (text : List ℕ) → AppendsPrefix (is_whole (Err stop)) old new text → AppendsPrefix (is_whole_verdict (Err stop)) old new text
+stopped_text : (stop : SearchStop) (old new : Option (List ℕ)) (text : List ℕ) → AppendsPrefix (is_whole (Err stop)) old new text
+    → AppendsPrefix (is_whole_verdict (Err stop)) old new text
 stopped_text Spent old new text h = h
 stopped_text WriteFault old new text h = h
 
 -- the remark and the lemmas of one question alone
-alone : (b : Bool) (old new : Option (List ℕ)) (remark lemmas : List ℕ) → AppendsPrefix b old new (remark ++ lemmas) → AppendsPrefix b old new (remark ++ (lemmas ++ []))
+alone : (b : Bool) (old new : Option (List ℕ)) (remark lemmas : List ℕ) → AppendsPrefix b old new (remark ++ lemmas)
+    → AppendsPrefix b old new (remark ++ (lemmas ++ []))
 alone b old new remark lemmas h = subst (λ text. AppendsPrefix b old new (remark ++ text)) (sym (append-nil lemmas)) h
 
 -- those of both
-together : (b : Bool) (old held new : Option (List ℕ)) (remark lemmas also more : List ℕ) → AppendsPrefix true old held (remark ++ lemmas) → AppendsPrefix b held new (also ++ more)
+together : (b : Bool) (old held new : Option (List ℕ)) (remark lemmas also more : List ℕ) → AppendsPrefix true old held (remark ++ lemmas)
+    → AppendsPrefix b held new (also ++ more)
     → AppendsPrefix b old new (remark ++ (lemmas ++ (also ++ more)))
 together b old held new remark lemmas also more first second =
-    subst (AppendsPrefix b old new) (append_assoc remark lemmas (also ++ more)) (AppendsPrefix_more b old held new (remark ++ lemmas) (also ++ more) first second)
+    subst (AppendsPrefix b old new) (append_assoc remark lemmas (also ++ more))
+        (AppendsPrefix_more b old held new (remark ++ lemmas) (also ++ more) first second)
 
 -- ---- one question
 
@@ -92,13 +98,16 @@ module _ (root : Position) (question : Question) (reach : ℕ) (slots : Option �
     named = solves.named;
   }
     where
-      at : (result : Result Answer SearchStop) → length (known ++ solves.wrote.shown) ≡ total + uncounted result → IfOk result (λ answer. length (known ++ solves.wrote.shown) ≡ total)
+      at : (result : Result Answer SearchStop) → length (known ++ solves.wrote.shown) ≡ total + uncounted result
+          → IfOk result (λ answer. length (known ++ solves.wrote.shown) ≡ total)
       at (Ok answer) counted = omega (arith, counted)
       at (Err stop) counted = tt
 
-module _ (root : Position) (side : Side) (reach : ℕ) (slots : Option ℕ) (known : List Shown) (most : ℕ) (before : Entries) (old new : Option (List ℕ)) (total : ℕ) where
+module _ (root : Position) (side : Side) (reach : ℕ) (slots : Option ℕ) (known : List Shown) (most : ℕ) (before : Entries) (old new : Option (List ℕ))
+    (total : ℕ) where
   -- its remark was cut
-  pub asks_cut : LeavesRemark slots reach root side false old new → FitsTable before known → length known ≤ most → AsksSide root side reach slots known most (moment before old) (moment before new) total (Err WriteFault)
+  pub asks_cut : LeavesRemark slots reach root side false old new → FitsTable before known → length known ≤ most
+      → AsksSide root side reach slots known most (moment before old) (moment before new) total (Err WriteFault)
   asks_cut remarks fits few = record {
     remark = remarks.remark;
     lemmas = [];
@@ -120,7 +129,8 @@ module _ (root : Position) (side : Side) (reach : ℕ) (slots : Option ℕ) (kno
 
 module _ (root : Position) (nodes reach : ℕ) (slots : Option ℕ) where
   -- White's question was spent, so the budget doesn't suffice for it
-  unasked : (stop : SearchStop) (mid : List Shown) (remark : Option (List ℕ)) → AreBelow (limit_of root (Err stop)) mid → (stop ≡ Spent → nodes < count (solved_within reach) White root) → is_whole_verdict (Err stop) ≡ true
+  unasked : (stop : SearchStop) (mid : List Shown) (remark : Option (List ℕ)) → AreBelow (limit_of root (Err stop)) mid
+      → (stop ≡ Spent → nodes < count (solved_within reach) White root) → is_whole_verdict (Err stop) ≡ true
       → HasBothRemarks slots nodes reach root mid remark (verdict_told (Err stop))
   unasked Spent mid remark below short whole fails (inl known) = absurd (known refl)
   unasked Spent mid remark below short whole fails (inr (inl (n, shown))) = absurd (none_here root WhiteFails mid n below shown)
@@ -132,15 +142,18 @@ module _ (root : Position) (nodes reach : ℕ) (slots : Option ℕ) where
   unneeded mid remark v won fails known = absurd (true≢false (sym won ∙ fails))
 
 -- lemmas of Black's question come in its turn
-pub in_turn : (slots : Option ℕ) (reach : ℕ) (root : Position) (mid : List Shown) (remark : Option (List ℕ)) (lemmas : List Lemma) → IsRemarkedInTurn slots reach root mid remark lemmas → IsAskedInTurn root mid lemmas
+pub in_turn : (slots : Option ℕ) (reach : ℕ) (root : Position) (mid : List Shown) (remark : Option (List ℕ)) (lemmas : List Lemma)
+    → IsRemarkedInTurn slots reach root mid remark lemmas → IsAskedInTurn root mid lemmas
 in_turn slots reach root mid remark lemmas (inl asked) some = (asked.1, asked.2)
 in_turn slots reach root mid remark lemmas (inr none) some = absurd (some none.1)
 
 -- ---- both questions
 
-module _ (root : Position) (nodes reach : ℕ) (slots : Option ℕ) (before after : Entries) (old new : Option (List ℕ)) (total most : ℕ) (within : most ≤ nodes) where
+module _ (root : Position) (nodes reach : ℕ) (slots : Option ℕ) (before after : Entries) (old new : Option (List ℕ)) (total most : ℕ) (within : most ≤ nodes)
+    where
   -- the first question stopped
-  pub asks_none : (stop : SearchStop) → AsksSide root White reach slots [] most (moment before old) (moment after new) total (Err stop) → (stop ≡ Spent → nodes < count (solved_within reach) White root)
+  pub asks_none : (stop : SearchStop) → AsksSide root White reach slots [] most (moment before old) (moment after new) total (Err stop)
+      → (stop ≡ Spent → nodes < count (solved_within reach) White root)
       → Asks root nodes reach slots old new (Err stop)
   asks_none stop white short = record {
     white_remark = white.remark;
@@ -149,7 +162,8 @@ module _ (root : Position) (nodes reach : ℕ) (slots : Option ℕ) (before afte
     black_remark = None;
     black = [];
     after = white.shown;
-    text = stopped_text stop old new (remark_line white.remark ++ (lines_of white.lemmas ++ [])) (alone (is_whole (Err stop)) old new (remark_line white.remark) (lines_of white.lemmas) white.text);
+    text = stopped_text stop old new (remark_line white.remark ++ (lines_of white.lemmas ++ []))
+        (alone (is_whole (Err stop)) old new (remark_line white.remark) (lines_of white.lemmas) white.text);
     white_remarked = white.remarked;
     white_line = white.line;
     black_remarked = inr (refl, refl);
@@ -166,7 +180,8 @@ module _ (root : Position) (nodes reach : ℕ) (slots : Option ℕ) (before afte
   }
 
   -- White wins
-  pub asks_white : (answer : Answer) (to_move : Side) (v : Verdict) → AsksSide root White reach slots [] most (moment before old) (moment after new) total (Ok answer) → answer.yes ≡ true → to_move ≡ side_to_move root
+  pub asks_white : (answer : Answer) (to_move : Side) (v : Verdict)
+      → AsksSide root White reach slots [] most (moment before old) (moment after new) total (Ok answer) → answer.yes ≡ true → to_move ≡ side_to_move root
       → wins White root ≡ true → v ≡ won_by White to_move answer.lemma → Asks root nodes reach slots old new (Ok v)
   asks_white answer to_move v white won turn wins_root told = record {
     white_remark = white.remark;
@@ -188,19 +203,22 @@ module _ (root : Position) (nodes reach : ℕ) (slots : Option ℕ) (before afte
     white_planned = white.planned;
     black_planned = tt;
     verdict = (
-      rw told (won_verdict root white.shown White to_move answer.lemma turn (subst (λ b. Shows white.shown answer.lemma root (claim_for White b)) won white.named)),
+      rw told (won_verdict root white.shown White to_move answer.lemma turn
+          (subst (λ b. Shows white.shown answer.lemma root (claim_for White b)) won white.named)),
       (λ h. won_known White to_move answer.lemma (sym told ∙ h)),
     );
     few = omega (arith, white.few, within);
   }
 
 module _ (root : Position) (nodes reach : ℕ) (slots : Option ℕ) (before mid after : Entries) (old held new : Option (List ℕ)) (total : ℕ) (first : Answer)
-    (begun : ℕ) (white : AsksSide root White reach slots [] begun (moment before old) (moment mid held) total (Ok first)) (none : first.yes ≡ false) (most counted : ℕ) (within : most ≤ nodes) where
+    (begun : ℕ) (white : AsksSide root White reach slots [] begun (moment before old) (moment mid held) total (Ok first)) (none : first.yes ≡ false)
+        (most counted : ℕ) (within : most ≤ nodes) where
   white_fails : Shows white.shown first.lemma root (claim_for White false)
   white_fails = subst (λ b. Shows white.shown first.lemma root (claim_for White b)) none white.named
 
   -- the second question stopped
-  pub asks_one : (stop : SearchStop) → AsksSide root Black reach slots white.shown most (moment mid held) (moment after new) counted (Err stop) → Asks root nodes reach slots old new (Err stop)
+  pub asks_one : (stop : SearchStop) → AsksSide root Black reach slots white.shown most (moment mid held) (moment after new) counted (Err stop)
+      → Asks root nodes reach slots old new (Err stop)
   asks_one stop black = record {
     white_remark = white.remark;
     white = white.lemmas;
@@ -209,7 +227,8 @@ module _ (root : Position) (nodes reach : ℕ) (slots : Option ℕ) (before mid 
     black = black.lemmas;
     after = (white.shown ++ black.shown);
     text = stopped_text stop old new (remark_line white.remark ++ (lines_of white.lemmas ++ (remark_line black.remark ++ lines_of black.lemmas)))
-        (together (is_whole (Err stop)) old held new (remark_line white.remark) (lines_of white.lemmas) (remark_line black.remark) (lines_of black.lemmas) white.text black.text);
+        (together (is_whole (Err stop)) old held new (remark_line white.remark) (lines_of white.lemmas) (remark_line black.remark) (lines_of black.lemmas)
+            white.text black.text);
     white_remarked = white.remarked;
     white_line = white.line;
     black_remarked = inl (black.remarked, first.lemma, white_fails);
@@ -235,7 +254,8 @@ module _ (root : Position) (nodes reach : ℕ) (slots : Option ℕ) (before mid 
       black_remark = black.remark;
       black = black.lemmas;
       after = (white.shown ++ black.shown);
-      text = together true old held new (remark_line white.remark) (lines_of white.lemmas) (remark_line black.remark) (lines_of black.lemmas) white.text black.text;
+      text = together true old held new (remark_line white.remark) (lines_of white.lemmas) (remark_line black.remark) (lines_of black.lemmas) white.text
+          black.text;
       white_remarked = white.remarked;
       white_line = white.line;
       black_remarked = inl (black.remarked, first.lemma, white_fails);
@@ -252,9 +272,11 @@ module _ (root : Position) (nodes reach : ℕ) (slots : Option ℕ) (before mid 
     }
 
     -- Black wins
-    pub asks_black : (to_move : Side) (v : Verdict) → second.yes ≡ true → to_move ≡ side_to_move root → v ≡ won_by Black to_move second.lemma → Asks root nodes reach slots old new (Ok v)
+    pub asks_black : (to_move : Side) (v : Verdict) → second.yes ≡ true → to_move ≡ side_to_move root → v ≡ won_by Black to_move second.lemma
+        → Asks root nodes reach slots old new (Ok v)
     asks_black to_move v won turn told = both_asked v (
-      rw told (won_verdict root (white.shown ++ black.shown) Black to_move second.lemma turn (subst (λ b. Shows (white.shown ++ black.shown) second.lemma root (claim_for Black b)) won black.named)),
+      rw told (won_verdict root (white.shown ++ black.shown) Black to_move second.lemma turn
+          (subst (λ b. Shows (white.shown ++ black.shown) second.lemma root (claim_for Black b)) won black.named)),
       (λ h. won_known Black to_move second.lemma (sym told ∙ h)),
     )
 
@@ -270,10 +292,13 @@ module _ (root : Position) (nodes reach : ℕ) (slots : Option ℕ) (before mid 
         )
 
 -- a verdict that the lemmas of both questions show is true
-pub asked_truth : (root : Position) (nodes reach : ℕ) (slots : Option ℕ) (old new : Option (List ℕ)) (r : Result Verdict SearchStop) (asks : Asks root nodes reach slots old new r) (v : Verdict)
+pub asked_truth : (root : Position) (nodes reach : ℕ) (slots : Option ℕ) (old new : Option (List ℕ)) (r : Result Verdict SearchStop)
+    (asks : Asks root nodes reach slots old new r) (v : Verdict)
     → IsVerdict root asks.after v → IsTrueVerdict root v
 asked_truth root nodes reach slots old new r asks v right =
-    true_verdict root asks.after v (true_lemmas root [] (asks.white ++ asks.black) asks.after (AreRight_append root [] asks.mid asks.after asks.white asks.black asks.white_right asks.black_right) AreTrue_none) right
+    true_verdict root asks.after v
+        (true_lemmas root [] (asks.white ++ asks.black) asks.after
+        (AreRight_append root [] asks.mid asks.after asks.white asks.black asks.white_right asks.black_right) AreTrue_none) right
 
 pub same_stop : {A : Type 0} (r : Result A SearchStop) (stop other : SearchStop) → r ≡ Err stop → r ≡ Err other → stop ≡ other
 same_stop r stop other h k = cc

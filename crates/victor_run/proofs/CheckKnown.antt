@@ -34,7 +34,8 @@ module _ (a b : Pending) (got : LineGot) (text : List ℕ) (fed : Bool) (gives :
       record { answer = head_named bytes line is named; reaches = head_reaches bytes line is named })
 
   pub head_stops : (got ≡ Failed → ⊥) → (text ≡ first_line → ⊥) → Reads a b (λ bytes rest. PassesLines 1 bytes rest × (check_of bytes ≡ Refused 1 BadLine))
-  head_stops other unnamed = by_line a b got text fed gives _ (λ bytes rest h. head_other bytes (record { got = got; text = text; fed = fed; rest = rest }) (given bytes rest text got fed h other) unnamed)
+  head_stops other unnamed = by_line a b got text fed gives _
+      (λ bytes rest h. head_other bytes (record { got = got; text = text; fed = fed; rest = rest }) (given bytes rest text got fed h other) unnamed)
 
 -- ---- the lines
 
@@ -56,15 +57,20 @@ module _ (a b : Pending) (text : List ℕ) (fed : Bool) (s : CheckerState) (at :
     where
       by_stop : (bytes rest : List ℕ) → record { got = Line; text = text; fed = fed; rest = rest } ≡ next_line bytes
           → (stop : Stop) → StopsAtLine s at text stop → StopsBy (AtLine s at) bytes before after stop
-      by_stop bytes rest is (stops.Refused r) h = line_refused s at bytes (record { got = Line; text = text; fed = fed; rest = rest }) (why_of r.why) is refl h.0 ∙ ap (λ at. Refused at (why_of r.why)) (sym h.1)
+      by_stop bytes rest is (stops.Refused r) h = line_refused s at bytes (record { got = Line; text = text; fed = fed; rest = rest }) (why_of r.why) is refl
+          h.0 ∙ ap (λ at. Refused at (why_of r.why)) (sym h.1)
       by_stop bytes rest is stops.Memory h = lemma_reached s at bytes (record { got = Line; text = text; fed = fed; rest = rest }) is refl h
       by_stop bytes rest is (stops.Input why) h = absurd h
 
-  pub long_stops : Reads a b (λ bytes rest. Gives bytes rest Long text fed) → Reads a b (λ bytes rest. PassesLines 1 bytes rest × (lines_from s at bytes ≡ Refused at BadLine))
-  long_stops gives = by_line a b Long text fed gives _ (λ bytes rest is. long_got s at bytes (record { got = Long; text = text; fed = fed; rest = rest }) is refl)
+  pub long_stops : Reads a b (λ bytes rest. Gives bytes rest Long text fed)
+      → Reads a b (λ bytes rest. PassesLines 1 bytes rest × (lines_from s at bytes ≡ Refused at BadLine))
+  long_stops gives = by_line a b Long text fed gives _
+      (λ bytes rest is. long_got s at bytes (record { got = Long; text = text; fed = fed; rest = rest }) is refl)
 
-  pub none_known : Reads a b (λ bytes rest. Gives bytes rest Done text fed) → Reads a b (λ bytes rest. PassesLines 1 bytes rest × (lines_from s at bytes ≡ verdict_answer at (length s.known) s.verdict))
-  none_known gives = by_line a b Done text fed gives _ (λ bytes rest is. (none_got s at bytes (record { got = Done; text = text; fed = fed; rest = rest }) is refl))
+  pub none_known : Reads a b (λ bytes rest. Gives bytes rest Done text fed)
+      → Reads a b (λ bytes rest. PassesLines 1 bytes rest × (lines_from s at bytes ≡ verdict_answer at (length s.known) s.verdict))
+  none_known gives = by_line a b Done text fed gives _
+      (λ bytes rest is. (none_got s at bytes (record { got = Done; text = text; fed = fed; rest = rest }) is refl))
 
 -- a line that is read as a lemma which isn't refused
 pub next_lemma : (s : CheckerState) (at : ℕ) (bytes : List ℕ) (size : Board) (line : Said) → board_of s.root ≡ size → at ≤ most_lines
@@ -72,7 +78,8 @@ pub next_lemma : (s : CheckerState) (at : ℕ) (bytes : List ℕ) (size : Board)
 next_lemma s at bytes size line board within said stands lemma =
     let here : read_line (board_of s.root) bytes ≡ Some line = ap (λ board. read_line board bytes) board ∙ said in
     let none : bytes_refusal s at bytes ≡ None =
-    ap (λ few. or_then (unless few BadLine) (said_refusal s (read_line (board_of s.root) bytes))) (le-leb at most_lines within) ∙ ap (said_refusal s) here ∙ stands in
+    ap (λ few. or_then (unless few BadLine) (said_refusal s (read_line (board_of s.root) bytes))) (le-leb at most_lines within) ∙ ap (said_refusal s) here
+        ∙ stands in
     let found = lemma_of line lemma in
     (none, found.0, here ∙ ap (λ line. Some line) found.1)
   where
@@ -93,7 +100,8 @@ with_bytes_root s bytes = of_line (read_line (board_of s.root) bytes)
 -- ---- a whole text
 
 -- what is accepted is right, and says what is true
-pub right_input : (taken : List ℕ) (left : Option (List ℕ)) (v : Verdict) (count : ℕ) → check_of taken ≡ Accepted v count → IsAtEnd left → IsRightInput taken left v count
+pub right_input : (taken : List ℕ) (left : Option (List ℕ)) (v : Verdict) (count : ℕ) → check_of taken ≡ Accepted v count → IsAtEnd left
+    → IsRightInput taken left v count
 right_input taken left v count accepted whole =
     let text = whole_accepted taken v count accepted in
     let says = true_text taken v count text in

@@ -6,7 +6,8 @@ use Rattle.game_rules.specs.Position.{Position}
 use Rattle.game_rules.specs.Text.{game_at}
 use Rattle.game_rules.specs.declared.InputFault.{InputFault}
 use Rattle.proof_text.specs.Checked.{Why, CheckerState}
-use Rattle.proof_text.specs.Texts.{pieces, lines_in, first_number, game_of, behind_game, bytes_refusal, NoGame, Refused, verdict_answer, line_answer, with_bytes, check_from, start, game_answer, first_line, check_of}
+use Rattle.proof_text.specs.Texts.{pieces, lines_in, first_number, game_of, behind_game, bytes_refusal, NoGame, Refused, verdict_answer, line_answer,
+    with_bytes, check_from, start, game_answer, first_line, check_of}
 use Rattle.proof_text.proofs.Fold.{answer_by_lines}
 use Rattle.proof_text.proofs.First.{out_of_bounds, no_head, with_head}
 use Rattle.proof_text.specs.declared.Why.TheVariants.{BadLine}
@@ -23,13 +24,16 @@ line_got : (s : CheckerState) (at : ℕ) (bytes : List ℕ) (line : Cut) → lin
 unfolding lines_from
 line_got s at bytes line is got = ap (check_from s at) (line_first bytes line is got)
 
-pub line_refused : (s : CheckerState) (at : ℕ) (bytes : List ℕ) (line : Cut) (why : Why) → line ≡ next_line bytes → line.got ≡ Line → bytes_refusal s at line.text ≡ Some why
+pub line_refused : (s : CheckerState) (at : ℕ) (bytes : List ℕ) (line : Cut) (why : Why) → line ≡ next_line bytes → line.got ≡ Line
+    → bytes_refusal s at line.text ≡ Some why
     → lines_from s at bytes ≡ Refused at why
-line_refused s at bytes line why is got refused = line_got s at bytes line is got ∙ ap (λ r. line_answer r at (lines_from (with_bytes s line.text) (at + 1) line.rest)) refused
+line_refused s at bytes line why is got refused = line_got s at bytes line is got
+    ∙ ap (λ r. line_answer r at (lines_from (with_bytes s line.text) (at + 1) line.rest)) refused
 
 pub line_stands : (s : CheckerState) (at : ℕ) (bytes : List ℕ) (line : Cut) → line ≡ next_line bytes → line.got ≡ Line → bytes_refusal s at line.text ≡ None
     → lines_from s at bytes ≡ lines_from (with_bytes s line.text) (at + 1) line.rest
-line_stands s at bytes line is got stands = line_got s at bytes line is got ∙ ap (λ r. line_answer r at (lines_from (with_bytes s line.text) (at + 1) line.rest)) stands
+line_stands s at bytes line is got stands = line_got s at bytes line is got
+    ∙ ap (λ r. line_answer r at (lines_from (with_bytes s line.text) (at + 1) line.rest)) stands
 
 -- a line that is too long is refused
 pub long_got : (s : CheckerState) (at : ℕ) (bytes : List ℕ) (line : Cut) → line ≡ next_line bytes → line.got ≡ Long → lines_from s at bytes ≡ Refused at BadLine
@@ -50,7 +54,8 @@ unfolding LinesReach
 lemma_reached s at bytes line is got next = subst (ReachLemma s at) (sym (line_first bytes line is got)) (inl next)
 
 -- where no line is left, the verdict decides
-pub none_got : (s : CheckerState) (at : ℕ) (bytes : List ℕ) (line : Cut) → line ≡ next_line bytes → line.got ≡ Done → lines_from s at bytes ≡ verdict_answer at (length s.known) s.verdict
+pub none_got : (s : CheckerState) (at : ℕ) (bytes : List ℕ) (line : Cut) → line ≡ next_line bytes → line.got ≡ Done
+    → lines_from s at bytes ≡ verdict_answer at (length s.known) s.verdict
 unfolding lines_from
 none_got s at bytes line is got = ap (check_from s at) (none_left bytes line is got).0
 
@@ -61,7 +66,8 @@ unfolding game_from
 head_named bytes line is named =
     by_piece bytes line (check_of bytes ≡ game_answer (game_at (game_of (pieces line.rest))) (behind_game (pieces line.rest))) is
     (λ fed cut. with_head bytes (pieces line.rest) (cut ∙ ap (λ text. text ∷ pieces line.rest) named))
-    (λ fed none cut. with_head bytes [] (cut ∙ ap (λ text. text ∷ []) named) ∙ ap (λ rest. game_answer (game_at (game_of (pieces rest))) (behind_game (pieces rest))) (sym none))
+    (λ fed none cut. with_head bytes [] (cut ∙ ap (λ text. text ∷ []) named)
+        ∙ ap (λ rest. game_answer (game_at (game_of (pieces rest))) (behind_game (pieces rest))) (sym none))
     (λ first more cut longer size prefix. absurd (omega (arith, size, ap length named)))
 
 pub head_reaches : (bytes : List ℕ) (line : Cut) → line ≡ next_line bytes → line.text ≡ first_line → GameReaches line.rest → BeginsProof bytes
@@ -82,10 +88,12 @@ head_other bytes line is other =
 -- ---- behind the game
 
 -- where the first two lines are a game, the answer is that to the lines behind them
-pub game_read : (bytes rest : List ℕ) (root : Position) → game_at (game_of (pieces bytes)) ≡ Ok root → behind_game (pieces bytes) ≡ lines_in (pieces rest) → game_from bytes ≡ lines_from (start root) first_number rest
+pub game_read : (bytes rest : List ℕ) (root : Position) → game_at (game_of (pieces bytes)) ≡ Ok root → behind_game (pieces bytes) ≡ lines_in (pieces rest)
+    → game_from bytes ≡ lines_from (start root) first_number rest
 unfolding game_from lines_from
 game_read bytes rest root game behind =
-    ap (λ r. game_answer r (behind_game (pieces bytes))) game ∙ answer_by_lines root (behind_game (pieces bytes)) ∙ ap (check_from (start root) first_number) behind
+    ap (λ r. game_answer r (behind_game (pieces bytes))) game ∙ answer_by_lines root (behind_game (pieces bytes))
+        ∙ ap (check_from (start root) first_number) behind
 
 pub game_reaches : (bytes rest : List ℕ) (root : Position) → game_at (game_of (pieces bytes)) ≡ Ok root
     → behind_game (pieces bytes) ≡ lines_in (pieces rest) → LinesReach (start root) first_number rest → GameReaches bytes

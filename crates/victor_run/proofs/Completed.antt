@@ -26,7 +26,8 @@ is_the_form words None form read written = absurd (read form written)
 is_the_form words (Some other) form read written = ap Some (one_form words other form read written)
 
 -- so what a run promises of the form that they are read as, it promises of that one
-pub by_form : (words : List (List ℕ)) (form : Form) (s : Streams) (ending : Ending) → ((read : Option Form) × IsReadAs words read × Outcome read s ending) → IsWritten words form
+pub by_form : (words : List (List ℕ)) (form : Form) (s : Streams) (ending : Ending) → ((read : Option Form) × IsReadAs words read × Outcome read s ending)
+    → IsWritten words form
     → Outcome (Some form) s ending
 by_form words form s ending (read, is_read, outcome) written = subst (λ read. Outcome read s ending) (is_the_form words read form is_read written) outcome
 
@@ -38,15 +39,19 @@ same_position : (bytes : List ℕ) (p q : Position) → game_at bytes ≡ Ok p �
 same_position bytes p q one another = let same : Ok p ≡ Ok q = sym one ∙ another in cc
 
 module _ (s : Streams) where
-  pub prove_completes : (nodes reach table : ℕ) (front : Option ℕ) (ending : Ending) → Outcome (Some (Prove nodes reach front table)) s ending → (ending ≡ endings.Read → ⊥) → (ending ≡ endings.Write → ⊥)
+  pub prove_completes : (nodes reach table : ℕ) (front : Option ℕ) (ending : Ending) → Outcome (Some (Prove nodes reach front table)) s ending
+      → (ending ≡ endings.Read → ⊥) → (ending ≡ endings.Write → ⊥)
       → IfSome s.input (λ bytes. (p : Position) → game_at bytes ≡ Ok p → cost (solved_within reach) p ≤ nodes → (status_of ending ≡ 0) ⊎ (status_of ending ≡ 8))
   prove_completes nodes reach table front endings.Done o unread unwritten = of_each s.input _ (λ bytes p game cheap. inl refl)
   prove_completes nodes reach table front endings.Unknown o unread unwritten =
       let left = o.holds.0 in
-      IfSome_more s.input (λ bytes. game_at bytes ≡ Ok left.position) _ (Consumes-whole s.input s.left o.taken (λ bytes. game_at bytes ≡ Ok left.position) o.gave o.holds.1 left.game)
-      (λ bytes at p game cheap. absurd (let same : left.position ≡ p = same_position bytes left.position p at game in omega (arith, left.short, cheap, ap (cost (solved_within reach)) same)))
+      IfSome_more s.input (λ bytes. game_at bytes ≡ Ok left.position) _
+          (Consumes-whole s.input s.left o.taken (λ bytes. game_at bytes ≡ Ok left.position) o.gave o.holds.1 left.game)
+      (λ bytes at p game cheap. absurd (let same : left.position ≡ p = same_position bytes left.position p at game in
+          omega (arith, left.short, cheap, ap (cost (solved_within reach)) same)))
   prove_completes nodes reach table front (endings.Input fault) o unread unwritten =
-      IfSome_more s.input (λ bytes. game_at bytes ≡ Err fault) _ o.holds.1 (λ bytes at p game cheap. absurd (let never : Ok p ≡ Err fault = sym game ∙ at in cc))
+      IfSome_more s.input (λ bytes. game_at bytes ≡ Err fault) _ o.holds.1
+          (λ bytes at p game cheap. absurd (let never : Ok p ≡ Err fault = sym game ∙ at in cc))
   prove_completes nodes reach table front endings.Read o unread unwritten = absurd (unread refl)
   prove_completes nodes reach table front endings.Write o unread unwritten = absurd (unwritten refl)
   prove_completes nodes reach table front endings.Usage o unread unwritten = absurd o.holds
@@ -59,8 +64,10 @@ module _ (s : Streams) where
       → IfSome s.input (λ bytes. (v : Verdict) (count : ℕ) → check_of bytes ≡ Accepted v count → (status_of ending ≡ 0) ⊎ (status_of ending ≡ 8))
   check_completes endings.Done o unread unwritten = of_each s.input _ (λ bytes v count right. inl refl)
   check_completes endings.Memory o unread unwritten = of_each s.input _ (λ bytes v count right. inr refl)
-  check_completes (endings.Input fault) o unread unwritten = IfSome_more s.input _ _ o.holds.0.0.1 (λ bytes refused v count right. absurd (cc (sym right ∙ refused)))
-  check_completes (endings.Refused refusal) o unread unwritten = IfSome_more s.input _ _ o.holds.0.0.1 (λ bytes refused v count right. absurd (cc (sym right ∙ refused)))
+  check_completes (endings.Input fault) o unread unwritten = IfSome_more s.input _ _ o.holds.0.0.1
+      (λ bytes refused v count right. absurd (cc (sym right ∙ refused)))
+  check_completes (endings.Refused refusal) o unread unwritten = IfSome_more s.input _ _ o.holds.0.0.1
+      (λ bytes refused v count right. absurd (cc (sym right ∙ refused)))
   check_completes endings.Read o unread unwritten = absurd (unread refl)
   check_completes endings.Write o unread unwritten = absurd (unwritten refl)
   check_completes endings.Usage o unread unwritten = absurd o.holds.0
@@ -71,10 +78,14 @@ module _ (s : Streams) where
   pub play_completes : (ending : Ending) → Outcome (Some Play) s ending → (ending ≡ endings.Read → ⊥) → (ending ≡ endings.Write → ⊥)
       → IfSome s.input (λ bytes. (play_of bytes).end ≡ AllPlayed → status_of ending ≡ 0)
   play_completes endings.Done o unread unwritten = of_each s.input _ (λ bytes right. refl)
-  play_completes (endings.NoMove fault) o unread unwritten = IfSome_more s.input _ _ o.holds.1.1 (λ bytes played right. absurd (cc (sym right ∙ ap (λ play. play.end) played)))
-  play_completes (endings.Input fault) o unread unwritten = IfSome_more s.input _ _ o.holds.0.1 (λ bytes played right. absurd (cc (sym right ∙ ap (λ play. play.end) played)))
-  play_completes (endings.Refused refusal) o unread unwritten = IfSome_more s.input _ _ o.holds.2.1 (λ bytes played right. absurd (cc (sym right ∙ ap (λ play. play.end) played)))
-  play_completes (endings.NoPlan fault) o unread unwritten = IfSome_more s.input _ _ o.holds.0.1 (λ bytes played right. absurd (cc (sym right ∙ ap (λ play. play.end) played)))
+  play_completes (endings.NoMove fault) o unread unwritten = IfSome_more s.input _ _ o.holds.1.1
+      (λ bytes played right. absurd (cc (sym right ∙ ap (λ play. play.end) played)))
+  play_completes (endings.Input fault) o unread unwritten = IfSome_more s.input _ _ o.holds.0.1
+      (λ bytes played right. absurd (cc (sym right ∙ ap (λ play. play.end) played)))
+  play_completes (endings.Refused refusal) o unread unwritten = IfSome_more s.input _ _ o.holds.2.1
+      (λ bytes played right. absurd (cc (sym right ∙ ap (λ play. play.end) played)))
+  play_completes (endings.NoPlan fault) o unread unwritten = IfSome_more s.input _ _ o.holds.0.1
+      (λ bytes played right. absurd (cc (sym right ∙ ap (λ play. play.end) played)))
   play_completes endings.Read o unread unwritten = absurd (unread refl)
   play_completes endings.Write o unread unwritten = absurd (unwritten refl)
   play_completes endings.Usage o unread unwritten = absurd o.holds
@@ -84,11 +95,15 @@ module _ (s : Streams) where
   pub explain_completes : (reach : ℕ) (ending : Ending) → Outcome (Some (Explain reach)) s ending → (ending ≡ endings.Read → ⊥) → (ending ≡ endings.Write → ⊥)
       → (found : Bool) → IfSome s.input (λ bytes. (p : Position) → game_at bytes ≡ Ok p → solved p reach ≡ found → status_of ending ≡ (if found then 0 else 5))
   explain_completes reach endings.Done o unread unwritten found =
-      IfSome_more s.input (λ bytes. game_at bytes ≡ Ok o.holds.0.position) _ (Consumes-whole s.input s.left o.taken (λ bytes. game_at bytes ≡ Ok o.holds.0.position) o.gave o.holds.1 o.holds.0.game)
-      (λ bytes at p game is. ap (λ found. if found then 0 else 5) (sym o.holds.0.decided ∙ ap (λ p. solved p reach) (same_position bytes o.holds.0.position p at game) ∙ is))
+      IfSome_more s.input (λ bytes. game_at bytes ≡ Ok o.holds.0.position) _
+          (Consumes-whole s.input s.left o.taken (λ bytes. game_at bytes ≡ Ok o.holds.0.position) o.gave o.holds.1 o.holds.0.game)
+      (λ bytes at p game is. ap (λ found. if found then 0 else 5)
+          (sym o.holds.0.decided ∙ ap (λ p. solved p reach) (same_position bytes o.holds.0.position p at game) ∙ is))
   explain_completes reach endings.Unknown o unread unwritten found =
-      IfSome_more s.input (λ bytes. game_at bytes ≡ Ok o.holds.0.position) _ (Consumes-whole s.input s.left o.taken (λ bytes. game_at bytes ≡ Ok o.holds.0.position) o.gave o.holds.1 o.holds.0.game)
-      (λ bytes at p game is. ap (λ found. if found then 0 else 5) (sym o.holds.0.decided ∙ ap (λ p. solved p reach) (same_position bytes o.holds.0.position p at game) ∙ is))
+      IfSome_more s.input (λ bytes. game_at bytes ≡ Ok o.holds.0.position) _
+          (Consumes-whole s.input s.left o.taken (λ bytes. game_at bytes ≡ Ok o.holds.0.position) o.gave o.holds.1 o.holds.0.game)
+      (λ bytes at p game is. ap (λ found. if found then 0 else 5)
+          (sym o.holds.0.decided ∙ ap (λ p. solved p reach) (same_position bytes o.holds.0.position p at game) ∙ is))
   explain_completes reach (endings.Input fault) o unread unwritten found =
       IfSome_more s.input (λ bytes. game_at bytes ≡ Err fault) _ o.holds.1 (λ bytes at p game is. absurd (let never : Ok p ≡ Err fault = sym game ∙ at in cc))
   explain_completes reach endings.Read o unread unwritten found = absurd (unread refl)
@@ -99,7 +114,8 @@ module _ (s : Streams) where
   explain_completes reach (endings.NoPlan fault) o unread unwritten found = absurd o.holds
   explain_completes reach endings.Memory o unread unwritten found = absurd o.holds
 
-  pub drill_completes : (size : Board) (moves seed games nodes reach : ℕ) (ending : Ending) → Outcome (Some (Drill size moves seed games nodes reach)) s ending → (ending ≡ endings.Write → ⊥)
+  pub drill_completes : (size : Board) (moves seed games nodes reach : ℕ) (ending : Ending) → Outcome (Some (Drill size moves seed games nodes reach)) s ending
+      → (ending ≡ endings.Write → ⊥)
       → (status_of ending ≡ 0) ⊎ (status_of ending ≡ 8)
   drill_completes size moves seed games nodes reach endings.Done o unwritten = inl refl
   drill_completes size moves seed games nodes reach endings.Write o unwritten = absurd (unwritten refl)

@@ -52,17 +52,23 @@ IfSome_more None P Q h more = tt
 IfSome_more (Some bytes) P Q h more = more bytes h
 
 -- what was written for the game is what `prove` promises
-pub proves_game : (nodes reach : ℕ) (slots : Option ℕ) (s : Streams) (p : Position) (heard : List ℕ) → IsAtEnd s.left → game_at heard ≡ Ok p → (r : Result Verdict Failed) → Writes nodes reach slots heard p s.old s.new r
+pub proves_game : (nodes reach : ℕ) (slots : Option ℕ) (s : Streams) (p : Position) (heard : List ℕ) → IsAtEnd s.left → game_at heard ≡ Ok p
+    → (r : Result Verdict Failed) → Writes nodes reach slots heard p s.old s.new r
     → (r ≡ Ok verdicts.Unknown → nodes < cost (solved_within reach) p) → Proves nodes reach slots heard s (ending_of r)
-proves_game nodes reach slots s p heard ended game (Ok (verdicts.Win lemma)) h short = (record { position = p; game = game; verdict = verdicts.Win lemma; known = λ e. cc; text = h.0; proof = h.1; written = h.2 }, ended)
-proves_game nodes reach slots s p heard ended game (Ok (verdicts.Loss lemma)) h short = (record { position = p; game = game; verdict = verdicts.Loss lemma; known = λ e. cc; text = h.0; proof = h.1; written = h.2 }, ended)
-proves_game nodes reach slots s p heard ended game (Ok (verdicts.Draw white black)) h short = (record { position = p; game = game; verdict = verdicts.Draw white black; known = λ e. cc; text = h.0; proof = h.1; written = h.2 }, ended)
-proves_game nodes reach slots s p heard ended game (Ok verdicts.Unknown) h short = (record { position = p; game = game; short = short refl; text = h.0; proof = h.1; written = h.2 }, ended)
+proves_game nodes reach slots s p heard ended game (Ok (verdicts.Win lemma)) h short =
+    (record { position = p; game = game; verdict = verdicts.Win lemma; known = λ e. cc; text = h.0; proof = h.1; written = h.2 }, ended)
+proves_game nodes reach slots s p heard ended game (Ok (verdicts.Loss lemma)) h short =
+    (record { position = p; game = game; verdict = verdicts.Loss lemma; known = λ e. cc; text = h.0; proof = h.1; written = h.2 }, ended)
+proves_game nodes reach slots s p heard ended game (Ok (verdicts.Draw white black)) h short =
+    (record { position = p; game = game; verdict = verdicts.Draw white black; known = λ e. cc; text = h.0; proof = h.1; written = h.2 }, ended)
+proves_game nodes reach slots s p heard ended game (Ok verdicts.Unknown) h short =
+    (record { position = p; game = game; short = short refl; text = h.0; proof = h.1; written = h.2 }, ended)
 proves_game nodes reach slots s p heard ended game (Err failed) h short = (record { position = p; game = game; text = h.0; stands = h.1; written = h.2 }, ended)
 
 -- where no game was read, a run keeps what it promises of a fault and of a source that failed
 pub no_game : (s : Streams) (Holds : List ℕ → Ending → Type 0)
-    → ((taken : List ℕ) (fault : InputFault) → game_at taken ≡ Err fault → IfSome s.input (λ bytes. game_at bytes ≡ Err fault) → Holds taken (endings.Input fault))
+    → ((taken : List ℕ) (fault : InputFault) → game_at taken ≡ Err fault → IfSome s.input (λ bytes. game_at bytes ≡ Err fault)
+        → Holds taken (endings.Input fault))
     → ((taken : List ℕ) → Holds taken endings.Read)
     → (stop : InputStop) → TakesGame s.input s.left (Err stop) → Took s 256 (λ taken. Holds taken (input_ending stop))
 no_game s Holds faulty failed (NoGame fault) takes =

@@ -1,5 +1,6 @@
 -- What is written of a plan, piece by piece.
-use Rattle.std.proofs.Common.{Result, Ok, Err, IfOk, is_ok, true, zero, suc, inl, inr, if◌then◌else◌, ◌==◌, ◌-◌, ◌<◌, Option, Some, length, get_or, slice_get, codes, arith, subst, append_assoc, ◌≡◌, ℕ, Bool, true, false, List, [], ◌∷◌, ◌++◌, map, filter, cond, refl, sym, ap, ◌∙◌, flat_map, append-nil}
+use Rattle.std.proofs.Common.{Result, Ok, Err, IfOk, is_ok, true, zero, suc, inl, inr, if◌then◌else◌, ◌==◌, ◌-◌, ◌<◌, Option, Some, length, get_or, slice_get,
+    codes, arith, subst, append_assoc, ◌≡◌, ℕ, Bool, true, false, List, [], ◌∷◌, ◌++◌, map, filter, cond, refl, sym, ap, ◌∙◌, flat_map, append-nil}
 use Rattle.std.specs.Option.{option_map, option_map_or}
 use Rattle.std.proofs.lemmas.Option.{get_or_from_slice_get, slice_get_cases}
 use Rattle.std.specs.Io.KnownBytes.{Appends, IsAtEnd}
@@ -33,7 +34,8 @@ pub lines_by_group : (p : Position) (ws : List RuleInstance) (gs : List Group) �
 lines_by_group p ws [] = refl
 lines_by_group p ws (g ∷ gs) = by_white (is_white p g) ∙ ap (λ rest. lines_of_group p ws g ++ rest) (lines_by_group p ws gs)
   where
-    by_white : (white : Bool) → flat_map (answer_line p ws) (if white then g ∷ filter (is_white p) gs else filter (is_white p) gs) ≡ flat_map (answer_line p ws) (if white then g ∷ [] else []) ++ answer_lines p ws gs
+    by_white : (white : Bool) → flat_map (answer_line p ws) (if white then g ∷ filter (is_white p) gs else filter (is_white p) gs)
+        ≡ flat_map (answer_line p ws) (if white then g ∷ [] else []) ++ answer_lines p ws gs
     by_white true = ap (λ text. text ++ answer_lines p ws gs) (sym (append-nil (answer_line p ws g)))
     by_white false = refl
 
@@ -49,7 +51,8 @@ squares_some [] none = absurd (cc none)
 squares_some (u ∷ us) some = refl
 
 -- the groups of a board lie on it
-pub listed_lies : (p : Position) (gs : List Group) → gs ≡ groups_of (board_of p) → (i : ℕ) (g : Group) → i < length gs → g ≡ get_or gs i g → lies_on (board_of p) g ≡ true
+pub listed_lies : (p : Position) (gs : List Group) → gs ≡ groups_of (board_of p) → (i : ℕ) (g : Group) → i < length gs → g ≡ get_or gs i g
+    → lies_on (board_of p) g ≡ true
 listed_lies p gs listed i g within at = Among-groups_gives (board_of p) g (subst (Among g) listed (among gs i within at))
   where
     among : (gs : List Group) (i : ℕ) → i < length gs → g ≡ get_or gs i g → Among g gs
@@ -69,16 +72,20 @@ module _ (a b c : List ℕ) (old one : Option (List ℕ)) where
 
   module _ (first : Appends old one a) (two : Option (List ℕ)) where
     pub line_cut_second : AppendsPrefix false one two b → AppendsPrefix false old two (as_line (a ++ (b ++ c)))
-    line_cut_second second = rw (in_line a b c) (AppendsPrefix_more false old one two a (b ++ as_line c) first (AppendsPrefix_take one two b (as_line c) second))
+    line_cut_second second = rw (in_line a b c)
+        (AppendsPrefix_more false old one two a (b ++ as_line c) first (AppendsPrefix_take one two b (as_line c) second))
 
     module _ (second : Appends one two b) (three : Option (List ℕ)) where
       pub line_cut_third : AppendsPrefix false two three c → AppendsPrefix false old three (as_line (a ++ (b ++ c)))
       line_cut_third third = rw (in_line a b c)
-          (AppendsPrefix_more false old one three a (b ++ as_line c) first (AppendsPrefix_more false one two three b (as_line c) second (AppendsPrefix_take two three c (10 ∷ []) third)))
+          (AppendsPrefix_more false old one three a (b ++ as_line c) first
+              (AppendsPrefix_more false one two three b (as_line c) second (AppendsPrefix_take two three c (10 ∷ []) third)))
 
-      pub line_ends : Appends two three c → (ok : Bool) (new : Option (List ℕ)) → AppendsPrefix ok three new (10 ∷ []) → AppendsPrefix ok old new (as_line (a ++ (b ++ c)))
+      pub line_ends : Appends two three c → (ok : Bool) (new : Option (List ℕ)) → AppendsPrefix ok three new (10 ∷ [])
+          → AppendsPrefix ok old new (as_line (a ++ (b ++ c)))
       line_ends third ok new feed = rw (in_line a b c)
-          (AppendsPrefix_more ok old one new a (b ++ as_line c) first (AppendsPrefix_more ok one two new b (as_line c) second (AppendsPrefix_more ok two three new c (10 ∷ []) third feed)))
+          (AppendsPrefix_more ok old one new a (b ++ as_line c) first
+              (AppendsPrefix_more ok one two new b (as_line c) second (AppendsPrefix_more ok two three new c (10 ∷ []) third feed)))
 
 -- ---- the member that a plan names for a group
 
@@ -108,7 +115,8 @@ module _ (plan : Planned) (g : Group) (place : ℕ) (named : IsNamed plan.at (me
 
   -- the line of the group has the text of that member
   pub named_line : lines_of_group plan.at (members plan) g ≡ as_line (group_text g ++ (codes " by " ++ instance_text named.member))
-  named_line = white_line plan.at (members plan) g named.white ∙ ap (λ found. as_line (group_text g ++ (codes " by " ++ option_map_or instance_text found []))) named.answers
+  named_line = white_line plan.at (members plan) g named.white ∙ ap (λ found. as_line (group_text g ++ (codes " by " ++ option_map_or instance_text found [])))
+      named.answers
 
   pub place_line : (x : Instance) → x ≡ get_or plan.list (place - 1) x
       → lines_of_group plan.at (members plan) g ≡ as_line (group_text g ++ (codes " by " ++ instance_text (written x)))
@@ -117,7 +125,8 @@ module _ (plan : Planned) (g : Group) (place : ℕ) (named : IsNamed plan.at (me
 -- ---- how a run ends
 
 -- what was written of the game is what `explain` promises
-pub explains_game : (reach : ℕ) (s : Streams) (taken : List ℕ) (p : Position) → IsAtEnd s.left → game_at taken ≡ Ok p → (r : Result Bool Failed) → IfOk r (λ found. found ≡ solved p reach)
+pub explains_game : (reach : ℕ) (s : Streams) (taken : List ℕ) (p : Position) → IsAtEnd s.left → game_at taken ≡ Ok p → (r : Result Bool Failed)
+    → IfOk r (λ found. found ≡ solved p reach)
     → AppendsPrefix (is_ok r) s.old s.new (explanation p reach) → Explains reach taken s (explained_ending r)
 explains_game reach s taken p ended game (Ok true) found written = (record { position = p; game = game; decided = sym found; written = written }, ended)
 explains_game reach s taken p ended game (Ok false) found written = (record { position = p; game = game; decided = sym found; written = written }, ended)

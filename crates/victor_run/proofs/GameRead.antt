@@ -26,7 +26,8 @@ given bytes rest text Done fed h other = h
 given bytes rest text Failed fed h other = absurd (other refl)
 
 -- the prefix of a line, and its line feed
-pub prefix_put : (before mid after text given : List ℕ) (n : ℕ) (fed : Bool) → given ≡ text → n ≡ min (length given) game_prefix → mid ≡ before ++ take n given → after ≡ mid ++ feed fed
+pub prefix_put : (before mid after text given : List ℕ) (n : ℕ) (fed : Bool) → given ≡ text → n ≡ min (length given) game_prefix → mid ≡ before ++ take n given
+    → after ≡ mid ++ feed fed
     → after ≡ before ++ (take game_prefix text ++ feed fed)
 prefix_put before mid after text given n fed same size put more =
     let least : n ≡ min game_prefix (length given) = omega arith in
@@ -35,10 +36,12 @@ prefix_put before mid after text given n fed same size put more =
 
 module _ (a b : Pending) (got : LineGot) (text : List ℕ) (fed : Bool) (gives : Reads a b (λ bytes rest. Gives bytes rest got text fed)) where
   -- a step by one line
-  pub by_line : (P : List ℕ → List ℕ → Type 0) → ((bytes rest : List ℕ) → Gives bytes rest got text fed → P bytes rest) → Reads a b (λ bytes rest. PassesLines 1 bytes rest × P bytes rest)
+  pub by_line : (P : List ℕ → List ℕ → Type 0) → ((bytes rest : List ℕ) → Gives bytes rest got text fed → P bytes rest)
+      → Reads a b (λ bytes rest. PassesLines 1 bytes rest × P bytes rest)
   by_line P more = Reads_more a b _ _ gives (λ bytes rest h. (passes_line bytes rest text got fed h, more bytes rest h))
 
-  pub kept_known : (got ≡ Failed → ⊥) → (before after : List ℕ) → after ≡ before ++ (take game_prefix text ++ feed fed) → Reads a b (λ bytes rest. PassesLines 1 bytes rest × KeepsLine before after bytes rest)
+  pub kept_known : (got ≡ Failed → ⊥) → (before after : List ℕ) → after ≡ before ++ (take game_prefix text ++ feed fed)
+      → Reads a b (λ bytes rest. PassesLines 1 bytes rest × KeepsLine before after bytes rest)
   kept_known other before after put =
       by_line _ (λ bytes rest h. let is = given bytes rest text got fed h other in (put ∙ ap (λ line. before ++ kept_of line) is, ap (λ line. line.rest) is))
 
@@ -57,11 +60,13 @@ game_unread a b m n X before mid after stop few later (is, rose) reads =
 
 module _ (a b c : Pending) (one two : List ℕ) (first : Reads a b (λ bytes rest. PassesLines 1 bytes rest × KeepsLine [] one bytes rest))
     (second : Reads b c (λ bytes rest. PassesLines 1 bytes rest × KeepsLine one two bytes rest)) where
-  both : (bytes mid : List ℕ) → one ≡ [] ++ kept_of (next_line bytes) → mid ≡ (next_line bytes).rest → two ≡ one ++ kept_of (next_line mid) → two ≡ kept_of (next_line bytes) ++ kept_of (next_line mid)
+  both : (bytes mid : List ℕ) → one ≡ [] ++ kept_of (next_line bytes) → mid ≡ (next_line bytes).rest → two ≡ one ++ kept_of (next_line mid)
+      → two ≡ kept_of (next_line bytes) ++ kept_of (next_line mid)
   both bytes mid put after more = more ∙ ap (λ text. text ++ kept_of (next_line mid)) put
 
   pub game_known : (root : Position) → game_at two ≡ Ok root
-      → Reads a c (λ bytes rest. PassesLines 2 bytes rest × ((game_at (game_of (pieces bytes)) ≡ Ok root) × (behind_game (pieces bytes) ≡ lines_in (pieces rest))))
+      → Reads a c (λ bytes rest. PassesLines 2 bytes rest
+          × ((game_at (game_of (pieces bytes)) ≡ Ok root) × (behind_game (pieces bytes) ≡ lines_in (pieces rest))))
   game_known root game =
       Reads_then a b c _ _ _ first second (λ bytes mid rest p q.
       let kept = sym (ap game_at (both bytes mid p.1.0 p.1.1 q.1.0)) ∙ game in (
@@ -72,7 +77,8 @@ module _ (a b c : Pending) (one two : List ℕ) (first : Reads a b (λ bytes res
         ),
       ))
 
-  pub game_stops : (fault : InputFault) → game_at two ≡ Err fault → Reads a c (λ bytes rest. PassesLines 2 bytes rest × (game_at (game_of (pieces bytes)) ≡ Err fault))
+  pub game_stops : (fault : InputFault) → game_at two ≡ Err fault
+      → Reads a c (λ bytes rest. PassesLines 2 bytes rest × (game_at (game_of (pieces bytes)) ≡ Err fault))
   game_stops fault game =
       Reads_then a b c _ _ _ first second (λ bytes mid rest p q. (
         passes_then 1 1 bytes mid rest p.0 q.0,

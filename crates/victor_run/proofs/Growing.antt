@@ -1,5 +1,6 @@
 -- Where a front ends, and that its remark is one.
-use Rattle.std.proofs.Common.{◌≡◌, ◌≢◌, ◌⊎◌, ℕ, ◌+◌, ◌%◌, ◌<◌, ◌≤◌, ◌^◌, Bool, true, false, ◌||◌, List, [], ◌∷◌, ◌++◌, ◌==◌, codes, decimal, length, Option, Some, refl, sym, ap, ◌∙◌, subst, inl, inr, arith, length-append}
+use Rattle.std.proofs.Common.{◌≡◌, ◌≢◌, ◌⊎◌, ℕ, ◌+◌, ◌%◌, ◌<◌, ◌≤◌, ◌^◌, Bool, true, false, ◌||◌, List, [], ◌∷◌, ◌++◌, ◌==◌, codes, decimal, length, Option,
+    Some, refl, sym, ap, ◌∙◌, subst, inl, inr, arith, length-append}
 use Rattle.std.specs.List.{list_all}
 use mathlib.Core.Bool.{true≢false}
 use Rattle.std.proofs.lemmas.Bool.{cases_Bool, cases_lt, eq-eqb, ne_eqb, le-leb}
@@ -58,9 +59,12 @@ abbrev behind_side : ℕ → Count → Count → List ℕ
 behind_side n proof disproof = decimal n ++ 32 ∷ (count_word proof ++ 32 ∷ count_word disproof)
 
 -- such words are a remark
-pub remark_prints : (side : Side) (n : ℕ) (proof disproof : Count) → IsRemarkWord (decimal n) → IsRemarkWord (count_word proof) → IsRemarkWord (count_word disproof) → is_remark (remark_of side n proof disproof) ≡ true
+pub remark_prints : (side : Side) (n : ℕ) (proof disproof : Count) → IsRemarkWord (decimal n) → IsRemarkWord (count_word proof)
+    → IsRemarkWord (count_word disproof) → is_remark (remark_of side n proof disproof) ≡ true
 remark_prints side n proof disproof first second third =
-    remark_if (codes " front " ++ (side_word side ++ 32 ∷ behind_side n proof disproof)) (word_prints (side_word side) (behind_side n proof disproof) (side_prints side) (word_prints (decimal n) _ first.0 (word_prints (count_word proof) (count_word disproof) second.0 third.0)))
+    remark_if (codes " front " ++ (side_word side ++ 32 ∷ behind_side n proof disproof))
+        (word_prints (side_word side) (behind_side n proof disproof) (side_prints side)
+        (word_prints (decimal n) _ first.0 (word_prints (count_word proof) (count_word disproof) second.0 third.0)))
     (omega (
       arith,
       first.1,
@@ -112,7 +116,8 @@ module _ (root : Position) (side : Side) (reach slots n : ℕ) (f : FrontState) 
   pub stopped : (g : Grown) → g ≢ Expanded → IsAnswer f g → is_front_end root side reach slots n ≡ true
   stopped (Settled true) other answer = by_first _ _ _ (sym settled_is ∙ ap (λ b. b || has_zero false) (answer.yes.0 refl))
   stopped (Settled false) other answer = by_first _ _ _ (sym settled_is ∙ or_true (has_zero true) (has_zero false) (answer.no.0 refl))
-  stopped Full other answer = by_second (is_settled side (front root side reach n)) (is_full side slots (front root side reach n)) (n == slots) (sym full_is ∙ (answer.full.0 refl).1)
+  stopped Full other answer = by_second (is_settled side (front root side reach n)) (is_full side slots (front root side reach n)) (n == slots)
+      (sym full_is ∙ (answer.full.0 refl).1)
   stopped Expanded other answer = absurd (other refl)
 
   pub went_on : (g : Grown) → g ≡ Expanded → IsAnswer f g → n < slots → is_front_end root side reach slots n ≡ false
@@ -122,8 +127,10 @@ module _ (root : Position) (side : Side) (reach slots n : ℕ) (f : FrontState) 
         | inr first ↦ elim (cases_Bool (has_zero false)) [
           | inl lost ↦ absurd (let same : Settled false ≡ Expanded = sym (answer.no.1 lost) ∙ is_expanded in cc)
           | inr second ↦ elim (cases_Bool (is_full f.side (slot_count f) (tree_of f))) [
-            | inl no_room ↦ absurd (let same : Full ≡ Expanded = sym (answer.full.1 (ap (λ b. b || has_zero false) first ∙ second, no_room)) ∙ is_expanded in cc)
-            | inr room ↦ none_of _ _ _ (sym settled_is ∙ ap (λ b. b || has_zero false) first ∙ second) (sym full_is ∙ room) (ne_eqb n slots (λ same. omega (arith, same, within)))
+            | inl no_room ↦ absurd (let same : Full ≡ Expanded = sym (answer.full.1 (ap (λ b. b || has_zero false) first ∙ second, no_room))
+                ∙ is_expanded in cc)
+            | inr room ↦ none_of _ _ _ (sym settled_is ∙ ap (λ b. b || has_zero false) first ∙ second) (sym full_is ∙ room)
+                (ne_eqb n slots (λ same. omega (arith, same, within)))
           ]
         ]
       ]
@@ -132,23 +139,28 @@ module _ (root : Position) (side : Side) (reach slots n : ℕ) (f : FrontState) 
 pub record Grew (old new : SizedFront) (n : ℕ) : Type 0 where
   pub slots : new.slots ≡ old.slots
   pub front : (root : Position) (side : Side) (reach : ℕ) → IsFrontOf root side reach 0 old.slots old.front → IsFrontOf root side reach n old.slots new.front
-  pub goes_on : (root : Position) (side : Side) (reach : ℕ) → IsFrontOf root side reach 0 old.slots old.front → (m : ℕ) → m < n → is_front_end root side reach old.slots m ≡ false
+  pub goes_on : (root : Position) (side : Side) (reach : ℕ) → IsFrontOf root side reach 0 old.slots old.front → (m : ℕ) → m < n
+      → is_front_end root side reach old.slots m ≡ false
 
 pub grew_none : (old : SizedFront) → Grew old old 0
 grew_none old = record { slots = refl; front = λ root side reach is. is; goes_on = λ root side reach is m h. absurd (omega (arith, h)) }
 
 -- what is said of an expansion is said of the position's front
 pub next_front : (root : Position) (side : Side) (reach slots n : ℕ) (f g : FrontState) → IsFrontOf root side reach n slots f
-    → ((p : Position) (n : ℕ) → IsFrontOf p f.side f.reach n (slot_count f) f → IsFrontOf p f.side f.reach (n + 1) (slot_count f) g) → IsFrontOf root side reach (n + 1) slots g
+    → ((p : Position) (n : ℕ) → IsFrontOf p f.side f.reach n (slot_count f) f → IsFrontOf p f.side f.reach (n + 1) (slot_count f) g)
+        → IsFrontOf root side reach (n + 1) slots g
 next_front root side reach slots n f g is step =
-    let own : IsFrontOf root f.side f.reach n (slot_count f) f = record { tree = is.tree ∙ rw (is.same_side, is.same_reach) refl; same_side = refl; same_reach = refl; same_slots = refl } in
+    let own : IsFrontOf root f.side f.reach n (slot_count f) f =
+        record { tree = is.tree ∙ rw (is.same_side, is.same_reach) refl; same_side = refl; same_reach = refl; same_slots = refl } in
     let next = step root n own in
-    record { tree = next.tree ∙ rw (is.same_side, is.same_reach) refl; same_side = next.same_side ∙ is.same_side; same_reach = next.same_reach ∙ is.same_reach; same_slots = next.same_slots ∙ is.same_slots }
+    record { tree = next.tree ∙ rw (is.same_side, is.same_reach) refl; same_side = next.same_side ∙ is.same_side; same_reach = next.same_reach
+        ∙ is.same_reach; same_slots = next.same_slots ∙ is.same_slots }
 
 module _ (old now : SizedFront) (n : ℕ) (grew : Grew old now n) (g : Grown) (answer : IsAnswer now.front g) where
   -- one more expansion
   pub grew_more : (next : FrontState) → g ≡ Expanded → n < old.slots
-      → ((p : Position) (n : ℕ) → IsFrontOf p now.front.side now.front.reach n (slot_count now.front) now.front → IsFrontOf p now.front.side now.front.reach (n + 1) (slot_count now.front) next)
+      → ((p : Position) (n : ℕ) → IsFrontOf p now.front.side now.front.reach n (slot_count now.front) now.front
+          → IsFrontOf p now.front.side now.front.reach (n + 1) (slot_count now.front) next)
       → Grew old (record now { front = next }) (n + 1)
   grew_more next is_expanded within step = record {
     slots = grew.slots;
@@ -156,31 +168,41 @@ module _ (old now : SizedFront) (n : ℕ) (grew : Grew old now n) (g : Grown) (a
     goes_on = λ root side reach is m h. goes root side reach is m h (cases_lt m n);
   }
     where
-      goes : (root : Position) (side : Side) (reach : ℕ) → IsFrontOf root side reach 0 old.slots old.front → (m : ℕ) → m < n + 1 → (m < n) ⊎ (n ≤ m) → is_front_end root side reach old.slots m ≡ false
+      goes : (root : Position) (side : Side) (reach : ℕ) → IsFrontOf root side reach 0 old.slots old.front → (m : ℕ) → m < n + 1 → (m < n) ⊎ (n ≤ m)
+          → is_front_end root side reach old.slots m ≡ false
       goes root side reach is m h (inl before) = grew.goes_on root side reach is m before
       goes root side reach is m h (inr here) =
           let same : n ≡ m = omega (arith, h, here) in
-          subst (λ m. is_front_end root side reach old.slots m ≡ false) same (went_on root side reach old.slots n now.front (grew.front root side reach is) g is_expanded answer within)
+          subst (λ m. is_front_end root side reach old.slots m ≡ false) same
+              (went_on root side reach old.slots n now.front (grew.front root side reach is) g is_expanded answer within)
 
   -- it stopped
-  pub ends_here : g ≢ Expanded → (root : Position) (side : Side) (reach : ℕ) → IsFrontOf root side reach 0 old.slots old.front → EndsAfter root side reach old.slots n
+  pub ends_here : g ≢ Expanded → (root : Position) (side : Side) (reach : ℕ) → IsFrontOf root side reach 0 old.slots old.front
+      → EndsAfter root side reach old.slots n
   ends_here other root side reach is =
       record { last = stopped root side reach old.slots n now.front (grew.front root side reach is) g other answer; first = grew.goes_on root side reach is }
 
 -- there were as many expansions as slots
-pub ends_last : (old now : SizedFront) → Grew old now old.slots → (root : Position) (side : Side) (reach : ℕ) → IsFrontOf root side reach 0 old.slots old.front → EndsAfter root side reach old.slots old.slots
-ends_last old now grew root side reach is = record { last = last_of (is_settled side (front root side reach old.slots)) (is_full side old.slots (front root side reach old.slots)) (old.slots == old.slots) (eq-eqb old.slots old.slots refl); first = grew.goes_on root side reach is }
+pub ends_last : (old now : SizedFront) → Grew old now old.slots → (root : Position) (side : Side) (reach : ℕ) → IsFrontOf root side reach 0 old.slots old.front
+    → EndsAfter root side reach old.slots old.slots
+ends_last old now grew root side reach is =
+    record { last = last_of (is_settled side (front root side reach old.slots)) (is_full side old.slots (front root side reach old.slots))
+    (old.slots == old.slots) (eq-eqb old.slots old.slots refl); first = grew.goes_on root side reach is }
 
 -- a front that was begun anew for Black
-pub turned : (p : Position) (side : Side) (reach : ℕ) (old new : SizedFront) → IsAfterSome p side reach (Some old) → new.slots ≡ old.slots → IsFrontOf p Black old.front.reach 0 (slot_count old.front) new.front
+pub turned : (p : Position) (side : Side) (reach : ℕ) (old new : SizedFront) → IsAfterSome p side reach (Some old) → new.slots ≡ old.slots
+    → IsFrontOf p Black old.front.reach 0 (slot_count old.front) new.front
     → IsAfter p Black reach 0 (Some new)
 turned p side reach old new (n, is) same begun =
-    subst (λ slots. IsFrontOf p Black reach 0 slots new.front) (is.same_slots ∙ sym same) (subst (λ reach. IsFrontOf p Black reach 0 (slot_count old.front) new.front) is.same_reach begun)
+    subst (λ slots. IsFrontOf p Black reach 0 slots new.front) (is.same_slots ∙ sym same)
+        (subst (λ reach. IsFrontOf p Black reach 0 (slot_count old.front) new.front) is.same_reach begun)
 
 -- ---- what a question's remark leaves in a sink
 
-pub remark_stands : (root : Position) (side : Side) (reach slots n : ℕ) (f : FrontState) (proof disproof : Count) (whole : Bool) (old new : Option (List ℕ)) → EndsAfter root side reach slots n → IsFrontOf root side reach n slots f
-    → ◌≡◌ {A = Count × Count} (proof, disproof) (root_number f.side true (tree_of f), root_number f.side false (tree_of f)) → is_remark (remark_of side n proof disproof) ≡ true
+pub remark_stands : (root : Position) (side : Side) (reach slots n : ℕ) (f : FrontState) (proof disproof : Count) (whole : Bool) (old new : Option (List ℕ))
+    → EndsAfter root side reach slots n → IsFrontOf root side reach n slots f
+    → ◌≡◌ {A = Count × Count} (proof, disproof) (root_number f.side true (tree_of f), root_number f.side false (tree_of f))
+        → is_remark (remark_of side n proof disproof) ≡ true
     → AppendsPrefix whole old new (as_line (remark_of side n proof disproof)) → LeavesRemark (Some slots) reach root side whole old new
 remark_stands root side reach slots n f proof disproof whole old new ends is numbers printable text =
     record { remark = Some (remark_of side n proof disproof); right = (n, ends, ap Some same); line = printable; text = text }

@@ -41,7 +41,8 @@ stops_earlier one two bytes mid a b c stops.Memory goes later h = goes.reaches h
 -- the head and the game
 module _ (a b c : Pending) (head : Reads a b (λ bytes rest. PassesLines 1 bytes rest × GoesOn AtHead bytes AtGame rest)) where
   pub game_known : (root : Position)
-      → Reads b c (λ bytes rest. PassesLines 2 bytes rest × ((game_at (game_of (pieces bytes)) ≡ Ok root) × (behind_game (pieces bytes) ≡ lines_in (pieces rest))))
+      → Reads b c (λ bytes rest. PassesLines 2 bytes rest
+          × ((game_at (game_of (pieces bytes)) ≡ Ok root) × (behind_game (pieces bytes) ≡ lines_in (pieces rest))))
       → Reads a c (λ bytes rest. PassesLines 3 bytes rest × GoesOn AtHead bytes (AtLine (start root) first_number) rest)
   game_known root game =
       Reads_then a b c _ _ _ head game (λ bytes mid rest p q. (
@@ -82,8 +83,10 @@ module _ (a b c : Pending) (root : Position) (s t : CheckerState) (began : s ≡
             (subst (λ s. GoesOn AtHead bytes (AtLine s first_number) m) (sym began) p.1) later q.1,
       ))
 
-  pub lines_known : (end : ℕ) → 3 ≤ end → Reads b c (λ bytes rest. PassesLines (end - 3) bytes rest × (lines_from s first_number bytes ≡ verdict_answer end (length t.known) t.verdict))
-      → (answer : CheckAnswer) → verdict_answer end (length t.known) t.verdict ≡ answer → Reads a c (λ bytes rest. PassesLines end bytes rest × (check_of bytes ≡ answer))
+  pub lines_known : (end : ℕ) → 3 ≤ end
+      → Reads b c (λ bytes rest. PassesLines (end - 3) bytes rest × (lines_from s first_number bytes ≡ verdict_answer end (length t.known) t.verdict))
+      → (answer : CheckAnswer) → verdict_answer end (length t.known) t.verdict ≡ answer
+          → Reads a c (λ bytes rest. PassesLines end bytes rest × (check_of bytes ≡ answer))
   lines_known end from lines answer is =
       Reads_then a b c _ _ _ game lines (λ bytes m rest p q. (
         passes_most (3 + (end - 3)) end bytes rest (omega (arith, from)) (passes_then 3 (end - 3) bytes m rest p.0 q.0),
@@ -100,25 +103,29 @@ judged_stop old begun last n before after stop reads few all =
     record {
       taken = reads.taken;
       gave = reads.gave;
-      answer = (of_taken old begun last n most_lines_read Stopped reads, of_input old begun last n most_lines_read Stopped reads, of_lines old begun last n (lines_read_until stop) Stopped reads few);
+      answer = (of_taken old begun last n most_lines_read Stopped reads, of_input old begun last n most_lines_read Stopped reads,
+          of_lines old begun last n (lines_read_until stop) Stopped reads few);
       lines = of_lines old begun last n most_lines_read Stopped reads all;
     }
 
-pub judged_right : (old : Option (List ℕ)) (begun : ℕ) (last : Pending) (n before after : ℕ) (accepted : Accepted) → Reads (fresh old begun) last (λ bytes rest. PassesLines n bytes rest × (check_of bytes ≡ answers.Accepted accepted.verdict accepted.lemmas))
+pub judged_right : (old : Option (List ℕ)) (begun : ℕ) (last : Pending) (n before after : ℕ) (accepted : Accepted)
+    → Reads (fresh old begun) last (λ bytes rest. PassesLines n bytes rest × (check_of bytes ≡ answers.Accepted accepted.verdict accepted.lemmas))
     → last.ended ≡ true → n ≤ most_lines_read → Judges old last.left last.last_read before after (Ok accepted)
 judged_right old begun last n before after accepted reads ended all =
     let Right : List ℕ → Type 0 = λ bytes. check_of bytes ≡ answers.Accepted accepted.verdict accepted.lemmas in
     record {
       taken = reads.taken;
       gave = reads.gave;
-      answer = right_input reads.taken last.left accepted.verdict accepted.lemmas (of_taken old begun last n most_lines_read Right reads) (reads.last (λ never. absurd (cc never)) ended);
+      answer = right_input reads.taken last.left accepted.verdict accepted.lemmas (of_taken old begun last n most_lines_read Right reads)
+          (reads.last (λ never. absurd (cc never)) ended);
       lines = of_lines old begun last n most_lines_read Right reads all;
     }
 
 -- ---- what `check` promises then
 
 module _ (s : Streams) (before after : ℕ) where
-  pub checks_done : (accepted : Accepted) → Judges s.input s.left s.last_read before after (Ok accepted) → Appends s.old s.new (accepted_line accepted.verdict accepted.lemmas) → Outcome (Some Check) s endings.Done
+  pub checks_done : (accepted : Accepted) → Judges s.input s.left s.last_read before after (Ok accepted)
+      → Appends s.old s.new (accepted_line accepted.verdict accepted.lemmas) → Outcome (Some Check) s endings.Done
   checks_done accepted judged put = record {
     taken = judged.taken;
     gave = judged.gave;
@@ -126,7 +133,8 @@ module _ (s : Streams) (before after : ℕ) where
     holds = ((accepted.verdict, accepted.lemmas, judged.answer, put), judged.lines);
   }
 
-  pub checks_cut : (accepted : Accepted) → Judges s.input s.left s.last_read before after (Ok accepted) → AppendsPrefix false s.old s.new (accepted_line accepted.verdict accepted.lemmas)
+  pub checks_cut : (accepted : Accepted) → Judges s.input s.left s.last_read before after (Ok accepted)
+      → AppendsPrefix false s.old s.new (accepted_line accepted.verdict accepted.lemmas)
       → Outcome (Some Check) s endings.Write
   checks_cut accepted judged put = record {
     taken = judged.taken;
@@ -148,7 +156,8 @@ module _ (s : Streams) (before after : ℕ) where
     few = takes_bytes most_lines_read s.last_read judged.taken judged.lines;
     holds = (((judged.answer.0, judged.answer.1), kept, judged.answer.2), judged.lines);
   }
-  checks_stop (stops.Input inputs.Read) judged kept = record { taken = judged.taken; gave = judged.gave; few = takes_bytes most_lines_read s.last_read judged.taken judged.lines; holds = (kept, judged.lines) }
+  checks_stop (stops.Input inputs.Read) judged kept =
+      record { taken = judged.taken; gave = judged.gave; few = takes_bytes most_lines_read s.last_read judged.taken judged.lines; holds = (kept, judged.lines) }
   checks_stop stops.Memory judged kept = record {
     taken = judged.taken;
     gave = judged.gave;

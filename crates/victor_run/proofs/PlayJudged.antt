@@ -1,5 +1,6 @@
 -- Steps of play, one after another; and what `play` promises of all that was played.
-use Rattle.std.proofs.Common.{◌≡◌, ℕ, ◌+◌, ◌-◌, ◌*◌, ◌≤◌, Bool, true, false, List, [], ◌∷◌, ◌++◌, length, Option, Some, None, Result, Ok, Err, IfSome, refl, sym, ap, ◌∙◌, subst, arith, append-nil, length-append}
+use Rattle.std.proofs.Common.{◌≡◌, ℕ, ◌+◌, ◌-◌, ◌*◌, ◌≤◌, Bool, true, false, List, [], ◌∷◌, ◌++◌, length, Option, Some, None, Result, Ok, Err, IfSome, refl,
+    sym, ap, ◌∙◌, subst, arith, append-nil, length-append}
 use Rattle.std.specs.Bool.{⊤}
 use Rattle.std.specs.Result.{OnOk, IfErr}
 use Rattle.std.specs.Io.KnownBytes.{Keeps, Appends}
@@ -23,7 +24,8 @@ use Rattle.play_text.proofs.Steps.{behind_more, told}
 use Rattle.victor_run.specs.Streams.{Streams, TakesLines, WaitsBehind}
 use Rattle.io_ports.specs.Reading.{Pending, Reads, PassesLines}
 use Rattle.victor_run.specs.PlayPromise.{IsPlayed, BeginsPlay}
-use Rattle.victor_run.specs.PlaySteps.{played_at, played_from, end_by, EndsSo, StopsPlay, lines_besides, PassesMoves, IsWaiting, TakesUntil, IsNoMove, IsCaused, HasPlayCause, is_whole, PlayStep, PlaysNext, PlaysMoves, PlaysInput, play_ending}
+use Rattle.victor_run.specs.PlaySteps.{played_at, played_from, end_by, EndsSo, StopsPlay, lines_besides, PassesMoves, IsWaiting, TakesUntil, IsNoMove, IsCaused,
+    HasPlayCause, is_whole, PlayStep, PlaysNext, PlaysMoves, PlaysInput, play_ending}
 use Rattle.victor_run.specs.Outcome.{Outcome}
 use Rattle.victor_words.specs.declared.form.Form.TheVariants.{Play}
 use Rattle.victor_run.specs.declared.ending.Ending.TheVariants as endings
@@ -63,13 +65,16 @@ step_none a b out whole before after Fact men reads = record {
 }
 
 module _ (a b : Pending) (text : List ℕ) (fed : Bool) (s t : Playing) (at : ℕ) (gives : Reads a b (λ bytes rest. Gives bytes rest Line text fed)) where
-  pub next_played : (line : List ℕ) → ((more : List (List ℕ)) → play_from (members s.plan) s.stands at (text ∷ more) ≡ behind (line ∷ []) (play_from (members t.plan) t.stands (at + 1) more))
+  pub next_played : (line : List ℕ)
+      → ((more : List (List ℕ)) → play_from (members s.plan) s.stands at (text ∷ more) ≡ behind (line ∷ []) (play_from (members t.plan) t.stands (at + 1) more))
       → Reads a b (PlaysNext s t at (Ok true) (line ∷ []))
   unfolding played_from
-  next_played line answer = moves_got a b text fed s at (λ played rest. played ≡ behind (line ∷ []) (played_from t (at + 1) rest)) gives (λ rest. answer (lines_in (pieces rest)))
+  next_played line answer = moves_got a b text fed s at (λ played rest. played ≡ behind (line ∷ []) (played_from t (at + 1) rest)) gives
+      (λ rest. answer (lines_in (pieces rest)))
 
   -- the line wasn't written whole
-  pub next_cut : (line : List ℕ) → ((more : List (List ℕ)) → play_from (members s.plan) s.stands at (text ∷ more) ≡ behind (line ∷ []) (play_from (members t.plan) t.stands (at + 1) more))
+  pub next_cut : (line : List ℕ)
+      → ((more : List (List ℕ)) → play_from (members s.plan) s.stands at (text ∷ more) ≡ behind (line ∷ []) (play_from (members t.plan) t.stands (at + 1) more))
       → Reads a b (PlaysNext s t at (Err stops.Write) (line ∷ []))
   next_cut line answer = Reads_more a b _ _ (next_played line answer) (λ bytes rest h. ((omega arith, h.0), (played_from t (at + 1) rest, h.1)))
 
@@ -95,7 +100,8 @@ no_move_waits ahead (stops.NoPlan fault) line = absurd line
 no_move_waits ahead stops.Write line = absurd line
 
 -- for what a line says no stream is at fault
-pub line_cause : {X : Type 0} (read_before read_after write : ℕ) (stop : PlayStop) → IsNoMove stop → read_before ≤ read_after → HasPlayCause {X = X} read_before read_after write write (Err stop)
+pub line_cause : {X : Type 0} (read_before read_after write : ℕ) (stop : PlayStop) → IsNoMove stop → read_before ≤ read_after
+    → HasPlayCause {X = X} read_before read_after write write (Err stop)
 line_cause read_before read_after write stop line later = record { read_later = later; write_later = omega arith; caused = of_stop stop line }
   where
     of_stop : (stop : PlayStop) → IsNoMove stop → IsCaused read_before read_after write write stop
@@ -108,7 +114,8 @@ line_cause read_before read_after write stop line later = record { read_later = 
 -- ---- several
 
 -- what stops play behind some lines
-pub stops_behind : (played later : Played) (lines more : List (List ℕ)) (stop : PlayStop) → played ≡ behind lines later → StopsPlay later more stop → StopsPlay played (lines ++ more) stop
+pub stops_behind : (played later : Played) (lines more : List (List ℕ)) (stop : PlayStop) → played ≡ behind lines later → StopsPlay later more stop
+    → StopsPlay played (lines ++ more) stop
 stops_behind played later lines more stop goes stops = of_end (end_by stop) stops
   where
     of_end : (end : Option PlayEnd) → EndsSo later more end → EndsSo played (lines ++ more) end
@@ -120,7 +127,8 @@ pub step_then : (a b c : Pending) (o p q : Option (List ℕ)) (whole : Bool) (i 
     → ((xs ys : List (List ℕ)) (bytes mid rest : List ℕ) → F xs bytes mid → G ys mid rest → H (xs ++ ys) bytes rest) → PlayStep a c o q whole i k H
 step_then a b c o p q whole i j k F G H first next more = record {
   lines = first.lines ++ next.lines;
-  written = subst (AppendsPrefix whole o q) (sym (flat_map-append (λ line. line) first.lines next.lines)) (AppendsPrefix_more whole o p q (text_of first.lines) (text_of next.lines) first.written next.written);
+  written = subst (AppendsPrefix whole o q) (sym (flat_map-append (λ line. line) first.lines next.lines))
+      (AppendsPrefix_more whole o p q (text_of first.lines) (text_of next.lines) first.written next.written);
   few = omega (arith, length-append first.lines next.lines, first.few, next.few);
   reads = Reads_then a b c _ _ _ first.reads next.reads (λ bytes mid rest. more first.lines next.lines bytes mid rest);
 }
@@ -130,15 +138,20 @@ abbrev pub Goes : Playing → Playing → ℕ → List (List ℕ) → List ℕ �
 Goes s t at lines bytes rest = PassesLines (length lines) bytes rest × (played_from s first_move bytes ≡ behind lines (played_from t at rest))
 
 pub goes_none : (a : Pending) (out : Option (List ℕ)) (s : Playing) (men : ℕ) → PlayStep a a out out true men men (Goes s s first_move)
-goes_none a out s men = step_none a a out true men men (Goes s s first_move) (omega arith) (Reads_start a (Goes s s first_move []) (λ bytes. (passes_none bytes, refl)))
+goes_none a out s men = step_none a a out true men men (Goes s s first_move) (omega arith)
+    (Reads_start a (Goes s s first_move []) (λ bytes. (passes_none bytes, refl)))
 
-passes_lines : (xs ys : List (List ℕ)) (n : ℕ) (bytes mid rest : List ℕ) → PassesLines (length xs) bytes mid → PassesLines (length ys + n) mid rest → PassesLines (length (xs ++ ys) + n) bytes rest
+passes_lines : (xs ys : List (List ℕ)) (n : ℕ) (bytes mid rest : List ℕ) → PassesLines (length xs) bytes mid → PassesLines (length ys + n) mid rest
+    → PassesLines (length (xs ++ ys) + n) bytes rest
 passes_lines xs ys n bytes mid rest p q =
-    passes_most (length xs + (length ys + n)) (length (xs ++ ys) + n) bytes rest (omega (arith, length-append xs ys)) (passes_then (length xs) (length ys + n) bytes mid rest p q)
+    passes_most (length xs + (length ys + n)) (length (xs ++ ys) + n) bytes rest (omega (arith, length-append xs ys))
+        (passes_then (length xs) (length ys + n) bytes mid rest p q)
 
-pub goes_next : (s t u : Playing) (at : ℕ) (xs ys : List (List ℕ)) (bytes mid rest : List ℕ) → Goes s t at xs bytes mid → PlaysNext t u at (Ok true) ys mid rest → Goes s u (at + 1) (xs ++ ys) bytes rest
+pub goes_next : (s t u : Playing) (at : ℕ) (xs ys : List (List ℕ)) (bytes mid rest : List ℕ) → Goes s t at xs bytes mid → PlaysNext t u at (Ok true) ys mid rest
+    → Goes s u (at + 1) (xs ++ ys) bytes rest
 goes_next s t u at xs ys bytes mid rest p q = (
-  passes_most (length xs + length ys) (length (xs ++ ys)) bytes rest (omega (arith, length-append xs ys)) (passes_then (length xs) (length ys) bytes mid rest p.0 q.0),
+  passes_most (length xs + length ys) (length (xs ++ ys)) bytes rest (omega (arith, length-append xs ys))
+      (passes_then (length xs) (length ys) bytes mid rest p.0 q.0),
   p.1 ∙ ap (behind xs) q.1 ∙ behind_more xs ys (played_from u (at + 1) rest),
 )
 
@@ -146,7 +159,8 @@ pub goes_all : (s t u : Playing) (at : ℕ) (xs ys : List (List ℕ)) (bytes mid
     → PlaysMoves {X = ⊤} s first_move (Ok tt) (xs ++ ys) bytes rest
 goes_all s t u at xs ys bytes mid rest p q = (passes_lines xs ys 1 bytes mid rest p.0 q.0, p.1 ∙ ap (behind xs) q.1)
 
-pub goes_stop : (s t u : Playing) (at : ℕ) (stop : PlayStop) (xs ys : List (List ℕ)) (bytes mid rest : List ℕ) → Goes s t at xs bytes mid → PlaysNext t u at (Err stop) ys mid rest
+pub goes_stop : (s t u : Playing) (at : ℕ) (stop : PlayStop) (xs ys : List (List ℕ)) (bytes mid rest : List ℕ) → Goes s t at xs bytes mid
+    → PlaysNext t u at (Err stop) ys mid rest
     → PlaysMoves {X = ⊤} s first_move (Err stop) (xs ++ ys) bytes rest
 goes_stop s t u at stop xs ys bytes mid rest p q =
     ((q.0.0, passes_lines xs ys (lines_besides stop - 3) bytes mid rest p.0 q.0.1), stops_behind _ _ xs ys stop p.1 q.1)
@@ -187,18 +201,25 @@ game_cause a b before after write why later game = record {
     by_game read inputs.Read h = h
 
 module _ (a b c : Pending) (root : Position)
-    (game : Reads a b (λ bytes rest. PassesLines 2 bytes rest × ((game_at (game_of (pieces bytes)) ≡ Ok root) × (behind_game (pieces bytes) ≡ lines_in (pieces rest))))) where
-  pub plan_stops : (stop : PlayStop) → Reads b c (λ bytes rest. PassesLines 1 bytes rest × StopsPlay (played_at root bytes) [] stop) → Reads a c (λ bytes rest. PassesLines 3 bytes rest × StopsPlay (play_of bytes) [] stop)
+    (game : Reads a b (λ bytes rest. PassesLines 2 bytes rest
+        × ((game_at (game_of (pieces bytes)) ≡ Ok root) × (behind_game (pieces bytes) ≡ lines_in (pieces rest))))) where
+  pub plan_stops : (stop : PlayStop) → Reads b c (λ bytes rest. PassesLines 1 bytes rest × StopsPlay (played_at root bytes) [] stop)
+      → Reads a c (λ bytes rest. PassesLines 3 bytes rest × StopsPlay (play_of bytes) [] stop)
   plan_stops stop plan =
-      Reads_then a b c _ _ _ game plan (λ bytes mid rest p q. (passes_then 2 1 bytes mid rest p.0 q.0, stops_behind (play_of bytes) (played_at root mid) [] [] stop (game_goes bytes mid root p.1.0 p.1.1) q.1))
+      Reads_then a b c _ _ _ game plan
+          (λ bytes mid rest p q. (passes_then 2 1 bytes mid rest p.0 q.0, stops_behind (play_of bytes) (played_at root mid) [] [] stop
+          (game_goes bytes mid root p.1.0 p.1.1) q.1))
 
   pub plan_goes : (s : Playing) → Reads b c (λ bytes rest. PassesLines 1 bytes rest × (played_at root bytes ≡ played_from s first_move rest))
       → Reads a c (λ bytes rest. PassesLines 3 bytes rest × (play_of bytes ≡ played_from s first_move rest))
-  plan_goes s plan = Reads_then a b c _ _ _ game plan (λ bytes mid rest p q. (passes_then 2 1 bytes mid rest p.0 q.0, game_goes bytes mid root p.1.0 p.1.1 ∙ q.1))
+  plan_goes s plan = Reads_then a b c _ _ _ game plan
+      (λ bytes mid rest p q. (passes_then 2 1 bytes mid rest p.0 q.0, game_goes bytes mid root p.1.0 p.1.1 ∙ q.1))
 
-module _ (a b c : Pending) (s : Playing) (lines : List (List ℕ)) (start : Reads a b (λ bytes rest. PassesLines 3 bytes rest × (play_of bytes ≡ played_from s first_move rest))) where
+module _ (a b c : Pending) (s : Playing) (lines : List (List ℕ))
+    (start : Reads a b (λ bytes rest. PassesLines 3 bytes rest × (play_of bytes ≡ played_from s first_move rest))) where
   passes_all : (bytes mid rest : List ℕ) → PassesLines 3 bytes mid → PassesLines (length lines + 1) mid rest → PassesLines (4 + length lines) bytes rest
-  passes_all bytes mid rest p q = passes_most (3 + (length lines + 1)) (4 + length lines) bytes rest (omega arith) (passes_then 3 (length lines + 1) bytes mid rest p q)
+  passes_all bytes mid rest p q = passes_most (3 + (length lines + 1)) (4 + length lines) bytes rest (omega arith)
+      (passes_then 3 (length lines + 1) bytes mid rest p q)
 
   pub moves_stop : (stop : PlayStop) → Reads b c (PlaysMoves {X = ⊤} s first_move (Err stop) lines)
       → Reads a c (λ bytes rest. PassesLines (lines_besides stop + length lines) bytes rest × StopsPlay (play_of bytes) lines stop)
@@ -208,7 +229,8 @@ module _ (a b c : Pending) (s : Playing) (lines : List (List ℕ)) (start : Read
         stops_behind (play_of bytes) (played_from s first_move mid) [] lines stop p.1 q.1,
       ))
 
-  pub moves_played : Reads b c (PlaysMoves {X = ⊤} s first_move (Ok tt) lines) → Reads a c (λ bytes rest. PassesLines (4 + length lines) bytes rest × (play_of bytes ≡ record { lines = lines; end = ends.AllPlayed }))
+  pub moves_played : Reads b c (PlaysMoves {X = ⊤} s first_move (Ok tt) lines)
+      → Reads a c (λ bytes rest. PassesLines (4 + length lines) bytes rest × (play_of bytes ≡ record { lines = lines; end = ends.AllPlayed }))
   moves_played moves = Reads_then a b c _ _ _ start moves (λ bytes mid rest p q. (passes_all bytes mid rest p.0 q.0, p.1 ∙ q.1))
 
 -- ---- all of an input
@@ -216,7 +238,8 @@ module _ (a b c : Pending) (s : Playing) (lines : List (List ℕ)) (start : Read
 module _ {X : Type 0} (old : Option (List ℕ)) (begun : ℕ) (last : Pending) (o n : Option (List ℕ)) (lines : List (List ℕ)) (few : length lines ≤ 50) where
   pub input_stops : (stop : PlayStop) (m : ℕ) → m ≤ lines_besides stop + length lines → IsWaiting last.ahead stop
       → AppendsPrefix (is_whole {X = X} (Err stop)) o n (text_of lines)
-      → Reads (fresh old begun) last (λ bytes rest. PassesLines m bytes rest × StopsPlay (play_of bytes) lines stop) → PlaysInput {X = X} old last.left last.last_read o n (Err stop)
+      → Reads (fresh old begun) last (λ bytes rest. PassesLines m bytes rest × StopsPlay (play_of bytes) lines stop)
+          → PlaysInput {X = X} old last.left last.last_read o n (Err stop)
   input_stops stop m until waits put reads =
       let Stopped : List ℕ → Type 0 = λ bytes. StopsPlay (play_of bytes) lines stop in
       let most = lines_besides stop + length lines in
@@ -227,11 +250,13 @@ module _ {X : Type 0} (old : Option (List ℕ)) (begun : ℕ) (last : Pending) (
         few = few;
         written = put;
         played = (of_taken old begun last m most Stopped reads, of_input old begun last m most Stopped reads);
-        passed = takes_until stop (λ waits. of_waiting old begun last m most Stopped reads waits until) (of_lines old begun last m most Stopped reads until) waits;
+        passed = takes_until stop (λ waits. of_waiting old begun last m most Stopped reads waits until) (of_lines old begun last m most Stopped reads until)
+            waits;
       }
     where
       takes_until : (stop : PlayStop) → (IsUndecided last.ahead → WaitsBehind (lines_besides stop + length lines) reads.taken)
-          → TakesLines (lines_besides stop + length lines) last.last_read reads.taken → IsWaiting last.ahead stop → TakesUntil stop (length lines) last.last_read reads.taken
+          → TakesLines (lines_besides stop + length lines) last.last_read reads.taken → IsWaiting last.ahead stop
+              → TakesUntil stop (length lines) last.last_read reads.taken
       takes_until (stops.Input inputs.Read) undecided takes waits = undecided waits
       takes_until stops.Write undecided takes waits = takes
       takes_until (stops.Input (inputs.NoGame fault)) undecided takes waits = takes
@@ -240,7 +265,8 @@ module _ {X : Type 0} (old : Option (List ℕ)) (begun : ℕ) (last : Pending) (
       takes_until (stops.NoMove fault) undecided takes waits = takes
 
   pub input_played : (x : X) → Appends o n (text_of lines) → last.ended ≡ true
-      → Reads (fresh old begun) last (λ bytes rest. PassesLines (4 + length lines) bytes rest × (play_of bytes ≡ record { lines = lines; end = ends.AllPlayed })) → PlaysInput {X = X} old last.left last.last_read o n (Ok x)
+      → Reads (fresh old begun) last (λ bytes rest. PassesLines (4 + length lines) bytes rest
+          × (play_of bytes ≡ record { lines = lines; end = ends.AllPlayed })) → PlaysInput {X = X} old last.left last.last_read o n (Ok x)
   input_played x put end reads =
       let All : List ℕ → Type 0 = λ bytes. play_of bytes ≡ record { lines = lines; end = ends.AllPlayed } in
       record {
@@ -249,18 +275,21 @@ module _ {X : Type 0} (old : Option (List ℕ)) (begun : ℕ) (last : Pending) (
         lines = lines;
         few = few;
         written = put;
-        played = (of_taken old begun last (4 + length lines) (4 + length lines) All reads, of_input old begun last (4 + length lines) (4 + length lines) All reads, reads.last (λ never. absurd (cc never)) end);
+        played = (of_taken old begun last (4 + length lines) (4 + length lines) All reads, of_input old begun last (4 + length lines) (4 + length lines) All
+            reads, reads.last (λ never. absurd (cc never)) end);
         passed = of_lines old begun last (4 + length lines) (4 + length lines) All reads (omega arith);
       }
 
 -- what was played of all lines behind the plan
-pub input_moves : {X : Type 0} (old : Option (List ℕ)) (begun : ℕ) (mid last : Pending) (o n : Option (List ℕ)) (s : Playing) (before after : ℕ) (result : Result X PlayStop)
+pub input_moves : {X : Type 0} (old : Option (List ℕ)) (begun : ℕ) (mid last : Pending) (o n : Option (List ℕ)) (s : Playing) (before after : ℕ)
+    (result : Result X PlayStop)
     → Reads (fresh old begun) mid (λ bytes rest. PassesLines 3 bytes rest × (play_of bytes ≡ played_from s first_move rest))
     → PlayStep mid last o n (is_whole result) before after (PlaysMoves s first_move result) → before ≤ 100
     → (OnOk result (last.ended ≡ true)) → IfErr result (IsWaiting last.ahead)
     → PlaysInput old last.left last.last_read o n result
 input_moves old begun mid last o n s before after (Ok x) start step men end waits =
-    input_played old begun last o n step.lines (omega (arith, step.few)) x step.written end (moves_played (fresh old begun) mid last s step.lines start step.reads)
+    input_played old begun last o n step.lines (omega (arith, step.few)) x step.written end
+        (moves_played (fresh old begun) mid last s step.lines start step.reads)
 input_moves {X} old begun mid last o n s before after (Err stop) start step men end waits =
     input_stops old begun last o n step.lines (omega (arith, step.few)) stop (lines_besides stop + length step.lines) (omega arith) waits step.written
     (moves_stop (fresh old begun) mid last s step.lines start stop step.reads)
@@ -299,7 +328,8 @@ module _ {X : Type 0} (s : Streams) where
     taken = input.taken;
     gave = input.gave;
     few = takes_few 4 s.last_read input.lines input.taken (omega arith) input.few input.passed;
-    holds = (input.lines, (input.played.0, input.played.1), told_by input.taken input.lines ends.AllPlayed input.played.0, input.written, input.played.2, input.passed);
+    holds = (input.lines, (input.played.0, input.played.1), told_by input.taken input.lines ends.AllPlayed input.played.0, input.written, input.played.2,
+        input.passed);
   }
 
   pub plays_stop : (stop : PlayStop) → PlaysInput {X = X} s.input s.left s.last_read s.old s.new (Err stop) → Outcome (Some Play) s (play_ending stop)
@@ -309,7 +339,8 @@ module _ {X : Type 0} (s : Streams) where
         taken = input.taken;
         gave = input.gave;
         few = takes_few 2 s.last_read input.lines input.taken (omega arith) input.few input.passed;
-        holds = (subst (λ lines. IsPlayed input.taken s.input lines (ends.NoGame fault)) none (input.played.0, input.played.1), kept_from s.old s.new input.lines none input.written, takes_first 2 s.last_read input.lines input.taken none input.passed);
+        holds = (subst (λ lines. IsPlayed input.taken s.input lines (ends.NoGame fault)) none (input.played.0, input.played.1),
+            kept_from s.old s.new input.lines none input.written, takes_first 2 s.last_read input.lines input.taken none input.passed);
       }
   plays_stop stops.NoPlanLine input =
       let none = told_by input.taken input.lines ends.NoPlanLine input.played.0 in
@@ -317,7 +348,8 @@ module _ {X : Type 0} (s : Streams) where
         taken = input.taken;
         gave = input.gave;
         few = takes_few 3 s.last_read input.lines input.taken (omega arith) input.few input.passed;
-        holds = (refl, refl, subst (λ lines. IsPlayed input.taken s.input lines ends.NoPlanLine) none (input.played.0, input.played.1), kept_from s.old s.new input.lines none input.written, takes_first 3 s.last_read input.lines input.taken none input.passed);
+        holds = (refl, refl, subst (λ lines. IsPlayed input.taken s.input lines ends.NoPlanLine) none (input.played.0, input.played.1),
+            kept_from s.old s.new input.lines none input.written, takes_first 3 s.last_read input.lines input.taken none input.passed);
       }
   plays_stop (stops.NoPlan fault) input =
       let none = told_by input.taken input.lines (ends.NoPlan (fault_of fault)) input.played.0 in
@@ -325,7 +357,8 @@ module _ {X : Type 0} (s : Streams) where
         taken = input.taken;
         gave = input.gave;
         few = takes_few 3 s.last_read input.lines input.taken (omega arith) input.few input.passed;
-        holds = (subst (λ lines. IsPlayed input.taken s.input lines (ends.NoPlan (fault_of fault))) none (input.played.0, input.played.1), kept_from s.old s.new input.lines none input.written, takes_first 3 s.last_read input.lines input.taken none input.passed);
+        holds = (subst (λ lines. IsPlayed input.taken s.input lines (ends.NoPlan (fault_of fault))) none (input.played.0, input.played.1),
+            kept_from s.old s.new input.lines none input.written, takes_first 3 s.last_read input.lines input.taken none input.passed);
       }
   plays_stop (stops.NoMove fault) input = record {
     taken = input.taken;
@@ -336,12 +369,15 @@ module _ {X : Type 0} (s : Streams) where
   plays_stop (stops.Input inputs.Read) input = record {
     taken = input.taken;
     gave = input.gave;
-    few = takes_few 3 s.last_read input.lines input.taken (omega arith) input.few (input.passed.0, input.passed.1, (Failed, input.passed.2), omega (arith, input.passed.2.1));
-    holds = (input.lines, (begun input.taken input.lines input.played.0, IfSome_each s.input _ (BeginsPlay input.lines) (λ bytes. begun bytes input.lines) input.played.1), input.written, input.passed);
+    few = takes_few 3 s.last_read input.lines input.taken (omega arith) input.few
+        (input.passed.0, input.passed.1, (Failed, input.passed.2), omega (arith, input.passed.2.1));
+    holds = (input.lines, (begun input.taken input.lines input.played.0, IfSome_each s.input _ (BeginsPlay input.lines) (λ bytes. begun bytes input.lines)
+        input.played.1), input.written, input.passed);
   }
   plays_stop stops.Write input = record {
     taken = input.taken;
     gave = input.gave;
     few = takes_few 3 s.last_read input.lines input.taken (omega arith) input.few input.passed;
-    holds = (input.lines, (begun input.taken input.lines input.played.0, IfSome_each s.input _ (BeginsPlay input.lines) (λ bytes. begun bytes input.lines) input.played.1), input.written, input.passed);
+    holds = (input.lines, (begun input.taken input.lines input.played.0, IfSome_each s.input _ (BeginsPlay input.lines) (λ bytes. begun bytes input.lines)
+        input.played.1), input.written, input.passed);
   }

@@ -19,7 +19,8 @@ use Rattle.proof_text.specs.Texts.{pieces, lines_in, game_of, behind_game}
 use Rattle.rule_compat.specs.Planned.{Planned, members}
 use Rattle.reply_player.specs.Playing.{Playing, reply_for, HasAnswered}
 use Rattle.reply_player.specs.declared.session.Reply.{Reply}
-use Rattle.play_text.specs.Play.{NoGame, NoPlanLine, NoMove, AllPlayed, Played, ended, behind, end_text, turn_text, column_in, play_from, play_list, play_lines, play_game, plan_in, play_of, first_move}
+use Rattle.play_text.specs.Play.{NoGame, NoPlanLine, NoMove, AllPlayed, Played, ended, behind, end_text, turn_text, column_in, play_from, play_list, play_lines,
+    play_game, plan_in, play_of, first_move}
 use Rattle.play_text.specs.declared.PlayKind.TheVariants.{BadMove}
 use Rattle.play_text.proofs.Turns.{line_played}
 use Rattle.io_ports.specs.Reading.{Pending, Reads, PassesLines}
@@ -31,7 +32,8 @@ use Rattle.io_ports.proofs.Reading.{Reads_more}
 
 -- ---- the game
 
-pub game_goes : (bytes rest : List ℕ) (root : Position) → game_at (game_of (pieces bytes)) ≡ Ok root → behind_game (pieces bytes) ≡ lines_in (pieces rest) → play_of bytes ≡ played_at root rest
+pub game_goes : (bytes rest : List ℕ) (root : Position) → game_at (game_of (pieces bytes)) ≡ Ok root → behind_game (pieces bytes) ≡ lines_in (pieces rest)
+    → play_of bytes ≡ played_at root rest
 unfolding play_of played_at
 game_goes bytes rest root game lines = ap (λ game. play_game game (behind_game (pieces bytes))) game ∙ ap (play_lines root) lines
 
@@ -44,16 +46,21 @@ game_none bytes fault game = ap (λ game. play_game game (behind_game (pieces by
 module _ (a b : Pending) (text : List ℕ) (fed : Bool) (root : Position) where
   -- a line that was got is the first that is looked at
   pub plan_got : (result : Result Planned PlayStop) → Reads a b (λ bytes rest. Gives bytes rest Line text fed)
-      → ((more : List (List ℕ)) → MatchResult result (λ plan. play_lines root (text ∷ more) ≡ play_from (members plan) root first_move more) (StopsPlay (play_lines root (text ∷ more)) []))
-      → Reads a b (λ bytes rest. PassesLines 1 bytes rest × MatchResult result (λ plan. played_at root bytes ≡ played_from (record { plan = plan; stands = root }) first_move rest) (StopsPlay (played_at root bytes) []))
+      → ((more : List (List ℕ)) → MatchResult result (λ plan. play_lines root (text ∷ more) ≡ play_from (members plan) root first_move more)
+          (StopsPlay (play_lines root (text ∷ more)) []))
+      → Reads a b (λ bytes rest. PassesLines 1 bytes rest
+          × MatchResult result (λ plan. played_at root bytes ≡ played_from (record { plan = plan; stands = root }) first_move rest)
+          (StopsPlay (played_at root bytes) []))
   unfolding played_at played_from
   plan_got result gives answer =
       by_line a b Line text fed gives _ (λ bytes rest is.
       let lines = line_first bytes (record { got = Line; text = text; fed = fed; rest = rest }) is refl in
-      let P : List (List ℕ) → Type 0 = λ lines. MatchResult result (λ plan. play_lines root lines ≡ play_from (members plan) root first_move (lines_in (pieces rest))) (StopsPlay (play_lines root lines) []) in
+      let P : List (List ℕ) → Type 0 = λ lines. MatchResult result
+          (λ plan. play_lines root lines ≡ play_from (members plan) root first_move (lines_in (pieces rest))) (StopsPlay (play_lines root lines) []) in
       subst P (sym lines) (answer (lines_in (pieces rest))))
 
-  pub plan_long : Reads a b (λ bytes rest. Gives bytes rest Long text fed) → Reads a b (λ bytes rest. PassesLines 1 bytes rest × (played_at root bytes ≡ ended NoPlanLine))
+  pub plan_long : Reads a b (λ bytes rest. Gives bytes rest Long text fed)
+      → Reads a b (λ bytes rest. PassesLines 1 bytes rest × (played_at root bytes ≡ ended NoPlanLine))
   unfolding played_at
   plan_long gives =
       by_line a b Long text fed gives _ (λ bytes rest is.
@@ -61,13 +68,16 @@ module _ (a b : Pending) (text : List ℕ) (fed : Bool) (root : Position) where
       let none : plan_in (board_of root) some.0 ≡ None = rw (lt-leb (length some.0) longest_line some.3) refl in
       ap (play_lines root) some.2 ∙ ap (λ list. play_list root list some.1) none)
 
-  pub plan_none : Reads a b (λ bytes rest. Gives bytes rest Done text fed) → Reads a b (λ bytes rest. PassesLines 1 bytes rest × (played_at root bytes ≡ ended NoPlanLine))
+  pub plan_none : Reads a b (λ bytes rest. Gives bytes rest Done text fed)
+      → Reads a b (λ bytes rest. PassesLines 1 bytes rest × (played_at root bytes ≡ ended NoPlanLine))
   unfolding played_at
   plan_none gives =
-      by_line a b Done text fed gives _ (λ bytes rest is. ap (play_lines root) (none_left bytes (record { got = Done; text = text; fed = fed; rest = rest }) is refl).0)
+      by_line a b Done text fed gives _
+          (λ bytes rest is. ap (play_lines root) (none_left bytes (record { got = Done; text = text; fed = fed; rest = rest }) is refl).0)
 
   -- the source failed
-  pub plan_unread : Reads a b (λ bytes rest. Gives bytes rest Failed text fed) → Reads a b (λ bytes rest. PassesLines 1 bytes rest × ((later : Played) × (played_at root bytes ≡ behind [] later)))
+  pub plan_unread : Reads a b (λ bytes rest. Gives bytes rest Failed text fed)
+      → Reads a b (λ bytes rest. PassesLines 1 bytes rest × ((later : Played) × (played_at root bytes ≡ behind [] later)))
   plan_unread gives = by_line a b Failed text fed gives _ (λ bytes rest is. (played_at root bytes, refl))
 
 -- ---- a turn
@@ -106,7 +116,8 @@ module _ (old new : Playing) (column : ℕ) (reply : Reply) (has : HasAnswered o
       ap (λ c. (c, height new.stands c)) column_is ∙ ap (λ r. (has.answered.reply.0, r)) top in
       let end : reply_end reply ≡ end_text (end_of (after_move mid has.answered.reply.0)) =
       ap reply_end has.reply_is ∙ (told_end (end_of new.stands) has.answered.reply.0).1 ∙ ap (λ q. end_text (end_of q)) has.next in
-      ap (λ u. as_line (white ++ (32 ∷ (square_text u ++ reply_end reply)))) square ∙ ap (λ end. as_line (white ++ (32 ∷ (square_text has.answered.reply ++ end)))) end
+      ap (λ u. as_line (white ++ (32 ∷ (square_text u ++ reply_end reply)))) square
+          ∙ ap (λ end. as_line (white ++ (32 ∷ (square_text has.answered.reply ++ end)))) end
 
   -- two squares are filled
   pub two_fewer : empty_count new.stands + 2 ≡ empty_count old.stands
@@ -115,7 +126,8 @@ module _ (old new : Playing) (column : ℕ) (reply : Reply) (has : HasAnswered o
       let second = empty_count_moved mid has.answered.reply.0 (playable_room mid has.answered.reply has.answered.playable) in
       omega (arith, first, second, ap empty_count has.next)
 
-  pub turn_goes : (at : ℕ) (bytes line : List ℕ) (more : List (List ℕ)) → column_in (board_of old.stands) bytes ≡ Some column → line ≡ answered_line old.stands column new.stands reply
+  pub turn_goes : (at : ℕ) (bytes line : List ℕ) (more : List (List ℕ)) → column_in (board_of old.stands) bytes ≡ Some column
+      → line ≡ answered_line old.stands column new.stands reply
       → play_from (members old.plan) old.stands at (bytes ∷ more) ≡ behind (line ∷ []) (play_from (members new.plan) new.stands (at + 1) more)
   turn_goes at bytes line more named told =
       line_played (members old.plan) old.stands at bytes more column has.answered named has.legal
@@ -143,15 +155,19 @@ module _ (a b : Pending) (text : List ℕ) (fed : Bool) (s : Playing) (at : ℕ)
       let some = long_first bytes (record { got = Long; text = text; fed = fed; rest = rest }) is refl in
       ap (play_from (members s.plan) s.stands at) some.2 ∙ long_line some.0 some.1 some.3)
     where
-      long_line : (first : List ℕ) (more : List (List ℕ)) → longest_line < length first → play_from (members s.plan) s.stands at (first ∷ more) ≡ ended (NoMove (record { kind = BadMove; at = at }))
+      long_line : (first : List ℕ) (more : List (List ℕ)) → longest_line < length first
+          → play_from (members s.plan) s.stands at (first ∷ more) ≡ ended (NoMove (record { kind = BadMove; at = at }))
       long_line [] more long = absurd (omega arith)
       long_line (byte ∷ []) more long = absurd (omega arith)
       long_line (byte ∷ next ∷ first) more long = refl
 
-  pub moves_none : Reads a b (λ bytes rest. Gives bytes rest Done text fed) → Reads a b (λ bytes rest. PassesLines 1 bytes rest × (played_from s at bytes ≡ ended AllPlayed))
+  pub moves_none : Reads a b (λ bytes rest. Gives bytes rest Done text fed)
+      → Reads a b (λ bytes rest. PassesLines 1 bytes rest × (played_from s at bytes ≡ ended AllPlayed))
   unfolding played_from
   moves_none gives =
-      by_line a b Done text fed gives _ (λ bytes rest is. ap (play_from (members s.plan) s.stands at) (none_left bytes (record { got = Done; text = text; fed = fed; rest = rest }) is refl).0)
+      by_line a b Done text fed gives _
+          (λ bytes rest is. ap (play_from (members s.plan) s.stands at)
+          (none_left bytes (record { got = Done; text = text; fed = fed; rest = rest }) is refl).0)
 
   -- the source failed, and no line was passed
   pub moves_unread : Reads a b (λ bytes rest. Gives bytes rest Failed text fed)

@@ -1,5 +1,6 @@
 -- The text of a proof as it is put together: its head, the lemmas of both questions, and its last line.
-use Rattle.std.proofs.Common.{◌≡◌, ℕ, ◌<◌, ◌≤◌, Bool, true, false, List, [], ◌++◌, Option, Result, Ok, Err, IfOk, is_ok, length, get_or, refl, sym, ap, ◌∙◌, subst, inl, inr, arith, append_assoc}
+use Rattle.std.proofs.Common.{◌≡◌, ℕ, ◌<◌, ◌≤◌, Bool, true, false, List, [], ◌++◌, Option, Result, Ok, Err, IfOk, is_ok, length, get_or, refl, sym, ap, ◌∙◌,
+    subst, inl, inr, arith, append_assoc}
 use Rattle.std.specs.Io.KnownBytes.{Appends}
 use Rattle.device_rules.specs.Devices.{AppendsPrefix}
 use Rattle.device_rules.proofs.DeviceLaws.{AppendsPrefix_more}
@@ -36,7 +37,8 @@ some_line none = omega (arith, ap (λ (line : List ℕ). length line) none)
 -- ---- the whole
 
 -- the head, the remarks and the lemmas of both questions, and the last line, of which a prefix may be missing
-stands_all : (b : Bool) (old mid held new : Option (List ℕ)) (head remark white also black last : List ℕ) → Appends old mid head → Appends mid held (remark ++ (white ++ (also ++ black))) → AppendsPrefix b held new last
+stands_all : (b : Bool) (old mid held new : Option (List ℕ)) (head remark white also black last : List ℕ) → Appends old mid head
+    → Appends mid held (remark ++ (white ++ (also ++ black))) → AppendsPrefix b held new last
     → AppendsPrefix b old new (head ++ (remark ++ (white ++ (also ++ (black ++ last)))))
 stands_all b old mid held new head remark white also black last first both rest =
     AppendsPrefix_more b old mid new head (remark ++ (white ++ (also ++ (black ++ last)))) first
@@ -59,12 +61,14 @@ module _ (nodes reach : ℕ) (slots : Option ℕ) (bytes : List ℕ) (p : Positi
     -- a proof, with the verdict behind the lemmas
     module _ (v : Verdict) (right : IsVerdict p asks.after v) where
       abbrev proof_text : List ℕ
-      proof_text = the_head ++ (remark_line asks.white_remark ++ (lines_of asks.white ++ (remark_line asks.black_remark ++ (lines_of asks.black ++ verdict_line v))))
+      proof_text = the_head ++ (remark_line asks.white_remark
+          ++ (lines_of asks.white ++ (remark_line asks.black_remark ++ (lines_of asks.black ++ verdict_line v))))
 
       abbrev is_proof : IsProof p the_head proof_text v
       is_proof = record {
         after = asks.after;
-        written = both_written p the_head proof_text asks.white_remark asks.white asks.mid asks.black_remark asks.black asks.after (verdict_line v) asks.white_right asks.black_right asks.white_sided asks.black_sided
+        written = both_written p the_head proof_text asks.white_remark asks.white asks.mid asks.black_remark asks.black asks.after (verdict_line v)
+            asks.white_right asks.black_right asks.white_sided asks.black_sided
             (in_turn slots reach p asks.mid asks.black_remark asks.black asks.black_remarked) asks.white_line asks.black_line refl;
         verdict = right;
       }
@@ -77,7 +81,8 @@ module _ (nodes reach : ℕ) (slots : Option ℕ) (bytes : List ℕ) (p : Positi
         both_remarked = both;
         planned = (asks.white_planned, asks.black_planned);
         few = asks.few;
-        accepted = proof_accepted game.board game.columns p proof_text v is_proof game.has_board game.has_moves (let few : length asks.after ≤ nodes = asks.few in omega arith);
+        accepted = proof_accepted game.board game.columns p proof_text v is_proof game.has_board game.has_moves
+            (let few : length asks.after ≤ nodes = asks.few in omega arith);
         says = asked_truth p nodes reach slots mid held r asks v right;
       }
 
@@ -87,7 +92,8 @@ module _ (nodes reach : ℕ) (slots : Option ℕ) (bytes : List ℕ) (p : Positi
       writes_verdict old new (Ok told) both short head lemmas same stands = (
         proof_text,
         subst (IsProofOf nodes reach slots bytes p proof_text) (sym same) (proof_of both),
-        stands_all true old mid held new the_head (remark_line asks.white_remark) (lines_of asks.white) (remark_line asks.black_remark) (lines_of asks.black) (verdict_line v)
+        stands_all true old mid held new the_head (remark_line asks.white_remark) (lines_of asks.white) (remark_line asks.black_remark) (lines_of asks.black)
+            (verdict_line v)
             head lemmas stands,
       )
       writes_verdict old new (Err failed) both short head lemmas same stands = (
@@ -100,7 +106,8 @@ module _ (nodes reach : ℕ) (slots : Option ℕ) (bytes : List ℕ) (p : Positi
           few = asks.few;
           short = λ unknown. short (unknown_line v unknown);
         },
-        stands_all false old mid held new the_head (remark_line asks.white_remark) (lines_of asks.white) (remark_line asks.black_remark) (lines_of asks.black) (verdict_line v)
+        stands_all false old mid held new the_head (remark_line asks.white_remark) (lines_of asks.white) (remark_line asks.black_remark) (lines_of asks.black)
+            (verdict_line v)
             head lemmas stands,
       )
 
@@ -120,13 +127,15 @@ module _ (nodes reach : ℕ) (slots : Option ℕ) (bytes : List ℕ) (p : Positi
   )
 
   -- a remark or a lemma was cut
-  pub writes_lemmas : (old mid new : Option (List ℕ)) (failed : Failed) (asks : Asks p nodes reach slots mid new (Err WriteFault)) → Appends old mid the_head → Writes nodes reach slots bytes p old new (Err failed)
+  pub writes_lemmas : (old mid new : Option (List ℕ)) (failed : Failed) (asks : Asks p nodes reach slots mid new (Err WriteFault)) → Appends old mid the_head
+      → Writes nodes reach slots bytes p old new (Err failed)
   writes_lemmas old mid new failed asks head =
       let text = the_head ++ middle mid new (Err WriteFault) asks in (
         text,
         record {
           game = game;
-          stands = lemmas_stand p the_head text asks.white_remark asks.white asks.mid asks.black_remark asks.black asks.after asks.white_right asks.black_right asks.white_sided asks.black_sided
+          stands = lemmas_stand p the_head text asks.white_remark asks.white asks.mid asks.black_remark asks.black asks.after asks.white_right asks.black_right
+              asks.white_sided asks.black_sided
               (in_turn slots reach p asks.mid asks.black_remark asks.black asks.black_remarked) asks.white_line asks.black_line refl;
           remarked = inr (asks.white_remarked, asks.black_remarked);
           planned = (asks.white_planned, asks.black_planned);

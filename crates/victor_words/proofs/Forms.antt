@@ -1,5 +1,6 @@
 -- The form of a command with what was given, both ways.
-use Rattle.std.proofs.Common.{◌≡◌, ℕ, true, ◌&&◌, cond, nat_le, List, [], ◌∷◌, Option, Some, None, IfSome, is_none, option_to_list, unwrap_or, refl, sym, ap, ◌∙◌, subst, inl, inr}
+use Rattle.std.proofs.Common.{◌≡◌, ℕ, true, ◌&&◌, cond, nat_le, List, [], ◌∷◌, Option, Some, None, IfSome, is_none, option_to_list, unwrap_or, refl, sym, ap,
+    ◌∙◌, subst, inl, inr}
 use Rattle.std.specs.Int.{IsInRange}
 use Rattle.std.specs.Option.{option_map}
 use Rattle.std.proofs.lemmas.Bool.{and_parts, and_from, leb-true, le-leb}
@@ -9,8 +10,10 @@ use Rattle.game_rules.specs.declared.Length.{Length}
 use Rattle.game_rules.specs.declared.Length.TheVariants.{Four, Five}
 use Rattle.plan_text.proofs.Spaced.{bind_some, map_some, chosen_some}
 use Rattle.plan_text.specs.Words.{◌>>=◌}
-use Rattle.victor_words.specs.Words.{command_of, numbers_of, number_in, usual, usual_nodes, usual_reach, usual_table, AreSlots, HasRanges, IsGiven, most_nodes, most_reach, most_slots, most_room}
-use Rattle.victor_words.specs.Reading.{within, nodes_from, reach_from, front_from, table_from, board_with, size_from, prove_from, none_of_prove, none_given, without_options, explain_from, five_from, drill_from, form_with}
+use Rattle.victor_words.specs.Words.{command_of, numbers_of, number_in, usual, usual_nodes, usual_reach, usual_table, AreSlots, HasRanges, IsGiven, most_nodes,
+    most_reach, most_slots, most_room}
+use Rattle.victor_words.specs.Reading.{within, nodes_from, reach_from, front_from, table_from, board_with, size_from, prove_from, none_of_prove, none_given,
+    without_options, explain_from, five_from, drill_from, form_with}
 use Rattle.victor_words.specs.declared.form.Command.{Command}
 use Rattle.victor_words.specs.declared.form.Command.TheVariants as commands
 use Rattle.victor_words.specs.declared.form.Form.{Form}
@@ -49,12 +52,14 @@ none_says : (usually : Option ℕ) (number : Option ℕ) → IsGiven usually Non
 none_says usually None h = refl
 none_says usually (Some n) h = cc
 
-option_gives : (low high usually n : ℕ) (number : Option ℕ) → within low high (unwrap_or number usually) ≡ Some n → (IsInRange low high n) × (IsGiven (Some usually) (Some n) (option_to_list number))
+option_gives : (low high usually n : ℕ) (number : Option ℕ) → within low high (unwrap_or number usually) ≡ Some n
+    → (IsInRange low high n) × (IsGiven (Some usually) (Some n) (option_to_list number))
 option_gives low high usually n number h =
     let told = within_gives low high (unwrap_or number usually) n h in
     (told.0, given_is usually n number told.1)
 
-option_spelled : (low high usually n : ℕ) (number : Option ℕ) → IsInRange low high n → IsGiven (Some usually) (Some n) (option_to_list number) → within low high (unwrap_or number usually) ≡ Some n
+option_spelled : (low high usually n : ℕ) (number : Option ℕ) → IsInRange low high n → IsGiven (Some usually) (Some n) (option_to_list number)
+    → within low high (unwrap_or number usually) ≡ Some n
 option_spelled low high usually n number range is = ap (within low high) (given_says usually n number is) ∙ within_spelled low high n range
 
 -- a front's number, or none
@@ -70,7 +75,8 @@ front_spelled None None range is = refl
 front_spelled None (Some slots) range is = cc
 front_spelled (Some n) None range (inl alone) = cc
 front_spelled (Some n) None range (inr (none, same)) = cc
-front_spelled (Some n) (Some slots) range (inl alone) = let same : slots ≡ n = cc (alone) in rw same (ap (option_map Some) (within_spelled 1 most_slots n range))
+front_spelled (Some n) (Some slots) range (inl alone) = let same : slots
+    ≡ n = cc (alone) in rw same (ap (option_map Some) (within_spelled 1 most_slots n range))
 front_spelled (Some n) (Some slots) range (inr (none, same)) = cc
 
 -- ---- sizes
@@ -79,7 +85,8 @@ size_gives : (cols rows : ℕ) (size : Board) → size_from cols rows ≡ Some s
 size_gives cols rows size h =
     let told = chosen_some (is_board (board_with cols rows)) (Some (board_with cols rows)) size h in
     let same : board_with cols rows ≡ size = cc (told.1) in
-    (subst (λ size. is_spelled size ≡ true) same (and_from (is_board (board_with cols rows)) true told.0 refl), ap (λ (size : Board). size.cols ∷ size.rows ∷ []) same)
+    (subst (λ size. is_spelled size ≡ true) same (and_from (is_board (board_with cols rows)) true told.0 refl),
+        ap (λ (size : Board). size.cols ∷ size.rows ∷ []) same)
 
 is_four : (len : Length) → same_length len Four ≡ true → Four ≡ len
 is_four Four h = refl
@@ -122,8 +129,10 @@ prove_gives given form h =
       ranges = (of_nodes.0, of_reach.0, of_front.0, of_table.0);
     })
   where
-    each : (n k : ℕ) (f : Option ℕ) (t : ℕ) → IsGiven (usual Nodes) (Some n) (option_to_list (given Nodes)) → IsGiven (usual Reach) (Some k) (option_to_list (given Reach))
-        → IsGiven (usual Front) f (option_to_list (given Front)) → IsGiven (usual Table) (Some t) (option_to_list (given Table)) → HasOptions given (Prove n k f t)
+    each : (n k : ℕ) (f : Option ℕ) (t : ℕ) → IsGiven (usual Nodes) (Some n) (option_to_list (given Nodes))
+        → IsGiven (usual Reach) (Some k) (option_to_list (given Reach))
+        → IsGiven (usual Front) f (option_to_list (given Front)) → IsGiven (usual Table) (Some t) (option_to_list (given Table))
+            → HasOptions given (Prove n k f t)
     each n k f t of_nodes of_reach of_front of_table Nodes = of_nodes
     each n k f t of_nodes of_reach of_front of_table Reach = of_reach
     each n k f t of_nodes of_reach of_front of_table Front = of_front
@@ -138,7 +147,8 @@ bare_gives given bare form ranges numbers options h =
     let second = and_parts (is_none (given Reach)) (none_of_prove given) first.1 in
     let third = and_parts (is_none (given Front)) (is_none (given Table)) second.1 in
     let same : bare ≡ form = cc (told.1) in
-    subst (IsFormOf (command_of bare) [] given) same (record { command = refl; numbers = sym numbers; options = each first.0 second.0 third.0 third.1; ranges = ranges })
+    subst (IsFormOf (command_of bare) [] given) same
+        (record { command = refl; numbers = sym numbers; options = each first.0 second.0 third.0 third.1; ranges = ranges })
   where
     each : is_none (given Nodes) ≡ true → is_none (given Reach) ≡ true → is_none (given Front) ≡ true → is_none (given Table) ≡ true → HasOptions given bare
     each nodes reach front table Nodes = rw (options Nodes) (none_is (usual Nodes) (given Nodes) nodes)
@@ -153,15 +163,18 @@ explain_gives given form h =
     let of_prove = and_parts (is_none (given Front)) (is_none (given Table)) none.1 in
     let k = map_some Explain (reach_from (given Reach)) form told.1 in
     let of_reach = option_gives 0 most_reach usual_reach k.0 (given Reach) k.1 in
-    subst (IsFormOf commands.Explain [] given) k.2 (record { command = refl; numbers = refl; options = each k.0 none.0 of_reach.1 of_prove.0 of_prove.1; ranges = of_reach.0 })
+    subst (IsFormOf commands.Explain [] given) k.2
+        (record { command = refl; numbers = refl; options = each k.0 none.0 of_reach.1 of_prove.0 of_prove.1; ranges = of_reach.0 })
   where
-    each : (k : ℕ) → is_none (given Nodes) ≡ true → IsGiven (usual Reach) (Some k) (option_to_list (given Reach)) → is_none (given Front) ≡ true → is_none (given Table) ≡ true → HasOptions given (Explain k)
+    each : (k : ℕ) → is_none (given Nodes) ≡ true → IsGiven (usual Reach) (Some k) (option_to_list (given Reach)) → is_none (given Front) ≡ true
+        → is_none (given Table) ≡ true → HasOptions given (Explain k)
     each k nodes of_reach front table Nodes = none_is (usual Nodes) (given Nodes) nodes
     each k nodes of_reach front table Reach = of_reach
     each k nodes of_reach front table Front = none_is (usual Front) (given Front) front
     each k nodes of_reach front table Table = none_is (usual Table) (given Table) table
 
-five_give : (cols rows moves seed games : ℕ) (given : Name → Option ℕ) (form : Form) → none_of_prove given ≡ true → five_from (cols ∷ rows ∷ moves ∷ seed ∷ games ∷ []) given ≡ Some form
+five_give : (cols rows moves seed games : ℕ) (given : Name → Option ℕ) (form : Form) → none_of_prove given ≡ true
+    → five_from (cols ∷ rows ∷ moves ∷ seed ∷ games ∷ []) given ≡ Some form
     → IsFormOf commands.Drill (cols ∷ rows ∷ moves ∷ seed ∷ games ∷ []) given form
 five_give cols rows moves seed games given form none h =
     let size = bind_some (size_from cols rows) _ form h in
@@ -187,14 +200,16 @@ five_give cols rows moves seed games given form none h =
       ranges = (record { size = of_size.0; moves = of_most.0; seed = of_seed.0; games = of_games.0 }, of_nodes.0, of_reach.0);
     })
   where
-    each : (size : Board) (most from count n k : ℕ) → IsGiven (usual Nodes) (Some n) (option_to_list (given Nodes)) → IsGiven (usual Reach) (Some k) (option_to_list (given Reach))
+    each : (size : Board) (most from count n k : ℕ) → IsGiven (usual Nodes) (Some n) (option_to_list (given Nodes))
+        → IsGiven (usual Reach) (Some k) (option_to_list (given Reach))
         → is_none (given Front) ≡ true → is_none (given Table) ≡ true → HasOptions given (Drill size most from count n k)
     each size most from count n k of_nodes of_reach front table Nodes = of_nodes
     each size most from count n k of_nodes of_reach front table Reach = of_reach
     each size most from count n k of_nodes of_reach front table Front = none_is (usual Front) (given Front) front
     each size most from count n k of_nodes of_reach front table Table = none_is (usual Table) (given Table) table
 
-numbers_give : (alone : List ℕ) (given : Name → Option ℕ) (form : Form) → none_of_prove given ≡ true → five_from alone given ≡ Some form → IsFormOf commands.Drill alone given form
+numbers_give : (alone : List ℕ) (given : Name → Option ℕ) (form : Form) → none_of_prove given ≡ true → five_from alone given ≡ Some form
+    → IsFormOf commands.Drill alone given form
 numbers_give [] given form no_table h = cc
 numbers_give (cols ∷ []) given form no_table h = cc
 numbers_give (cols ∷ rows ∷ []) given form no_table h = cc
@@ -206,7 +221,8 @@ numbers_give (cols ∷ rows ∷ moves ∷ seed ∷ games ∷ another ∷ more) g
 drill_gives : (alone : List ℕ) (given : Name → Option ℕ) (form : Form) → drill_from alone given ≡ Some form → IsFormOf commands.Drill alone given form
 drill_gives alone given form h = let told = chosen_some (none_of_prove given) (five_from alone given) form h in numbers_give alone given form told.0 told.1
 
-pub form_gives : (command : Command) (alone : List ℕ) (given : Name → Option ℕ) (form : Form) → form_with command alone given ≡ Some form → IsFormOf command alone given form
+pub form_gives : (command : Command) (alone : List ℕ) (given : Name → Option ℕ) (form : Form) → form_with command alone given ≡ Some form
+    → IsFormOf command alone given form
 form_gives commands.Prove [] given form h = prove_gives given form h
 form_gives commands.Prove (n ∷ alone) given form h = cc
 form_gives commands.Check [] given form h = bare_gives given Check form tt refl (λ name. refl) h
@@ -217,7 +233,8 @@ form_gives commands.Explain [] given form h = explain_gives given form h
 form_gives commands.Explain (n ∷ alone) given form h = cc
 form_gives commands.Drill alone given form h = drill_gives alone given form h
 
-none_of_prove_found : (given : Name → Option ℕ) (form : Form) → HasOptions given form → number_in form Front ≡ None → number_in form Table ≡ None → none_of_prove given ≡ true
+none_of_prove_found : (given : Name → Option ℕ) (form : Form) → HasOptions given form → number_in form Front ≡ None → number_in form Table ≡ None
+    → none_of_prove given ≡ true
 none_of_prove_found given form options front table = and_from (is_none (given Front)) (is_none (given Table))
     (none_says (usual Front) (given Front) (subst (λ number. IsGiven (usual Front) number (option_to_list (given Front))) front (options Front)))
     (none_says (usual Table) (given Table) (subst (λ number. IsGiven (usual Table) number (option_to_list (given Table))) table (options Table)))
@@ -235,28 +252,34 @@ form_found : (form : Form) (given : Name → Option ℕ) → HasOptions given fo
 form_found (Prove n k front t) given options ranges =
     ap (λ found. found >>= λ n. reach_from (given Reach) >>= λ k. front_from (given Front) >>= λ f. table_from (given Table) >>= λ t. Some (Prove n k f t))
     (option_spelled 1 most_nodes usual_nodes n (given Nodes) ranges.0 (options Nodes))
-    ∙ ap (λ found. found >>= λ k. front_from (given Front) >>= λ f. table_from (given Table) >>= λ t. Some (Prove n k f t)) (option_spelled 0 most_reach usual_reach k (given Reach) ranges.1 (options Reach))
+    ∙ ap (λ found. found >>= λ k. front_from (given Front) >>= λ f. table_from (given Table) >>= λ t. Some (Prove n k f t))
+        (option_spelled 0 most_reach usual_reach k (given Reach) ranges.1 (options Reach))
     ∙ ap (λ found. found >>= λ f. table_from (given Table) >>= λ t. Some (Prove n k f t)) (front_spelled front (given Front) ranges.2 (options Front))
     ∙ ap (λ found. found >>= λ t. Some (Prove n k front t)) (option_spelled 1 most_room usual_table t (given Table) ranges.3 (options Table))
 form_found Check given options ranges = bare_found given Check (λ name. none_says (usual name) (given name) (options name))
 form_found Play given options ranges = bare_found given Play (λ name. none_says (usual name) (given name) (options name))
 form_found (Explain k) given options ranges =
     ap (λ b. cond b (option_map Explain (reach_from (given Reach))) None)
-    (and_from (is_none (given Nodes)) (none_of_prove given) (none_says (usual Nodes) (given Nodes) (options Nodes)) (none_of_prove_found given (Explain k) options refl refl))
+    (and_from (is_none (given Nodes)) (none_of_prove given) (none_says (usual Nodes) (given Nodes) (options Nodes))
+        (none_of_prove_found given (Explain k) options refl refl))
     ∙ ap (option_map Explain) (option_spelled 0 most_reach usual_reach k (given Reach) ranges (options Reach))
 form_found (Drill size moves seed games n k) given options ranges =
-    ap (λ b. cond b (five_from (numbers_of (Drill size moves seed games n k)) given) None) (none_of_prove_found given (Drill size moves seed games n k) options refl refl)
+    ap (λ b. cond b (five_from (numbers_of (Drill size moves seed games n k)) given) None)
+        (none_of_prove_found given (Drill size moves seed games n k) options refl refl)
     ∙ ap (λ found. found >>= λ size. within 0 100 moves >>= λ moves. within 1 2147483646 seed >>= λ seed. within 1 1000 games >>= λ games.
     nodes_from (given Nodes) >>= λ n. reach_from (given Reach) >>= λ k. Some (Drill size moves seed games n k)) (size_spelled size ranges.0.size)
     ∙ ap (λ found. found >>= λ moves. within 1 2147483646 seed >>= λ seed. within 1 1000 games >>= λ games.
     nodes_from (given Nodes) >>= λ n. reach_from (given Reach) >>= λ k. Some (Drill size moves seed games n k)) (within_spelled 0 100 moves ranges.0.moves)
     ∙ ap (λ found. found >>= λ seed. within 1 1000 games >>= λ games.
     nodes_from (given Nodes) >>= λ n. reach_from (given Reach) >>= λ k. Some (Drill size moves seed games n k)) (within_spelled 1 2147483646 seed ranges.0.seed)
-    ∙ ap (λ found. found >>= λ games. nodes_from (given Nodes) >>= λ n. reach_from (given Reach) >>= λ k. Some (Drill size moves seed games n k)) (within_spelled 1 1000 games ranges.0.games)
-    ∙ ap (λ found. found >>= λ n. reach_from (given Reach) >>= λ k. Some (Drill size moves seed games n k)) (option_spelled 1 most_nodes usual_nodes n (given Nodes) ranges.1 (options Nodes))
+    ∙ ap (λ found. found >>= λ games. nodes_from (given Nodes) >>= λ n. reach_from (given Reach) >>= λ k. Some (Drill size moves seed games n k))
+        (within_spelled 1 1000 games ranges.0.games)
+    ∙ ap (λ found. found >>= λ n. reach_from (given Reach) >>= λ k. Some (Drill size moves seed games n k))
+        (option_spelled 1 most_nodes usual_nodes n (given Nodes) ranges.1 (options Nodes))
     ∙ ap (λ found. found >>= λ k. Some (Drill size moves seed games n k)) (option_spelled 0 most_reach usual_reach k (given Reach) ranges.2 (options Reach))
 
-pub form_spelled : (command : Command) (alone : List ℕ) (given : Name → Option ℕ) (form : Form) → IsFormOf command alone given form → form_with command alone given ≡ Some form
+pub form_spelled : (command : Command) (alone : List ℕ) (given : Name → Option ℕ) (form : Form) → IsFormOf command alone given form
+    → form_with command alone given ≡ Some form
 form_spelled command alone given form is =
     ap (λ command. form_with command alone given) (sym is.command)
     ∙ ap (λ alone. form_with (command_of form) alone given) is.numbers

@@ -1,5 +1,6 @@
 -- Pieces and their words: each piece is read from its own words, and from no others.
-use Rattle.std.proofs.Common.{◌≡◌, ℕ, ◌<◌, ◌≤◌, ◌^◌, false, ◌==◌, cond, List, [], ◌∷◌, ◌++◌, flat_map, Option, Some, None, refl, sym, ap, ◌∙◌, subst, append_assoc, append-nil, inl, inr, arith}
+use Rattle.std.proofs.Common.{◌≡◌, ℕ, ◌<◌, ◌≤◌, ◌^◌, false, ◌==◌, cond, List, [], ◌∷◌, ◌++◌, flat_map, Option, Some, None, refl, sym, ap, ◌∙◌, subst,
+    append_assoc, append-nil, inl, inr, arith}
 use Rattle.std.specs.List.{AllByRecursion}
 use Rattle.std.specs.Option.{option_map}
 use Rattle.std.specs.Str.{bytes_eq}
@@ -23,7 +24,8 @@ use Rattle.victor_words.specs.declared.piece.Piece.TheVariants.{Apart, Joined, O
 -- ---- names and numbers
 
 -- one of two names, or another
-named_first : {X : Type 0} (word text : List ℕ) (x y : X) (others : Option X) (spelling : X → List ℕ) → spelling x ≡ text → (others ≡ Some y → word ≡ spelling y)
+named_first : {X : Type 0} (word text : List ℕ) (x y : X) (others : Option X) (spelling : X → List ℕ) → spelling x ≡ text
+    → (others ≡ Some y → word ≡ spelling y)
     → cond (bytes_eq word text) (Some x) others ≡ Some y → word ≡ spelling y
 named_first word text x y others spelling own rest h = elim (chosen (bytes_eq word text) (Some x) others (Some y) h) [
   | inl here ↦ let same : x ≡ y = cc (here.1) in is_text word text here.0 ∙ sym own ∙ ap spelling same
@@ -60,7 +62,8 @@ digits_unnamed (byte ∷ word) digits = rw (ne_eqb byte 45 (λ (e : byte ≡ 45)
 
 unmarked : (n : ℕ) → n < 2 ^ 64 → split_once 61 (decimal n) ≡ None
 unmarked n small = uncut 61 (decimal n)
-    (all_each (λ byte. (48 ≤ byte) × (byte ≤ 57)) (λ byte. (byte == 61) ≡ false) (decimal n) (λ byte digit. ne_eqb byte 61 (λ (e : byte ≡ 61). omega (arith, digit.1))) (digits_decimal n small))
+    (all_each (λ byte. (48 ≤ byte) × (byte ≤ 57)) (λ byte. (byte == 61) ≡ false) (decimal n)
+        (λ byte digit. ne_eqb byte 61 (λ (e : byte ≡ 61). omega (arith, digit.1))) (digits_decimal n small))
 
 number_read : (n : ℕ) → n ≤ 4294967295 → number_of (decimal n) ≡ Some n
 number_read n small = number_spelled 0 4294967295 n (decimal n) (omega arith) small (omega arith) refl
@@ -88,18 +91,21 @@ pub record StartsWith (words : List (List ℕ)) (piece : Piece) : Type 0 where
   pub whole : words ≡ words_of piece ++ rest
   pub small : IsSmall piece
 
-first_joined : (word : List ℕ) (words : List (List ℕ)) (parts : List ℕ × List ℕ) (piece : Piece) → word ≡ parts.0 ++ 61 ∷ parts.1 → joined parts.0 parts.1 ≡ Some piece → StartsWith (word ∷ words) piece
+first_joined : (word : List ℕ) (words : List (List ℕ)) (parts : List ℕ × List ℕ) (piece : Piece) → word ≡ parts.0 ++ 61 ∷ parts.1
+    → joined parts.0 parts.1 ≡ Some piece → StartsWith (word ∷ words) piece
 first_joined word words parts piece whole h =
     let name = bind_some (option_named parts.0) _ piece h in
     let number = map_some (Joined name.0) (number_of parts.1) piece name.2 in
     let gives = number_gives 0 4294967295 parts.1 number.0 number.1 in
     subst (StartsWith (word ∷ words)) number.2 (record {
       rest = words;
-      whole = ap (λ first. first ∷ words) (whole ∙ ap (λ start. start ++ 61 ∷ parts.1) (name_gives parts.0 name.0 name.1) ∙ ap (λ end. name_word name.0 ++ 61 ∷ end) gives.2);
+      whole = ap (λ first. first ∷ words) (whole ∙ ap (λ start. start ++ 61 ∷ parts.1) (name_gives parts.0 name.0 name.1)
+          ∙ ap (λ end. name_word name.0 ++ 61 ∷ end) gives.2);
       small = gives.1;
     })
 
-first_apart : (name : Name) (word : List ℕ) (words : List (List ℕ)) (piece : Piece) → word ≡ name_word name → apart name words ≡ Some piece → StartsWith (word ∷ words) piece
+first_apart : (name : Name) (word : List ℕ) (words : List (List ℕ)) (piece : Piece) → word ≡ name_word name → apart name words ≡ Some piece
+    → StartsWith (word ∷ words) piece
 first_apart name word [] piece named h = cc
 first_apart name word (value ∷ words) piece named h =
     let number = map_some (Apart name) (number_of value) piece h in
@@ -131,7 +137,8 @@ first_gives (word ∷ words) piece h = at_parts (split_once 61 word) refl h
 -- ---- all pieces
 
 -- the words of a piece with others behind them are those of that piece alone
-same_first : (one another : Piece) (words others : List (List ℕ)) → IsSmall one → IsSmall another → words_of one ++ words ≡ words_of another ++ others → (one ≡ another) × (words ≡ others)
+same_first : (one another : Piece) (words others : List (List ℕ)) → IsSmall one → IsSmall another → words_of one ++ words ≡ words_of another ++ others
+    → (one ≡ another) × (words ≡ others)
 same_first one another words others small_one small_another h =
     let found : Some one ≡ Some another = sym (first_of_words one words small_one) ∙ ap first_piece h ∙ first_of_words another others small_another in
     let same : one ≡ another = cc in
@@ -148,18 +155,21 @@ no_words (Apart name n) words h = cc
 no_words (Joined name n) words h = cc
 no_words (Own n) words h = cc
 
-pub goes_on : (before pieces : List Piece) (left : List (List ℕ)) → AllByRecursion IsSmall before → AreWordsOf pieces (flat_map words_of before ++ left) → GoesOn pieces before left
+pub goes_on : (before pieces : List Piece) (left : List (List ℕ)) → AllByRecursion IsSmall before → AreWordsOf pieces (flat_map words_of before ++ left)
+    → GoesOn pieces before left
 goes_on [] pieces left small words = record { more = pieces; whole = refl; words = words }
 goes_on (first ∷ before) [] left small words =
     absurd (no_words first (flat_map words_of before ++ left) (sym words.spelled ∙ append_assoc (words_of first) (flat_map words_of before) left))
 goes_on (first ∷ before) (piece ∷ pieces) left small words =
-    let same = same_first piece first (flat_map words_of pieces) (flat_map words_of before ++ left) words.small.0 small.0 (sym words.spelled ∙ append_assoc (words_of first) (flat_map words_of before) left) in
+    let same = same_first piece first (flat_map words_of pieces) (flat_map words_of before ++ left) words.small.0 small.0
+        (sym words.spelled ∙ append_assoc (words_of first) (flat_map words_of before) left) in
     let rest = goes_on before pieces left small.1 (record { spelled = sym same.1; small = words.small.1 }) in
     record { more = rest.more; whole = ap (λ piece. piece ∷ pieces) same.0 ∙ ap (λ pieces. first ∷ pieces) rest.whole; words = rest.words }
 
 -- words are those of one list of pieces
 pub same_pieces : (one another : List Piece) (words : List (List ℕ)) → AreWordsOf one words → AreWordsOf another words → one ≡ another
-same_pieces one another words of_one of_another = at (goes_on another one [] of_another.small (record { spelled = append-nil _ ∙ sym of_another.spelled ∙ of_one.spelled; small = of_one.small }))
+same_pieces one another words of_one of_another =
+    at (goes_on another one [] of_another.small (record { spelled = append-nil _ ∙ sym of_another.spelled ∙ of_one.spelled; small = of_one.small }))
   where
     ended : (more : List Piece) → AreWordsOf more [] → more ≡ []
     ended [] words = refl

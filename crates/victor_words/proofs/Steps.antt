@@ -1,5 +1,6 @@
 -- One piece more among the words behind a command, and where the reading of them stops.
-use Rattle.std.proofs.Common.{◌≡◌, ℕ, ◌<◌, ◌≤◌, List, [], ◌∷◌, ◌++◌, flat_map, drop, length, Some, None, option_to_list, refl, sym, ap, ◌∙◌, subst, append_assoc, append-nil, length-append, inl, inr, arith}
+use Rattle.std.proofs.Common.{◌≡◌, ℕ, ◌<◌, ◌≤◌, List, [], ◌∷◌, ◌++◌, flat_map, drop, length, Some, None, option_to_list, refl, sym, ap, ◌∙◌, subst,
+    append_assoc, append-nil, length-append, inl, inr, arith}
 use Rattle.std.specs.List.{AllByRecursion}
 use Rattle.std.proofs.Math.Seq.{drop-append_seam}
 use Rattle.std.proofs.lemmas.List.Concat.{flat_map-append}
@@ -19,7 +20,8 @@ pub record FoundSoFar (words left : List (List ℕ)) (found : Found) : Type 0 wh
   pub small : AllByRecursion IsSmall before
   pub are_found : AreFound before found
 
-pub nothing_found : (words : List (List ℕ)) (found : Found) → found.nodes ≡ None → found.reach ≡ None → found.front ≡ None → found.table ≡ None → found.numbers.items ≡ [] → FoundSoFar words words found
+pub nothing_found : (words : List (List ℕ)) (found : Found) → found.nodes ≡ None → found.reach ≡ None → found.front ≡ None → found.table ≡ None
+    → found.numbers.items ≡ [] → FoundSoFar words words found
 nothing_found words found nodes reach front table numbers = record {
   before = [];
   spelled = refl;
@@ -36,18 +38,23 @@ nothing_found words found nodes reach front table numbers = record {
 flat_map_snoc : {A : Type 0} (f : Piece → List A) (before : List Piece) (piece : Piece) → flat_map f (before ++ piece ∷ []) ≡ flat_map f before ++ f piece
 flat_map_snoc f before piece = flat_map-append f before (piece ∷ []) ∙ ap (λ rest. flat_map f before ++ rest) (append-nil (f piece))
 
-pub one_more_found : (words left : List (List ℕ)) (found next : Found) (piece : Piece) → FoundSoFar words left found → first_piece left ≡ Some piece → AddsPiece found piece next
+pub one_more_found : (words left : List (List ℕ)) (found next : Found) (piece : Piece) → FoundSoFar words left found → first_piece left ≡ Some piece
+    → AddsPiece found piece next
     → FoundSoFar words (drop (length (words_of piece)) left) next
 one_more_found words left found next piece far first adds =
     let start = first_gives left piece first in
-    let rest : drop (length (words_of piece)) left ≡ start.rest = ap (drop (length (words_of piece))) start.whole ∙ drop-append_seam (words_of piece) start.rest in
+    let rest : drop (length (words_of piece)) left ≡ start.rest = ap (drop (length (words_of piece))) start.whole
+        ∙ drop-append_seam (words_of piece) start.rest in
     record {
       before = far.before ++ piece ∷ [];
-      spelled = far.spelled ∙ ap (λ left. flat_map words_of far.before ++ left) start.whole ∙ sym (append_assoc (flat_map words_of far.before) (words_of piece) start.rest)
-          ∙ ap (λ words. words ++ start.rest) (sym (flat_map_snoc words_of far.before piece)) ∙ ap (λ left. flat_map words_of (far.before ++ piece ∷ []) ++ left) (sym rest);
+      spelled = far.spelled ∙ ap (λ left. flat_map words_of far.before ++ left) start.whole
+          ∙ sym (append_assoc (flat_map words_of far.before) (words_of piece) start.rest)
+          ∙ ap (λ words. words ++ start.rest) (sym (flat_map_snoc words_of far.before piece))
+              ∙ ap (λ left. flat_map words_of (far.before ++ piece ∷ []) ++ left) (sym rest);
       small = all_append IsSmall far.before (piece ∷ []) far.small (start.small, tt);
       are_found = record {
-        options = λ name. flat_map_snoc (given_by name) far.before piece ∙ ap (λ xs. xs ++ given_by name piece) (far.are_found.options name) ∙ sym (adds.options name);
+        options = λ name. flat_map_snoc (given_by name) far.before piece ∙ ap (λ xs. xs ++ given_by name piece) (far.are_found.options name)
+            ∙ sym (adds.options name);
         numbers = flat_map_snoc own_by far.before piece ∙ ap (λ xs. xs ++ own_by piece) far.are_found.numbers ∙ sym adds.numbers;
       };
     }
@@ -57,7 +64,8 @@ pub all_found : (words : List (List ℕ)) (found : Found) → FoundSoFar words [
 all_found words found far = (far.before, record { spelled = far.spelled ∙ append-nil (flat_map words_of far.before); small = far.small }, far.are_found)
 
 -- the words that are left begin with no piece, so the words are no pieces
-pub no_first_piece : (words left : List (List ℕ)) (found : Found) → FoundSoFar words left found → 0 < length left → first_piece left ≡ None → (pieces : List Piece) → AreWordsOf pieces words → ⊥
+pub no_first_piece : (words left : List (List ℕ)) (found : Found) → FoundSoFar words left found → 0 < length left → first_piece left ≡ None
+    → (pieces : List Piece) → AreWordsOf pieces words → ⊥
 no_first_piece words left found far more none pieces words_are =
     at (goes_on far.before pieces left far.small (subst (AreWordsOf pieces) far.spelled words_are))
   where
@@ -71,20 +79,24 @@ no_first_piece words left found far more none pieces words_are =
     at on = next on.more on.words
 
 -- the next piece is one too many, so the pieces are too many
-pub too_many : (words left : List (List ℕ)) (found : Found) (piece : Piece) → FoundSoFar words left found → first_piece left ≡ Some piece → IsTooMany found piece
+pub too_many : (words left : List (List ℕ)) (found : Found) (piece : Piece) → FoundSoFar words left found → first_piece left ≡ Some piece
+    → IsTooMany found piece
     → (pieces : List Piece) → AreWordsOf pieces words → AreFew pieces → ⊥
 too_many words left found piece far first many pieces words_are few =
     at (goes_on far.before pieces left far.small (subst (AreWordsOf pieces) far.spelled words_are))
   where
     -- what the piece gives stands behind what was found
-    given_more : {A : Type 0} (f : Piece → List A) (xs : List A) (more : List Piece) → flat_map f far.before ≡ xs → length (xs ++ f piece) ≤ length (flat_map f (far.before ++ piece ∷ more))
+    given_more : {A : Type 0} (f : Piece → List A) (xs : List A) (more : List Piece) → flat_map f far.before ≡ xs
+        → length (xs ++ f piece) ≤ length (flat_map f (far.before ++ piece ∷ more))
     given_more f xs more own =
-        let whole : flat_map f (far.before ++ piece ∷ more) ≡ xs ++ (f piece ++ flat_map f more) = flat_map-append f far.before (piece ∷ more) ∙ ap (λ xs. xs ++ (f piece ++ flat_map f more)) own in
+        let whole : flat_map f (far.before ++ piece ∷ more) ≡ xs ++ (f piece ++ flat_map f more) = flat_map-append f far.before (piece ∷ more)
+            ∙ ap (λ xs. xs ++ (f piece ++ flat_map f more)) own in
         omega (arith, ap length whole, length-append xs (f piece), length-append xs (f piece ++ flat_map f more), length-append (f piece) (flat_map f more))
 
     of_more : (more : List Piece) → pieces ≡ far.before ++ piece ∷ more → ⊥
     of_more more whole = elim many [
-      | inl twice ↦ omega (arith, twice.1, few.options twice.0, given_more (given_by twice.0) _ more (far.are_found.options twice.0), ap (λ pieces. length (given twice.0 pieces)) whole)
+      | inl twice ↦ omega (arith, twice.1, few.options twice.0, given_more (given_by twice.0) _ more (far.are_found.options twice.0),
+          ap (λ pieces. length (given twice.0 pieces)) whole)
       | inr numbers ↦ omega (arith, numbers, few.numbers, given_more own_by _ more far.are_found.numbers, ap (λ pieces. length (own pieces)) whole)
     ]
 

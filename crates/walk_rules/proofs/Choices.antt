@@ -1,5 +1,6 @@
 -- The sets of a walk, what is chosen among them, and that where a plan is chosen White doesn't win.
-use Rattle.std.proofs.Common.{◌≡◌, ◌↔◌, ℕ, zero, suc, ◌≤◌, true, false, ◌||◌, if◌then◌else◌, List, [], ◌∷◌, ◌++◌, length, filter, take, Some, refl, sym, ap, ◌∙◌, subst, inl, inr, arith}
+use Rattle.std.proofs.Common.{◌≡◌, ◌↔◌, ℕ, zero, suc, ◌≤◌, true, false, ◌||◌, if◌then◌else◌, List, [], ◌∷◌, ◌++◌, length, filter, take, Some, refl, sym, ap,
+    ◌∙◌, subst, inl, inr, arith}
 use Rattle.std.specs.List.{slice_get, list_all, list_any}
 use Rattle.std.proofs.lemmas.Bool.{cases_Bool, cases_lt, both_ways, and_parts}
 use Rattle.game_rules.specs.Position.{Position}
@@ -9,7 +10,8 @@ use Rattle.game_rules.proofs.Lists.{Among, any_gives, Among-filter_gives, Among-
 use Rattle.plan_rules.specs.Rules.{RuleInstance, together}
 use Rattle.plan_rules.specs.Plan.{is_plan}
 use Rattle.plan_rules.proofs.Theorems.{plan_wins}
-use Rattle.walk_rules.specs.Walk.{fitting_zones, open_squares, owns_first, may_follow, walk_within, walk_from, is_plan_position, walk, with_all, given, gives_plan, solved, Chosen, gave, no_plan, spent, choice_among, choice_of, is_given}
+use Rattle.walk_rules.specs.Walk.{fitting_zones, open_squares, owns_first, may_follow, walk_within, walk_from, is_plan_position, walk, with_all, given,
+    gives_plan, solved, Chosen, gave, no_plan, spent, choice_among, choice_of, is_given}
 use Rattle.walk_rules.specs.Steps.{is_zone_set}
 use Rattle.walk_rules.specs.Choice.{NoneOf, IsFirst, IsChoice}
 use Rattle.walk_rules.proofs.Fitting.{zone_fits}
@@ -18,7 +20,8 @@ use Rattle.walk_rules.proofs.Given.{given_is, choice_step}
 
 -- ---- the sets of a walk
 
-within_sets : (p : Position) (n : ℕ) (set later : List RuleInstance) → is_zone_set p set ≡ true → Among later (walk_within p (fitting_zones p) n set) → is_zone_set p later ≡ true
+within_sets : (p : Position) (n : ℕ) (set later : List RuleInstance) → is_zone_set p set ≡ true → Among later (walk_within p (fitting_zones p) n set)
+    → is_zone_set p later ≡ true
 unfolding walk_within
 within_sets p zero set later is (inl same) = ap (is_zone_set p) (sym same) ∙ is
 within_sets p zero set later is (inr none) = absurd none
@@ -41,12 +44,14 @@ walk_sets p set among = elim (cases_Bool (is_plan_position p)) [
 -- ---- the choice in words
 
 module _ (p : Position) where
-  none_earlier : (k : ℕ) (set : List RuleInstance) (sets : List (List RuleInstance)) → gives_plan p set ≡ false → NoneOf p k sets → NoneOf p (suc k) (set ∷ sets)
+  none_earlier : (k : ℕ) (set : List RuleInstance) (sets : List (List RuleInstance)) → gives_plan p set ≡ false → NoneOf p k sets
+      → NoneOf p (suc k) (set ∷ sets)
   none_earlier k set sets fails none zero other within at = let same : set ≡ other = cc at in subst (λ set. gives_plan p set ≡ false) same fails
   none_earlier k set sets fails none (suc i) other within at = none i other (omega arith) at
 
   -- a set that gives no plan before the others
-  choice_later : (k : ℕ) (set : List RuleInstance) (sets : List (List RuleInstance)) (choice : Chosen) → gives_plan p set ≡ false → IsChoice p k sets choice → IsChoice p (suc k) (set ∷ sets) choice
+  choice_later : (k : ℕ) (set : List RuleInstance) (sets : List (List RuleInstance)) (choice : Chosen) → gives_plan p set ≡ false → IsChoice p k sets choice
+      → IsChoice p (suc k) (set ∷ sets) choice
   choice_later k set sets (gave chosen) fails is = record {
     place = suc is.place;
     within = let within = is.within in omega arith;
@@ -64,7 +69,8 @@ module _ (p : Position) where
   choice_is k [] = (omega arith, λ i set within at. absurd (cc at))
   choice_is zero (set ∷ sets) = (omega arith, λ i other within at. absurd (omega arith))
   choice_is (suc k) (set ∷ sets) = elim (cases_Bool (gives_plan p set)) [
-    | inl gives ↦ subst (IsChoice p (suc k) (set ∷ sets)) (sym (choice_step p set k sets ∙ ap (λ b. if b then gave (given p set) else choice_among p k sets) gives)) (record {
+    | inl gives ↦ subst (IsChoice p (suc k) (set ∷ sets))
+        (sym (choice_step p set k sets ∙ ap (λ b. if b then gave (given p set) else choice_among p k sets) gives)) (record {
       place = 0;
       within = omega arith;
       set = set;
@@ -74,7 +80,8 @@ module _ (p : Position) where
       is_given = refl;
       is_plan_now = given_is p set ∙ gives;
     })
-    | inr fails ↦ subst (IsChoice p (suc k) (set ∷ sets)) (sym (choice_step p set k sets ∙ ap (λ b. if b then gave (given p set) else choice_among p k sets) fails))
+    | inr fails ↦ subst (IsChoice p (suc k) (set ∷ sets))
+        (sym (choice_step p set k sets ∙ ap (λ b. if b then gave (given p set) else choice_among p k sets) fails))
         (choice_later k set sets (choice_among p k sets) fails (choice_is k sets))
   ]
 
@@ -87,7 +94,8 @@ module _ (p : Position) where
 
   one_first : (k : ℕ) (sets : List (List RuleInstance)) (a b : List RuleInstance) → IsFirst p k sets a → IsFirst p k sets b → a ≡ b
   one_first k sets a b left right =
-      let place : left.place ≡ right.place = omega (arith, first_past k right.place sets a left right.is_first, first_past k left.place sets b right left.is_first) in
+      let place : left.place ≡ right.place =
+          omega (arith, first_past k right.place sets a left right.is_first, first_past k left.place sets b right left.is_first) in
       let set : Some left.set ≡ Some right.set = sym left.is_set ∙ ap (slice_get sets) place ∙ right.is_set in
       let same : left.set ≡ right.set = cc set in
       left.is_given ∙ ap (given p) same ∙ sym right.is_given
@@ -114,7 +122,8 @@ module _ (p : Position) where
   solved_among (suc k) [] = refl
   solved_among zero (set ∷ sets) = refl
   solved_among (suc k) (set ∷ sets) = elim (cases_Bool (gives_plan p set)) [
-    | inl gives ↦ ap (λ b. b || list_any (gives_plan p) (take k sets)) gives ∙ sym (ap is_given (choice_step p set k sets ∙ ap (λ b. if b then gave (given p set) else choice_among p k sets) gives))
+    | inl gives ↦ ap (λ b. b || list_any (gives_plan p) (take k sets)) gives
+        ∙ sym (ap is_given (choice_step p set k sets ∙ ap (λ b. if b then gave (given p set) else choice_among p k sets) gives))
     | inr fails ↦
         ap (λ b. b || list_any (gives_plan p) (take k sets)) fails ∙ solved_among k sets
         ∙ sym (ap is_given (choice_step p set k sets ∙ ap (λ b. if b then gave (given p set) else choice_among p k sets) fails))

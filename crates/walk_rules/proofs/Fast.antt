@@ -1,7 +1,8 @@
 -- What a quick search for a plan rests on: only a set that leaves no square open can give a plan, and then only its
 -- lines have to be asked; a zone may follow where its first square is the first open one; a zone takes its squares from
 -- the open ones and gives them back; and an answer is looked for rule by rule, where it can be.
-use Rattle.std.proofs.Common.{◌≡◌, Bool, true, false, not, ◌&&◌, ◌||◌, List, [], ◌∷◌, ◌++◌, map, filter, Option, Some, None, is_some, is_none, refl, sym, ap, ◌∙◌, subst, inl, inr, ℕ, ◌+◌, ◌-◌, arith}
+use Rattle.std.proofs.Common.{◌≡◌, Bool, true, false, not, ◌&&◌, ◌||◌, List, [], ◌∷◌, ◌++◌, map, filter, Option, Some, None, is_some, is_none, refl, sym, ap,
+    ◌∙◌, subst, inl, inr, ℕ, ◌+◌, ◌-◌, arith}
 use Rattle.std.specs.List.{list_all, list_any, find}
 use Rattle.std.specs.Option.{option_or}
 use Rattle.std.proofs.lemmas.Bool.{cases_Bool, both_ways, and_parts, and_from, and_right, or_right, not_from_false, false_from_ne_true}
@@ -18,7 +19,8 @@ use Rattle.game_rules.proofs.Lists.{Among, any_gives, all_gives, all_from, Among
 use Rattle.game_rules.proofs.Narrowed.{filter_both}
 use Rattle.game_rules.proofs.Squares.{same_square_refl, same_square_is, has_gives, filter_same}
 use Rattle.plan_rules.specs.Squares.{above}
-use Rattle.plan_rules.specs.Rules.{RuleInstance, claimeven, baseinverse, lowinverse, highinverse, baseclaim, vertical, aftereven, before, specialbefore, zone_of, Facts, facts_of, fits, barred, is_supported, is_twin, is_low_line, together}
+use Rattle.plan_rules.specs.Rules.{RuleInstance, claimeven, baseinverse, lowinverse, highinverse, baseclaim, vertical, aftereven, before, specialbefore,
+    zone_of, Facts, facts_of, fits, barred, is_supported, is_twin, is_low_line, together}
 use Rattle.plan_rules.specs.Listing.{squares_at, playable_squares, each_with, listed}
 use Rattle.plan_rules.specs.Plan.{each_two, every_square, has_owner, empty_part, is_barred}
 use Rattle.plan_rules.specs.Zones.{owns_zone}
@@ -63,7 +65,8 @@ pub full_test : (p : Position) (set : List RuleInstance) → is_plan_position p 
     → gives_plan p set ≡ (is_none_of (open_squares p set) && list_all (λ g. not (is_left p set g) || is_some (answer_to p set g)) (groups_of (board_of p)))
 full_test p set going is =
     plan_with p set (supported_by p set) (supported_gives p set)
-    ∙ ap (λ b. b && list_all (λ g. list_any (has_man p Black) (squares_of g) || (is_barred p set g || list_any (bars p set g) (supported_by p set))) (groups_of (board_of p))) covers
+    ∙ ap (λ b. b && list_all (λ g. list_any (has_man p Black) (squares_of g) || (is_barred p set g || list_any (bars p set g) (supported_by p set)))
+        (groups_of (board_of p))) covers
     ∙ ap (λ b. is_none_of (open_squares p set) && b) (all_same _ _ (groups_of (board_of p)) line_is)
   where
     members : (list_all (λ w. owns_zone w && fits w p) set ≡ true) × (each_two together set ≡ true)
@@ -93,8 +96,10 @@ full_test p set going is =
     or_twice false true c = refl
     or_twice false false c = refl
 
-    line_is : (g : Group) → (list_any (has_man p Black) (squares_of g) || (is_barred p set g || list_any (bars p set g) (supported_by p set))) ≡ (not (is_left p set g) || is_some (answer_to p set g))
-    line_is g = or_twice (list_any (has_man p Black) (squares_of g)) (is_barred p set g) _ ∙ ap (λ b. not (is_left p set g) || b) (sym (found_some (bars p set g) (supported_by p set)))
+    line_is : (g : Group) → (list_any (has_man p Black) (squares_of g) || (is_barred p set g || list_any (bars p set g) (supported_by p set)))
+        ≡ (not (is_left p set g) || is_some (answer_to p set g))
+    line_is g = or_twice (list_any (has_man p Black) (squares_of g)) (is_barred p set g) _
+        ∙ ap (λ b. not (is_left p set g) || b) (sym (found_some (bars p set g) (supported_by p set)))
 
 -- ---- what a zone answers
 
@@ -115,7 +120,8 @@ and_not_or true true b = refl
 and_not_or true false b = refl
 
 -- a zone more: its squares are open no longer
-pub open_less : (p : Position) (set : List RuleInstance) (w : RuleInstance) (u : Square) → is_uncovered p (set ++ w ∷ []) u ≡ (is_uncovered p set u && not (has_square (zone_of w) u))
+pub open_less : (p : Position) (set : List RuleInstance) (w : RuleInstance) (u : Square)
+    → is_uncovered p (set ++ w ∷ []) u ≡ (is_uncovered p set u && not (has_square (zone_of w) u))
 open_less p set w u = ap (λ b. is_empty p u && not b) (owner_more set w u) ∙ and_not_or (is_empty p u) (has_owner set u) (has_square (zone_of w) u)
 
 pub open_squares_less : (p : Position) (set : List RuleInstance) (w : RuleInstance)
@@ -125,7 +131,8 @@ open_squares_less p set w =
     ∙ sym (filter_both (is_uncovered p set) (λ u. not (has_square (zone_of w) u)) (squares_at p))
 
 -- the squares of a zone that fits, and may stand with the set, are open
-pub zone_open : (p : Position) (set : List RuleInstance) (w : RuleInstance) (u : Square) → fits w p ≡ true → list_all (λ v. together v w) set ≡ true → has_square (zone_of w) u ≡ true
+pub zone_open : (p : Position) (set : List RuleInstance) (w : RuleInstance) (u : Square) → fits w p ≡ true → list_all (λ v. together v w) set ≡ true
+    → has_square (zone_of w) u ≡ true
     → is_uncovered p set u ≡ true
 zone_open p set w u fitted standing owned =
     and_from (is_empty p u) (not (has_owner set u))
@@ -180,13 +187,15 @@ follows_by_least p set w fitted = elim (cases_Bool (list_all (λ v. together v w
   | inl standing ↦ ap (λ b. b && list_all (λ v. together v w) set) (by_squares (open_squares p set) refl standing)
 ]
   where
-    by_squares : (us : List Square) → open_squares p set ≡ us → list_all (λ v. together v w) set ≡ true → owns_first w us ≡ starts_at (least_of (squares_at p) w) us
+    by_squares : (us : List Square) → open_squares p set ≡ us → list_all (λ v. together v w) set ≡ true
+        → owns_first w us ≡ starts_at (least_of (squares_at p) w) us
     by_squares [] is standing = none_starts (least_of (squares_at p) w)
       where
         none_starts : (found : Option Square) → false ≡ starts_at found []
         none_starts None = refl
         none_starts (Some u) = refl
-    by_squares (v ∷ vs) is standing = first_passes (has_square (zone_of w)) (is_uncovered p set) (squares_at p) (λ u owned. zone_open p set w u fitted standing owned) v vs is
+    by_squares (v ∷ vs) is standing = first_passes (has_square (zone_of w)) (is_uncovered p set) (squares_at p)
+        (λ u owned. zone_open p set w u fitted standing owned) v vs is
 
 -- ---- answers, rule by rule
 
@@ -216,7 +225,8 @@ first_of_kind p set g written xs =
 pub answer_by_kind : (p : Position) (set : List RuleInstance) (g : Group)
     → answer_to p set g ≡ option_or (option_or (option_or (first_written p set g vertical (squares_at p))
     (first_written p set g aftereven (groups_of (board_of p)))) (first_written p set g before (groups_of (board_of p))))
-    (first_written p set g (λ three. specialbefore three.0 three.1.0 three.1.1) (each_with (groups_of (board_of p)) (each_with (playable_squares p) (playable_squares p))))
+    (first_written p set g (λ three. specialbefore three.0 three.1.0 three.1.1)
+        (each_with (groups_of (board_of p)) (each_with (playable_squares p) (playable_squares p))))
 answer_by_kind p set g =
     split ((listed kinds.Vertical p ++ listed kinds.Aftereven p) ++ listed kinds.Before p) (listed kinds.Specialbefore p)
     ∙ ap (λ o. option_or o (first kinds.Specialbefore)) (split (listed kinds.Vertical p ++ listed kinds.Aftereven p) (listed kinds.Before p))
@@ -225,7 +235,8 @@ answer_by_kind p set g =
       first_of_kind p set g vertical (squares_at p),
       first_of_kind p set g aftereven (groups_of (board_of p)),
       first_of_kind p set g before (groups_of (board_of p)),
-      first_of_kind p set g (λ three. specialbefore three.0 three.1.0 three.1.1) (each_with (groups_of (board_of p)) (each_with (playable_squares p) (playable_squares p))),
+      first_of_kind p set g (λ three. specialbefore three.0 three.1.0 three.1.1)
+          (each_with (groups_of (board_of p)) (each_with (playable_squares p) (playable_squares p))),
     )
   where
     -- the first answer of a list
@@ -264,7 +275,8 @@ vertical_upright p set g e h =
   where
     in_line : (u : Square) → empty_part p g u ≡ true → (i : ℕ) × (step_of g.way g.anchor i ≡ u)
     in_line u h =
-        let at = Among-map_gives (step_of g.way g.anchor) (below (line_length g.len)) u (has_gives (squares_of g) u (and_parts (is_empty p u) (has_square (squares_of g) u) h).1) in
+        let at = Among-map_gives (step_of g.way g.anchor) (below (line_length g.len)) u
+            (has_gives (squares_of g) u (and_parts (is_empty p u) (has_square (squares_of g) u) h).1) in
         (at.0, at.2)
 
 -- where a Specialbefore answers a line, its square outside its own line is an empty one of the line, and a twin of the
@@ -274,7 +286,8 @@ pub record SpecialAnswer (p : Position) (set : List RuleInstance) (g h : Group) 
   pub outside : empty_part p g f ≡ true
   pub twins : is_twin (facts_of p set).twin f e0 ≡ true
 
-pub special_answer : (p : Position) (set : List RuleInstance) (g h : Group) (f e0 : Square) → is_answer p set g (specialbefore h f e0) ≡ true → SpecialAnswer p set g h f e0
+pub special_answer : (p : Position) (set : List RuleInstance) (g h : Group) (f e0 : Square) → is_answer p set g (specialbefore h f e0) ≡ true
+    → SpecialAnswer p set g h f e0
 special_answer p set g h f e0 is =
     let both = and_parts (fits (specialbefore h f e0) p) _ is in
     let two = and_parts (is_supported (specialbefore h f e0) (facts_of p set)) (bars p set g (specialbefore h f e0)) both.1 in

@@ -1,7 +1,8 @@
 -- The plan that a set gives. Standing instances give nothing to others, own no square and may stand with all, so beside
 -- the set itself they count for the lines that they answer alone. The list that is given answers the same lines as all
 -- standing instances that the set supports.
-use Rattle.std.proofs.Common.{◌≡◌, ◌⊎◌, ℕ, suc, ◌+◌, ◌≤◌, Bool, true, false, not, ◌&&◌, ◌||◌, if◌then◌else◌, List, [], ◌∷◌, ◌++◌, length, Option, Some, None, is_none, refl, sym, ap, ◌∙◌, subst, inl, inr, arith, append-nil, length-append}
+use Rattle.std.proofs.Common.{◌≡◌, ◌⊎◌, ℕ, suc, ◌+◌, ◌≤◌, Bool, true, false, not, ◌&&◌, ◌||◌, if◌then◌else◌, List, [], ◌∷◌, ◌++◌, length, Option, Some, None,
+    is_none, refl, sym, ap, ◌∙◌, subst, inl, inr, arith, append-nil, length-append}
 use Rattle.std.specs.List.{list_all, list_any, flat_map}
 use Rattle.std.proofs.lemmas.Bool.{cases_Bool, or_from, not_from_false}
 use Rattle.std.proofs.lemmas.Grind.{flat_map-append}
@@ -14,7 +15,8 @@ use Rattle.game_rules.specs.declared.Side.TheVariants.{White, Black}
 use Rattle.game_rules.proofs.Lists.{Among, any_gives, any_from, all_from, Among-append_left, Among-append_right, Among-append_cases, Among-filter_gives}
 use Rattle.game_rules.proofs.Squares.{agree}
 use Rattle.game_rules.proofs.Groups.{groups_fit}
-use Rattle.plan_rules.specs.Rules.{RuleInstance, claimeven, baseinverse, lowinverse, highinverse, owns_no_zone, zone_of, facts_of, upper_of, pair_of, twin_of, as_list, fits, barred, is_supported, together}
+use Rattle.plan_rules.specs.Rules.{RuleInstance, claimeven, baseinverse, lowinverse, highinverse, owns_no_zone, zone_of, facts_of, upper_of, pair_of, twin_of,
+    as_list, fits, barred, is_supported, together}
 use Rattle.plan_rules.specs.Listing.{has_instance}
 use Rattle.plan_rules.specs.Plan.{each_two, every_square, every_line, has_owner, empty_part, is_barred, is_plan}
 use Rattle.plan_rules.proofs.Squares.{find_one}
@@ -114,10 +116,12 @@ module _ (p : Position) (set xs : List RuleInstance) (each : (w : RuleInstance) 
       none_owns : (ws : List RuleInstance) → ((w : RuleInstance) → Among w ws → IsSupported p set w) → list_any (λ w. has_square (zone_of w) u) ws ≡ false
       none_owns ws each = elim (cases_Bool (list_any (λ w. has_square (zone_of w) u) ws)) [
         | inr none ↦ none
-        | inl some ↦ let found = any_gives (λ w. has_square (zone_of w) u) ws some in absurd (zoneless_owns_none found.0 (each found.0 found.1).standing u found.2)
+        | inl some ↦ let found = any_gives (λ w. has_square (zone_of w) u) ws some in
+            absurd (zoneless_owns_none found.0 (each found.0 found.1).standing u found.2)
       ]
 
-  covered_same : every_square (board_of p) (λ u. not (is_empty p u) || has_owner (set ++ xs) u) ≡ every_square (board_of p) (λ u. not (is_empty p u) || has_owner set u)
+  covered_same : every_square (board_of p) (λ u. not (is_empty p u) || has_owner (set ++ xs) u)
+      ≡ every_square (board_of p) (λ u. not (is_empty p u) || has_owner set u)
   covered_same =
       sym (squares_all (board_of p) (λ u. not (is_empty p u) || has_owner (set ++ xs) u))
       ∙ all_same _ _ _ (λ u. ap (λ b. not (is_empty p u) || b) (owner_same u))
@@ -139,13 +143,16 @@ module _ (p : Position) (set xs : List RuleInstance) (each : (w : RuleInstance) 
   plan_with = cc (fitting_same, pairs_same, covered_same, supported_same, answered_same)
 
 -- standing instances that answer the same lines
-pub plan_same : (p : Position) (set xs ys : List RuleInstance) → ((w : RuleInstance) → Among w xs → IsSupported p set w) → ((w : RuleInstance) → Among w ys → IsSupported p set w)
+pub plan_same : (p : Position) (set xs ys : List RuleInstance) → ((w : RuleInstance) → Among w xs → IsSupported p set w)
+    → ((w : RuleInstance) → Among w ys → IsSupported p set w)
     → ((g : Group) → Among g (groups_of (board_of p)) → is_left p set g ≡ true → list_any (bars p set g) xs ≡ list_any (bars p set g) ys)
     → is_plan p (set ++ xs) ≡ is_plan p (set ++ ys)
-plan_same p set xs ys each_x each_y same = plan_with p set xs each_x ∙ ap (λ b. is_plan_but_lines p set && b) (all_agree _ _ (groups_of (board_of p)) line_same) ∙ sym (plan_with p set ys each_y)
+plan_same p set xs ys each_x each_y same = plan_with p set xs each_x ∙ ap (λ b. is_plan_but_lines p set && b) (all_agree _ _ (groups_of (board_of p)) line_same)
+    ∙ sym (plan_with p set ys each_y)
   where
     line_same : (g : Group) → Among g (groups_of (board_of p))
-        → (list_any (has_man p Black) (squares_of g) || (is_barred p set g || list_any (bars p set g) xs)) ≡ (list_any (has_man p Black) (squares_of g) || (is_barred p set g || list_any (bars p set g) ys))
+        → (list_any (has_man p Black) (squares_of g) || (is_barred p set g || list_any (bars p set g) xs))
+            ≡ (list_any (has_man p Black) (squares_of g) || (is_barred p set g || list_any (bars p set g) ys))
     line_same g among = elim (cases_Bool (list_any (has_man p Black) (squares_of g))) [
       | inl black ↦ rw black refl
       | inr no_black ↦ elim (cases_Bool (is_barred p set g)) [
@@ -218,7 +225,8 @@ module _ (p : Position) (set : List RuleInstance) where
   answers_keep (g ∷ gs) ws w among = answers_keep gs (after_group g ws) w (keeps_group g ws w among)
 
   -- a group that is left has its answer listed
-  answers_has : (gs : List Group) (ws : List RuleInstance) (g : Group) (w : RuleInstance) → Among g gs → is_left p set g ≡ true → answer_to p set g ≡ Some w → Among w (answers p set gs ws)
+  answers_has : (gs : List Group) (ws : List RuleInstance) (g : Group) (w : RuleInstance) → Among g gs → is_left p set g ≡ true → answer_to p set g ≡ Some w
+      → Among w (answers p set gs ws)
   answers_has [] ws g w among left_open answer = absurd among
   answers_has (h ∷ gs) ws g w (inr later) left_open answer = answers_has gs (after_group h ws) g w later left_open answer
   answers_has (h ∷ gs) ws g w (inl same) left_open answer =
@@ -241,18 +249,22 @@ module _ (p : Position) (set : List RuleInstance) where
   listed_supported : (w : RuleInstance) → Among w listed_answers → Among w (supported_by p set)
   listed_supported w among = elim (answers_within (groups_of (board_of p)) [] w among) [ inl none ↦ absurd none | inr supported ↦ supported ]
 
-  same_answered : (g : Group) → Among g (groups_of (board_of p)) → is_left p set g ≡ true → list_any (bars p set g) listed_answers ≡ list_any (bars p set g) (supported_by p set)
+  same_answered : (g : Group) → Among g (groups_of (board_of p)) → is_left p set g ≡ true
+      → list_any (bars p set g) listed_answers ≡ list_any (bars p set g) (supported_by p set)
   same_answered g among left_open = agree _ _
-      (λ h. let found = any_gives (bars p set g) listed_answers h in any_from (bars p set g) (supported_by p set) found.0 (listed_supported found.0 found.1) found.2)
+      (λ h. let found = any_gives (bars p set g) listed_answers h in any_from (bars p set g) (supported_by p set) found.0 (listed_supported found.0 found.1)
+          found.2)
       (λ h. let found = find_one (bars p set g) (supported_by p set) h in
       any_from (bars p set g) listed_answers found.1 (answers_has (groups_of (board_of p)) [] g found.1 among left_open found.4) found.3)
 
   -- the list that is given is a plan exactly where the set with all standing instances that it supports is one
   pub given_is : is_plan p (given p set) ≡ gives_plan p set
-  given_is = plan_same p set listed_answers (supported_by p set) (λ w among. supported_gives p set w (listed_supported w among)) (supported_gives p set) same_answered
+  given_is = plan_same p set listed_answers (supported_by p set) (λ w among. supported_gives p set w (listed_supported w among)) (supported_gives p set)
+      same_answered
 
   -- one set of the choice
-  pub choice_step : (k : ℕ) (sets : List (List RuleInstance)) → choice_among p (suc k) (set ∷ sets) ≡ (if gives_plan p set then gave (given p set) else choice_among p k sets)
+  pub choice_step : (k : ℕ) (sets : List (List RuleInstance))
+      → choice_among p (suc k) (set ∷ sets) ≡ (if gives_plan p set then gave (given p set) else choice_among p k sets)
   choice_step k sets = ap (λ b. if b then gave (given p set) else choice_among p k sets) given_is
 
   -- of a set of the walk, on any board, no more than 288 instances are given

@@ -38,7 +38,8 @@ filter_less p q (x ∷ xs) a weaker (inr later) fails passes = elim (cases_Bool 
 pub each_two-append : (test : RuleInstance → RuleInstance → Bool) (vs ws : List RuleInstance)
     → each_two test (vs ++ ws) ≡ (each_two test vs && list_all (λ v. list_all (test v) ws) vs && each_two test ws)
 each_two-append test [] ws = refl
-each_two-append test (v ∷ vs) ws = rw (list_all-append (test v) vs ws, each_two-append test vs ws) (turned (list_all (test v) vs) (list_all (test v) ws) (each_two test vs) (list_all (λ v. list_all (test v) ws) vs) (each_two test ws))
+each_two-append test (v ∷ vs) ws = rw (list_all-append (test v) vs ws, each_two-append test vs ws)
+    (turned (list_all (test v) vs) (list_all (test v) ws) (each_two test vs) (list_all (λ v. list_all (test v) ws) vs) (each_two test ws))
   where
     turned : (a b c d e : Bool) → ((a && b) && (c && d && e)) ≡ ((a && c) && (b && d) && e)
     turned false b c d e = refl

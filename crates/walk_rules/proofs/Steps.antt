@@ -1,7 +1,8 @@
 -- What is left to visit after a set, for a stack of frames and the zones that are still to be tried: where the walk
 -- begins, what a zone that may follow changes and one that may not, what is left once a frame is taken away, and where the
 -- walk ends. And sets of zones: one more, one less, and how many there can be.
-use Rattle.std.proofs.Common.{◌≡◌, ◌+◌, ◌≤◌, true, false, ◌&&◌, List, [], ◌∷◌, ◌++◌, length, filter, refl, sym, ap, ◌∙◌, inl, inr, arith, append-nil, append_assoc, length-append}
+use Rattle.std.proofs.Common.{◌≡◌, ◌+◌, ◌≤◌, true, false, ◌&&◌, List, [], ◌∷◌, ◌++◌, length, filter, refl, sym, ap, ◌∙◌, inl, inr, arith, append-nil,
+    append_assoc, length-append}
 use Rattle.std.specs.List.{list_all, flat_map}
 use Rattle.std.proofs.lemmas.Bool.{and_parts, and_from}
 use Rattle.std.proofs.lemmas.List.{map-append}
@@ -51,14 +52,17 @@ pub left_push : (p : Position) (frames : List Frame) (w : RuleInstance) (behind 
     → left p frames (w ∷ behind) ≡ (set_of frames ++ w ∷ []) ∷ left p (frames ++ (w, behind) ∷ []) (fitting_zones p)
 left_push p frames w behind follows =
     ap (λ sets. sets ++ after_frames p [] frames) tried
-    ∙ ap (λ sets. (set_of frames ++ w ∷ []) ∷ sets) (append_assoc (after p (set_of frames ++ w ∷ []) (fitting_zones p)) (after p (set_of frames) behind) (after_frames p [] frames))
+    ∙ ap (λ sets. (set_of frames ++ w ∷ []) ∷ sets)
+        (append_assoc (after p (set_of frames ++ w ∷ []) (fitting_zones p)) (after p (set_of frames) behind) (after_frames p [] frames))
     ∙ ap (λ sets. (set_of frames ++ w ∷ []) ∷ (after p (set_of frames ++ w ∷ []) (fitting_zones p) ++ sets)) (sym (after_frames-append p [] frames w behind))
-    ∙ ap (λ set. (set_of frames ++ w ∷ []) ∷ (after p set (fitting_zones p) ++ after_frames p [] (frames ++ (w, behind) ∷ []))) (sym (set_of-append frames w behind))
+    ∙ ap (λ set. (set_of frames ++ w ∷ []) ∷ (after p set (fitting_zones p) ++ after_frames p [] (frames ++ (w, behind) ∷ [])))
+        (sym (set_of-append frames w behind))
   where
     kept : filter (may_follow p (set_of frames)) (w ∷ behind) ≡ w ∷ filter (may_follow p (set_of frames)) behind
     kept = rw follows refl
 
-    tried : after p (set_of frames) (w ∷ behind) ≡ (set_of frames ++ w ∷ []) ∷ (after p (set_of frames ++ w ∷ []) (fitting_zones p) ++ after p (set_of frames) behind)
+    tried : after p (set_of frames) (w ∷ behind) ≡ (set_of frames ++ w ∷ [])
+        ∷ (after p (set_of frames ++ w ∷ []) (fitting_zones p) ++ after p (set_of frames) behind)
     tried =
         ap (flat_map (λ v. walk_from p (set_of frames ++ v ∷ []))) kept
         ∙ flat_map-cons (λ v. walk_from p (set_of frames ++ v ∷ [])) w (filter (may_follow p (set_of frames)) behind)
@@ -75,18 +79,21 @@ pub left_skip : (p : Position) (frames : List Frame) (w : RuleInstance) (behind 
 left_skip p frames w behind stays = left_same p frames (w ∷ behind) behind (rw stays refl)
 
 -- zones of which none may follow leave only what the frames leave
-pub left_none : (p : Position) (frames : List Frame) (zones : List RuleInstance) → filter (may_follow p (set_of frames)) zones ≡ [] → left p frames zones ≡ left p frames []
+pub left_none : (p : Position) (frames : List Frame) (zones : List RuleInstance) → filter (may_follow p (set_of frames)) zones ≡ []
+    → left p frames zones ≡ left p frames []
 left_none p frames zones none = left_same p frames zones [] none
 
 -- it is enough to try the zones that own the first open square
-pub left_owners : (p : Position) (frames : List Frame) (zones : List RuleInstance) → left p frames zones ≡ left p frames (filter (λ w. owns_first w (open_squares p (set_of frames))) zones)
+pub left_owners : (p : Position) (frames : List Frame) (zones : List RuleInstance)
+    → left p frames zones ≡ left p frames (filter (λ w. owns_first w (open_squares p (set_of frames))) zones)
 left_owners p frames zones =
     sym (left_same p frames (filter (λ w. owns_first w (open_squares p (set_of frames))) zones) zones
     (filter_within (may_follow p (set_of frames)) (λ w. owns_first w (open_squares p (set_of frames))) zones
     (λ w follows. (and_parts (owns_first w (open_squares p (set_of frames))) (list_all (λ v. together v w) (set_of frames)) follows).0)))
 
 -- with no zone to be tried, the last frame's zone gives way to those behind it
-pub left_pop : (p : Position) (frames : List Frame) (w : RuleInstance) (behind : List RuleInstance) → left p (frames ++ (w, behind) ∷ []) [] ≡ left p frames behind
+pub left_pop : (p : Position) (frames : List Frame) (w : RuleInstance) (behind : List RuleInstance)
+    → left p (frames ++ (w, behind) ∷ []) [] ≡ left p frames behind
 left_pop p frames w behind = after_frames-append p [] frames w behind
 
 -- with no frame either, the walk is at its end
@@ -100,7 +107,8 @@ module _ (p : Position) where
   set_start = refl
 
   -- one zone more
-  pub set_push : (set : List RuleInstance) (w : RuleInstance) → is_zone_set p set ≡ true → owns_zone w ≡ true → fits w p ≡ true → list_all (λ v. together v w) set ≡ true
+  pub set_push : (set : List RuleInstance) (w : RuleInstance) → is_zone_set p set ≡ true → owns_zone w ≡ true → fits w p ≡ true
+      → list_all (λ v. together v w) set ≡ true
       → is_zone_set p (set ++ w ∷ []) ≡ true
   set_push set w is owns fitted standing =
       let both = and_parts (list_all (λ w. owns_zone w && fits w p) set) (each_two together set) is in
@@ -127,14 +135,16 @@ module _ (p : Position) where
         is_set = and_from _ _ members.0 pairs.0;
         owns = last.0;
         fitted = last.1;
-        standing = all_from (λ v. together v w) set (λ v among. (and_parts (together v w) true (all_gives (λ v. list_all (together v) (w ∷ [])) set v pairs.1 among)).0);
+        standing = all_from (λ v. together v w) set
+            (λ v among. (and_parts (together v w) true (all_gives (λ v. list_all (together v) (w ∷ [])) set v pairs.1 among)).0);
       }
 
   -- a set has fifty zones at most
   pub set_bound : (set : List RuleInstance) → is_board (board_of p) ≡ true → is_zone_set p set ≡ true → length set ≤ 50
   set_bound set board is =
       let both = and_parts (list_all (λ w. owns_zone w && fits w p) set) (each_two together set) is in
-      let each : (w : RuleInstance) → Among w set → (owns_zone w ≡ true) × (fits w p ≡ true) = λ w among. and_parts (owns_zone w) (fits w p) (all_gives (λ w. owns_zone w && fits w p) set w both.0 among) in
+      let each : (w : RuleInstance) → Among w set → (owns_zone w ≡ true)
+          × (fits w p ≡ true) = λ w among. and_parts (owns_zone w) (fits w p) (all_gives (λ w. owns_zone w && fits w p) set w both.0 among) in
       let members : StandTogether p set = record { fitting = all_from (λ w. fits w p) set (λ w among. (each w among).1); standing = both.1 } in
       omega (arith, fifty_members p set board members, ap length (all_own set (λ w among. (each w among).0)))
     where

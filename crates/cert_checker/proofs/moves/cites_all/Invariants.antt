@@ -12,5 +12,6 @@ invariant-loop-index l =
     record {
       board : l.size ≡ board_of l.position;
       end : l.index-end ≡ n;
-      same : bytes_eq (columns_of l.left) (filter (has_room l.position) (range_with_len l.index (n - l.index))) ≡ bytes_eq (columns_of l.cites) (open_columns l.position);
+      same : bytes_eq (columns_of l.left) (filter (has_room l.position) (range_with_len l.index (n - l.index)))
+          ≡ bytes_eq (columns_of l.cites) (open_columns l.position);
     }

@@ -21,4 +21,5 @@ returns c =
     let few : length (words_of c.args.bytes.now) ≤ 300 = omega (arith, c.loop-left.invariant.counted, c.loop-left.invariant.few) in
     let all = written_list c.loop-left.list.items in
     sym (members_are c.args.size c.args.bytes.now all few
-    (c.loop-left.invariant.members ∙ ap (λ left. instances_of c.args.size (words_left left) >>= (λ more. Some (all ++ more))) c.in_default.is ∙ ap Some (append-nil all)))
+    (c.loop-left.invariant.members ∙ ap (λ left. instances_of c.args.size (words_left left) >>= (λ more. Some (all ++ more))) c.in_default.is
+        ∙ ap Some (append-nil all)))

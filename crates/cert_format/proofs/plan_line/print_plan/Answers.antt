@@ -9,7 +9,8 @@ use Rattle.cert_format.proofs.plan_line.print_plan.Goals as goal
 pub returns-in_err-put_all-clause-written : goal.returns-in_err-put_all-clause-written
 returns-in_err-put_all-clause-written g c =
     let same = err_from_is_err_and c.from_residual.result c.from_residual.ensures.1 in
-    rw (same.1, ← plan_pieces (written_list c.args.list.now)) (AppendsPrefix_take _ _ (codes "plan") (members_text (written_list c.args.list.now) ++ 10 ∷ []) c.in_err-put_all.ensures.bytes)
+    rw (same.1, ← plan_pieces (written_list c.args.list.now))
+        (AppendsPrefix_take _ _ (codes "plan") (members_text (written_list c.args.list.now) ++ 10 ∷ []) c.in_err-put_all.ensures.bytes)
 
 pub returns-clause-written : goal.returns-clause-written
 returns-clause-written g c =

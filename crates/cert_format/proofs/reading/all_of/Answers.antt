@@ -19,4 +19,5 @@ returns c =
     let few : length (words_of c.args.bytes.now) ≤ 10 = omega (arith, c.loop-left.invariant.counted, c.loop-left.invariant.few) in
     let all = map cite_of c.loop-left.cites.items in
     sym (all_read c.args.size.cols c.args.bytes.now all few
-    (c.loop-left.invariant.cites ∙ ap (λ left. cites_of c.args.size.cols (words_left left) >>= (λ more. Some (all ++ more))) c.in_default.is ∙ ap Some (append-nil all)))
+    (c.loop-left.invariant.cites ∙ ap (λ left. cites_of c.args.size.cols (words_left left) >>= (λ more. Some (all ++ more))) c.in_default.is
+        ∙ ap Some (append-nil all)))

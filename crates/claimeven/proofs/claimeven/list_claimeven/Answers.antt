@@ -5,4 +5,5 @@ use Rattle.plan_rules.proofs.Room.{room_for_all}
 use Rattle.claimeven.proofs.claimeven.list_claimeven.Goals as goal
 
 pub push_claimevens-requires : goal.push_claimevens-requires
-push_claimevens-requires c = room_for_all kinds.Claimeven c.args.p.now (map claimeven c.new-list.result.items) c.has_a_board.ensures.board (ap (map claimeven) c.new-list.ensures)
+push_claimevens-requires c = room_for_all kinds.Claimeven c.args.p.now (map claimeven c.new-list.result.items) c.has_a_board.ensures.board
+    (ap (map claimeven) c.new-list.ensures)

@@ -12,7 +12,8 @@ loop-index-preserved c = elim c.if-has_room.branch [
       let p = c.args.position.now in
       let room : has_room p c.loop-index.index ≡ true = ap (has_room p) (sym c.nth_column-column.ensures) ∙ sym c.has_room.ensures ∙ w.if-has_room.true in
       rw w.cites-is (record {
-        so_far = ap (map cite_of) w.push.ensures.items ∙ map-append cite_of c.loop-index.cites.items _ ∙ rw (c.loop-index.invariant.so_far, c.nth_column-column.ensures) (sym (cites_room p c.args.numbers.now c.loop-index.index room));
+        so_far = ap (map cite_of) w.push.ensures.items ∙ map-append cite_of c.loop-index.cites.items _
+            ∙ rw (c.loop-index.invariant.so_far, c.nth_column-column.ensures) (sym (cites_room p c.args.numbers.now c.loop-index.index room));
         few = omega (arith, w.push.ensures.len, c.loop-index.invariant.few);
       })
   | else-has_room w ↦

@@ -14,14 +14,16 @@ push_of_group-requires-clause-room g c =
     let whole = special_groups p gs (c.as_slice-g-items.ensures.value ∙ c.groups-groups.ensures ∙ c.free_for.ensures.in_order) in
     let room : length (g.T.Taker.taken c.args.taker.now) + length (flat_map adds gs) ≤ g.T.Taker.room c.loop-g.taker
     = omega (arith, c.requires, ap length (fitting_pairs (λ three. special_of three.0 three.1) p gs pairs), ap length whole, c.loop-g.invariant.1) in
-    room_for_one adds (g.T.Taker.taken c.args.taker.now) (g.T.Taker.taken c.loop-g.taker) gs c.loop-g.g-index c.g-item.result (g.T.Taker.room c.loop-g.taker) c.loop-g-test.true c.g-item.is c.loop-g.invariant.0 room
+    room_for_one adds (g.T.Taker.taken c.args.taker.now) (g.T.Taker.taken c.loop-g.taker) gs c.loop-g.g-index c.g-item.result (g.T.Taker.room c.loop-g.taker)
+        c.loop-g-test.true c.g-item.is c.loop-g.invariant.0 room
 
 pub loop-g-preserved : goal.loop-g-preserved
 loop-g-preserved g c =
     let p = c.args.p.now in let pairs = each_with (playable_squares p) (playable_squares p) in
     let adds : _ → List RuleInstance = λ line. fitting (special_of line) p pairs in (
       c.push_of_group.ensures.taken
-          ∙ one_more adds (g.T.Taker.taken c.args.taker.now) (g.T.Taker.taken c.loop-g.taker) c.as_slice-g-items.result.now c.loop-g.g-index c.g-item.result c.loop-g-test.true c.g-item.is c.loop-g.invariant.0,
+          ∙ one_more adds (g.T.Taker.taken c.args.taker.now) (g.T.Taker.taken c.loop-g.taker) c.as_slice-g-items.result.now c.loop-g.g-index c.g-item.result
+              c.loop-g-test.true c.g-item.is c.loop-g.invariant.0,
       c.push_of_group.ensures.room ∙ c.loop-g.invariant.1,
     )
 

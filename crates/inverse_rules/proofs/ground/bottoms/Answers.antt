@@ -13,5 +13,6 @@ bottom_over-requires c =
 pub returns : goal.returns
 returns c =
     c.loop-playable.invariant
-    ∙ ap (map bottom_over) (take_all c.loop-playable.playable-index c.as_slice-playable-items.result.now c.loop-playable-test.false ∙ c.as_slice-playable-items.ensures.value ∙ c.playables-playables.ensures)
+    ∙ ap (map bottom_over) (take_all c.loop-playable.playable-index c.as_slice-playable-items.result.now c.loop-playable-test.false
+        ∙ c.as_slice-playable-items.ensures.value ∙ c.playables-playables.ensures)
     ∙ all_bottoms c.args.p.now c.has_a_board.ensures.board

@@ -8,7 +8,8 @@ use Rattle.inverse_rules.proofs.vertical.push_verticals.Goals as goal
 pub list_fitting-requires-clause-sites : goal.list_fitting-requires-clause-sites
 list_fitting-requires-clause-sites g c =
     let sites = c.as_slice.ensures.value ∙ c.squares-squares.ensures in
-    subst (λ us. list_all (λ u. fits (vertical u) c.args.p.now) us ≡ true) (sym sites) (every_site vertical c.args.p.now c.fitting_squares.result c.fitting_squares.ensures)
+    subst (λ us. list_all (λ u. fits (vertical u) c.args.p.now) us ≡ true) (sym sites)
+        (every_site vertical c.args.p.now c.fitting_squares.result c.fitting_squares.ensures)
 
 pub list_fitting-requires-clause-room : goal.list_fitting-requires-clause-room
 list_fitting-requires-clause-room g c =

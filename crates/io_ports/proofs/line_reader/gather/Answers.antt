@@ -52,5 +52,6 @@ loop-at-preserved g c =
       ap (λ m. line_len (take m new)) long ∙ ap line_len (Moves-prefix _ _ _ _ c.fill.ensures.moves) ∙ none ∙ sym long,
       Moves-then _ _ _ _ _ _ before.2 c.fill.ensures.moves,
       omega (arith, c.fill.ensures.cause.later),
-      λ _. within_filled _ _ c.loop-at.ahead new _ _ c.fill.ensures.moves (none, omega (arith, c.if-searched-gt-LONGEST.false, long)) c.in_ok-fill.ensures.count c.in_ok-fill.ensures.last_read,
+      λ _. within_filled _ _ c.loop-at.ahead new _ _ c.fill.ensures.moves (none, omega (arith, c.if-searched-gt-LONGEST.false, long)) c.in_ok-fill.ensures.count
+          c.in_ok-fill.ensures.last_read,
     )

@@ -17,7 +17,9 @@ returns-clause-group c = λ board bytes g is. (
 )
 
 pub returns-clause-squares_apart : goal.returns-clause-squares_apart
-returns-clause-squares_apart c = λ board u v is on also. read_apart (square_of board) square_text u v (square_spelled board u is on) (square_spelled board v is also)
+returns-clause-squares_apart c = λ board u v is on also. read_apart (square_of board) square_text u v (square_spelled board u is on)
+    (square_spelled board v is also)
 
 pub returns-clause-groups_apart : goal.returns-clause-groups_apart
-returns-clause-groups_apart c = λ board g h is lies also. read_apart (group_of board) group_text g h (group_spelled board g is lies) (group_spelled board h is also)
+returns-clause-groups_apart c = λ board g h is lies also. read_apart (group_of board) group_text g h (group_spelled board g is lies)
+    (group_spelled board h is also)

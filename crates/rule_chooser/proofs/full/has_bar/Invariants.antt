@@ -6,4 +6,5 @@ use Rattle.rule_chooser.specs.Standing.{some_bars}
 use Rattle.rule_chooser.proofs.full.has_bar.Given as goal
 
 abbrev pub invariant-loop-instance : goal.invariant-loop-instance
-invariant-loop-instance l = some_bars (facts_in l.kept) (has_square l.empty) (written_list (drop l.instance-index l.list)) ≡ some_bars (facts_in l.kept) (has_square l.empty) (written_list l.list)
+invariant-loop-instance l = some_bars (facts_in l.kept) (has_square l.empty) (written_list (drop l.instance-index l.list))
+    ≡ some_bars (facts_in l.kept) (has_square l.empty) (written_list l.list)

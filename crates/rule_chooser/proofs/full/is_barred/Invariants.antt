@@ -6,4 +6,5 @@ use Rattle.rule_chooser.specs.Standing.{some_bars}
 use Rattle.rule_chooser.proofs.full.is_barred.Given as goal
 
 abbrev pub invariant-loop-zone : goal.invariant-loop-zone
-invariant-loop-zone l = some_bars (facts_in l.kept) (has_square l.empty) (written_list (drop l.zone-index l.set)) ≡ some_bars (facts_in l.kept) (has_square l.empty) (written_list l.set)
+invariant-loop-zone l = some_bars (facts_in l.kept) (has_square l.empty) (written_list (drop l.zone-index l.set))
+    ≡ some_bars (facts_in l.kept) (has_square l.empty) (written_list l.set)

@@ -11,4 +11,5 @@ loop-twin-preserved c =
     c.loop-twin-test.true c.twin-item.is c.loop-twin.invariant c.with.ensures c.with-squares.ensures
 
 pub returns : goal.returns
-returns c = subst (λ twins. IsSetOf (is_of_twin twins) c.loop-twin.squares) (take_all c.loop-twin.twin-index c.as_slice-twin-items.result.now c.loop-twin-test.false ∙ c.as_slice-twin-items.ensures.value) c.loop-twin.invariant
+returns c = subst (λ twins. IsSetOf (is_of_twin twins) c.loop-twin.squares)
+    (take_all c.loop-twin.twin-index c.as_slice-twin-items.result.now c.loop-twin-test.false ∙ c.as_slice-twin-items.ensures.value) c.loop-twin.invariant

@@ -10,7 +10,8 @@ zones-init c =
     let list = c.args.list.now in
     record {
       within = omega arith;
-      heads = λ place low. c.requires.none place low ∙ sym (ap (next_at place (length list)) (drop_all (length list) list (omega arith)) ∙ next_none place (length list));
+      heads = λ place low. c.requires.none place low
+          ∙ sym (ap (next_at place (length list)) (drop_all (length list) list (omega arith)) ∙ next_none place (length list));
       links = λ i w from there. absurd (let within = slice_get_within list i w there in omega (arith, from, within));
     }
 
@@ -24,6 +25,8 @@ zones-preserved c =
     let linked = subst (λ k. LinksFrom list k c.zones.links) more c.zones.invariant.links in
     record {
       within = omega (arith, most);
-      heads = heads_more list n zone within c.index-list-index.is c.zones.heads c.link_one.new.heads (omega (arith, c.link_one.ensures.place, c.link_one.ensures.places)) c.link_one.ensures.heads before;
-      links = links_more list n zone within c.index-list-index.is c.zones.heads c.zones.links c.link_one.new.links c.link_one.ensures.place (omega (arith, c.requires.few, within, c.link_one.ensures.all)) c.link_one.ensures.links before linked;
+      heads = heads_more list n zone within c.index-list-index.is c.zones.heads c.link_one.new.heads
+          (omega (arith, c.link_one.ensures.place, c.link_one.ensures.places)) c.link_one.ensures.heads before;
+      links = links_more list n zone within c.index-list-index.is c.zones.heads c.zones.links c.link_one.new.links c.link_one.ensures.place
+          (omega (arith, c.requires.few, within, c.link_one.ensures.all)) c.link_one.ensures.links before linked;
     }

@@ -14,14 +14,16 @@ returns-in_err-add_next-clause-answer g c =
     let stop = c.in_err-add_next.field-0.0 in
     let stops = c.in_err-add_next.ensures.stops before.few in
     rw (same.1, same.2) (Reads_then _ _ _ _ _ _ before.goes c.in_err-add_next.ensures.answer (λ bytes mid rest p q. (
-      passes_most (c.loop-at.at - 4 + 1) (lines_read_until stop - 3) bytes rest (omega (arith, stops.0, before.from)) (passes_then (c.loop-at.at - 4) 1 bytes mid rest p.0 q.0),
+      passes_most (c.loop-at.at - 4 + 1) (lines_read_until stop - 3) bytes rest (omega (arith, stops.0, before.from))
+          (passes_then (c.loop-at.at - 4) 1 bytes mid rest p.0 q.0),
       stops_earlier _ _ bytes mid _ _ _ stop p.1 before.later q.1,
     )))
 
 pub returns-clause-answer : goal.returns-clause-answer
 returns-clause-answer g c =
     let before = c.loop-at.invariant in
-    let P : Bool → Type 0 = λ more. Reads (pending c.loop-at.lines (g.S.Source.left c.loop-at.source) (g.S.Source.last_read c.loop-at.source)) (pending c.add_next.new.lines (g.S.Source.left c.add_next.new.source) (g.S.Source.last_read c.add_next.new.source))
+    let P : Bool → Type 0 = λ more. Reads (pending c.loop-at.lines (g.S.Source.left c.loop-at.source) (g.S.Source.last_read c.loop-at.source))
+        (pending c.add_next.new.lines (g.S.Source.left c.add_next.new.source) (g.S.Source.last_read c.add_next.new.source))
     (λ bytes rest. PassesLines 1 bytes rest × Adds c.loop-at.checker c.add_next.new.checker c.loop-at.at more bytes rest) in
     Reads_then _ _ _ _ _ _ before.goes (subst P c.if-branch.false c.in_ok-add_next.ensures.answer) (λ bytes mid rest p q. (
       passes_most (c.loop-at.at - 4 + 1) (c.loop-at.at - 3) bytes rest (omega (arith, before.from)) (passes_then (c.loop-at.at - 4) 1 bytes mid rest p.0 q.0),
@@ -40,11 +42,13 @@ loop-at-init g c = record {
 pub loop-at-preserved : goal.loop-at-preserved
 loop-at-preserved g c =
     let before = c.loop-at.invariant in
-    let P : Bool → Type 0 = λ more. Reads (pending c.loop-at.lines (g.S.Source.left c.loop-at.source) (g.S.Source.last_read c.loop-at.source)) (pending c.add_next.new.lines (g.S.Source.left c.add_next.new.source) (g.S.Source.last_read c.add_next.new.source))
+    let P : Bool → Type 0 = λ more. Reads (pending c.loop-at.lines (g.S.Source.left c.loop-at.source) (g.S.Source.last_read c.loop-at.source))
+        (pending c.add_next.new.lines (g.S.Source.left c.add_next.new.source) (g.S.Source.last_read c.add_next.new.source))
     (λ bytes rest. PassesLines 1 bytes rest × Adds c.loop-at.checker c.add_next.new.checker c.loop-at.at more bytes rest) in
     record {
       goes = Reads_then _ _ _ _ _ _ before.goes (subst P c.if-branch.true c.in_ok-add_next.ensures.answer) (λ bytes mid rest p q. (
-        passes_most (c.loop-at.at - 4 + 1) (c.loop-at.at + 1 - 4) bytes rest (omega (arith, before.from)) (passes_then (c.loop-at.at - 4) 1 bytes mid rest p.0 q.0),
+        passes_most (c.loop-at.at - 4 + 1) (c.loop-at.at + 1 - 4) bytes rest (omega (arith, before.from))
+            (passes_then (c.loop-at.at - 4) 1 bytes mid rest p.0 q.0),
         goes_then _ _ _ bytes mid rest p.1 q.1,
       ));
       board = ap board_of c.in_ok-add_next.ensures.root ∙ before.board;

@@ -9,7 +9,8 @@ use Rattle.victor_run.proofs.check.add_lines.Given as goal
 -- what holds of the lines that are left holds of all; before the first nothing was read
 abbrev pub invariant-loop-at : goal.invariant-loop-at
 invariant-loop-at g l = record {
-  goes : Reads (pending l.fn.lines (g.S.Source.left l.fn.source) (g.S.Source.last_read l.fn.source)) (pending l.lines (g.S.Source.left l.source) (g.S.Source.last_read l.source))
+  goes : Reads (pending l.fn.lines (g.S.Source.left l.fn.source) (g.S.Source.last_read l.fn.source))
+      (pending l.lines (g.S.Source.left l.source) (g.S.Source.last_read l.source))
       (λ bytes rest. PassesLines (l.at - 4) bytes rest × GoesOn (AtLine l.fn.checker first_number) bytes (AtLine l.checker l.at) rest);
   board : board_of l.checker.root ≡ l.size;
   from : 4 ≤ l.at;

@@ -23,13 +23,16 @@ returns-in_ok-add_line-in-Line-clause-answer g c =
     let b = pending c.next.new.self (g.S.Source.left c.next.new.source) (g.S.Source.last_read c.next.new.source) in
     let P : List ℕ → Type 0 = λ text. Reads a b (λ bytes rest. Gives bytes rest Line text c.next.new.self.fed) in
     let added = c.in_ok-add_line-in-Line.ensures.answer in
-    line_known a b c.text.result.now c.next.new.self.fed c.args.checker.now c.args.at (subst P (sym c.text.ensures) c.in-Line.ensures.gives) added.0 c.add_line.new.checker added.1
+    line_known a b c.text.result.now c.next.new.self.fed c.args.checker.now c.args.at (subst P (sym c.text.ensures) c.in-Line.ensures.gives) added.0
+        c.add_line.new.checker added.1
 
 pub returns-in_ok-add_line-in-Line-clause-root : goal.returns-in_ok-add_line-in-Line-clause-root
-returns-in_ok-add_line-in-Line-clause-root g c = ap (λ s. s.root) c.in_ok-add_line-in-Line.ensures.answer.1 ∙ with_bytes_root c.args.checker.now c.text.result.now
+returns-in_ok-add_line-in-Line-clause-root g c = ap (λ s. s.root) c.in_ok-add_line-in-Line.ensures.answer.1
+    ∙ with_bytes_root c.args.checker.now c.text.result.now
 
 pub returns-in-Long-clause-answer : goal.returns-in-Long-clause-answer
-returns-in-Long-clause-answer g c = rw c.bad_line.ensures (long_stops _ _ c.next.new.self.text c.next.new.self.fed c.args.checker.now c.args.at c.in-Long.ensures.gives)
+returns-in-Long-clause-answer g c =
+    rw c.bad_line.ensures (long_stops _ _ c.next.new.self.text c.next.new.self.fed c.args.checker.now c.args.at c.in-Long.ensures.gives)
 
 pub returns-in-Done-clause-answer : goal.returns-in-Done-clause-answer
 returns-in-Done-clause-answer g c = none_known _ _ c.next.new.self.text c.next.new.self.fed c.args.checker.now c.args.at c.in-Done.ensures.gives

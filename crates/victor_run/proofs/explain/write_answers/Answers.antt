@@ -7,7 +7,8 @@ use Rattle.victor_run.proofs.Explaining.{lines_of_group, lines_by_group, listed_
 use Rattle.victor_run.proofs.explain.write_answers.Goals as goal
 
 pub write_answer-requires : goal.write_answer-requires
-write_answer-requires g c = listed_lies c.args.plan.now.at c.args.groups.now c.requires c.loop-group.group-index c.group-item.result (omega arith) c.group-item.is
+write_answer-requires g c = listed_lies c.args.plan.now.at c.args.groups.now c.requires c.loop-group.group-index c.group-item.result (omega arith)
+    c.group-item.is
 
 pub returns-in_err-write_answer-clause-written : goal.returns-in_err-write_answer-clause-written
 returns-in_err-write_answer-clause-written g c =
@@ -18,7 +19,8 @@ returns-in_err-write_answer-clause-written g c =
     let i = c.loop-group.group-index in
     let before : Appends (g.O.Sink.written c.args.out.now) (g.O.Sink.written c.loop-group.out) (flat_map (lines_of_group p ws) (take i groups)) =
     subst (Appends _ _) (lines_by_group p ws (take i groups)) c.loop-group.invariant.bytes in
-    rw (same.1, lines_by_group p ws groups) (pieces_cut (lines_of_group p ws) _ _ _ groups i c.group-item.result (omega arith) c.group-item.is before c.in_err-write_answer.ensures.written)
+    rw (same.1, lines_by_group p ws groups)
+        (pieces_cut (lines_of_group p ws) _ _ _ groups i c.group-item.result (omega arith) c.group-item.is before c.in_err-write_answer.ensures.written)
 
 pub loop-group-preserved : goal.loop-group-preserved
 loop-group-preserved g c =
@@ -29,6 +31,7 @@ loop-group-preserved g c =
     let before : Appends (g.O.Sink.written c.args.out.now) (g.O.Sink.written c.loop-group.out) (flat_map (lines_of_group p ws) (take i groups)) =
     subst (Appends _ _) (lines_by_group p ws (take i groups)) c.loop-group.invariant.bytes in
     record {
-      bytes = rw (lines_by_group p ws (take (i + 1) groups)) (pieces_more (lines_of_group p ws) _ _ _ groups i c.group-item.result (omega arith) c.group-item.is before c.in_ok-write_answer.ensures.written);
+      bytes = rw (lines_by_group p ws (take (i + 1) groups))
+          (pieces_more (lines_of_group p ws) _ _ _ groups i c.group-item.result (omega arith) c.group-item.is before c.in_ok-write_answer.ensures.written);
       later = omega (arith, c.loop-group.invariant.later, c.in_ok-write_answer.ensures.cause.later);
     }

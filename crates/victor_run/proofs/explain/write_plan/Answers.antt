@@ -22,7 +22,8 @@ returns-in_err-write_members-clause-written g c =
     let ws = members plan in
     let lines = as_line (plan_text ws) ++ owns_lines ws in
     let answers = answer_lines plan.at ws (groups_of (board_of plan.at)) in
-    rw (same.1, sym (append_assoc (as_line (plan_text ws)) (owns_lines ws) answers)) (AppendsPrefix_take _ _ lines answers c.in_err-write_members.ensures.written)
+    rw (same.1, sym (append_assoc (as_line (plan_text ws)) (owns_lines ws) answers))
+        (AppendsPrefix_take _ _ lines answers c.in_err-write_members.ensures.written)
 
 pub returns-in_err-write_answers-clause-written : goal.returns-in_err-write_answers-clause-written
 returns-in_err-write_answers-clause-written g c =

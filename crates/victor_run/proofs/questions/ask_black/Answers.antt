@@ -41,6 +41,7 @@ returns-clause-asked g c = λ nodes before within white.
     let black = subst (λ r. AsksSide c.args.position.now Black c.args.reach slots white.asked.shown most
         (moment c.args.table.now (g.O.Sink.written c.args.out.now)) (moment c.ask_side.new.table (g.O.Sink.written c.ask_side.new.out)) c.ask_side.new.lemmas r)
         c.in_ok-black.was (c.ask_side.ensures.asked white.asked.shown white.asked.counted white.asked.fits) in
-    subst (λ lemma. Asks c.args.position.now nodes c.args.reach slots before.bytes (g.O.Sink.written c.ask_side.new.out) (Ok (Draw lemma c.in_ok-black.black.lemma))) white.is_lemma
+    subst (λ lemma. Asks c.args.position.now nodes c.args.reach slots before.bytes (g.O.Sink.written c.ask_side.new.out)
+        (Ok (Draw lemma c.in_ok-black.black.lemma))) white.is_lemma
         (asks_draw c.args.position.now nodes c.args.reach slots _ _ _ _ _ _ c.args.lemmas.now white.answer white.most white.asked white.is_no most
         c.ask_side.new.lemmas within c.in_ok-black.black black c.if-black.false)

@@ -14,4 +14,5 @@ loop-square-preserved c = set_same _ (has_square (take (c.loop-square.square-ind
     ∙ one_more same_square same_square_is c.args.squares.now c.loop-square.square-index c.square-item.result c.loop-square-test.true c.square-item.is u)
 
 pub returns : goal.returns
-returns c = subst (λ us. IsSetOf (has_square us) c.loop-square.mask) (take_all c.loop-square.square-index c.args.squares.now c.loop-square-test.false) c.loop-square.invariant
+returns c = subst (λ us. IsSetOf (has_square us) c.loop-square.mask) (take_all c.loop-square.square-index c.args.squares.now c.loop-square-test.false)
+    c.loop-square.invariant

@@ -8,7 +8,8 @@ use Rattle.board_bits.proofs.Positions.{empty_word, empty_is_word, empty_set}
 use Rattle.board_bits.proofs.position.Position.empties.Goals as goal
 use Rattle.board_bits.proofs.position.Position.empties.Goals.{After-all_men}
 
-empty_is : (c : After-all_men) → bit_and c.board_word.result (bit_not w128 c.all_men.result) ≡ empty_word c.args.self.now c.all_men.ensures.board c.all_men.ensures.stacked
+empty_is : (c : After-all_men)
+    → bit_and c.board_word.result (bit_not w128 c.all_men.result) ≡ empty_word c.args.self.now c.all_men.ensures.board c.all_men.ensures.stacked
 empty_is c =
     ap (λ n. bit_and n (bit_not w128 c.all_men.result)) (c.board_word.ensures ∙ ap board_word c.size.ensures.value)
     ∙ ap (λ n. bit_and (board_word (board_of c.args.self.now)) (bit_not w128 n)) c.all_men.ensures.value

@@ -9,4 +9,5 @@ invariant_of-result c =
     let ordered = lt-ltb x.0 y.0 (omega (arith, c.if-ordered.true)) in
     let left = sym c.is_column.ensures ∙ c.if-is_column.true in
     let right = sym c.is_column-then-is_column.ensures ∙ c.if-is_column-2.true in
-    lowinverse_widest x x_top y y_top c.args.size c.is_a_board.ensures (lowinverse_shaped x x_top y y_top c.args.size ∙ and_from _ _ (and_from _ _ ordered left) right)
+    lowinverse_widest x x_top y y_top c.args.size c.is_a_board.ensures (lowinverse_shaped x x_top y y_top c.args.size
+        ∙ and_from _ _ (and_from _ _ ordered left) right)

@@ -22,5 +22,6 @@ returns-clause-moves g c =
     record {
       taken = take n got;
       gave = c.in_ok-count.ensures.bytes.0;
-      grown = grown s.buffer got s.start s.end (16384 - s.end) n c.self.invariant.1 (omega (arith, c.self.told)) c.in_ok-count.ensures.within ∙ ap (λ l. l ++ take n got) c.self.view_is;
+      grown = grown s.buffer got s.start s.end (16384 - s.end) n c.self.invariant.1 (omega (arith, c.self.told)) c.in_ok-count.ensures.within
+          ∙ ap (λ l. l ++ take n got) c.self.view_is;
     }

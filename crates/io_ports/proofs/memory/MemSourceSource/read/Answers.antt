@@ -13,6 +13,7 @@ returns-clause-bytes c =
     let left = take (length held - at) (drop at held) in
     let here : left ≡ drop at bytes = take_rest held at ∙ ap (drop at) c.deref.ensures.value in
     let within : n ≤ length left = omega (arith, c.min-count.ensures) in (
-      ap (λ source. source.left) (sym c.self.view_is) ∙ given_and_left bytes left c.copy_from_slice.new.self (drop n c.args.buf.now) at n here within c.copy_from_slice.ensures.after,
+      ap (λ source. source.left) (sym c.self.view_is) ∙ given_and_left bytes left c.copy_from_slice.new.self (drop n c.args.buf.now) at n here within
+          c.copy_from_slice.ensures.after,
       λ none room. none_left bytes left at n here none (omega (arith, c.min-count.ensures, c.min.ensures, c.self.invariant.1)),
     )

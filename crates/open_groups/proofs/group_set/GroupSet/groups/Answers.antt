@@ -53,7 +53,8 @@ returns c =
     let set = c.args.self.now in let h = those_along set H in let v = those_along set V in let u = those_along set U in let d = those_along set D in
     let whole = by_ways c.self.inside c.self.invariant in
     c.push_along-4.ensures
-    ∙ ap (λ gs. gs ++ d) (c.push_along-3.ensures ∙ ap (λ gs. gs ++ u) (c.push_along-2.ensures ∙ ap (λ gs. gs ++ v) (c.push_along.ensures ∙ ap (λ gs. gs ++ h) c.new-groups.ensures)))
+    ∙ ap (λ gs. gs ++ d) (c.push_along-3.ensures
+        ∙ ap (λ gs. gs ++ u) (c.push_along-2.ensures ∙ ap (λ gs. gs ++ v) (c.push_along.ensures ∙ ap (λ gs. gs ++ h) c.new-groups.ensures)))
     ∙ append_assoc (h ++ v) u d
     ∙ append_assoc h v (u ++ d)
     ∙ sym (subst (λ (set : GroupsOn). set.groups ≡ those_along set H ++ (those_along set V ++ (those_along set U ++ those_along set D))) c.self.view_is whole)

@@ -16,19 +16,24 @@ on c = subst (λ (s : GroupsOn). lies_on s.board c.args.g ≡ true) (sym c.self.
 size_after : (c : After-index-anchors-place-2) → length (set c.self.inside.anchors (rank c.args.g.way) c.with.result) ≡ 4
 size_after c = length-set c.self.inside.anchors (rank c.args.g.way) c.with.result ∙ size_determined c.self.inside c.self.invariant
 
-each : (c : After-index-anchors-place-2) → (way : Way) → IsSetOf (λ s. with_group c.self.inside c.self.invariant c.args.g (on c) (group_on c.self.inside.size way s)) (anchors_along (set c.self.inside.anchors (rank c.args.g.way) c.with.result) way)
+each : (c : After-index-anchors-place-2) → (way : Way)
+    → IsSetOf (λ s. with_group c.self.inside c.self.invariant c.args.g (on c) (group_on c.self.inside.size way s))
+    (anchors_along (set c.self.inside.anchors (rank c.args.g.way) c.with.result) way)
 each c = each_with c.self.inside c.self.invariant c.args.g (on c) c.index-anchors-place.result c.with.result
     (c.index-anchors-place.is ∙ ap (λ n. get_or c.self.inside.anchors n c.index-anchors-place.result) (place_is c))
     (subst (λ along. IsSetOf (λ u. same_square u c.args.g.anchor || has_square along u) c.with.result) (sym c.index-anchors-place.is)
-    (subst (λ anchor. IsSetOf (λ u. same_square u anchor || has_square (get_or c.self.inside.anchors c.place_of-place.result c.index-anchors-place.result) u) c.with.result) c.group_anchor.ensures.value c.with.ensures))
+    (subst (λ anchor. IsSetOf (λ u. same_square u anchor || has_square (get_or c.self.inside.anchors c.place_of-place.result c.index-anchors-place.result) u)
+        c.with.result) c.group_anchor.ensures.value c.with.ensures))
 
 pub invariant_of-result : goal.invariant_of-result
 invariant_of-result c = rw (place_is c.before) (record {
   board = c.self.invariant.board;
-  determined = determined_anchors c.self.inside.size _ (size_after c.before) (with_group c.self.inside c.self.invariant c.args.g (on c.before)) (with_within c.self.inside c.self.invariant c.args.g (on c.before)) (each c.before);
+  determined = determined_anchors c.self.inside.size _ (size_after c.before) (with_group c.self.inside c.self.invariant c.args.g (on c.before))
+      (with_within c.self.inside c.self.invariant c.args.g (on c.before)) (each c.before);
 })
 
 pub returns : goal.returns
 returns c = rw (← c.self.view_is, place_is c.before)
-    (anchored_set c.self.inside.size (set c.self.inside.anchors (rank c.args.g.way) c.with.result) (size_after c.before) (with_group c.self.inside c.self.invariant c.args.g (on c.before))
+    (anchored_set c.self.inside.size (set c.self.inside.anchors (rank c.args.g.way) c.with.result) (size_after c.before)
+        (with_group c.self.inside c.self.invariant c.args.g (on c.before))
     (with_within c.self.inside c.self.invariant c.args.g (on c.before)) (each c.before))

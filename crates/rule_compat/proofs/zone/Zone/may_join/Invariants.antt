@@ -5,4 +5,5 @@ use Rattle.rule_compat.specs.Written.{written, written_list}
 use Rattle.rule_compat.proofs.zone.Zone.may_join.Given as goal
 
 abbrev pub invariant-loop-member : goal.invariant-loop-member
-invariant-loop-member l = list_all (λ v. together v (written l.self)) (written_list (drop l.member-index l.set)) ≡ list_all (λ v. together v (written l.self)) (written_list l.set)
+invariant-loop-member l = list_all (λ v. together v (written l.self)) (written_list (drop l.member-index l.set))
+    ≡ list_all (λ v. together v (written l.self)) (written_list l.set)
