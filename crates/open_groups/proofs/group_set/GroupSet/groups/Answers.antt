@@ -14,39 +14,25 @@ push_along-requires c = omega (arith, subst AllFit c.self.view_is (kept_fit c.se
 
 pub push_along-requires-2 : goal.push_along-requires-2
 push_along-requires-2 c =
-    omega (
-      arith,
-      subst AllFit c.self.view_is (kept_fit c.self.inside c.self.invariant),
-      ap length c.new-groups.ensures,
-      ap length c.push_along.ensures,
-      length-append c.new-groups.result.items (those_along c.args.self.now H),
-    )
+    let fit = subst AllFit c.self.view_is (kept_fit c.self.inside c.self.invariant) in
+    let first = length-append c.new-groups.result.items (those_along c.args.self.now H) in
+    omega (arith, fit, ap length c.new-groups.ensures, ap length c.push_along.ensures, first)
 
 pub push_along-requires-3 : goal.push_along-requires-3
 push_along-requires-3 c =
-    omega (
-      arith,
-      subst AllFit c.self.view_is (kept_fit c.self.inside c.self.invariant),
-      ap length c.new-groups.ensures,
-      ap length c.push_along.ensures,
-      length-append c.new-groups.result.items (those_along c.args.self.now H),
-      ap length c.push_along-2.ensures,
-      length-append c.push_along.new.groups.items (those_along c.args.self.now V),
-    )
+    let fit = subst AllFit c.self.view_is (kept_fit c.self.inside c.self.invariant) in
+    let first = length-append c.new-groups.result.items (those_along c.args.self.now H) in
+    let second = length-append c.push_along.new.groups.items (those_along c.args.self.now V) in
+    omega (arith, fit, ap length c.new-groups.ensures, ap length c.push_along.ensures, first, ap length c.push_along-2.ensures, second)
 
 pub push_along-requires-4 : goal.push_along-requires-4
 push_along-requires-4 c =
-    omega (
-      arith,
-      subst AllFit c.self.view_is (kept_fit c.self.inside c.self.invariant),
-      ap length c.new-groups.ensures,
-      ap length c.push_along.ensures,
-      length-append c.new-groups.result.items (those_along c.args.self.now H),
-      ap length c.push_along-2.ensures,
-      length-append c.push_along.new.groups.items (those_along c.args.self.now V),
-      ap length c.push_along-3.ensures,
-      length-append c.push_along-2.new.groups.items (those_along c.args.self.now U),
-    )
+    let fit = subst AllFit c.self.view_is (kept_fit c.self.inside c.self.invariant) in
+    let first = length-append c.new-groups.result.items (those_along c.args.self.now H) in
+    let second = length-append c.push_along.new.groups.items (those_along c.args.self.now V) in
+    let third = length-append c.push_along-2.new.groups.items (those_along c.args.self.now U) in
+    omega (arith, fit, ap length c.new-groups.ensures, ap length c.push_along.ensures, first, ap length c.push_along-2.ensures, second,
+        ap length c.push_along-3.ensures, third)
 
 pub returns : goal.returns
 returns c =
