@@ -1,6 +1,6 @@
 -- The squares of a board, column by column.
-use Rattle.std.proofs.Common.{◌≡◌, ℕ, zero, suc, ◌+◌, ◌*◌, ◌<◌, ◌≤◌, List, [], ◌∷◌, ◌++◌, cond, length, filter, Some, None, inl, inr, ap, ◌∙◌, arith, add-one,
-    length-append}
+use Rattle.std.proofs.Common.{◌≡◌, ℕ, zero, suc, ◌+◌, ◌*◌, ◌<◌, ◌≤◌, List, [], ◌∷◌, ◌++◌, cond, length, filter, Some, None, inl, inr, ap, ◌∙◌, arith, add-one}
+use Rattle.std.proofs.Common.{length-append}
 use Rattle.std.specs.List.{flat_map, range_with_len}
 use Rattle.std.proofs.lemmas.List.{append-nil}
 use Rattle.std.proofs.lemmas.List.FromFn.{length-map-range_with_len}
@@ -34,7 +34,7 @@ columns_all b i last = ap (λ n. flat_map (squares_in_column b.rows) (below n)) 
 pub rows_more : (rows i column : ℕ) (us : List Square) → length us ≡ i * rows → length (us ++ squares_in_column rows column) ≡ (i + 1) * rows
 rows_more rows i column us count =
     length-append us (squares_in_column rows column) ∙ ap (λ n. length us + n) (length-map-range_with_len (λ r. (column, r + 1)) 0 rows)
-        ∙ ap (λ n. n + rows) count
+    ∙ ap (λ n. n + rows) count
     ∙ omega (arith, add-mul i 1 rows)
 
 -- a further column has room among ten of ten squares each

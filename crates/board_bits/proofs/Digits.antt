@@ -32,7 +32,7 @@ module _ (k : ℕ) (d : ℕ → ℕ) (small : (i : ℕ) → d i < 2 ^ k) where
   number_below a zero = pow_pos (k * 0)
   number_below a (suc m) =
       subst (λ n. number k d (a + 1) m * 2 ^ k + d a < n)
-          (sym (pow-add 2 k (k * m)) ∙ ap (λ n. 2 ^ n) (let e : k + k * m ≡ k * suc m = omega (arith, mul-suc k m) in e))
+      (sym (pow-add 2 k (k * m)) ∙ ap (λ n. 2 ^ n) (let e : k + k * m ≡ k * suc m = omega (arith, mul-suc k m) in e))
       (mul-add-lt (number k d (a + 1) m) (2 ^ k) (d a) (2 ^ (k * m)) (number_below (a + 1) m) (small a))
 
   pub digit : (m a j : ℕ) → j < m → number k d a m / 2 ^ (k * j) % 2 ^ k ≡ d (a + j)
@@ -45,7 +45,7 @@ module _ (k : ℕ) (d : ℕ → ℕ) (small : (i : ℕ) → d i < 2 ^ k) where
       ∙ ap d (let e : a ≡ a + 0 = omega arith in e)
   digit (suc m) a (suc j) low =
       ap (λ n. n % 2 ^ k) (ap (λ e. number k d a (suc m) / 2 ^ e) (let e : k * suc j ≡ k + k * j = omega (arith, mul-suc k j) in e)
-          ∙ sym (shr-shr (number k d a (suc m)) k (k * j))
+      ∙ sym (shr-shr (number k d a (suc m)) k (k * j))
       ∙ ap (λ n. n / 2 ^ (k * j)) (div-mul-add (number k d (a + 1) m) (2 ^ k) (d a) (small a)))
       ∙ digit m (a + 1) j (omega arith)
       ∙ ap d (let e : a + 1 + j ≡ a + suc j = omega arith in e)

@@ -29,11 +29,15 @@ module _ {L : Length → Length → Bool} (lengths : (a b : Length) → Decides 
         let words = and_parts (side_word p White == side_word q White) (side_word p Black == side_word q Black) both.1 in
         sym (read_back p board stacked)
         ∙ ap (λ n. men_of (record { size = record { cols = n; rows = p.rows; len = p.len }; white = side_word p White; black = side_word p Black }))
-            (eqb-true (length p.columns) (length q.columns) sizes.0)
+        (eqb-true (length p.columns) (length q.columns) sizes.0)
         ∙ ap (λ n. men_of (record { size = record { cols = length q.columns; rows = n; len = p.len }; white = side_word p White; black = side_word p Black }))
-            (eqb-true p.rows q.rows lines.0)
-        ∙ ap (λ len. men_of (record { size = record { cols = length q.columns; rows = q.rows; len = len }; white = side_word p White; black =
-            side_word p Black })) ((lengths p.len q.len).0 lines.1)
+        (eqb-true p.rows q.rows lines.0)
+        ∙ ap (λ len. men_of (record {
+          size = record { cols = length q.columns; rows = q.rows; len = len };
+          white = side_word p White;
+          black =
+              side_word p Black;
+        })) ((lengths p.len q.len).0 lines.1)
         ∙ ap (λ n. men_of (record { size = board_of q; white = n; black = side_word p Black })) (eqb-true (side_word p White) (side_word q White) words.0)
         ∙ ap (λ n. men_of (record { size = board_of q; white = side_word q White; black = n })) (eqb-true (side_word p Black) (side_word q Black) words.1)
         ∙ read_back q other_board other_stacked
@@ -41,9 +45,9 @@ module _ {L : Length → Length → Bool} (lengths : (a b : Length) → Decides 
     from : p ≡ q → (boards_equal p q && words_equal p q) ≡ true
     from e = and_from _ _
         (and_from _ _ (eq-eqb (length p.columns) (length q.columns) (ap (λ (r : Position). length r.columns) e))
-            (and_from _ _ (eq-eqb p.rows q.rows (ap (λ (r : Position). r.rows) e)) ((lengths p.len q.len).1 (ap (λ (r : Position). r.len) e))))
+        (and_from _ _ (eq-eqb p.rows q.rows (ap (λ (r : Position). r.rows) e)) ((lengths p.len q.len).1 (ap (λ (r : Position). r.len) e))))
         (and_from _ _ (eq-eqb (side_word p White) (side_word q White) (ap (λ r. side_word r White) e))
-            (eq-eqb (side_word p Black) (side_word q Black) (ap (λ r. side_word r Black) e)))
+        (eq-eqb (side_word p Black) (side_word q Black) (ap (λ r. side_word r Black) e)))
 
     pub same_known : (answer : Bool) → answer ≡ (boards_equal p q && words_equal p q) → answer ≡ same_position p q
     same_known answer told = told ∙ agree (boards_equal p q && words_equal p q) (same_position p q) (λ h. (same_position_Decides p q).1 (to h))

@@ -1,13 +1,13 @@
 -- What the number of a mask says of its squares.
-use Rattle.std.proofs.Common.{◌≡◌, ◌≢◌, ◌⊎◌, ℕ, ◌+◌, ◌-◌, ◌*◌, ◌/◌, ◌%◌, ◌^◌, ◌<◌, min, max, Bool, true, false, not, ◌&&◌, ◌||◌, ◌==◌, List, [], ◌∷◌, length,
-    refl, sym, ap, ◌∙◌, subst, inl, inr, arith}
+use Rattle.std.proofs.Common.{◌≡◌, ◌≢◌, ◌⊎◌, ℕ, ◌+◌, ◌-◌, ◌*◌, ◌/◌, ◌%◌, ◌^◌, ◌<◌, min, max, Bool, true, false, not, ◌&&◌, ◌||◌, ◌==◌, List, [], ◌∷◌, length}
+use Rattle.std.proofs.Common.{refl, sym, ap, ◌∙◌, subst, inl, inr, arith}
 use Rattle.std.specs.Int.{bit_at, bit_not, w128}
 use Rattle.std.specs.Int.RustNames.{bit_and, bit_or}
 use Rattle.std.specs.List.{list_any, list_all}
 use Rattle.std.proofs.lemmas.Bool.{cases_eq, cases_Bool, both_ways, false_from_ne_true, or_cases, and_parts, eq-eqb, eqb-true, ne_eqb}
 use Rattle.std.proofs.lemmas.Nat.{one_shl, or_lt, and_le_l, pow_below}
-use Rattle.std.proofs.lemmas.Nat.Bits.{bit_at-lt, bit_at-zero, bit_at_and, bit_at_or, bit_at_not, bit_at_above, bit_at_set_same, bit_at_set_other, shr_and_one,
-    same_from_bits}
+use Rattle.std.proofs.lemmas.Nat.Bits.{bit_at-lt, bit_at-zero, bit_at_and, bit_at_or, bit_at_not, bit_at_above, bit_at_set_same, bit_at_set_other, shr_and_one}
+use Rattle.std.proofs.lemmas.Nat.Bits.{same_from_bits}
 use Rattle.game_rules.specs.Board.{Square, on_board}
 use Rattle.game_rules.specs.Squares.{same_square, has_square, widest, squares_of_board, squares_where, IsSetOf}
 use Rattle.game_rules.proofs.Lists.{any_gives, any_from, all_gives, all_from}
@@ -124,7 +124,7 @@ module _ (n : ℕ) (s : Square) (on_s : on_board widest s ≡ true) where
     | inl same ↦
         let here : u ≡ s = place_determines u s on on_s same in
         rw (here, same_square_refl s) (eq-eqb (bit_at (more n s) (place_of s)) 1
-            (bit_at_set_same w128 n (place_of s) (let low = place_low s on_s in omega arith)))
+        (bit_at_set_same w128 n (place_of s) (let low = place_low s on_s in omega arith)))
     | inr apart ↦
         ap (λ b. b == 1) (bit_at_set_other w128 n (place_of s) (let low = place_low s on_s in omega arith) (place_of u) apart)
         ∙ ap (λ b. b || has_bit n u) (sym (false_from_ne_true (same_square u s) (λ same. apart (ap place_of (same_square_is u s same)))))
@@ -201,7 +201,7 @@ module _ (a b : ℕ) where
   apart_from_zero none_set u has = false_from_ne_true (has_bit b u) (λ other.
       let first = has_set a u has in let second = has_set b u other in
       let none : min (bit_at a (place_of u)) (bit_at b (place_of u)) ≡ 0 = sym (bit_at_and a b (place_of u)) ∙ ap (λ n. bit_at n (place_of u)) none_set
-          ∙ bit_at-zero (place_of u) in
+      ∙ bit_at-zero (place_of u) in
       omega (arith, first, second, none))
 
   pub none_common : IsWord a → bit_and a b ≡ 0 → list_any (has_square (squares_of b)) (squares_of a) ≡ false
@@ -209,12 +209,12 @@ module _ (a b : ℕ) where
       let found = any_gives (has_square (squares_of b)) (squares_of a) h in
       let on = where_on (has_bit b) found.0 found.2 in
       both_ways (has_bit b found.0) (apart_from_zero none_set found.0 (sym (has_where (has_bit a) found.0 on) ∙ has_from (squares_of a) found.0 found.1))
-          (sym (has_where (has_bit b) found.0 on) ∙ found.2))
+      (sym (has_where (has_bit b) found.0 on) ∙ found.2))
 
   pub some_common : IsWord a → list_any (has_square (squares_of b)) (squares_of a) ≡ false → bit_and a b ≡ 0
   some_common word none = zero_from_apart word (λ u on has. false_from_ne_true (has_bit b u) (λ other.
       both_ways _ none (any_from (has_square (squares_of b)) (squares_of a) u (has_gives (squares_of a) u (has_where (has_bit a) u on ∙ has))
-          (has_where (has_bit b) u on ∙ other))))
+      (has_where (has_bit b) u on ∙ other))))
 
   -- the words meet exactly where the sets do
   pub meets_word : IsWord a → not (bit_and a b == 0) ≡ list_any (has_square (squares_of b)) (squares_of a)
@@ -258,7 +258,7 @@ module _ (a b : ℕ) (left : IsWord a) (low : b < 2 ^ 128) where
       let has = has_from (squares_of a) u among in
       let on = where_on (has_bit a) u has in
       has_where (has_bit b) u on ∙ not_false (has_bit b u)
-          (sym (not_bit b u low on) ∙ apart_from_zero a (bit_not w128 b) none_set u (sym (has_where (has_bit a) u on) ∙ has)))
+      (sym (not_bit b u low on) ∙ apart_from_zero a (bit_not w128 b) none_set u (sym (has_where (has_bit a) u on) ∙ has)))
     where
       not_false : (x : Bool) → not x ≡ false → x ≡ true
       not_false true h = refl
@@ -268,7 +268,7 @@ module _ (a b : ℕ) (left : IsWord a) (low : b < 2 ^ 128) where
   within_all all = zero_from_apart a (bit_not w128 b) left (λ u on has.
       not_bit b u low on
       ∙ ap not (sym (has_where (has_bit b) u on)
-          ∙ all_gives (has_square (squares_of b)) (squares_of a) u all (has_gives (squares_of a) u (has_where (has_bit a) u on ∙ has))))
+      ∙ all_gives (has_square (squares_of b)) (squares_of a) u all (has_gives (squares_of a) u (has_where (has_bit a) u on ∙ has))))
 
   pub within_word : (bit_and a (bit_not w128 b) == 0) ≡ list_all (has_square (squares_of b)) (squares_of a)
   within_word = agree _ _ (λ h. all_within (eqb-true _ 0 h)) (λ all. eq-eqb (bit_and a (bit_not w128 b)) 0 (within_all all))

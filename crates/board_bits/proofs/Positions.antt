@@ -1,6 +1,6 @@
 -- The words of a position's men: what their bits say of its squares, its columns and its moves.
-use Rattle.std.proofs.Common.{◌≡◌, ℕ, zero, suc, ◌+◌, ◌-◌, ◌*◌, ◌/◌, ◌%◌, ◌^◌, ◌<◌, ◌≤◌, max, true, not, cond, ◌&&◌, ◌||◌, ◌==◌, [], length, map, get_or,
-    Option, Some, None, is_none, refl, sym, ap, ◌∙◌, subst, inl, inr, arith, bit_and, bit_or, add-one}
+use Rattle.std.proofs.Common.{◌≡◌, ℕ, zero, suc, ◌+◌, ◌-◌, ◌*◌, ◌/◌, ◌%◌, ◌^◌, ◌<◌, ◌≤◌, max, true, not, cond, ◌&&◌, ◌||◌, ◌==◌, [], length, map, get_or}
+use Rattle.std.proofs.Common.{Option, Some, None, is_none, refl, sym, ap, ◌∙◌, subst, inl, inr, arith, bit_and, bit_or, add-one}
 use Rattle.std.specs.Int.{bit_at, bit_not, w128}
 use Rattle.std.specs.Int.RustNames.{count_ones}
 use Rattle.std.proofs.lemmas.Bool.{cases_lt, and_parts}
@@ -84,7 +84,7 @@ module _ (p : Position) (board : is_board (board_of p) ≡ true) (stacked : IsSt
   men_bit c i within low =
       bit_at_or (side_word p White) (side_word p Black) (11 * c + i)
       ∙ ap (λ b. max b (bit_at (side_word p Black) (11 * c + i)))
-          (word_bit (has_man p White) c i within low ∙ ap (λ r. cond (has_man p White (c, r)) 1 0) (add-one i))
+      (word_bit (has_man p White) c i within low ∙ ap (λ r. cond (has_man p White (c, r)) 1 0) (add-one i))
       ∙ ap (max (cond (has_man p White (c, suc i)) 1 0)) (word_bit (has_man p Black) c i within low ∙ ap (λ r. cond (has_man p Black (c, r)) 1 0) (add-one i))
       ∙ at (man_at p (c, suc i))
     where
@@ -119,7 +119,7 @@ module _ (p : Position) (board : is_board (board_of p) ≡ true) (stacked : IsSt
   column_back c within =
       ap (λ h. map (λ i. side_in (side_word p Black) (11 * c + i)) (below h)) (height_bits c within)
       ∙ ext_get_or White (map (λ i. side_in (side_word p Black) (11 * c + i)) (below (height p c))) (men_in p c)
-          (length-map-range_with_len (λ i. side_in (side_word p Black) (11 * c + i)) 0 (height p c)) (λ i low.
+      (length-map-range_with_len (λ i. side_in (side_word p Black) (11 * c + i)) 0 (height p c)) (λ i low.
       let inside : i < height p c = omega (arith, length-map-range_with_len (λ i. side_in (side_word p Black) (11 * c + i)) 0 (height p c)) in
       let most = height_most c in
       get_or-map-range_with_len (λ i. side_in (side_word p Black) (11 * c + i)) 0 (height p c) i i White inside (omega arith)
@@ -157,7 +157,7 @@ module _ (p : Position) (board : is_board (board_of p) ≡ true) (stacked : IsSt
   pub has_none : (u : Square) → on_board widest u ≡ true → not (has_bit all_men u) ≡ is_none (man_at p u)
   has_none u on =
       ap not (union_bit (side_word p White) (side_word p Black) u ∙ ap (λ b. b || has_bit (side_word p Black) u) (has_side White u on)
-          ∙ ap (λ b. has_man p White u || b) (has_side Black u on))
+      ∙ ap (λ b. has_man p White u || b) (has_side Black u on))
       ∙ at (man_at p u)
     where
       at : (m : Option Side) → not (is_man White m || is_man Black m) ≡ is_none m
@@ -195,7 +195,7 @@ module _ (p : Position) (board : is_board (board_of p) ≡ true) (stacked : IsSt
       (λ h.
       let line = has_line_gives p side h in
       run_from (has_man p side) (side_word p side) (side_shows side) (line_length p.len) (a_length p.len)
-          (record { way = line.way; anchor = line.anchor; each = line.owned }))
+      (record { way = line.way; anchor = line.anchor; each = line.owned }))
 
 -- a position that is kept by the fields of some position
 pub kept_sound : (q : Position) → is_board (board_of q) ≡ true → IsStacked q → (b : Inside) → fields_of q ≡ b → IsSound b

@@ -1,6 +1,6 @@
 -- Sets of squares by their rows: the squares below those of a set, a part of one column, and the odd rows.
-use Rattle.std.proofs.Common.{◌≡◌, ◌⊎◌, ℕ, suc, ◌+◌, ◌-◌, ◌*◌, ◌/◌, ◌%◌, ◌^◌, ◌<◌, ◌≤◌, Bool, true, false, not, ◌&&◌, ◌==◌, nat_le, refl, sym, ap, ◌∙◌, subst,
-    inl, inr, arith}
+use Rattle.std.proofs.Common.{◌≡◌, ◌⊎◌, ℕ, suc, ◌+◌, ◌-◌, ◌*◌, ◌/◌, ◌%◌, ◌^◌, ◌<◌, ◌≤◌, Bool, true, false, not, ◌&&◌, ◌==◌, nat_le, refl, sym, ap, ◌∙◌, subst}
+use Rattle.std.proofs.Common.{inl, inr, arith}
 use Rattle.std.specs.Int.{bit_at}
 use Rattle.std.proofs.Math.Nat.{add-mul, div-eq_of_lt}
 use Rattle.std.proofs.lemmas.Bool.{cases_lt, both_ways, and_parts, and_from, eq-eqb, eqb-true, ne_eqb, le-leb, leb-true, false_from_ne_true}
@@ -63,9 +63,9 @@ module _ (n : ℕ) (word : IsWord n) where
     | inl within ↦
         let on : on_board widest (c, 1) ≡ true = on_board_from widest c 1 within (omega arith) (omega arith) in
         let lacks : has_bit (without n LOWEST_SQUARES) (c, 1) ≡ false = without_bit n LOWEST_SQUARES (c, 1) (omega arith) on
-            ∙ ap (λ b. has_bit n (c, 1) && not b) (lowest_bit (c, 1) on) ∙ last (has_bit n (c, 1)) in
+        ∙ ap (λ b. has_bit n (c, 1) && not b) (lowest_bit (c, 1) on) ∙ last (has_bit n (c, 1)) in
         ap (bit_at (without n LOWEST_SQUARES)) (let e : 11 * c ≡ 11 * c + 1 - 1 = omega arith in e)
-            ∙ none (bit_cases (without n LOWEST_SQUARES) (11 * c + 1 - 1)) lacks
+        ∙ none (bit_cases (without n LOWEST_SQUARES) (11 * c + 1 - 1)) lacks
   ]
     where
       last : (b : Bool) → (b && not true) ≡ false
@@ -89,7 +89,7 @@ module _ (n : ℕ) (word : IsWord n) where
   lowered_bit (c, r) on =
       let parts = on_board_parts widest c r on in
       ap (λ b. b == 1) (sym (bit_at-suc (without n LOWEST_SQUARES) (11 * c + r - 1))
-          ∙ ap (bit_at (without n LOWEST_SQUARES)) (let e : suc (11 * c + r - 1) ≡ 11 * c + (r + 1) - 1 = omega arith in e))
+      ∙ ap (bit_at (without n LOWEST_SQUARES)) (let e : suc (11 * c + r - 1) ≡ 11 * c + (r + 1) - 1 = omega arith in e))
       ∙ above (omega arith) (cases_lt r 10)
       ∙ ap (λ b. b && has_square (squares_of n) (c, r + 1)) (sym (le-leb 1 r (omega arith)))
     where
@@ -109,10 +109,10 @@ module _ (n : ℕ) (word : IsWord n) where
           let word = kept in
           ne_eqb (bit_at (without n LOWEST_SQUARES) (11 * c + (r + 1) - 1)) 1 (λ set.
           let gap : bit_at (without n LOWEST_SQUARES) (11 * c + (r + 1) - 1)
-              ≡ 0 = ap (bit_at (without n LOWEST_SQUARES)) (let e : 11 * c + (r + 1) - 1 ≡ 11 * c + 10 = omega arith in e) ∙ word.gaps c in
+          ≡ 0 = ap (bit_at (without n LOWEST_SQUARES)) (let e : 11 * c + (r + 1) - 1 ≡ 11 * c + 10 = omega arith in e) ∙ word.gaps c in
           omega (arith, gap, set))
           ∙ sym (false_from_ne_true (has_square (squares_of n) (c, r + 1))
-              (λ has. let high = on_board_parts widest c (r + 1) (where_on (has_bit n) (c, r + 1) has) in omega arith))
+          (λ has. let high = on_board_parts widest c (r + 1) (where_on (has_bit n) (c, r + 1) has) in omega arith))
 
   pub lowered_set : IsSetOf (is_below n) (squares_of (lowered n))
   lowered_set = word_set (is_below n) (lowered n)
@@ -144,21 +144,24 @@ module _ (c low high : ℕ) (within : c < 10) (least : 1 ≤ low) (low_most : lo
   rows_are = elim (cases_lt high low) [
     | inl empty ↦
         let none : (2 ^ high - 1) / 2 ^ (low - 1)
-            ≡ 0 = div-eq_of_lt (let less = pow_le high (low - 1) (omega arith) in let some = pow_pos high in omega (arith, less, some)) in
+        ≡ 0 = div-eq_of_lt (let less = pow_le high (low - 1) (omega arith) in let some = pow_pos high in omega (arith, less, some)) in
         let less = pow_le (11 * c + high) (11 * c + low - 1) (omega arith) in
         ap (λ n. n * 2 ^ (11 * c + low - 1)) none ∙ omega (arith, less)
     | inr some ↦
         let power : 2 ^ (high - (low - 1)) * 2 ^ (11 * c + low - 1) ≡ 2 ^ (11 * c + high) = sym (pow-add 2 (high - (low - 1)) (11 * c + low - 1))
-            ∙ ap (λ e. 2 ^ e) (let e : high - (low - 1) + (11 * c + low - 1) ≡ 11 * c + high = omega arith in e) in
+        ∙ ap (λ e. 2 ^ e) (let e : high - (low - 1) + (11 * c + low - 1) ≡ 11 * c + high = omega arith in e) in
         let one_less : 2 ^ (high - (low - 1)) - 1 + 1 ≡ 2 ^ (high - (low - 1)) = let positive = pow_pos (high - (low - 1)) in omega (arith, positive) in
         let whole : (2 ^ (high - (low - 1)) - 1) * 2 ^ (11 * c + low - 1) + 1 * 2 ^ (11 * c + low - 1) ≡ 2 ^ (11 * c + high) =
-            sym (add-mul (2 ^ (high - (low - 1)) - 1) 1 (2 ^ (11 * c + low - 1))) ∙ ap (λ n. n * 2 ^ (11 * c + low - 1)) one_less ∙ power in
+        sym (add-mul (2 ^ (high - (low - 1)) - 1) 1 (2 ^ (11 * c + low - 1))) ∙ ap (λ n. n * 2 ^ (11 * c + low - 1)) one_less ∙ power in
         ap (λ n. n * 2 ^ (11 * c + low - 1)) (ones_shr high (low - 1) (omega arith)) ∙ omega (arith, whole)
   ]
     where
       pow_le : (i j : ℕ) → i ≤ j → 2 ^ i ≤ 2 ^ j
-      pow_le i j h = elim (cases_lt i j) [ inl less ↦ let below = pow_below i j less in omega (arith, below) | inr more ↦ let same : 2 ^ i
-          ≡ 2 ^ j = ap (λ e. 2 ^ e) (omega arith) in omega (arith, same) ]
+      pow_le i j h = elim (cases_lt i j) [
+        | inl less ↦ let below = pow_below i j less in omega (arith, below)
+        | inr more ↦ let same : 2 ^ i
+            ≡ 2 ^ j = ap (λ e. 2 ^ e) (omega arith) in omega (arith, same)
+      ]
 
   part_is : part_of (11 * c + low - 1) low high ≡ run
   part_is =

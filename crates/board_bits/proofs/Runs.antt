@@ -1,6 +1,6 @@
 -- A word has a run exactly where its squares do.
-use Rattle.std.proofs.Common.{◌≡◌, ◌⊎◌, ℕ, zero, suc, ◌+◌, ◌-◌, ◌*◌, ◌/◌, ◌%◌, ◌^◌, ◌<◌, ◌≤◌, ◌≢◌, min, Bool, true, false, not, ◌==◌, map, refl, sym, ap, ◌∙◌,
-    subst, inl, inr, arith, bit_and}
+use Rattle.std.proofs.Common.{◌≡◌, ◌⊎◌, ℕ, zero, suc, ◌+◌, ◌-◌, ◌*◌, ◌/◌, ◌%◌, ◌^◌, ◌<◌, ◌≤◌, ◌≢◌, min, Bool, true, false, not, ◌==◌, map, refl, sym, ap, ◌∙◌}
+use Rattle.std.proofs.Common.{subst, inl, inr, arith, bit_and}
 use Rattle.std.specs.Int.{bit_at, trailing_zeros, w128}
 use Rattle.std.specs.List.{list_any}
 use Rattle.std.proofs.lemmas.Bool.{cases_eq, cases_lt, eq-eqb, ne_eqb}
@@ -177,7 +177,7 @@ module _ (test : Square → Bool) (n : ℕ) (shows : Shows test n) (len : ℕ) (
   run_from run =
       let starts = starts_in n (shift_of run.way) len in
       let set : bit_at starts (place_of run.anchor) ≡ 1 = starts_from n (shift_of run.way) (place_of run.anchor) len some
-          (follow_from run.way run.anchor run.each) in
+      (follow_from run.way run.anchor run.each) in
       any_from (λ way. not (starts_in n (shift_of way) len == 0)) ways run.way (Among-ways run.way)
       (ap not (ne_eqb starts 0 (λ none.
       let gone : bit_at starts (place_of run.anchor) ≡ 0 = ap (λ m. bit_at m (place_of run.anchor)) none ∙ bit_at-zero (place_of run.anchor) in
@@ -195,7 +195,7 @@ set_runs n len word some = agree _ _ (λ runs. from (run_gives (has_square (squa
     from : Run (has_square (squares_of n)) len → has_run (squares_of n) len ≡ true
     from run =
         let first : has_square (squares_of n) run.anchor ≡ true = ap (has_square (squares_of n)) (sym (step_none run.way run.anchor))
-            ∙ run.each 0 (length_small len some).0 in
+        ∙ run.each 0 (length_small len some).0 in
         any_from (λ way. list_any (runs_from (squares_of n) len way) (squares_of n)) ways run.way (Among-ways run.way)
         (any_from (runs_from (squares_of n) len run.way) (squares_of n) run.anchor (has_gives (squares_of n) run.anchor first)
         (all_from (has_square (squares_of n)) (map (step_of run.way run.anchor) (below len)) (λ u among.
@@ -228,7 +228,7 @@ module _ (n : ℕ) (word : IsWord n) (way : Way) (len : ℕ) (some : IsLength le
       | inl none ↦ none
       | inr set ↦
           let first : bit_at n (11 * c + 10) ≡ 1 = ap (bit_at n) (omega arith)
-              ∙ starts_follow n (shift_of way) (11 * c + 10) len some set 0 (length_small len some).0 in
+          ∙ starts_follow n (shift_of way) (11 * c + 10) len some set 0 (length_small len some).0 in
           let none = word.gaps c in absurd (omega (arith, first, none))
     ];
   }
@@ -247,12 +247,12 @@ module _ (n : ℕ) (word : IsWord n) (way : Way) (len : ℕ) (some : IsLength le
       (λ all.
       let follow = follow_from (has_square (squares_of n)) n (shows_squares n word) len some way s (λ i low.
       all_gives (has_square (squares_of n)) (map (step_of way s) (below len)) (step_of way s i) all
-          (Among-map (step_of way s) (below len) i (Among-below len i low))) in
+      (Among-map (step_of way s) (below len) i (Among-below len i low))) in
       eq-eqb (bit_at (starts_in n (shift_of way) len) (place_of s)) 1 (starts_from n (shift_of way) (place_of s) len some follow))
 
   pub starts_set : IsSetOf (runs_from (squares_of n) len way) (squares_of (starts_in n (shift_of way) len))
   starts_set = word_set (runs_from (squares_of n) len way) (starts_in n (shift_of way) len)
       (λ s all. where_on (has_bit n) s (ap (has_square (squares_of n)) (sym (step_none way s))
       ∙ all_gives (has_square (squares_of n)) (map (step_of way s) (below len)) (step_of way s 0) all
-          (Among-map (step_of way s) (below len) 0 (Among-below len 0 (length_small len some).0))))
+      (Among-map (step_of way s) (below len) 0 (Among-below len 0 (length_small len some).0))))
       starts_bit

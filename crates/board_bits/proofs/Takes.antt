@@ -1,12 +1,12 @@
 -- The squares of a word one after another, from its lowest bit on.
-use Rattle.std.proofs.Common.{◌≡◌, ◌≢◌, ◌⊎◌, ℕ, suc, ◌+◌, ◌-◌, ◌*◌, ◌/◌, ◌%◌, ◌^◌, ◌<◌, ◌≤◌, Bool, true, false, ◌&&◌, ◌==◌, nat_le, List, [], ◌∷◌, length,
-    filter, refl, sym, ap, ◌∙◌, subst, inl, inr, arith, bit_and}
+use Rattle.std.proofs.Common.{◌≡◌, ◌≢◌, ◌⊎◌, ℕ, suc, ◌+◌, ◌-◌, ◌*◌, ◌/◌, ◌%◌, ◌^◌, ◌<◌, ◌≤◌, Bool, true, false, ◌&&◌, ◌==◌, nat_le, List, [], ◌∷◌, length}
+use Rattle.std.proofs.Common.{filter, refl, sym, ap, ◌∙◌, subst, inl, inr, arith, bit_and}
 use Rattle.std.specs.Int.{bit_at, trailing_zeros, w128}
 use Rattle.std.proofs.Math.Nat.{mod-lt}
 use Rattle.std.proofs.lemmas.Bool.{cases_lt, cases_eq, and_parts, eq-eqb, ne_eqb, leb-true}
 use Rattle.std.proofs.lemmas.Nat.{shr_split, pow_pos, pow_below, and_le_r}
-use Rattle.std.proofs.lemmas.Nat.Bits.{bit_at_and, bit_at-trailing_zeros, bit_at-pow_same, bit_at-pow_other, bit_at_ones_above, bit_at_cat_low, bit_at_cat_high,
-    same_from_bits_below}
+use Rattle.std.proofs.lemmas.Nat.Bits.{bit_at_and, bit_at-trailing_zeros, bit_at-pow_same, bit_at-pow_other, bit_at_ones_above, bit_at_cat_low, bit_at_cat_high}
+use Rattle.std.proofs.lemmas.Nat.Bits.{same_from_bits_below}
 use Rattle.game_rules.specs.Board.{Square, on_board}
 use Rattle.game_rules.specs.Squares.{widest, squares_of_board, squares_where}
 use Rattle.game_rules.proofs.Lists.{Among, filter_fewer}
@@ -60,7 +60,7 @@ module _ (n t : ℕ) (set : bit_at n t ≡ 1) (lower : (i : ℕ) → i < t → b
   taken_gone : bit_at (bit_and n (n - 1)) t ≡ 0
   taken_gone =
       let none : bit_at (n - 1) t ≡ 0 = ap (λ m. bit_at m t) split_less ∙ bit_at_cat_low (n / 2 ^ suc t) (suc t) (2 ^ t - 1) t (omega arith)
-          ∙ bit_at_ones_above t t (omega arith) in
+      ∙ bit_at_ones_above t t (omega arith) in
       bit_at_and n (n - 1) t ∙ omega (arith, none)
 
   -- the other bits stay
@@ -71,9 +71,9 @@ module _ (n t : ℕ) (set : bit_at n t ≡ 1) (lower : (i : ℕ) → i < t → b
         let some = pow_pos t in
         let power : 2 ^ t < 2 ^ suc t = pow_below t (suc t) (omega arith) in
         let less : bit_at (n - 1) i ≡ bit_at (n / 2 ^ suc t) (i - suc t) = ap (λ m. bit_at m i) split_less
-            ∙ bit_at_cat_high (n / 2 ^ suc t) (suc t) (2 ^ t - 1) i (omega (arith, power)) (omega arith) in
+        ∙ bit_at_cat_high (n / 2 ^ suc t) (suc t) (2 ^ t - 1) i (omega (arith, power)) (omega arith) in
         let own : bit_at n i ≡ bit_at (n / 2 ^ suc t) (i - suc t) = ap (λ m. bit_at m i) split
-            ∙ bit_at_cat_high (n / 2 ^ suc t) (suc t) (2 ^ t) i power (omega arith) in
+        ∙ bit_at_cat_high (n / 2 ^ suc t) (suc t) (2 ^ t) i power (omega arith) in
         bit_at_and n (n - 1) i ∙ omega (arith, less, own)
   ]
 
@@ -86,8 +86,8 @@ module _ (n t : ℕ) (set : bit_at n t ≡ 1) (lower : (i : ℕ) → i < t → b
       let place : place_of u ≡ t = ap place_of same ∙ place_at t in
       let has : has_bit n u ≡ true = eq-eqb _ 1 (ap (bit_at n) place ∙ set) in
       let lacks : has_bit (bit_and n (n - 1)) u
-          ≡ false = ne_eqb _ 1 (λ one. let none : bit_at (bit_and n (n - 1)) (place_of u) ≡ 0 = ap (bit_at (bit_and n (n - 1))) place
-          ∙ taken_gone in omega (arith, none, one)) in
+      ≡ false = ne_eqb _ 1 (λ one. let none : bit_at (bit_and n (n - 1)) (place_of u) ≡ 0 = ap (bit_at (bit_and n (n - 1))) place
+      ∙ taken_gone in omega (arith, none, one)) in
       let rest : filter (has_bit n) us ≡ filter (has_bit (bit_and n (n - 1))) us = filter_same (has_bit n) (has_bit (bit_and n (n - 1))) us (λ v among.
       let later : place_of u + 1 ≤ place_of v = rising_past (place_of u + 1) us both.1 v among in
       ap (λ b. b == 1) (sym (taken_kept (place_of v) (λ same_place. omega (arith, later, same_place, place))))) in

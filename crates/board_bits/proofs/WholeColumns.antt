@@ -1,6 +1,6 @@
 -- The columns of a set, found one by one by the first square of what is left of it.
-use Rattle.std.proofs.Common.{◌≡◌, ℕ, ◌<◌, ◌==◌, Bool, true, false, not, ◌&&◌, ◌||◌, List, [], ◌∷◌, length, filter, Some, None, slice_get, refl, sym, ap, ◌∙◌,
-    inl, inr, arith}
+use Rattle.std.proofs.Common.{◌≡◌, ℕ, ◌<◌, ◌==◌, Bool, true, false, not, ◌&&◌, ◌||◌, List, [], ◌∷◌, length, filter, Some, None, slice_get, refl, sym, ap, ◌∙◌}
+use Rattle.std.proofs.Common.{inl, inr, arith}
 use Rattle.std.specs.List.{list_any}
 use Rattle.std.proofs.lemmas.Bool.{cases_Bool, and_parts, and_from, eqb-true, eq-eqb, both_ways, false_from_ne_true}
 use Rattle.std.proofs.lemmas.List.Filters.{length-filter_both}
@@ -37,7 +37,7 @@ fewer_left rest column less first own is has made = rw same (fewer (λ u. not (h
 pub column_apart : (rest column less : List Square) (first u : Square) → has_square rest first ≡ true
     → ((v : Square) → has_square column v ≡ (on_board widest v && (first.0 == v.0)))
     → ((v : Square) → has_square less v ≡ (has_square rest v && not (has_square column v)))
-        → (has_square column u || in_columns_of less u) ≡ in_columns_of rest u
+    → (has_square column u || in_columns_of less u) ≡ in_columns_of rest u
 column_apart rest column less first u has whole made = agree _ _ there back
   where
     there : (has_square column u || in_columns_of less u) ≡ true → in_columns_of rest u ≡ true

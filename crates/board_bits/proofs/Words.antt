@@ -1,6 +1,6 @@
 -- Which bits the number of a set of squares has, and that they give the set back.
-use Rattle.std.proofs.Common.{◌≡◌, ℕ, zero, suc, ◌+◌, ◌-◌, ◌*◌, ◌/◌, ◌%◌, ◌^◌, ◌<◌, Bool, true, false, cond, ◌==◌, List, [], ◌∷◌, map, filter, sum_by, refl,
-    sym, ap, ◌∙◌, subst, inl, inr, arith, add-one}
+use Rattle.std.proofs.Common.{◌≡◌, ℕ, zero, suc, ◌+◌, ◌-◌, ◌*◌, ◌/◌, ◌%◌, ◌^◌, ◌<◌, Bool, true, false, cond, ◌==◌, List, [], ◌∷◌, map, filter, sum_by, refl}
+use Rattle.std.proofs.Common.{sym, ap, ◌∙◌, subst, inl, inr, arith, add-one}
 use Rattle.std.specs.List.{range_with_len, flat_map}
 use Rattle.std.specs.Int.{bit_at}
 use Rattle.std.specs.Int.RustNames.{count_ones}
@@ -61,11 +61,11 @@ module _ (test : Square → Bool) where
   rows_sum c zero a = omega arith
   rows_sum c (suc m) a =
       let here : power (c, a + 1) ≡ 2 ^ (1 * a) * 2 ^ (11 * c) = ap (λ e. 2 ^ e) (let e : 11 * c + (a + 1) - 1 ≡ 1 * a + 11 * c = omega arith in e)
-          ∙ pow-add 2 (1 * a) (11 * c) in
+      ∙ pow-add 2 (1 * a) (11 * c) in
       filter_step (c, a + 1) (map (λ i. (c, i + 1)) (range_with_len (a + 1) m))
       ∙ ap (λ n. row_bit c a * power (c, a + 1) + n) (rows_sum c m (a + 1))
       ∙ ap (λ n. n + sum_by (λ i. row_bit c i * 2 ^ (1 * i)) (range_with_len (a + 1) m) * 2 ^ (11 * c))
-          (ap (λ n. row_bit c a * n) here ∙ sym (mul_assoc (row_bit c a) (2 ^ (1 * a)) (2 ^ (11 * c))))
+      (ap (λ n. row_bit c a * n) here ∙ sym (mul_assoc (row_bit c a) (2 ^ (1 * a)) (2 ^ (11 * c))))
       ∙ sym (add-mul (row_bit c a * 2 ^ (1 * a)) (sum_by (λ i. row_bit c i * 2 ^ (1 * i)) (range_with_len (a + 1) m)) (2 ^ (11 * c)))
       ∙ ap (λ n. n * 2 ^ (11 * c)) (sym (sum_by-cons (λ i. row_bit c i * 2 ^ (1 * i)) a (range_with_len (a + 1) m)))
 
@@ -107,7 +107,7 @@ module _ (test : Square → Bool) where
   word_has (c, suc i) on =
       let parts = on_board_parts widest c (suc i) on in
       ap (λ b. b == 1) (ap (bit_at (word_of (squares_where test))) (let e : 11 * c + suc i - 1 ≡ 11 * c + i = omega arith in e)
-          ∙ word_bit c i (omega arith) (omega arith))
+      ∙ word_bit c i (omega arith) (omega arith))
       ∙ ap (λ r. cond (test (c, r)) 1 0 == 1) (add-one i)
       ∙ one_where (test (c, suc i))
     where

@@ -14,8 +14,8 @@ mod run;
 mod size;
 mod word;
 
-pub use game_rules::{End, InputFault, InputKind, Length, Question, Side, Way};
 pub use game::Game;
+pub use game_rules::{End, InputFault, InputKind, Length, Question, Side, Way};
 pub use game_text::{read_game, read_game_moves};
 pub use line::MOST_IN_LINE;
 pub use mask::{Mask, bits_determine_a_mask, place_of};

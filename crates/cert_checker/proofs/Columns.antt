@@ -1,6 +1,6 @@
 -- The columns with room, from a column on, and those that are cited.
-use Rattle.std.proofs.Common.{◌≡◌, ℕ, zero, suc, ◌+◌, ◌-◌, ◌<◌, Bool, true, false, cond, List, [], ◌∷◌, filter, get_or, length, refl, sym, ap, ◌∙◌, subst,
-    arith}
+use Rattle.std.proofs.Common.{◌≡◌, ℕ, zero, suc, ◌+◌, ◌-◌, ◌<◌, Bool, true, false, cond, List, [], ◌∷◌, filter, get_or, length, refl, sym, ap, ◌∙◌, subst}
+use Rattle.std.proofs.Common.{arith}
 use Rattle.std.specs.List.{AllByRecursion, range_with_len}
 use Rattle.std.specs.Str.{bytes_eq}
 use Rattle.game_rules.specs.Position.{Position, has_room, open_columns}
@@ -43,7 +43,7 @@ pub cited_room : (p : Position) (cites : List Cite) (i : ℕ) (cite : Cite) → 
 cited_room p cites i cite same within is =
     ap (λ cite. has_room p cite.column) is
     ∙ room_at p cites i cite (subst (λ columns. AllByRecursion (λ column. has_room p column ≡ true) columns) (sym same)
-        (filter_all (has_room p) (range_with_len 0 (length p.columns)))) within
+    (filter_all (has_room p) (range_with_len 0 (length p.columns)))) within
 
 -- ---- one column more
 

@@ -36,7 +36,7 @@ pub found_at : (board : Board) (all : List Words) (claims : List Claim) (lemma i
 found_at board all claims lemma i words claim some is same within at claimed =
     let here : lemma ≡ suc i = omega arith in
     sym (ap (lemma_at (shown_in board all claims)) here ∙ shown_at board all claims i words claim same (slice_get-get_or all i words within ∙ ap Some (sym at))
-        (slice_get-get_or claims i claim (omega arith) ∙ ap Some (sym claimed)))
+    (slice_get-get_or claims i claim (omega arith) ∙ ap Some (sym claimed)))
 
 pub none_at : (board : Board) (all : List Words) (claims : List Claim) (lemma i : ℕ) → 1 ≤ lemma → i ≡ lemma - 1 → length all ≡ length claims → length all ≤ i
     → None ≡ lemma_at (shown_in board all claims) lemma

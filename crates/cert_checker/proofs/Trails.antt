@@ -1,6 +1,6 @@
 -- A path and the positions along it, one move longer.
-use Rattle.std.proofs.Common.{◌≡◌, ℕ, ◌+◌, ◌-◌, ◌<◌, ◌≤◌, cond, List, [], ◌∷◌, ◌++◌, take, drop, set, get_or, Option, Some, None, length, sym, ap, ◌∙◌, subst,
-    inl, inr, arith}
+use Rattle.std.proofs.Common.{◌≡◌, ℕ, ◌+◌, ◌-◌, ◌<◌, ◌≤◌, cond, List, [], ◌∷◌, ◌++◌, take, drop, set, get_or, Option, Some, None, length, sym, ap, ◌∙◌, subst}
+use Rattle.std.proofs.Common.{inl, inr, arith}
 use Rattle.std.specs.List.{slice_get}
 use Rattle.std.proofs.Math.Seq.{take-add}
 use Rattle.std.proofs.lemmas.Bool.{cases_eq}
@@ -15,7 +15,7 @@ use Rattle.game_rules.proofs.Played.{barred_more, played_more}
 pub one_more : (root last : Position) (columns : List ℕ) (positions : List Position) (moves column : ℕ) (r : Option Position) → moves < length positions
     → slice_get positions moves ≡ played root (take moves columns)
     → r ≡ cond (is_legal (get_or positions moves last) column) (Some (after_move (get_or positions moves last) column)) None
-        → played root (take moves columns ++ column ∷ []) ≡ r
+    → played root (take moves columns ++ column ∷ []) ≡ r
 one_more root last columns positions moves column r within kept is =
     played_more root (get_or positions moves last) (take moves columns) column (sym kept ∙ slice_get-get_or positions moves last within) ∙ sym is
 
@@ -24,7 +24,7 @@ pub barred_at : (root : Position) (path : List ℕ) (i column : ℕ) → i < len
     → played root (take i path ++ column ∷ []) ≡ None → played root path ≡ None
 barred_at root path i column within is barred =
     ap (played root) (sym (take-append-drop (i + 1) path)
-        ∙ ap (λ xs. xs ++ drop (i + 1) path) (take_more path i column within ∙ ap (λ c. take i path ++ c ∷ []) (sym is)))
+    ∙ ap (λ xs. xs ++ drop (i + 1) path) (take_more path i column within ∙ ap (λ c. take i path ++ c ∷ []) (sym is)))
     ∙ barred_more root (take i path ++ column ∷ []) (drop (i + 1) path) barred
 
 -- with one move more each position is still that after so many moves
@@ -69,4 +69,4 @@ pub same_up_to : (at end : ℕ) (xs ys : List ℕ) → at ≤ end → take at xs
 same_up_to at end xs ys ordered first rest =
     let parts : at + (end - at) ≡ end = omega arith in
     subst (λ n. take n xs ≡ take n ys) parts (take-add at (end - at) xs ∙ ap (λ a. a ++ take (end - at) (drop at xs)) first ∙ ap (λ b. take at ys ++ b) rest
-        ∙ sym (take-add at (end - at) ys))
+    ∙ sym (take-add at (end - at) ys))

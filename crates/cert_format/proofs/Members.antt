@@ -1,6 +1,6 @@
 -- Instances that the call of a rule makes, and instances in a row, read and written one by one.
-use Rattle.std.proofs.Common.{◌≡◌, ℕ, ◌+◌, ◌<◌, ◌≤◌, Bool, true, false, not, cond, ◌&&◌, ◌==◌, nat_le, List, [], ◌∷◌, ◌++◌, map, take, drop, length, get_or,
-    Option, Some, None, refl, sym, ap, ◌∙◌, subst, flat_map, codes, append-nil, append_assoc}
+use Rattle.std.proofs.Common.{◌≡◌, ℕ, ◌+◌, ◌<◌, ◌≤◌, Bool, true, false, not, cond, ◌&&◌, ◌==◌, nat_le, List, [], ◌∷◌, ◌++◌, map, take, drop, length, get_or}
+use Rattle.std.proofs.Common.{Option, Some, None, refl, sym, ap, ◌∙◌, subst, flat_map, codes, append-nil, append_assoc}
 use Rattle.std.specs.List.{list_all}
 use Rattle.std.specs.Bool.{if◌then◌else◌}
 use Rattle.std.specs.Option.{option_map, option_map_or, option_and_then}
@@ -58,10 +58,10 @@ module _ (board : Board) (rule : Kind) (bytes : List ℕ) (is : is_board board �
   pub lowinverse_made : (x x_top y y_top : Square) (made : Option (Square × Square × Square × Square)) → rule ≡ kinds.Lowinverse
       → two_columns board bytes ≡ Some ((x, x_top), (y, y_top))
       → made ≡ (if is_shaped (lowinverse x x_top y y_top) board then Some (x, x_top, y, y_top) else None)
-          → option_map (λ z. lowinverse z.0 z.1 z.2 z.3) made ≡ Read
+      → option_map (λ z. lowinverse z.0 z.1 z.2 z.3) made ≡ Read
   lowinverse_made x x_top y y_top made rule_is found made_is =
       made_by_shape board rule bytes (two_columns board bytes) ((x, x_top), (y, y_top)) (λ us. lowinverse us.0.0 us.0.1 us.1.0 us.1.1) made (x, x_top, y, y_top)
-          (λ z. lowinverse z.0 z.1 z.2 z.3)
+      (λ z. lowinverse z.0 z.1 z.2 z.3)
       (named_by_shape board (lowinverse x x_top y y_top) is (λ shaped. refl)) (ap (λ rule. of_rule board rule bytes) rule_is) found refl made_is
 
   pub baseclaim_made : (a b e : Square) (made : Option (Square × Square × Square)) → rule ≡ kinds.Baseclaim → three_squares board bytes ≡ Some (a, (b, e))
@@ -75,14 +75,14 @@ module _ (board : Board) (rule : Kind) (bytes : List ℕ) (is : is_board board �
       → made ≡ (if is_shaped (specialbefore g f e0) board then Some (g, f, e0) else None) → option_map (λ z. specialbefore z.0 z.1 z.2) made ≡ Read
   specialbefore_made g f e0 made rule_is found made_is =
       made_by_shape board rule bytes (group_and_squares board bytes) (g, (f, e0)) (λ us. specialbefore us.0 us.1.0 us.1.1) made (g, f, e0)
-          (λ z. specialbefore z.0 z.1 z.2)
+      (λ z. specialbefore z.0 z.1 z.2)
       (named_by_shape board (specialbefore g f e0) is lies) (ap (λ rule. of_rule board rule bytes) rule_is) found refl made_is
     where
       lies : is_shaped (specialbefore g f e0) board ≡ true → lies_on board g ≡ true
       lies shaped =
           let shape = (and_parts (list_all (on_board board) []) (has_shape (specialbefore g f e0) board) shaped).1 in
           let apart = and_parts (lies_on board g && on_board board f && not (has_square (squares_of g) f) && has_square (squares_of g) e0) (not (f.0 == e0.0))
-              shape in
+          shape in
           let in_line = and_parts (lies_on board g && on_board board f && not (has_square (squares_of g) f)) (has_square (squares_of g) e0) apart.0 in
           let out = and_parts (lies_on board g && on_board board f) (not (has_square (squares_of g) f)) in_line.0 in
           (and_parts (lies_on board g) (on_board board f) out.0).0
@@ -92,7 +92,7 @@ module _ (board : Board) (rule : Kind) (bytes : List ℕ) (is : is_board board �
       → is_shaped (make g) board ≡ true → line_of (make g) ≡ Some g → Some (make g) ≡ Read
   group_made make g read found shaped line =
       let lies : option_map_or (lies_on board) (line_of (make g)) true ≡ true = ap (λ line. option_map_or (lies_on board) line true) line
-          ∙ (group_read board bytes g found).1 in
+      ∙ (group_read board bytes g found).1 in
       let named : is_named board (make g) ≡ true = and_from _ _ (and_from _ _ is shaped) lies in
       sym (ap (option_and_then (if_named board)) (read ∙ ap (option_map make) found) ∙ rw named refl)
 
@@ -120,10 +120,10 @@ module _ {X : Type 0} (text : X → List ℕ) (old mid new : Option (List ℕ)) 
   pieces_cut rest =
       let whole : flat_map text xs ≡ (flat_map text (take i xs) ++ text x) ++ flat_map text (drop (i + 1) xs) =
       ap (flat_map text) (sym (take-append-drop (i + 1) xs)) ∙ flat_map-append text (take (i + 1) xs) (drop (i + 1) xs)
-          ∙ ap (λ start. start ++ flat_map text (drop (i + 1) xs)) one_more in
+      ∙ ap (λ start. start ++ flat_map text (drop (i + 1) xs)) one_more in
       subst (AppendsPrefix false old new) (sym whole)
-          (AppendsPrefix_take old new _ (flat_map text (drop (i + 1) xs))
-          (AppendsPrefix_more false old mid new (flat_map text (take i xs)) (text x) before rest))
+      (AppendsPrefix_take old new _ (flat_map text (drop (i + 1) xs))
+      (AppendsPrefix_more false old mid new (flat_map text (take i xs)) (text x) before rest))
 
   pub pieces_more : Appends mid new (text x) → Appends old new (flat_map text (take (i + 1) xs))
   pieces_more rest = subst (Appends old new) (sym one_more) (Appends-trans old mid new (flat_map text (take i xs)) (text x) before rest)
@@ -141,5 +141,5 @@ members_behind (w ∷ ws) = ap (λ rest. (32 ∷ instance_text w) ++ rest) (memb
 pub plan_pieces : (ws : List RuleInstance) → codes "plan" ++ (members_text ws ++ 10 ∷ []) ≡ as_line (plan_text ws)
 plan_pieces ws =
     ap (λ text. codes "plan" ++ (text ++ 10 ∷ [])) (sym (members_behind ws))
-        ∙ sym (append_assoc (codes "plan") (flat_map (λ word. 32 ∷ word) (map instance_text ws)) (10 ∷ []))
+    ∙ sym (append_assoc (codes "plan") (flat_map (λ word. 32 ∷ word) (map instance_text ws)) (10 ∷ []))
     ∙ ap as_line (sym (spaced_behind (codes "plan") (map instance_text ws)))

@@ -21,4 +21,4 @@ pub named_up_to : (cols at end : ℕ) (path word : List ℕ) → at ≤ end → 
 named_up_to cols at end path word ordered first rest =
     let parts : at + (end - at) ≡ end = omega arith in
     subst (λ n. AreNamed cols (take n path) (take n word)) parts
-        (rw (take-add at (end - at) path, take-add at (end - at) word) (named_then cols _ _ _ _ first rest))
+    (rw (take-add at (end - at) path, take-add at (end - at) word) (named_then cols _ _ _ _ first rest))

@@ -38,8 +38,8 @@ lemma_pieces l tail reason said path put_reason put_said put_path =
     pieces reason said path put_reason put_said put_path =
         let words = claim_word l.claim ∷ reason_words l.reason in
         let spelled : claim_word l.claim ++ behind_spaces (reason_words l.reason)
-            ≡ spaced words = sym (spaced_behind (claim_word l.claim) (reason_words l.reason)) in
+        ≡ spaced words = sym (spaced_behind (claim_word l.claim) (reason_words l.reason)) in
         let claimed : said ≡ spaced words ++ 10 ∷ [] =
         put_said ∙ ap (λ rest. claim_word l.claim ++ rest) put_reason
-            ∙ sym (append_assoc (claim_word l.claim) (behind_spaces (reason_words l.reason)) (10 ∷ [])) ∙ ap (λ text. text ++ 10 ∷ []) spelled in
+        ∙ sym (append_assoc (claim_word l.claim) (behind_spaces (reason_words l.reason)) (10 ∷ [])) ∙ ap (λ text. text ++ 10 ∷ []) spelled in
         ap (λ rest. decimal l.number ++ 32 ∷ rest) (put_path ∙ ap (λ rest. move_list l.path ++ 32 ∷ rest) claimed) ∙ sym (simp append_assoc)

@@ -1,6 +1,6 @@
 -- Words as they are read: one is cut off at the first space, and a number is a word of its own.
-use Rattle.std.proofs.Common.{◌≡◌, ◌≢◌, ℕ, ◌+◌, ◌-◌, ◌<◌, ◌≤◌, ◌⊎◌, Bool, true, false, not, cond, ◌==◌, ◌&&◌, nat_le, nat_lt, List, [], ◌∷◌, ◌++◌, take, drop,
-    length, Option, Some, None, codes, Bor, refl, sym, ap, ◌∙◌, subst, inl, inr, arith}
+use Rattle.std.proofs.Common.{◌≡◌, ◌≢◌, ℕ, ◌+◌, ◌-◌, ◌<◌, ◌≤◌, ◌⊎◌, Bool, true, false, not, cond, ◌==◌, ◌&&◌, nat_le, nat_lt, List, [], ◌∷◌, ◌++◌, take, drop}
+use Rattle.std.proofs.Common.{length, Option, Some, None, codes, Bor, refl, sym, ap, ◌∙◌, subst, inl, inr, arith}
 use Rattle.std.specs.List.{position, position_or_len, onto_first}
 use Rattle.std.specs.Cmp.Lexicographic.{same_text}
 use Rattle.std.specs.Option.{option_map}
@@ -167,7 +167,7 @@ pub all_read : (cols : ℕ) (bytes : List ℕ) (cites : List Cite) → length (w
     → all_of cols (words_of bytes) ≡ Some (ByAll cites)
 all_read cols bytes cites few h =
     ap (λ b. cond b (option_map ByAll (cites_of cols (words_of bytes))) None) (and_from _ _ (le-leb 1 _ (words_some bytes)) (le-leb _ most_cites few))
-        ∙ ap (option_map ByAll) h
+    ∙ ap (option_map ByAll) h
 
 -- ---- the first word, where others follow
 
@@ -176,7 +176,7 @@ other_first : (text bytes word next : List ℕ) (more : List (List ℕ)) → ((r
     → bytes_eq word text ≡ true → ⊥
 other_first text bytes word next more never cut same =
     never (spaced (next ∷ more)) (sym (join_with_byte-slice_split 32 bytes) ∙ ap spaced cut
-        ∙ ap (λ word. word ++ 32 ∷ spaced (next ∷ more)) (same_text word text (sym same)))
+    ∙ ap (λ word. word ++ 32 ∷ spaced (next ∷ more)) (same_text word text (sym same)))
 
 -- ---- the claim
 
@@ -186,7 +186,7 @@ pub claim_none : (bytes : List ℕ) → ((rest : List ℕ) → bytes ≢ codes "
     → ((rest : List ℕ) → bytes ≢ codes "B- " ++ rest) → HasNoClaim bytes
 claim_none bytes a b c d word next more cut =
     at _ _ _ _ (other_first (codes "W+") bytes word next more a cut) (other_first (codes "W-") bytes word next more b cut)
-        (other_first (codes "B+") bytes word next more c cut)
+    (other_first (codes "B+") bytes word next more c cut)
     (other_first (codes "B-") bytes word next more d cut)
   where
     at : (p q r s : Bool) → (p ≡ true → ⊥) → (q ≡ true → ⊥) → (r ≡ true → ⊥) → (s ≡ true → ⊥)
@@ -225,10 +225,10 @@ reason_none board bytes end one all plan = by_words (words_of bytes) refl
     by_words (word ∷ []) h =
         let same : bytes ≡ word = sym (join_with_byte-slice_split 32 bytes) ∙ ap spaced h in
         ap (reason_of board) h ∙ alone (bytes_eq word (codes "end")) (bytes_eq word (codes "one")) (bytes_eq word (codes "all")) (bytes_eq word (codes "plan"))
-            (ap (λ word. bytes_eq word (codes "end")) (sym same) ∙ end)
+        (ap (λ word. bytes_eq word (codes "end")) (sym same) ∙ end)
     by_words (word ∷ next ∷ more) h =
         ap (reason_of board) h ∙ first (bytes_eq word (codes "end")) (bytes_eq word (codes "one")) (bytes_eq word (codes "all")) (bytes_eq word (codes "plan"))
-            _ _ _ (other_first (codes "one") bytes word next more one h)
+        _ _ _ (other_first (codes "one") bytes word next more one h)
         (other_first (codes "all") bytes word next more all h) (other_first (codes "plan") bytes word next more plan h)
 
 -- ---- the kind of a verdict
@@ -265,8 +265,8 @@ verdict_none bytes unknown win loss draw = by_words (words_of bytes) refl
     by_words (word ∷ []) h =
         let same : bytes ≡ word = sym (join_with_byte-slice_split 32 bytes) ∙ ap spaced h in
         ap verdict_of h ∙ alone (bytes_eq word (codes "win")) (bytes_eq word (codes "loss")) (bytes_eq word (codes "draw")) (bytes_eq word (codes "unknown"))
-            (ap (λ word. bytes_eq word (codes "unknown")) (sym same) ∙ unknown)
+        (ap (λ word. bytes_eq word (codes "unknown")) (sym same) ∙ unknown)
     by_words (word ∷ next ∷ more) h =
         ap verdict_of h ∙ first (bytes_eq word (codes "win")) (bytes_eq word (codes "loss")) (bytes_eq word (codes "draw")) (bytes_eq word (codes "unknown")) _
-            _ _ (other_first (codes "win") bytes word next more win h) (other_first (codes "loss") bytes word next more loss h)
+        _ _ (other_first (codes "win") bytes word next more win h) (other_first (codes "loss") bytes word next more loss h)
         (other_first (codes "draw") bytes word next more draw h)

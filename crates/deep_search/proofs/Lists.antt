@@ -33,7 +33,7 @@ ends_behind list ls (Some was) (Some bytes) stands ends = (
   ends.0,
   stands ∙ ap (λ xs. xs ++ lines_of ls) ends.1 ∙ append_assoc ends.0 (entry_lines list) (lines_of ls)
       ∙ ap (λ xs. ends.0 ++ (entry_lines list ++ xs)) (sym (entries_of ls))
-          ∙ ap (λ xs. ends.0 ++ xs) (sym (flat_map-append (λ entry. as_line (entry_text entry)) list (map LemmaEntry ls))),
+      ∙ ap (λ xs. ends.0 ++ xs) (sym (flat_map-append (λ entry. as_line (entry_text entry)) list (map LemmaEntry ls))),
 )
 
 pub continues : (root p : Position) (question : Question) (reach : ℕ) (list : List Entry) (shown : List Shown) (old new : Moment) (before count : ℕ)

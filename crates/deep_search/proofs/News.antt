@@ -27,11 +27,11 @@ pub new_then : (done : Bool) (question : Question) (first rest : List Shown) (be
 new_then done question first rest before mid after stays more one two = record {
   fresh = λ now. all_append (λ s. held before s.0 question ≡ None) first rest (one.fresh (more.was now))
       (all_each (λ s. held mid s.0 question ≡ None) (λ s. held before s.0 question ≡ None) rest (λ s gone. stays.there (more.was now) s.0 question gone)
-          (two.fresh now));
+      (two.fresh now));
   once = λ now. apart_append (λ p. held mid p question ≡ None) first rest (one.once (more.was now)) (two.once now) (one.kept refl (more.was now))
       (two.fresh now);
   kept = λ whole now. all_append (λ s. held after s.0 question ≡ None → ⊥) first rest
       (all_each (λ s. held mid s.0 question ≡ None → ⊥) (λ s. held after s.0 question ≡ None
-          → ⊥) first (λ s there gone. there (more.there now s.0 question gone)) (one.kept refl (more.was now)))
+      → ⊥) first (λ s there gone. there (more.there now s.0 question gone)) (one.kept refl (more.was now)))
       (two.kept whole now);
 }

@@ -89,9 +89,10 @@ plan_by (ByPlan list) ws h = let same : list ≡ ws = cc in ap ByPlan same
 
 pub planned_words : (k : ℕ) (root p : Position) (l : Lemma) (ws : List RuleInstance) → played root l.path ≡ Some p → IsPlanned k root l
     → (l.reason ≡ ByPlan ws) ↔ ((claim_side l.claim ≡ White) × (side_to_move p ≡ White) × (solved p k ≡ true) × (choice_of p k ≡ gave ws))
-planned_words k root p l ws along planned =
-    ((λ rests. of_side (claim_side l.claim) refl (sym same ∙ ap plan_in rests)),
-    (λ words. plan_by l.reason ws (same ∙ ap (λ side. plan_for k side p) words.0 ∙ ap chosen_plan words.3)))
+planned_words k root p l ws along planned = (
+  (λ rests. of_side (claim_side l.claim) refl (sym same ∙ ap plan_in rests)),
+  (λ words. plan_by l.reason ws (same ∙ ap (λ side. plan_for k side p) words.0 ∙ ap chosen_plan words.3)),
+)
   where
     same : plan_in l.reason ≡ plan_for k (claim_side l.claim) p
     same = subst (λ at. IfSome at (λ p. plan_in l.reason ≡ plan_for k (claim_side l.claim) p)) along planned

@@ -1,6 +1,7 @@
 -- The lemmas of a search at one position: what they are after some of its moves, and how its own lemma closes them.
-use Rattle.std.proofs.Common.{◌≡◌, ◌≢◌, ℕ, suc, ◌+◌, ◌<◌, ◌≤◌, Bool, true, false, not, List, [], ◌∷◌, ◌++◌, map, filter, cond, Option, Some, None, Result, Ok,
-    Err, IfOk, OnOk, IfSome, length, take, ◌-◌, get_or, set, refl, sym, ap, ◌∙◌, subst, inl, inr, arith, append-nil, append_assoc, length-append}
+use Rattle.std.proofs.Common.{◌≡◌, ◌≢◌, ℕ, suc, ◌+◌, ◌<◌, ◌≤◌, Bool, true, false, not, List, [], ◌∷◌, ◌++◌, map, filter, cond, Option, Some, None, Result, Ok}
+use Rattle.std.proofs.Common.{Err, IfOk, OnOk, IfSome, length, take, ◌-◌, get_or, set, refl, sym, ap, ◌∙◌, subst, inl, inr, arith, append-nil, append_assoc}
+use Rattle.std.proofs.Common.{length-append}
 use Rattle.std.specs.List.{AllByRecursion}
 use Rattle.std.proofs.KnownBytes.{Appends-nil}
 use Rattle.std.proofs.lemmas.Bool.{cases_eq, both_ways}
@@ -105,32 +106,35 @@ limit_after p question won count before after (Err WriteFault) (cut, same) = ome
 pub told : (root p : Position) (question : Question) (reach : ℕ) (won : Bool) (said : Claim) (known : List Shown) (path : List ℕ) (reason : Reason)
     (old new : Moment) (count counted : ℕ) (result : Result Answer SearchStop)
     → said ≡ claim_for (side_asked question) won → played root path ≡ Some p → length known ≡ count → FitsTable old.table known
-        → held old.table p question ≡ None
+    → held old.table p question ≡ None
     → HasReason known p (claim_for (side_asked question) won) reason → plan_in reason ≡ plan_for reach (side_asked question) p
-        → length (members_in reason) ≤ most_members
+    → length (members_in reason) ≤ most_members
     → AppendsPrefix (is_whole result) old.bytes new.bytes (lemma_line (record { number = count + 1; path = path; claim = said; reason = reason }))
-        → counted + uncounted result ≡ count + 1 → IsDetermined won count result
+    → counted + uncounted result ≡ count + 1 → IsDetermined won count result
     → IsAfter p question won count old.table new.table result → Solves root p question reach known old new counted result
 told root p question reach won said known path reason old new count counted result is_said along many fits absent right planned short stands number answer
     after = record {
-  wrote = record {
-    more = lemma_next count path (side_asked question) won reason ∷ [];
-    shown = (p, claim_for (side_asked question) won) ∷ [];
-    text = one_lemma (is_whole result) old.bytes new.bytes (lemma_next count path (side_asked question) won reason)
-        (subst (AppendsPrefix (is_whole result) old.bytes new.bytes)
-        (ap (λ claim. lemma_line (record { number = count + 1; path = path; claim = claim; reason = reason })) is_said) stands);
-    right = (p, record { next = ap (λ n. n + 1) (sym many); along = along; reason = right }, refl);
-    counted = omega (arith, length-append known ((p, claim_for (side_asked question) won) ∷ []), number, many);
-    sided = ((side_claimed (side_asked question) won, short), tt);
-    planned = (subst (λ at. IfSome at (λ q. plan_in reason ≡ plan_for reach (claim_side (claim_for (side_asked question) won)) q)) (sym along)
-        (planned ∙ ap (λ side. plan_for reach side p) (sym (side_claimed (side_asked question) won))), tt);
-    fits = fits_after p question won count old.table new.table known result many fits after;
-    stays = stays_after p question won count old.table new.table result after;
-    new_ones = new_after p question won count old.table new.table result absent after;
-  };
-  below = (limit_after p question won count old.table new.table result after, tt);
-  named = by result answer;
-}
+      wrote = record {
+        more = lemma_next count path (side_asked question) won reason ∷ [];
+        shown = (p, claim_for (side_asked question) won) ∷ [];
+        text = one_lemma (is_whole result) old.bytes new.bytes (lemma_next count path (side_asked question) won reason)
+            (subst (AppendsPrefix (is_whole result) old.bytes new.bytes)
+            (ap (λ claim. lemma_line (record { number = count + 1; path = path; claim = claim; reason = reason })) is_said) stands);
+        right = (p, record { next = ap (λ n. n + 1) (sym many); along = along; reason = right }, refl);
+        counted = omega (arith, length-append known ((p, claim_for (side_asked question) won) ∷ []), number, many);
+        sided = ((side_claimed (side_asked question) won, short), tt);
+        planned = (
+          subst (λ at. IfSome at (λ q. plan_in reason ≡ plan_for reach (claim_side (claim_for (side_asked question) won)) q)) (sym along)
+              (planned ∙ ap (λ side. plan_for reach side p) (sym (side_claimed (side_asked question) won))),
+          tt,
+        );
+        fits = fits_after p question won count old.table new.table known result many fits after;
+        stays = stays_after p question won count old.table new.table result after;
+        new_ones = new_after p question won count old.table new.table result absent after;
+      };
+      below = (limit_after p question won count old.table new.table result after, tt);
+      named = by result answer;
+    }
   where
     by : (result : Result Answer SearchStop) → IsDetermined won count result
         → IfOk result (λ answer. Shows (known ++ (p, claim_for (side_asked question) won) ∷ []) answer.lemma p (claim_for (side_asked question) answer.yes))
@@ -161,7 +165,7 @@ wrote_nothing root question reach known bytes before after total same fits many 
 pub solves_found : (root p : Position) (question : Question) (reach : ℕ) (known : List Shown) (bytes : Option (List ℕ)) (before after : Entries) (count : ℕ)
     (f : Found) → HasSame before after → FitsTable before known → held before p question ≡ Some f
     → length known ≡ count → Solves root p question reach known (moment before bytes) (moment after bytes) count
-        (Ok (record { yes = f.answer; lemma = f.lemma }))
+    (Ok (record { yes = f.answer; lemma = f.lemma }))
 solves_found root p question reach known bytes before after count f same fits there many = record {
   wrote = wrote_nothing root question reach known bytes before after (count + 0) same fits (omega (arith, many));
   below = tt;
@@ -172,7 +176,7 @@ solves_found root p question reach known bytes before after count f same fits th
 pub solves_entered : (root p : Position) (question : Question) (reach : ℕ) (known : List Shown) (old mid new : Moment) (count : ℕ)
     (result : Result Answer SearchStop)
     → HasSame old.table mid.table → mid.bytes ≡ old.bytes → Solves root p question reach known mid new count result
-        → Solves root p question reach known old new count result
+    → Solves root p question reach known old new count result
 solves_entered root p question reach known old mid new count result same bytes rest = record {
   wrote = record {
     more = rest.wrote.more;
@@ -233,7 +237,7 @@ module _ (root : Position) (question : Question) (reach : ℕ) (known : List Sho
     wrote = then_wrote (is_whole (Err stop)) (count + uncounted (Err stop)) (count + uncounted (Err stop)) refl rest.wrote;
     below = below_raised (empty_count p) (limit_of p (Err stop)) (first.shown ++ rest.wrote.shown) (limit_least p (Err stop))
         (below_both (empty_count p) first.shown rest.wrote.shown below
-            (below_raised (limit_of q (Err stop)) (empty_count p) rest.wrote.shown (omega (arith, limit_most q (Err stop), fewer)) rest.below));
+        (below_raised (limit_of q (Err stop)) (empty_count p) rest.wrote.shown (omega (arith, limit_most q (Err stop), fewer)) rest.below));
     named = tt;
   }
 
@@ -284,7 +288,7 @@ module _ (root p : Position) (question : Question) (reach : ℕ) (own : Bool) (k
             → Shows ((known ++ so_far.wrote.shown) ++ more) (get_or numbers d 0) (after_move p d) (claim_for (side_asked question) (not own))
         kept more k d low place room apart =
             let before : k < i = elim (cases_eq k i) [ inl here ↦ absurd (apart (sym place ∙ ap (λ k. get_or order k 0) here ∙ at)) | inr other ↦ omega arith ]
-                in
+            in
             Shows_more (known ++ so_far.wrote.shown) more (get_or numbers d 0) (after_move p d) (claim_for (side_asked question) (not own))
             (so_far.moves k d before place room)
 
@@ -384,7 +388,7 @@ below_more n = sym (map-id (below (n + 1))) ∙ map-range_with_len_more (λ k. k
 
 pub cites_room : (p : Position) (numbers : List ℕ) (i : ℕ) → has_room p i ≡ true
     → cites_from numbers (filter (has_room p) (below (i + 1))) ≡ cites_from numbers (filter (has_room p) (below i))
-        ++ record { column = i; lemma = get_or numbers i 0 } ∷ []
+    ++ record { column = i; lemma = get_or numbers i 0 } ∷ []
 cites_room p numbers i room =
     ap (λ cs. cites_from numbers (filter (has_room p) cs)) (below_more i)
     ∙ ap (cites_from numbers) (filter-append (has_room p) (below i) (i ∷ []) ∙ ap (λ b. filter (has_room p) (below i) ++ cond b (i ∷ []) []) room)
@@ -395,7 +399,7 @@ pub cites_full : (p : Position) (numbers : List ℕ) (i : ℕ) → has_room p i 
 cites_full p numbers i full =
     ap (λ cs. cites_from numbers (filter (has_room p) cs)) (below_more i)
     ∙ ap (cites_from numbers) (filter-append (has_room p) (below i) (i ∷ []) ∙ ap (λ b. filter (has_room p) (below i) ++ cond b (i ∷ []) []) full
-        ∙ append-nil (filter (has_room p) (below i)))
+    ∙ append-nil (filter (has_room p) (below i)))
 
 -- ---- what is said of an answer alone
 
@@ -426,15 +430,15 @@ played_more root (d ∷ path) p c along going room = elim (chosen (is_legal root
 
 module _ (root p : Position) (question : Question) (reach : ℕ) (own : Bool) (known : List Shown) (old mid : Moment) (count : ℕ) (numbers order : List ℕ) (i : ℕ)
     (so_far : SoFar root p question reach own known old mid count numbers order i) (going : end_of p ≡ None)
-        (is_own : own ≡ same_side (side_asked question) (side_to_move p)) where
+    (is_own : own ≡ same_side (side_asked question) (side_to_move p)) where
   -- the search after a move stopped
   pub stopped_by_move : (new : Moment) (counted c : ℕ) (stop : SearchStop) (child result : Result Answer SearchStop) → has_room p c ≡ true → child ≡ Err stop
       → result ≡ Err stop
       → Solves root (after_move p c) question reach (known ++ so_far.wrote.shown) mid new counted child
-          → Solves root p question reach known old new counted result
+      → Solves root p question reach known old new counted result
   stopped_by_move new counted c stop child result room was is_stop solves =
       rw is_stop (then_stopped root question reach known old mid new count so_far.wrote p (after_move p c) counted stop (empty_count_moved p c room)
-          so_far.below
+      so_far.below
       (subst (λ r. Solves root (after_move p c) question reach (known ++ so_far.wrote.shown) mid new counted r) was solves))
 
   pub closed_by_one : (next new : Moment) (counted last c : ℕ) (found : Answer) (child result : Result Answer SearchStop) → child ≡ Ok found
@@ -459,16 +463,16 @@ module _ (root p : Position) (question : Question) (reach : ℕ) (own : Bool) (k
 
   pub closed_by_all : (new : Moment) (last : ℕ) (result : Result Answer SearchStop) → length order ≤ i → order ≡ centre_out (length p.columns)
       → ((also : List Shown) → length also ≡ count → FitsTable mid.table also
-          → HasReason also p (claim_for (side_asked question) (not own)) (ByAll (cites_from numbers (open_columns p)))
-          → Solves root p question reach also mid new last result)
+      → HasReason also p (claim_for (side_asked question) (not own)) (ByAll (cites_from numbers (open_columns p)))
+      → Solves root p question reach also mid new last result)
       → Solves root p question reach known old new last result
   closed_by_all new last result all is_order tell =
       let also = known ++ so_far.wrote.shown in
       then_solves root question reach known old mid new count so_far.wrote p last result
       (below_raised (empty_count p) (limit_of p result) so_far.wrote.shown (limit_least p result) so_far.below)
       (tell also so_far.wrote.counted so_far.wrote.fits
-          (all_reason p (side_asked question) own going is_own also numbers
-          (all_moves root p question reach own known old mid count numbers order i so_far all is_order)))
+      (all_reason p (side_asked question) own going is_own also numbers
+      (all_moves root p question reach own known old mid count numbers order i so_far all is_order)))
 
 -- a column that was taken from the end of a path
 pub path_back : (path longer shorter : List ℕ) (c : ℕ) → longer ≡ path ++ c ∷ [] → shorter ≡ take (length longer - 1) longer → shorter ≡ path

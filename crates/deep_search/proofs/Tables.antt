@@ -1,6 +1,6 @@
 -- What the table has after a look-up and after an answer was kept, and what a search may rest on in it.
-use Rattle.std.proofs.Common.{◌≡◌, ℕ, ◌+◌, ◌<◌, ◌≤◌, Bool, true, false, ◌&&◌, ◌||◌, List, [], ◌∷◌, ◌++◌, length, Option, Some, None, Result, Ok, Err, OnOk,
-    OnErr, is_ok, is_some, nat_lt, refl, sym, ap, ◌∙◌, subst, inl, inr, arith}
+use Rattle.std.proofs.Common.{◌≡◌, ℕ, ◌+◌, ◌<◌, ◌≤◌, Bool, true, false, ◌&&◌, ◌||◌, List, [], ◌∷◌, ◌++◌, length, Option, Some, None, Result, Ok, Err, OnOk}
+use Rattle.std.proofs.Common.{OnErr, is_ok, is_some, nat_lt, refl, sym, ap, ◌∙◌, subst, inl, inr, arith}
 use Rattle.std.proofs.lemmas.Bool.{and_parts, ltb-true}
 use Rattle.std.specs.Map.{lookup}
 use Rattle.game_rules.specs.Position.{Position, empty_count}
@@ -47,9 +47,9 @@ unfolding held
 kept_here p question f before after absent entries whole = record {
   nothing_else = λ q s g there. elim
       (lookup_kept_from p question f before absent (record { position = q; question = s }) g (sym (ap (lookup (is_for q s)) entries) ∙ there)) [
-    | inl was ↦ inl was
-    | inr own ↦ inr (ap (λ k. k.position) own.0, ap (λ k. k.question) own.0, own.1)
-  ];
+        | inl was ↦ inl was
+        | inr own ↦ inr (ap (λ k. k.position) own.0, ap (λ k. k.question) own.0, own.1)
+      ];
   stays = record {
     was = λ now. (both_true before.whole _ (sym whole ∙ now)).0;
     there = λ now q s gone. lookup_kept_stays p question f before absent (room now) (record { position = q; question = s })
@@ -61,7 +61,7 @@ kept_here p question f before after absent entries whole = record {
     room : after.whole ≡ true → length before.entries < before.room
     room now =
         let both = both_true before.whole (true && (is_some (lookup (is_for p question) before.entries) || nat_lt (length before.entries) before.room))
-            (sym whole ∙ now) in
+        (sym whole ∙ now) in
         ltb-true (length before.entries) before.room (sym (ap (λ o. is_some o || nat_lt (length before.entries) before.room) absent) ∙ both.1)
 
 kept_not : (p : Position) (question : Question) (f : Found) (before after : Entries) → after.entries ≡ before.entries

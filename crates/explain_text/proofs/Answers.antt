@@ -1,6 +1,6 @@
 -- Which instance answers a group: the first that bars it, and the member that a plan names by its place.
-use Rattle.std.proofs.Common.{◌≡◌, ℕ, zero, suc, ◌-◌, ◌<◌, ◌≤◌, Bool, true, false, not, List, [], ◌∷◌, Option, Some, None, is_some, is_none, refl, sym, ap, ◌∙◌,
-    subst, arith, slice_get}
+use Rattle.std.proofs.Common.{◌≡◌, ℕ, zero, suc, ◌-◌, ◌<◌, ◌≤◌, Bool, true, false, not, List, [], ◌∷◌, Option, Some, None, is_some, is_none, refl, sym, ap, ◌∙◌}
+use Rattle.std.proofs.Common.{subst, arith, slice_get}
 use Rattle.std.specs.List.{list_any, find}
 use Rattle.game_rules.specs.Position.{Position, board_of, has_man}
 use Rattle.game_rules.specs.Groups.{Group, squares_of, lies_on}

@@ -20,7 +20,7 @@ pub chosen_short : (p : Position) (reach : ℕ) (ws : List RuleInstance) → is_
 chosen_short p reach ws board h =
     let first = (choice_words p reach (gave ws)).0 h in
     subst (λ ws. length ws ≤ 288) (sym first.is_given)
-        (given_bound p first.set board (walk_sets p first.set (get-Among (walk p) first.place first.set first.is_set)))
+    (given_bound p first.set board (walk_sets p first.set (get-Among (walk p) first.place first.set first.is_set)))
 
 pub chosen_fits : (p : Position) (reach : ℕ) (ws : List RuleInstance) → is_board (board_of p) ≡ true → choice_of p reach ≡ gave ws → PlanFits (board_of p) ws
 chosen_fits p reach ws board h = plan_fits p ws board (omega (arith, chosen_short p reach ws board h)) (chosen_plan p reach ws h)

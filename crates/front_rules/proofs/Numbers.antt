@@ -7,8 +7,8 @@ use mathlib.Core.Bool.{true≢false}
 use Rattle.game_rules.specs.Position.{Position}
 use Rattle.game_rules.specs.declared.Side.{Side}
 use Rattle.front_rules.specs.Counts.{plus, least, is_zero, is_infinite, finite_part}
-use Rattle.front_rules.specs.Front.{Row, nothing, leaf, inner, node_count, leaf_number, joined, takes_least, is_own, number_of, node_number, verdict_on,
-    node_as, collapsed}
+use Rattle.front_rules.specs.Front.{Row, nothing, leaf, inner, node_count, leaf_number, joined, takes_least, is_own, number_of, node_number, verdict_on}
+use Rattle.front_rules.specs.Front.{node_as, collapsed}
 use Rattle.front_rules.specs.declared.Count.{Count}
 use Rattle.front_rules.specs.declared.Count.TheVariants.{Finite, Infinite}
 use Rattle.front_rules.specs.declared.Verdict.{Verdict}
@@ -88,7 +88,7 @@ module _ (side : Side) where
   row_dual (leaf p v rest) proof smallest = dual_joined smallest _ _ _ _ (dual_leaf proof v) (row_dual rest proof smallest)
   row_dual (inner p kids rest) proof smallest =
       dual_joined smallest _ _ _ _ (row_dual kids proof (takes_least side proof p)
-          ∙ ap (λ w. is_infinite (number_of side (not proof) w kids)) (sym (turned proof p))) (row_dual rest proof smallest)
+      ∙ ap (λ w. is_infinite (number_of side (not proof) w kids)) (sym (turned proof p))) (row_dual rest proof smallest)
 
   pub node_dual : (p : Position) (kids : Row) (proof : Bool) → is_zero (node_number side proof p kids) ≡ is_infinite (node_number side (not proof) p kids)
   node_dual p kids proof = row_dual kids proof (takes_least side proof p) ∙ ap (λ w. is_infinite (number_of side (not proof) w kids)) (sym (turned proof p))
@@ -108,7 +108,7 @@ module _ (side : Side) where
   -- a node that becomes a leaf where it is settled, and else gets children with the same numbers, keeps its numbers
   pub as_number : (p : Position) (kids new rest : Row) → ((proof smallest : Bool) → number_of side proof smallest new ≡ number_of side proof smallest kids)
       → (proof smallest : Bool) → number_of side proof smallest (node_as (verdict_on side p kids) p new rest)
-          ≡ joined smallest (node_number side proof p kids) (number_of side proof smallest rest)
+      ≡ joined smallest (node_number side proof p kids) (number_of side proof smallest rest)
   as_number p kids new rest same proof smallest =
       elim (cases_Bool (is_zero (node_number side true p kids))) [
         | inl won ↦ rw won (ap (λ n. joined smallest n (number_of side proof smallest rest)) (settled_yes p kids proof won))
@@ -141,5 +141,9 @@ module _ (side : Side) where
   number_bound (leaf p v rest) proof smallest =
       omega (arith, part_joined smallest (leaf_number proof v) (number_of side proof smallest rest), part_leaf proof v, number_bound rest proof smallest)
   number_bound (inner p kids rest) proof smallest =
-      omega (arith, part_joined smallest (node_number side proof p kids) (number_of side proof smallest rest),
-          number_bound kids proof (takes_least side proof p), number_bound rest proof smallest)
+      omega (
+        arith,
+        part_joined smallest (node_number side proof p kids) (number_of side proof smallest rest),
+        number_bound kids proof (takes_least side proof p),
+        number_bound rest proof smallest,
+      )

@@ -1,8 +1,8 @@
 -- What a settled root tells: in a front each settled leaf is judged by the value, each inner node has all of its moves, and
 -- so a number that is 0 tells whether the side wins.
 use mathlib.Core.Bool.{true≢false}
-use Rattle.std.proofs.Common.{◌≡◌, ℕ, zero, suc, ◌<◌, Bool, true, false, not, ◌||◌, ◌&&◌, if◌then◌else◌, is_none, List, [], ◌∷◌, map, filter, length, Option,
-    Some, None, refl, sym, ap, ◌∙◌, subst, inl, inr, arith}
+use Rattle.std.proofs.Common.{◌≡◌, ℕ, zero, suc, ◌<◌, Bool, true, false, not, ◌||◌, ◌&&◌, if◌then◌else◌, is_none, List, [], ◌∷◌, map, filter, length, Option}
+use Rattle.std.proofs.Common.{Some, None, refl, sym, ap, ◌∙◌, subst, inl, inr, arith}
 use Rattle.std.specs.List.{list_any, list_all}
 use Rattle.std.proofs.lemmas.Bool.{cases_Bool, or_cases, or_right, and_parts}
 use Rattle.game_rules.specs.Position.{Position, has_room, after_move, end_of}
@@ -16,8 +16,9 @@ use Rattle.game_rules.proofs.Costs.{wins_step}
 use Rattle.game_rules.proofs.Lists.{all_any, any_same}
 use Rattle.walk_rules.proofs.Choices.{solved_not_won}
 use Rattle.front_rules.specs.Counts.{plus, least, same_count, is_zero, is_infinite}
-use Rattle.front_rules.specs.Front.{Row, nothing, leaf, inner, moves_out, leaf_number, joined, is_own, takes_least, number_of, node_number, root_number,
-    verdict_of, verdict_on, node_as, collapsed, end_verdict, verdict_at, leaves, expanded, front_within, is_settled, planned, front, IsGrowing}
+use Rattle.front_rules.specs.Front.{Row, nothing, leaf, inner, moves_out, leaf_number, joined, is_own, takes_least, number_of, node_number, root_number}
+use Rattle.front_rules.specs.Front.{verdict_of, verdict_on, node_as, collapsed, end_verdict, verdict_at, leaves, expanded, front_within, is_settled, planned}
+use Rattle.front_rules.specs.Front.{front, IsGrowing}
 use Rattle.front_rules.proofs.Numbers.{zero_least, zero_plus, row_dual, node_dual}
 use Rattle.front_rules.specs.declared.Count.{Count}
 use Rattle.front_rules.specs.declared.Count.TheVariants.{Finite, Infinite}

@@ -1,6 +1,6 @@
 -- The line of the board: which sizes are read, how much of the text the line takes, and its one spelling.
-use Rattle.std.proofs.Common.{◌≡◌, ◌⊎◌, ℕ, ◌+◌, ◌-◌, ◌*◌, ◌<◌, ◌≤◌, Bool, true, ◌&&◌, ◌||◌, ◌==◌, nat_le, cond, List, [], ◌∷◌, ◌++◌, length, take, drop,
-    take_while, append_assoc, Option, Some, None, Result, Ok, codes, refl, sym, ap, ◌∙◌, subst, inl, inr, arith, lit<}
+use Rattle.std.proofs.Common.{◌≡◌, ◌⊎◌, ℕ, ◌+◌, ◌-◌, ◌*◌, ◌<◌, ◌≤◌, Bool, true, ◌&&◌, ◌||◌, ◌==◌, nat_le, cond, List, [], ◌∷◌, ◌++◌, length, take, drop}
+use Rattle.std.proofs.Common.{take_while, append_assoc, Option, Some, None, Result, Ok, codes, refl, sym, ap, ◌∙◌, subst, inl, inr, arith, lit<}
 use Rattle.std.proofs.lemmas.Bool.{cases_lt, and_parts, and_from, or_cases, leb-true, le-leb, eqb-true, eq-eqb}
 use Rattle.std.proofs.lemmas.List.Folds.{sum_by-replicate}
 use Rattle.game_rules.specs.Board.{Board, is_board, is_cols, is_rows}
@@ -8,8 +8,8 @@ use Rattle.game_rules.specs.Position.{Position, board_of, empty_position, empty_
 use Rattle.game_rules.specs.Text.{◌>>=◌, after_text, cols_of, rows_of, size_at, board_at}
 use Rattle.game_rules.specs.declared.Stop.{Stop}
 use Rattle.game_rules.proofs.Lists.{chosen}
-use Rattle.game_rules.proofs.Readers.{bind_ok, Spends, spends_bind, with_more, more_bind, after_text_spends, after_text_more, after_text_gives, after_text_of,
-    behind, size_gives, size_spends, size_more}
+use Rattle.game_rules.proofs.Readers.{bind_ok, Spends, spends_bind, with_more, more_bind, after_text_spends, after_text_more, after_text_gives, after_text_of}
+use Rattle.game_rules.proofs.Readers.{behind, size_gives, size_spends, size_more}
 use Rattle.game_rules.specs.declared.Side.{Side}
 use Rattle.std.specs.Fmt.{decimal, digits}
 use Rattle.std.proofs.lemmas.Fmt.{decimal_digit}
@@ -132,7 +132,7 @@ first_empty board h =
     let both = and_parts (is_cols board.cols) (is_rows board.rows) h in
     let size = squares_within board.cols board.rows both.0 both.1 in
     let all : empty_count (empty_position board) ≡ board.cols * (board.rows - 0) = sum_by-replicate (λ (men : List Side). board.rows - length men) board.cols []
-        in
+    in
     let rows : board.rows - 0 ≡ board.rows = omega arith in
     let whole : empty_count (empty_position board) ≡ board.cols * board.rows = all ∙ ap (λ n. board.cols * n) rows in
     (omega arith, omega arith)
@@ -186,15 +186,15 @@ rest_more cols rows bytes ys h =
     ap (λ r. r >>= λ rest. Ok (record { cols = cols; rows = rows; len = Four }, rest)) (after_text_more (10 ∷ codes "moves ") bytes ys h)
     ∙ more_bind (λ rest. rest ++ ys) (with_rest ys) (length ys) (after_text (10 ∷ codes "moves ") bytes)
     (λ rest. Ok (record { cols = cols; rows = rows; len = Four }, rest)) (λ rest. Ok (record { cols = cols; rows = rows; len = Four }, rest))
-        (λ rest read. refl)
+    (λ rest read. refl)
 
 rows_more : (cols : ℕ) (bytes ys : List ℕ) → 9 ≤ length bytes → rows_on cols (bytes ++ ys) ≡ with_more (with_rest ys) (length ys) (rows_on cols bytes)
 rows_more cols bytes ys h =
     ap (λ r. r >>= λ rows. rest_of_line cols rows.0 rows.1) (size_more rows_of long_rows bytes ys (omega arith))
     ∙ more_bind (with_rest ys) (with_rest ys) (length ys) (size_at rows_of bytes) (λ rows. rest_of_line cols rows.0 rows.1)
-        (λ rows. rest_of_line cols rows.0 rows.1)
+    (λ rows. rest_of_line cols rows.0 rows.1)
     (λ rows read. let spent = subst (Spends behind (length bytes) 2) read (size_spends rows_of long_rows bytes) in
-        rest_more cols rows.0 rows.1 ys (omega arith))
+    rest_more cols rows.0 rows.1 ys (omega arith))
 
 gap_more : (cols : ℕ) (bytes ys : List ℕ) → 10 ≤ length bytes → gap_on cols (bytes ++ ys) ≡ with_more (with_rest ys) (length ys) (gap_on cols bytes)
 gap_more cols bytes ys h =
@@ -234,9 +234,13 @@ rows_on_gives cols bytes x h =
     let size = size_gives rows_of long_rows bytes read.0 read.1 in
     let number = rows_give (take_while is_digit bytes) read.0.0 size.0 in
     let rest = rest_gives cols read.0.0 read.0.1 x read.2 in
-    let rows : x.0.rows ≡ read.0.0 = ap (λ (b : Board). b.rows) rest.0 in
-    (rw rows number.0, ap (λ (b : Board). b.cols) rest.0, ap (λ (b : Board). b.len) rest.0, size.1
-        ∙ ap (λ run. run ++ read.0.1) (number.1 ∙ ap decimal (sym rows)) ∙ ap (λ more. decimal x.0.rows ++ more) rest.1)
+    let rows : x.0.rows ≡ read.0.0 = ap (λ (b : Board). b.rows) rest.0 in (
+      rw rows number.0,
+      ap (λ (b : Board). b.cols) rest.0,
+      ap (λ (b : Board). b.len) rest.0,
+      size.1
+          ∙ ap (λ run. run ++ read.0.1) (number.1 ∙ ap decimal (sym rows)) ∙ ap (λ more. decimal x.0.rows ++ more) rest.1,
+    )
 
 gap_gives : (cols : ℕ) (bytes : List ℕ) (x : Board × List ℕ) → gap_on cols bytes ≡ Ok x
     → (is_rows x.0.rows ≡ true) × (x.0.cols ≡ cols) × (x.0.len ≡ Four) × (bytes ≡ codes " " ++ (decimal x.0.rows ++ ((10 ∷ codes "moves ") ++ x.1)))
@@ -261,9 +265,11 @@ pub board_gives : (bytes : List ℕ) (x : Board × List ℕ) → board_at bytes 
     → (is_spelled x.0 ≡ true) × (bytes ≡ board_line x.0 ++ (10 ∷ (codes "moves " ++ x.1)))
 board_gives bytes x h =
     let read = bind_ok (after_text (codes "board ") bytes) cols_on x (sym (board_at_steps bytes) ∙ h) in
-    let cols = cols_on_gives read.0 x read.2 in
-    (cols.0, after_text_gives (codes "board ") bytes read.0 read.1 ∙ ap (λ more. codes "board " ++ more) cols.1
-        ∙ joined (decimal x.0.cols) (decimal x.0.rows) x.1)
+    let cols = cols_on_gives read.0 x read.2 in (
+      cols.0,
+      after_text_gives (codes "board ") bytes read.0 read.1 ∙ ap (λ more. codes "board " ++ more) cols.1
+          ∙ joined (decimal x.0.cols) (decimal x.0.rows) x.1,
+    )
   where
     joined : (cols rows rest : List ℕ) → codes "board " ++ (cols ++ (codes " " ++ (rows ++ ((10 ∷ codes "moves ") ++ rest))))
         ≡ (codes "board " ++ (cols ++ (codes " " ++ rows))) ++ (10 ∷ (codes "moves " ++ rest))
@@ -277,7 +283,7 @@ pub size_of : (spelled : List ℕ → Option ℕ) (run rest : List ℕ) (n : ℕ
     → size_at spelled (run ++ rest) ≡ Ok (n, rest)
 size_of spelled run rest n h digits other =
     let size : prefix_len is_digit (run ++ rest) ≡ length run = prefix_len-append is_digit run rest
-        ∙ at (prefix_len is_digit run == length run) (eq-eqb _ _ digits) in
+    ∙ at (prefix_len is_digit run == length run) (eq-eqb _ _ digits) in
     let prefix : take_while is_digit (run ++ rest) ≡ run = ap (λ n. take n (run ++ rest)) size ∙ take-append_seam run rest in
     ap (λ prefix. read_as (spelled prefix) (drop (length prefix) (run ++ rest)) (run ++ rest)) prefix
     ∙ ap (λ n. read_as n (drop (length run) (run ++ rest)) (run ++ rest)) h
@@ -294,8 +300,13 @@ cols_spelled n h =
       | inl digit ↦
           let low : 4 ≤ n = leb-true 4 n both.0 in
           let back : (48 + n) - 48 ≡ n = omega arith in
-          rw (decimal_digit n digit, and_from _ _ (le-leb 52 (48 + n) (omega arith)) (le-leb (48 + n) 57 (omega arith)), le-leb 48 (48 + n) (omega arith),
-              le-leb (48 + n) 57 (omega arith), back) (refl, refl)
+          rw (
+            decimal_digit n digit,
+            and_from _ _ (le-leb 52 (48 + n) (omega arith)) (le-leb (48 + n) 57 (omega arith)),
+            le-leb 48 (48 + n) (omega arith),
+            le-leb (48 + n) 57 (omega arith),
+            back,
+          ) (refl, refl)
       | inr ten ↦
           let high : n ≤ 10 = leb-true n 10 both.1 in
           let same : n ≡ 10 = omega arith in
@@ -326,10 +337,10 @@ board_of_spelling board rest h =
     ∙ ap (λ bytes. after_text (codes "board ") bytes >>= cols_on) (parted (decimal board.cols) (decimal board.rows) (10 ∷ (codes "moves " ++ rest)))
     ∙ ap (λ r. r >>= cols_on) (after_text_of (codes "board ") (decimal board.cols ++ (codes " " ++ (decimal board.rows ++ (10 ∷ (codes "moves " ++ rest))))))
     ∙ ap (λ r. r >>= λ cols. gap_on cols.0 cols.1)
-        (size_of cols_of (decimal board.cols) (codes " " ++ (decimal board.rows ++ (10 ∷ (codes "moves " ++ rest)))) board.cols cols.0 cols.1 refl)
+    (size_of cols_of (decimal board.cols) (codes " " ++ (decimal board.rows ++ (10 ∷ (codes "moves " ++ rest)))) board.cols cols.0 cols.1 refl)
     ∙ ap (λ r. r >>= λ gap. rows_on board.cols gap) (after_text_of (codes " ") (decimal board.rows ++ (10 ∷ (codes "moves " ++ rest))))
     ∙ ap (λ r. r >>= λ rows. rest_of_line board.cols rows.0 rows.1)
-        (size_of rows_of (decimal board.rows) (10 ∷ (codes "moves " ++ rest)) board.rows rows.0 rows.1 refl)
+    (size_of rows_of (decimal board.rows) (10 ∷ (codes "moves " ++ rest)) board.rows rows.0 rows.1 refl)
     ∙ ap (λ r. r >>= λ rest. Ok (record board { len = Four }, rest)) (after_text_of (10 ∷ codes "moves ") rest)
     ∙ ap (λ len. Ok (record board { len = len }, rest)) (sym spelled.1)
   where

@@ -1,14 +1,14 @@
 -- What the search costs at an end and after a move, and that its order of moves changes no answer.
-use Rattle.std.proofs.Common.{◌≡◌, ◌⊎◌, ℕ, zero, suc, ◌+◌, ◌<◌, ◌≤◌, Bool, true, false, not, ◌==◌, ◌||◌, cond, List, [], ◌∷◌, length, filter, Some, None,
-    is_some, refl, sym, ap, ◌∙◌, inl, inr, arith}
+use Rattle.std.proofs.Common.{◌≡◌, ◌⊎◌, ℕ, zero, suc, ◌+◌, ◌<◌, ◌≤◌, Bool, true, false, not, ◌==◌, ◌||◌, cond, List, [], ◌∷◌, length, filter, Some, None}
+use Rattle.std.proofs.Common.{is_some, refl, sym, ap, ◌∙◌, inl, inr, arith}
 use Rattle.std.specs.List.{list_any}
 use Rattle.std.proofs.lemmas.Bool.{cases_Bool, eq-eqb}
 use Rattle.game_rules.specs.Board.{below}
 use Rattle.game_rules.specs.Position.{Position, same_side, has_room, end_of, empty_count, after_move, side_to_move, moved}
 use Rattle.game_rules.specs.Value.{wins}
 use Rattle.game_rules.specs.Cost.{distance, centre_out, moved_out, decides, count_until, count_within, count, cost}
-use Rattle.game_rules.proofs.Lists.{Among, any_from, any_agree, any_same, any_map, all_any, Among-filter, Among-filter_gives, Among-flat_map,
-    Among-flat_map_gives, Among-below, Among-below_gives}
+use Rattle.game_rules.proofs.Lists.{Among, any_from, any_agree, any_same, any_map, all_any, Among-filter, Among-filter_gives, Among-flat_map}
+use Rattle.game_rules.proofs.Lists.{Among-flat_map_gives, Among-below, Among-below_gives}
 use Rattle.game_rules.proofs.Moves.{same_side_is, other_side}
 use Rattle.game_rules.proofs.Values.{emptied, goes_on_empty, wins_own, wins_other}
 use Rattle.game_rules.specs.declared.Side.{Side}
@@ -41,10 +41,10 @@ any_out test p =
     ∙ any_agree (λ c. test (after_move p c)) (λ c. test (after_move p c)) (filter (has_room p) (centre_out cols)) (filter (has_room p) (below cols))
     (λ c among passes. let kept = Among-filter_gives (has_room p) (centre_out cols) c among in
     any_from (λ c. test (after_move p c)) (filter (has_room p) (below cols)) c
-        (Among-filter (has_room p) (below cols) c (Among-below cols c (Among-centre_out_gives cols c kept.0)) kept.1) passes)
+    (Among-filter (has_room p) (below cols) c (Among-below cols c (Among-centre_out_gives cols c kept.0)) kept.1) passes)
     (λ c among passes. let kept = Among-filter_gives (has_room p) (below cols) c among in
     any_from (λ c. test (after_move p c)) (filter (has_room p) (centre_out cols)) c
-        (Among-filter (has_room p) (centre_out cols) c (Among-centre_out cols c (Among-below_gives cols c kept.0)) kept.1) passes)
+    (Among-filter (has_room p) (centre_out cols) c (Among-centre_out cols c (Among-below_gives cols c kept.0)) kept.1) passes)
     ∙ sym (any_map test (after_move p) (filter (has_room p) (below cols)))
 
 -- Whether the side wins: with it to move where a move decides, with the other side to move where none does.
@@ -69,7 +69,7 @@ wins_step side p h = elim (cases_Bool (same_side side (side_to_move p))) [
 moved_out_empty : (p q : Position) → Among q (moved_out p) → empty_count q + 1 ≡ empty_count p
 moved_out_empty p q among =
     emptied p q (filter (has_room p) (centre_out (length p.columns))) (λ column h. (Among-filter_gives (has_room p) (centre_out (length p.columns)) column h).1)
-        among
+    among
 
 until_same : (test : Position → Bool) (f g : Position → ℕ) (qs : List Position) → ((q : Position) → Among q qs → f q ≡ g q)
     → count_until test f qs ≡ count_until test g qs

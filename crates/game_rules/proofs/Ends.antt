@@ -1,18 +1,19 @@
 -- How a game ends: lines as tests and as squares, full boards, and what legal moves keep.
-use Rattle.std.proofs.Common.{◌≡◌, ◌≢◌, ◌⊎◌, ◌↔◌, ℕ, zero, suc, ◌+◌, ◌-◌, ◌%◌, ◌<◌, ◌≤◌, Bool, true, false, ◌&&◌, ◌==◌, List, [], ◌∷◌, length, replicate,
-    Option, Some, None, is_none, refl, sym, ap, ◌∙◌, subst, inl, inr, arith, add-one, lit<}
+use Rattle.std.proofs.Common.{◌≡◌, ◌≢◌, ◌⊎◌, ◌↔◌, ℕ, zero, suc, ◌+◌, ◌-◌, ◌%◌, ◌<◌, ◌≤◌, Bool, true, false, ◌&&◌, ◌==◌, List, [], ◌∷◌, length, replicate}
+use Rattle.std.proofs.Common.{Option, Some, None, is_none, refl, sym, ap, ◌∙◌, subst, inl, inr, arith, add-one, lit<}
 use Rattle.std.specs.List.{list_any, list_all}
-use Rattle.std.proofs.lemmas.Bool.{cases_Bool, cases_eq, cases_lt, both_ways, and_parts, and_from, ltb-true, lt-ltb, le-leb, leb-true, eqb-true, eq-eqb,
-    false_from_ne_true, not_from_false, not-true}
+use Rattle.std.proofs.lemmas.Bool.{cases_Bool, cases_eq, cases_lt, both_ways, and_parts, and_from, ltb-true, lt-ltb, le-leb, leb-true, eqb-true, eq-eqb}
+use Rattle.std.proofs.lemmas.Bool.{false_from_ne_true, not_from_false, not-true}
 use Rattle.std.proofs.lemmas.List.{get_or-replicate, length-replicate, get_or_past, ext_get_or}
 use Rattle.std.proofs.lemmas.List.Elements.{All-replicate}
 use Rattle.std.proofs.lemmas.List.Folds.{sum_by-replicate}
 use Rattle.game_rules.specs.Board.{Board, Square, below, on_board, step_of, line_at, line_length, is_line, ways}
-use Rattle.game_rules.specs.Position.{Position, board_of, empty_position, other, men_in, height, man_in, man_at, has_man, is_man, man_count, side_to_move,
-    has_room, after_move, has_line_at, has_line_in_column, has_line_along, has_line, is_full, end_of, is_legal, played, IsStacked}
+use Rattle.game_rules.specs.Position.{Position, board_of, empty_position, other, men_in, height, man_in, man_at, has_man, is_man, man_count, side_to_move}
+use Rattle.game_rules.specs.Position.{has_room, after_move, has_line_at, has_line_in_column, has_line_along, has_line, is_full, end_of, is_legal, played}
+use Rattle.game_rules.specs.Position.{IsStacked}
 use Rattle.game_rules.specs.Laws.{HasLine, IsFilled, DropsMan}
-use Rattle.game_rules.proofs.Lists.{Among, any_gives, any_from, any_same, all_gives, all_from, Among-map, Among-map_gives, Among-below, Among-below_gives,
-    chosen}
+use Rattle.game_rules.proofs.Lists.{Among, any_gives, any_from, any_same, all_gives, all_from, Among-map, Among-map_gives, Among-below, Among-below_gives}
+use Rattle.game_rules.proofs.Lists.{chosen}
 use Rattle.game_rules.proofs.Moves.{man_within, placed, unchanged, was_empty, board_moved, room_column, room_height, room_from, stacked_moved, man_count_moved}
 use Rattle.game_rules.specs.declared.Length.{Length}
 use Rattle.game_rules.specs.declared.Length.TheVariants.{Four, Five}
@@ -96,7 +97,7 @@ has_line_from p side line = at line.way line.anchor line.on_the_board line.owned
     at way (c, suc i) inside owned =
         let first = on_board_parts (board_of p) c (suc i) (subst (λ s. on_board (board_of p) s ≡ true) (step_none way (c, suc i)) (inside 0 first_step)) in
         let line : has_line_at p side way (c, suc i) ≡ true = and_from _ _ (from_steps (on_board (board_of p)) p.len way (c, suc i) inside)
-            (from_steps (has_man p side) p.len way (c, suc i) owned) in
+        (from_steps (has_man p side) p.len way (c, suc i) owned) in
         any_from (has_line_along p side) ways way (Among-ways way)
         (any_from (has_line_in_column p side way) (below (length p.columns)) c (Among-below (length p.columns) c first.0)
         (any_from (λ i. has_line_at p side way (c, i + 1)) (below p.rows) i (Among-below p.rows i (omega arith)) (rw add-one line)))
@@ -121,7 +122,7 @@ full_from_filled p filled = not_from_false _ (false_from_ne_true _ (λ some.
     let found = any_gives (has_room p) (below (length p.columns)) some in
     let low : height p found.0 < p.rows = room_height p found.0 found.2 in
     filled (found.0, height p found.0 + 1)
-        (on_board_from (board_of p) found.0 (height p found.0 + 1) (room_column p found.0 found.2) (omega arith) (omega arith)) (was_empty p found.0)))
+    (on_board_from (board_of p) found.0 (height p found.0 + 1) (room_column p found.0 found.2) (omega arith) (omega arith)) (was_empty p found.0)))
 
 -- ---- the end
 
@@ -194,7 +195,7 @@ pub none_for_other : (p : Position) (column : ℕ) → is_legal p column ≡ tru
 none_for_other p column h =
     let parts = legal_parts p column h in let going = ended_parts p parts.0 in
     has_line_same (after_move p column) p (other (side_to_move p)) (board_moved p column) (other_kept p column parts.1)
-        ∙ of_side (side_to_move p) going.0 going.1
+    ∙ of_side (side_to_move p) going.0 going.1
   where
     of_side : (side : Side) → has_line p White ≡ false → has_line p Black ≡ false → has_line p (other side) ≡ false
     of_side White white black = black
@@ -297,8 +298,12 @@ draw_end p = (to, from)
       | inr rest ↦ elim (chosen (has_line p Black) (Some ends.Black) _ (Some ends.Draw) rest.1) [
         | inl lost ↦ absurd (cc lost.1)
         | inr more ↦ elim (chosen (is_full p) (Some ends.Draw) None (Some ends.Draw) more.1) [
-          | inl full ↦ (filled_from_full p full.0, λ line. both_ways _ rest.0 (has_line_from p White line), λ line.
-              both_ways _ more.0 (has_line_from p Black line))
+          | inl full ↦ (
+            filled_from_full p full.0,
+            λ line. both_ways _ rest.0 (has_line_from p White line),
+            λ line.
+                both_ways _ more.0 (has_line_from p Black line),
+          )
           | inr going ↦ absurd (cc going.1)
         ]
       ]
@@ -385,4 +390,4 @@ same_by_squares p q board same =
     let columns : p.columns ≡ q.columns = ext_get_or [] p.columns q.columns (ap (λ (b : Board). b.cols) board)
     (λ c _. same_men (men_in p c) (men_in q c) (λ r. same_man (man_at p (c, r)) (man_at q (c, r)) (λ side. same side (c, r)))) in
     ap (λ n. record p { rows = n }) rows ∙ ap (λ (b : Board). record q { len = b.len; columns = p.columns }) board
-        ∙ ap (λ men. record q { columns = men }) columns
+    ∙ ap (λ men. record q { columns = men }) columns

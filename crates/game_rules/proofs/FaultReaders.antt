@@ -1,6 +1,6 @@
 -- Where each reader of a game text stops: what stands before the place, and what stands from it on.
-use Rattle.std.proofs.Common.{◌≡◌, ◌≢◌, ◌⊎◌, ℕ, suc, ◌+◌, ◌-◌, ◌<◌, ◌≤◌, Bool, true, false, ◌&&◌, ◌==◌, cond, nat_le, nat_lt, List, [], ◌∷◌, ◌++◌, map, length,
-    take, drop, take_while, Option, Some, None, is_some, Result, Ok, Err, refl, sym, ap, ◌∙◌, inl, inr, arith}
+use Rattle.std.proofs.Common.{◌≡◌, ◌≢◌, ◌⊎◌, ℕ, suc, ◌+◌, ◌-◌, ◌<◌, ◌≤◌, Bool, true, false, ◌&&◌, ◌==◌, cond, nat_le, nat_lt, List, [], ◌∷◌, ◌++◌, map, length}
+use Rattle.std.proofs.Common.{take, drop, take_while, Option, Some, None, is_some, Result, Ok, Err, refl, sym, ap, ◌∙◌, inl, inr, arith}
 use Rattle.std.specs.List.{prefix_len}
 use Rattle.std.proofs.lemmas.Bool.{cases_Bool, and_parts, and_from, leb-true, le-leb, lt-ltb, ltb-true, eqb-true, eq-eqb, ne_eqb, false_from_ne_true, both_ways}
 use Rattle.std.proofs.lemmas.List.Folds.{length-prefix_len}
@@ -146,7 +146,7 @@ letter_stop p byte left s h = elim (cases_Bool (nat_le 97 byte && nat_lt byte (9
 
     moving : (column : ℕ) → byte ≡ letter_of column → column < length p.columns → (ending : Option End) → end_of p ≡ ending
         → cond (is_some ending) (stop GameOver left) (cond (has_room p column) (Ok (after_move p column)) (stop ColumnFull left)) ≡ Err s
-            → LetterStop p byte left s
+        → LetterStop p byte left s
     moving column is low (Some ending) e h = over column ending is low e (cc)
     moving column is low None e h = elim (cases_Bool (has_room p column)) [
       | inl room ↦ absurd (roomy (has_room p column) room h)

@@ -1,29 +1,29 @@
 -- A text of a game has the fault of a kind at a place exactly where the table of the kinds says so.
-use Rattle.std.proofs.Common.{◌≡◌, ◌≢◌, ℕ, ◌+◌, ◌-◌, ◌<◌, Bool, true, false, ◌==◌, cond, List, [], ◌∷◌, ◌++◌, map, length, Option, Some, None, Result, Ok, Err,
-    codes, refl, sym, ap, ◌∙◌, subst, append_assoc, append-nil, inl, inr, arith}
+use Rattle.std.proofs.Common.{◌≡◌, ◌≢◌, ℕ, ◌+◌, ◌-◌, ◌<◌, Bool, true, false, ◌==◌, cond, List, [], ◌∷◌, ◌++◌, map, length, Option, Some, None, Result, Ok, Err}
+use Rattle.std.proofs.Common.{codes, refl, sym, ap, ◌∙◌, subst, append_assoc, append-nil, inl, inr, arith}
 use Rattle.std.specs.List.{prefix_len}
 use Rattle.std.specs.Fmt.{decimal}
 use Rattle.std.proofs.lemmas.Bool.{and_parts, and_from, eqb-true, eq-eqb, ne_eqb, both_ways}
 use Rattle.std.proofs.lemmas.List.{length-append, length-replicate, map-append}
 use Rattle.game_rules.specs.Board.{Board, is_cols, is_rows}
 use Rattle.game_rules.specs.Position.{Position, empty_position, played}
-use Rattle.game_rules.specs.Text.{stop, ◌>>=◌, after_text, is_digit, cols_of, rows_of, size_at, letter_read, at_end, letters_from, after_dash, moves_at,
-    board_at, read_game, placed, game_at}
+use Rattle.game_rules.specs.Text.{stop, ◌>>=◌, after_text, is_digit, cols_of, rows_of, size_at, letter_read, at_end, letters_from, after_dash, moves_at}
+use Rattle.game_rules.specs.Text.{board_at, read_game, placed, game_at}
 use Rattle.game_rules.specs.Grammar.{letter_of, board_line, game_text, is_spelled}
-use Rattle.game_rules.specs.Faults.{fault_at, IsAt, IsOther, run_of, IsBadHeader, IsBadSize, up_to, IsUpTo, IsMove, IsNoLetter, IsNoItem, IsBadColumn,
-    IsGameOver, IsColumnFull, IsTrailing}
+use Rattle.game_rules.specs.Faults.{fault_at, IsAt, IsOther, run_of, IsBadHeader, IsBadSize, up_to, IsUpTo, IsMove, IsNoLetter, IsNoItem, IsBadColumn}
+use Rattle.game_rules.specs.Faults.{IsGameOver, IsColumnFull, IsTrailing}
 use Rattle.game_rules.specs.declared.Stop.{Stop}
 use Rattle.game_rules.specs.declared.InputFault.{InputFault}
 use Rattle.game_rules.specs.declared.InputKind.{InputKind}
 use Rattle.game_rules.specs.declared.InputKind.TheVariants.{BadHeader, BadSize, BadColumn, ColumnFull, GameOver, Trailing}
 use Rattle.game_rules.proofs.Lists.{chosen}
 use Rattle.game_rules.proofs.Readers.{after_text_gives, after_text_of, size_gives, letter_moves}
-use Rattle.game_rules.proofs.BoardLine.{long_cols, long_rows, cols_give, rows_give, cols_spelled, rows_spelled, size_of, rest_of_line, rows_on, gap_on, cols_on,
-    board_at_steps, board_gives, board_of_spelling, spelled_parts}
+use Rattle.game_rules.proofs.BoardLine.{long_cols, long_rows, cols_give, rows_give, cols_spelled, rows_spelled, size_of, rest_of_line, rows_on, gap_on, cols_on}
+use Rattle.game_rules.proofs.BoardLine.{board_at_steps, board_gives, board_of_spelling, spelled_parts}
 use Rattle.game_rules.specs.declared.Length.TheVariants.{Four}
 use Rattle.game_rules.proofs.Grammar.{board_along}
-use Rattle.game_rules.proofs.FaultReaders.{bind_err, text_stop, text_stops, run_none, size_ends, size_stop, size_stops, Letterless, LetterStop, no_letter, over,
-    full, letter_stop, letterless_stops, over_stops, full_stops, moves_read, played_push}
+use Rattle.game_rules.proofs.FaultReaders.{bind_err, text_stop, text_stops, run_none, size_ends, size_stop, size_stops, Letterless, LetterStop, no_letter, over}
+use Rattle.game_rules.proofs.FaultReaders.{full, letter_stop, letterless_stops, over_stops, full_stops, moves_read, played_push}
 
 -- what the table says of a kind
 abbrev pub FaultOf : InputKind → List ℕ → List ℕ → Type 0
@@ -85,25 +85,25 @@ rest_stop : (cols rows : ℕ) (rest bytes : List ℕ) (s : Stop) → is_cols col
     → rest_of_line cols rows rest ≡ Err s → Stopped bytes s
 rest_stop cols rows rest bytes s has_cols has_rows ends whole h =
     elim (bind_err (after_text (10 ∷ codes "moves ") rest) (λ rest. Ok (record { cols = cols; rows = rows; len = Four }, rest)) s h) [
-  | inr read ↦ absurd (cc (read.2))
-  | inl failed ↦
-      let t = text_stop (10 ∷ codes "moves ") rest s failed in
-      let board : Board = record { cols = cols; rows = rows; len = Four } in
-      stopped BadHeader bytes (board_line board ++ t.before) t.behind s t.is_stop
-      (whole ∙ line_whole (decimal cols) (decimal rows) rest ∙ ap (λ rest. board_line board ++ rest) t.whole
+      | inr read ↦ absurd (cc (read.2))
+      | inl failed ↦
+          let t = text_stop (10 ∷ codes "moves ") rest s failed in
+          let board : Board = record { cols = cols; rows = rows; len = Four } in
+          stopped BadHeader bytes (board_line board ++ t.before) t.behind s t.is_stop
+          (whole ∙ line_whole (decimal cols) (decimal rows) rest ∙ ap (λ rest. board_line board ++ rest) t.whole
           ∙ sym (append_assoc (board_line board) t.before t.behind))
-      (inr (inr (record {
-        board = board;
-        part = t.before;
-        byte = t.byte;
-        later = t.later;
-        has_board = and_from _ _ (and_from _ _ has_cols has_rows) refl;
-        is_before = refl;
-        fixed = t.fixed;
-        run_ends = λ none. ap run_of (sym (t.whole ∙ ap (λ part. part ++ t.behind) none)) ∙ ends;
-        other = t.other;
-      })))
-]
+          (inr (inr (record {
+            board = board;
+            part = t.before;
+            byte = t.byte;
+            later = t.later;
+            has_board = and_from _ _ (and_from _ _ has_cols has_rows) refl;
+            is_before = refl;
+            fixed = t.fixed;
+            run_ends = λ none. ap run_of (sym (t.whole ∙ ap (λ part. part ++ t.behind) none)) ∙ ends;
+            other = t.other;
+          })))
+    ]
 
 rows_stop : (cols : ℕ) (rest bytes : List ℕ) (s : Stop) → is_cols cols ≡ true → bytes ≡ codes "board " ++ (decimal cols ++ (codes " " ++ rest))
     → rows_on cols rest ≡ Err s → Stopped bytes s
@@ -111,8 +111,12 @@ rows_stop cols rest bytes s has_cols whole h = elim (bind_err (size_at rows_of r
   | inl failed ↦
       let size = size_stop rows_of rest s failed in
       stopped BadSize bytes (codes "board " ++ (decimal cols ++ codes " ")) rest s size.1 (whole ∙ gap_whole (decimal cols) rest)
-      (inr (record { cols = cols; has_cols = has_cols; is_before = refl; none = no_size rows_of is_rows (λ n rows. (rows_spelled n rows).0) (run_of rest) size.0
-          }))
+      (inr (record {
+        cols = cols;
+        has_cols = has_cols;
+        is_before = refl;
+        none = no_size rows_of is_rows (λ n rows. (rows_spelled n rows).0) (run_of rest) size.0;
+      }))
   | inr read ↦
       let x = read.0 in
       let size = size_gives rows_of long_rows rest x read.1 in
@@ -130,8 +134,14 @@ gap_stop cols rest bytes s has_cols ends whole h = elim (bind_err (after_text (c
       let is_rest : rest ≡ t.behind = t.whole ∙ ap (λ before. before ++ t.behind) one.0 in
       stopped BadHeader bytes (codes "board " ++ decimal cols) t.behind s t.is_stop
       (whole ∙ ap (λ rest. codes "board " ++ (decimal cols ++ rest)) is_rest ∙ sym (append_assoc (codes "board ") (decimal cols) t.behind))
-      (inr (inl (record { cols = cols; has_cols = has_cols; is_before = refl; run_ends = ap run_of (sym is_rest)
-          ∙ ends; other = subst (λ x. IsOther x t.behind) one.1 t.other })))
+      (inr (inl (record {
+        cols = cols;
+        has_cols = has_cols;
+        is_before = refl;
+        run_ends = ap run_of (sym is_rest)
+            ∙ ends;
+        other = subst (λ x. IsOther x t.behind) one.1 t.other;
+      })))
   | inr read ↦ rows_stop cols read.0 bytes s has_cols
       (whole ∙ ap (λ rest. codes "board " ++ (decimal cols ++ rest)) (after_text_gives (codes " ") rest read.0 read.1)) read.2
 ]
@@ -149,13 +159,13 @@ board_stop bytes s h = elim (bind_err (after_text (codes "board ") bytes) cols_o
       | inl failed ↦
           let size = size_stop cols_of head s failed in
           stopped BadSize bytes (codes "board ") head s size.1 whole
-              (inl (record { is_before = refl; none = no_size cols_of is_cols (λ n cols. (cols_spelled n cols).0) (run_of head) size.0 }))
+          (inl (record { is_before = refl; none = no_size cols_of is_cols (λ n cols. (cols_spelled n cols).0) (run_of head) size.0 }))
       | inr read ↦
           let x = read.0 in
           let size = size_gives cols_of long_cols head x read.1 in
           let number = cols_give (run_of head) x.0 size.0 in
           gap_stop x.0 x.1 bytes s number.0 (size_ends cols_of head x read.1)
-              (whole ∙ ap (λ head. codes "board " ++ head) (size.1 ∙ ap (λ run. run ++ x.1) number.1)) read.2
+          (whole ∙ ap (λ head. codes "board " ++ head) (size.1 ∙ ap (λ run. run ++ x.1) number.1)) read.2
     ]
 
 -- ---- the list of moves
@@ -193,7 +203,7 @@ cols_along board columns p h = ap (λ (b : Board). b.cols) (board_along columns 
 letter_fault : (board : Board) (columns : List ℕ) (p : Position) (byte : ℕ) (more : List ℕ) (s : Stop) → is_spelled board ≡ true
     → played (empty_position board) columns ≡ Some p
     → (IsNoLetter board byte → IsNoItem board columns (byte ∷ more)) → LetterStop p byte (length (byte ∷ more)) s
-        → Stopped (up_to board columns ++ byte ∷ more) s
+    → Stopped (up_to board columns ++ byte ∷ more) s
 letter_fault board columns p byte more s has_board has_moves item why = at why
   where
     is_up_to : IsUpTo (up_to board columns) board columns p
@@ -206,8 +216,15 @@ letter_fault board columns p byte more s has_board has_moves item why = at why
     back column low = let same : length p.columns ≡ board.cols = cols_along board columns p has_moves in omega arith
 
     letter : (column : ℕ) → byte ≡ letter_of column → column < length p.columns → IsMove (up_to board columns) (byte ∷ more) p column
-    letter column is low = record { board = board; columns = columns; more = more; up_to = is_up_to; is_behind = ap (λ byte. byte ∷ more) is; on_board =
-        on column low }
+    letter column is low = record {
+      board = board;
+      columns = columns;
+      more = more;
+      up_to = is_up_to;
+      is_behind = ap (λ byte. byte ∷ more) is;
+      on_board =
+          on column low;
+    }
 
     at : LetterStop p byte (length (byte ∷ more)) s → Stopped (up_to board columns ++ byte ∷ more) s
     at (no_letter none e) = stopped BadColumn _ (up_to board columns) (byte ∷ more) s e refl
@@ -229,10 +246,10 @@ letters_stop board first columns p (byte ∷ bytes) s has_board has_moves h = el
     | inr read ↦
         let letter = letter_moves p read.0 byte (length (byte ∷ bytes)) read.1 in
         let moves : played (empty_position board) (first ∷ (columns ++ letter.0 ∷ [])) ≡ Some read.0 = played_push (first ∷ columns) (empty_position board) p
-            letter.0 has_moves letter.2 ∙ ap Some (sym letter.3) in
+        letter.0 has_moves letter.2 ∙ ap Some (sym letter.3) in
         let rest = letters_stop board first (columns ++ letter.0 ∷ []) read.0 bytes s has_board moves read.2 in
         subst (λ text. Stopped text s) (up_to_push board (first ∷ columns) letter.0 bytes
-            ∙ ap (λ byte. up_to board (first ∷ columns) ++ byte ∷ bytes) (sym letter.1)) rest
+        ∙ ap (λ byte. up_to board (first ∷ columns) ++ byte ∷ bytes) (sym letter.1)) rest
   ]
 ]
   where
@@ -240,8 +257,18 @@ letters_stop board first columns p (byte ∷ bytes) s has_board has_moves h = el
     behind_feed [] h = cc
     behind_feed (next ∷ more) h = stopped Trailing _ (game_text board (first ∷ columns) true) (next ∷ more) s (cc)
         (text_whole board first columns (next ∷ more))
-        (inl (record { board = board; columns = first ∷ columns; p = p; byte = next; more = more; has_board = has_board; has_moves = has_moves; is_before =
-            refl; is_behind = refl }))
+        (inl (record {
+          board = board;
+          columns = first ∷ columns;
+          p = p;
+          byte = next;
+          more = more;
+          has_board = has_board;
+          has_moves = has_moves;
+          is_before =
+              refl;
+          is_behind = refl;
+        }))
 
 -- the list itself
 list_stop : (board : Board) (rest : List ℕ) (s : Stop) → is_spelled board ≡ true → moves_at (empty_position board) rest ≡ Err s
@@ -258,18 +285,28 @@ list_stop board (byte ∷ bytes) s has_board h = elim (chosen (byte == 45) (afte
     | inr read ↦
         let letter = letter_moves (empty_position board) read.0 byte (length (byte ∷ bytes)) read.1 in
         let moves : played (empty_position board) (letter.0 ∷ []) ≡ Some read.0 = played_push [] (empty_position board) (empty_position board) letter.0 refl
-            letter.2 ∙ ap Some (sym letter.3) in
+        letter.2 ∙ ap Some (sym letter.3) in
         let rest = letters_stop board letter.0 [] read.0 bytes s has_board moves read.2 in
         subst (λ text. Stopped text s) (up_to_more board (letter.0 ∷ []) bytes ∙ ap (λ byte. board_line board ++ (10 ∷ (codes "moves " ++ byte ∷ bytes)))
-            (sym letter.1)) rest
+        (sym letter.1)) rest
   ]
 ]
   where
     fed_dash : (bytes : List ℕ) → at_end (empty_position board) bytes ≡ Err s → Stopped (board_line board ++ (10 ∷ (codes "moves " ++ 45 ∷ 10 ∷ bytes))) s
     fed_dash [] h = cc
     fed_dash (next ∷ more) h = stopped Trailing _ (game_text board [] true) (next ∷ more) s (cc) (dash_whole board true (next ∷ more))
-        (inl (record { board = board; columns = []; p = empty_position board; byte = next; more = more; has_board = has_board; has_moves = refl; is_before =
-            refl; is_behind = refl }))
+        (inl (record {
+          board = board;
+          columns = [];
+          p = empty_position board;
+          byte = next;
+          more = more;
+          has_board = has_board;
+          has_moves = refl;
+          is_before =
+              refl;
+          is_behind = refl;
+        }))
 
     behind_dash : (bytes : List ℕ) → after_dash (empty_position board) bytes ≡ Err s → Stopped (board_line board ++ (10 ∷ (codes "moves " ++ 45 ∷ bytes))) s
     behind_dash [] h = cc
@@ -277,8 +314,16 @@ list_stop board (byte ∷ bytes) s has_board h = elim (chosen (byte == 45) (afte
       | inl feed ↦ subst (λ next. Stopped (board_line board ++ (10 ∷ (codes "moves " ++ 45 ∷ next ∷ more))) s) (sym (eqb-true next 10 feed.0))
           (fed_dash more feed.1)
       | inr other ↦ stopped Trailing _ (game_text board [] false) (next ∷ more) s (is_stop other.1) (dash_whole board false (next ∷ more))
-          (inr (record { board = board; byte = next; more = more; has_board = has_board; is_before = refl; is_behind = refl; no_feed = λ same.
-              both_ways (next == 10) other.0 (eq-eqb next 10 same) }))
+          (inr (record {
+            board = board;
+            byte = next;
+            more = more;
+            has_board = has_board;
+            is_before = refl;
+            is_behind = refl;
+            no_feed = λ same.
+                both_ways (next == 10) other.0 (eq-eqb next 10 same);
+          }))
     ]
       where
         is_stop : stop {X = Position} Trailing (length (next ∷ more)) ≡ Err s → s ≡ record { kind = Trailing; left = length (next ∷ more) }
@@ -363,7 +408,7 @@ header_stops before behind (inr (inr h)) = game_next _ _
     ∙ ap board_at (append_assoc (board_line h.board) h.part behind)
     ∙ rest_next h.board (h.part ++ behind) h.has_board (ends h.part h.fixed h.run_ends)
     ∙ ap (λ r. r >>= λ rest. Ok (record { cols = h.board.cols; rows = h.board.rows; len = Four }, rest))
-        (ap (λ text. after_text text (h.part ++ behind)) h.fixed ∙ text_stops h.part h.byte h.later behind h.other))
+    (ap (λ text. after_text text (h.part ++ behind)) h.fixed ∙ text_stops h.part h.byte h.later behind h.other))
   where
     ends : (part : List ℕ) → 10 ∷ codes "moves " ≡ part ++ h.byte ∷ h.later → (part ≡ [] → run_of behind ≡ []) → prefix_len is_digit (part ++ behind) ≡ 0
     ends [] fixed none = run_none behind (none refl)
@@ -421,19 +466,19 @@ column_stops before behind h = at_list before behind h.board h.columns h.p h.up_
     at (column ∷ columns) [] moves none = absurd none
     at (column ∷ columns) (byte ∷ more) moves none =
         letter_ends (column ∷ columns) (empty_position h.board) h.p byte more _ moves none.0
-            (letterless_stops h.p byte (length (byte ∷ more)) (letterless (column ∷ columns) byte moves none.1))
+        (letterless_stops h.p byte (length (byte ∷ more)) (letterless (column ∷ columns) byte moves none.1))
 
 -- a letter of the board stands at the place
 move_stops : (before behind : List ℕ) (p : Position) (column : ℕ) (kind : InputKind) → IsMove before behind p column
     → ((left : ℕ) → column < length p.columns → letter_read p (letter_of column) left ≡ stop kind left)
-        → read_game (before ++ behind) ≡ stop kind (length behind)
+    → read_game (before ++ behind) ≡ stop kind (length behind)
 move_stops before behind p column kind h stops =
     let same : length p.columns ≡ h.board.cols = cols_along h.board h.columns p h.up_to.has_moves in
     let low : column < h.board.cols = h.on_board in
     at_list before behind h.board h.columns p h.up_to
     ∙ ap (λ behind. moves_at (empty_position h.board) (map letter_of h.columns ++ behind)) h.is_behind
     ∙ letter_ends h.columns (empty_position h.board) p (letter_of column) h.more _ h.up_to.has_moves (letter_no_end h.columns column)
-        (stops (length (letter_of column ∷ h.more)) (omega arith))
+    (stops (length (letter_of column ∷ h.more)) (omega arith))
     ∙ ap (λ behind. stop kind (length behind)) (sym h.is_behind)
 
 over_stopped : (before behind : List ℕ) → IsGameOver before behind → read_game (before ++ behind) ≡ stop GameOver (length behind)
@@ -453,7 +498,7 @@ trailing_stops before behind (inl h) =
         ∙ list_next h.board [] (45 ∷ 10 ∷ h.byte ∷ h.more) h.has_board
     at (first ∷ columns) moves = ap read_game (sym (text_whole h.board first columns (h.byte ∷ h.more)))
         ∙ list_next h.board (first ∷ columns) (10 ∷ h.byte ∷ h.more) h.has_board ∙ moves_read first columns (empty_position h.board) h.p (10 ∷ h.byte ∷ h.more)
-            moves
+        moves
 trailing_stops before behind (inr h) =
     ap (λ before. read_game (before ++ behind)) h.is_before ∙ ap (λ behind. read_game (game_text h.board [] false ++ behind)) h.is_behind
     ∙ ap read_game (sym (dash_whole h.board false (h.byte ∷ h.more)) ∙ sym (up_to_more h.board [] (45 ∷ h.byte ∷ h.more)))

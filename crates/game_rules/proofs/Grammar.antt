@@ -1,6 +1,6 @@
 -- What is read as a game is spelled as one, and what is spelled so is read.
-use Rattle.std.proofs.Common.{◌≡◌, ℕ, ◌+◌, ◌≤◌, Bool, true, false, ◌==◌, List, [], ◌∷◌, ◌++◌, map, length, Some, None, Result, Ok, Err, codes, refl, sym, ap,
-    ◌∙◌, subst, append_assoc, inl, inr, arith}
+use Rattle.std.proofs.Common.{◌≡◌, ℕ, ◌+◌, ◌≤◌, Bool, true, false, ◌==◌, List, [], ◌∷◌, ◌++◌, map, length, Some, None, Result, Ok, Err, codes, refl, sym, ap}
+use Rattle.std.proofs.Common.{◌∙◌, subst, append_assoc, inl, inr, arith}
 use Rattle.std.proofs.lemmas.Bool.{eqb-true, ne_eqb}
 use Rattle.std.proofs.lemmas.List.{length-replicate}
 use Rattle.game_rules.specs.Board.{Board, is_board}
@@ -28,13 +28,18 @@ AreLetters bytes p q = (columns : List ℕ) × (ended : Bool) × (played p colum
 one_letter : (byte : ℕ) (bytes : List ℕ) (p q : Position) → (letter_read p byte (length (byte ∷ bytes)) >>= λ next. letters_from next bytes) ≡ Ok q
     → ((next : Position) → letters_from next bytes ≡ Ok q → AreLetters bytes next q)
     → (column : ℕ) × (columns : List ℕ) × (ended : Bool) × (played p (column ∷ columns) ≡ Some q)
-        × (byte ∷ bytes ≡ map letter_of (column ∷ columns) ++ last_feed ended)
+    × (byte ∷ bytes ≡ map letter_of (column ∷ columns) ++ last_feed ended)
 one_letter byte bytes p q h later =
     let read = bind_ok (letter_read p byte (length (byte ∷ bytes))) (λ next. letters_from next bytes) q h in
     let letter = letter_moves p read.0 byte (length (byte ∷ bytes)) read.1 in
-    let rest = later read.0 read.2 in
-    (letter.0, rest.0, rest.1, one_more letter.0 rest.0 letter.2 (subst (λ next. played next rest.0 ≡ Some q) letter.3 rest.2), ap (λ b. b ∷ bytes) letter.1
-        ∙ ap (λ more. letter_of letter.0 ∷ more) rest.3)
+    let rest = later read.0 read.2 in (
+      letter.0,
+      rest.0,
+      rest.1,
+      one_more letter.0 rest.0 letter.2 (subst (λ next. played next rest.0 ≡ Some q) letter.3 rest.2),
+      ap (λ b. b ∷ bytes) letter.1
+          ∙ ap (λ more. letter_of letter.0 ∷ more) rest.3,
+    )
   where
     one_more : (column : ℕ) (columns : List ℕ) → is_legal p column ≡ true → played (after_move p column) columns ≡ Some q → played p (column ∷ columns) ≡ Some q
     one_more column columns legal h = rw legal h
@@ -119,7 +124,7 @@ grammar_read bytes p text =
     text.spelled ∙ ap (λ rest. board_line text.board ++ (10 ∷ rest)) (append_assoc (codes "moves ") (move_list text.columns) (last_feed text.ended)) in
     ap (placed (length bytes))
     (ap (λ r. r >>= λ line. moves_at (empty_position line.0) line.1)
-        (ap board_at split ∙ board_of_spelling text.board (move_list text.columns ++ last_feed text.ended) text.has_board)
+    (ap board_at split ∙ board_of_spelling text.board (move_list text.columns ++ last_feed text.ended) text.has_board)
     ∙ moves_of_list text.columns text.ended (empty_position text.board) p text.has_moves)
 
 -- ---- the position
@@ -136,8 +141,8 @@ pub game_board : (bytes : List ℕ) (p : Position) → game_at bytes ≡ Ok p �
 game_board bytes p h =
     let text = read_in_grammar bytes p h in
     ap is_board (board_along text.columns (empty_position text.board) p text.has_moves
-        ∙ ap (λ n. record { cols = n; rows = text.board.rows; len = text.board.len }) (length-replicate text.board.cols []))
-        ∙ (spelled_parts text.board text.has_board).0
+    ∙ ap (λ n. record { cols = n; rows = text.board.rows; len = text.board.len }) (length-replicate text.board.cols []))
+    ∙ (spelled_parts text.board text.has_board).0
 
 pub game_stacked : (bytes : List ℕ) (p : Position) → game_at bytes ≡ Ok p → IsStacked p
 game_stacked bytes p h = let text = read_in_grammar bytes p h in stacked_along text.board text.columns p text.has_moves

@@ -1,6 +1,6 @@
 -- Groups are the lines of a board, each once and in order: membership, order, how many there are, and whole groups.
-use Rattle.std.proofs.Common.{◌≡◌, ◌≢◌, ◌⊎◌, ℕ, zero, suc, ◌+◌, ◌<◌, ◌≤◌, Bool, true, ◌&&◌, ◌||◌, ◌==◌, nat_le, List, [], ◌∷◌, ◌++◌, length, map, filter, refl,
-    sym, ap, ◌∙◌, subst, inl, inr, arith, lit<}
+use Rattle.std.proofs.Common.{◌≡◌, ◌≢◌, ◌⊎◌, ℕ, zero, suc, ◌+◌, ◌<◌, ◌≤◌, Bool, true, ◌&&◌, ◌||◌, ◌==◌, nat_le, List, [], ◌∷◌, ◌++◌, length, map, filter, refl}
+use Rattle.std.proofs.Common.{sym, ap, ◌∙◌, subst, inl, inr, arith, lit<}
 use Rattle.std.specs.Prelude.{⊤}
 use Rattle.std.specs.List.{list_any, list_all, flat_map, range_with_len, AllPairs, slice_index_or}
 use Rattle.std.proofs.lemmas.Bool.{cases_Bool, cases_eq, both_ways, and_parts, and_from, or_cases, eq-eqb, eqb-true, leb-true}
@@ -10,10 +10,10 @@ use Rattle.std.proofs.lemmas.List.Kept.{AllPairs-cons}
 use Rattle.game_rules.specs.Board.{Board, Square, below, is_cols, is_rows, is_board, on_board, line_length, same_length, line_at, step_of, is_line, ways}
 use Rattle.game_rules.specs.Position.{Position, board_of, has_man, has_line_at, has_line_in_column, has_line_along, has_line}
 use Rattle.game_rules.specs.Squares.{same_square, has_square, squares_in_column, squares_of_board, widest_with, Precedes as SquarePrecedes}
-use Rattle.game_rules.specs.Groups.{Group, squares_of, lies_on, rank, same_group, has_group, group_on, groups_along, groups_of, Precedes, groups_where,
-    GroupsOn, IsGroupSetOf}
-use Rattle.game_rules.proofs.Lists.{Among, Among-at, any_gives, any_from, any_same, any_map, all_gives, Among-append_cases, Among-filter, Among-filter_gives,
-    Among-map, Among-map_gives, Among-flat_map, Among-flat_map_gives, Among-range_gives, Among-below, Among-below_gives}
+use Rattle.game_rules.specs.Groups.{Group, squares_of, lies_on, rank, same_group, has_group, group_on, groups_along, groups_of, Precedes, groups_where}
+use Rattle.game_rules.specs.Groups.{GroupsOn, IsGroupSetOf}
+use Rattle.game_rules.proofs.Lists.{Among, Among-at, any_gives, any_from, any_same, any_map, all_gives, Among-append_cases, Among-filter, Among-filter_gives}
+use Rattle.game_rules.proofs.Lists.{Among-map, Among-map_gives, Among-flat_map, Among-flat_map_gives, Among-range_gives, Among-below, Among-below_gives}
 use Rattle.game_rules.proofs.Ends.{on_board_parts, on_board_from, some_length, each_step, from_steps, step_none, Among-ways}
 use Rattle.game_rules.proofs.Squares.{agree, same_square_refl, same_square_is, has_gives, has_from, Among-board, filter_same}
 use Rattle.game_rules.proofs.Moves.{same_length_refl, same_length_is}
@@ -51,7 +51,7 @@ Among-groups b g h =
     subst (λ g. Among g (flat_map (groups_along b) ways)) (group_as b g parts.0)
     (Among-flat_map (groups_along b) ways g.way (group_on b g.way g.anchor) (Among-ways g.way)
     (Among-map (group_on b g.way) (filter (is_line b g.way) (squares_of_board b)) g.anchor
-        (Among-filter (is_line b g.way) (squares_of_board b) g.anchor (Among-board b g.anchor (anchor_on b g.way g.anchor parts.1)) parts.1)))
+    (Among-filter (is_line b g.way) (squares_of_board b) g.anchor (Among-board b g.anchor (anchor_on b g.way g.anchor parts.1)) parts.1)))
 
 pub Among-groups_gives : (b : Board) (g : Group) → Among g (groups_of b) → lies_on b g ≡ true
 unfolding groups_of
@@ -59,7 +59,7 @@ Among-groups_gives b g among =
     let along = Among-flat_map_gives (groups_along b) ways g among in
     let anchored = Among-map_gives (group_on b along.0) (filter (is_line b along.0) (squares_of_board b)) g along.2 in
     subst (λ g. lies_on b g ≡ true) anchored.2
-        (lies_from b along.0 anchored.0 (Among-filter_gives (is_line b along.0) (squares_of_board b) anchored.0 anchored.1).1)
+    (lies_from b along.0 anchored.0 (Among-filter_gives (is_line b along.0) (squares_of_board b) anchored.0 anchored.1).1)
 
 -- a line of a board is one of each larger board with lines of the same length
 pub line_wider : (b c : Board) → b.cols ≤ c.cols → b.rows ≤ c.rows → b.len ≡ c.len → (way : Way) (anchor : Square) → is_line b way anchor ≡ true
@@ -136,7 +136,7 @@ cols_among : (n : ℕ) → is_cols n ≡ true → Among n all_cols
 cols_among =
     of_cols (λ n. Among n all_cols)
     (inl refl) (inr (inl refl)) (inr (inr (inl refl))) (inr (inr (inr (inl refl)))) (inr (inr (inr (inr (inl refl))))) (inr (inr (inr (inr (inr (inl refl))))))
-        (inr (inr (inr (inr (inr (inr (inl refl)))))))
+    (inr (inr (inr (inr (inr (inr (inl refl)))))))
 
 rows_among : (n : ℕ) → is_rows n ≡ true → Among n all_rows
 rows_among = of_rows (λ n. Among n all_rows) (inl refl) (inr (inl refl)) (inr (inr (inl refl))) (inr (inr (inr (inl refl))))
@@ -147,7 +147,7 @@ on_each_size test h b is =
     let both = and_parts (is_cols b.cols) (is_rows b.rows) is in
     all_gives test (flat_map (with_cols b.len) all_cols) b (h b.len)
     (Among-flat_map (with_cols b.len) all_cols b.cols b (cols_among b.cols both.0)
-        (Among-map (λ rows. record { cols = b.cols; rows = rows; len = b.len }) all_rows b.rows (rows_among b.rows both.1)))
+    (Among-map (λ rows. record { cols = b.cols; rows = rows; len = b.len }) all_rows b.rows (rows_among b.rows both.1)))
 
 -- no board has more than 238 groups
 pub groups_fit : (b : Board) → is_board b ≡ true → length (groups_of b) ≤ 238
@@ -275,7 +275,7 @@ has_line_by_groups p side =
     along : (way : Way) → has_line_along p side way ≡ list_any owned (groups_along (board_of p) way)
     along way =
         any_same (has_line_in_column p side way) (λ c. list_any (has_line_at p side way) (squares_in_column p.rows c)) (below (length p.columns))
-            (λ c _. in_column way c)
+        (λ c _. in_column way c)
         ∙ sym (any_flat_map (has_line_at p side way) (squares_in_column p.rows) (below (length p.columns)))
         ∙ sym (any_filter (λ s. owned (group_on (board_of p) way s)) (is_line (board_of p) way) (squares_of_board (board_of p)))
         ∙ sym (any_map owned (group_on (board_of p) way) (filter (is_line (board_of p) way) (squares_of_board (board_of p))))
@@ -414,13 +414,13 @@ group_determined b g h lies_g lies_h same =
     let on_g = lies_parts b g lies_g in
     let on_h = lies_parts b h lies_h in
     let first = step_gives h.len h.way h.anchor (step_of g.way g.anchor 0)
-        (sym (same (step_of g.way g.anchor 0)) ∙ step_has g.len g.way g.anchor 0 (first_step g.len)) in
+    (sym (same (step_of g.way g.anchor 0)) ∙ step_has g.len g.way g.anchor 0 (first_step g.len)) in
     let second = step_gives h.len h.way h.anchor (step_of g.way g.anchor 1)
-        (sym (same (step_of g.way g.anchor 1)) ∙ step_has g.len g.way g.anchor 1 (some_length g.len)) in
+    (sym (same (step_of g.way g.anchor 1)) ∙ step_has g.len g.way g.anchor 1 (some_length g.len)) in
     let back = step_gives g.len g.way g.anchor (step_of h.way h.anchor 0) (same (step_of h.way h.anchor 0) ∙ step_has h.len h.way h.anchor 0 (first_step h.len))
-        in
+    in
     let one = determined_by_steps g.way h.way g.anchor h.anchor first.0 second.0 back.0 (above_ground g.way g.anchor on_g.1)
-        (above_ground h.way h.anchor on_h.1)
+    (above_ground h.way h.anchor on_h.1)
     (first.2 ∙ step_none g.way g.anchor) second.2 (back.2 ∙ step_none h.way h.anchor) in
     ap (λ s. record g { anchor = s }) one.0
     ∙ ap (λ way. record { anchor = h.anchor; way = way; len = g.len }) one.1

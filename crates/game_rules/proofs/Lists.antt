@@ -1,6 +1,6 @@
 -- Tests of some element of a list, and which elements a list has.
-use Rattle.std.proofs.Common.{◌≡◌, ◌⊎◌, ℕ, zero, suc, ◌+◌, ◌<◌, ◌≤◌, Bool, true, false, not, ◌||◌, cond, List, [], ◌∷◌, ◌++◌, length, map, filter, refl, sym,
-    ap, ◌∙◌, subst, inl, inr, arith}
+use Rattle.std.proofs.Common.{◌≡◌, ◌⊎◌, ℕ, zero, suc, ◌+◌, ◌<◌, ◌≤◌, Bool, true, false, not, ◌||◌, cond, List, [], ◌∷◌, ◌++◌, length, map, filter, refl, sym}
+use Rattle.std.proofs.Common.{ap, ◌∙◌, subst, inl, inr, arith}
 use Rattle.std.specs.List.{list_any, list_all, flat_map, range_with_len, slice_index_or}
 use Rattle.std.proofs.lemmas.Bool.{or_cases, or_right, cases_Bool, cases_lt, false_from_ne_true, both_ways, and_parts, and_from}
 use Rattle.std.proofs.lemmas.List.Concat.{flat_map-cons}

@@ -1,6 +1,6 @@
 -- What a move changes, and what it leaves: the men of the columns, how many there are, and who is to move.
-use Rattle.std.proofs.Common.{◌≡◌, ◌&&◌, ◌==◌, ◌≢◌, ℕ, zero, suc, ◌+◌, ◌-◌, ◌%◌, ◌<◌, ◌≤◌, true, false, cond, List, [], ◌∷◌, ◌++◌, length, Some, None, refl,
-    sym, ap, ◌∙◌, inl, inr, arith, add-one, length-set}
+use Rattle.std.proofs.Common.{◌≡◌, ◌&&◌, ◌==◌, ◌≢◌, ℕ, zero, suc, ◌+◌, ◌-◌, ◌%◌, ◌<◌, ◌≤◌, true, false, cond, List, [], ◌∷◌, ◌++◌, length, Some, None, refl}
+use Rattle.std.proofs.Common.{sym, ap, ◌∙◌, inl, inr, arith, add-one, length-set}
 use Rattle.std.specs.List.{slice_get}
 use Rattle.std.proofs.lemmas.List.{get_or-set_same, get_or-set_other, length_push}
 use Rattle.std.proofs.lemmas.List.Sums.{sum_by-set}
@@ -9,8 +9,8 @@ use Rattle.std.proofs.lemmas.Bool.{cases_eq, and_parts, and_from, ltb-true, lt-l
 use Rattle.std.proofs.lemmas.Slice.Eq.{slice_eq-Decides}
 use Rattle.std.specs.Bool.{Decides}
 use Rattle.std.specs.Cmp.Lexicographic.{pointwise}
-use Rattle.game_rules.specs.Position.{Position, board_of, other, same_side, same_position, men_in, height, man_in, man_at, man_count, side_to_move, has_room,
-    empty_count, after_move, IsStacked}
+use Rattle.game_rules.specs.Position.{Position, board_of, other, same_side, same_position, men_in, height, man_in, man_at, man_count, side_to_move, has_room}
+use Rattle.game_rules.specs.Position.{empty_count, after_move, IsStacked}
 use Rattle.game_rules.specs.Board.{same_length}
 use Rattle.game_rules.specs.declared.Length.{Length}
 use Rattle.game_rules.specs.declared.Length.TheVariants.{Four, Five}
@@ -139,8 +139,11 @@ pub room_from : (p : Position) (column : ℕ) → column < length p.columns → 
 room_from p column within low = and_from _ _ (lt-ltb column (length p.columns) within) (lt-ltb (height p column) p.rows low)
 
 pub man_count_moved : (p : Position) (column : ℕ) → column < length p.columns → man_count (after_move p column) ≡ man_count p + 1
-man_count_moved p column h = omega (arith, sum_by-set length p.columns column (men_in p column ++ side_to_move p ∷ []) [] h,
-    length_push (men_in p column) (side_to_move p))
+man_count_moved p column h = omega (
+  arith,
+  sum_by-set length p.columns column (men_in p column ++ side_to_move p ∷ []) [] h,
+  length_push (men_in p column) (side_to_move p),
+)
 
 pub height_moved : (p : Position) (column : ℕ) → column < length p.columns → height (after_move p column) column ≡ height p column + 1
 height_moved p column h = ap length (men_moved p column h) ∙ length_push (men_in p column) (side_to_move p)

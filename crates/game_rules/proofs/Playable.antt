@@ -39,9 +39,9 @@ module _ (p : Position) (c : ℕ) (within : c < length p.columns) where
   pub on_top : (i : ℕ) → i < p.rows → is_playable p (c, i + 1) ≡ (i == height p c)
   on_top i low = agree _ _
       (λ h. let both = and_parts (on_board (board_of p) (c, i + 1)) ((i + 1) == (height p c + 1)) h in let same = eqb-true (i + 1) (height p c + 1) both.1 in
-          eq-eqb i (height p c) (omega arith))
+      eq-eqb i (height p c) (omega arith))
       (λ h. let same = eqb-true i (height p c) h in and_from _ _ (on_board_from (board_of p) c (i + 1) within (omega arith) (omega arith))
-          (eq-eqb (i + 1) (height p c + 1) (omega arith)))
+      (eq-eqb (i + 1) (height p c + 1) (omega arith)))
 
   -- a column's lowest empty square, if it has room
   pub column_playables : filter (is_playable p) (squares_in_column p.rows c) ≡ cond (has_room p c) ((c, height p c + 1) ∷ []) []

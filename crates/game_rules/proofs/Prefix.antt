@@ -22,7 +22,7 @@ unfolding read_game
 game_more bytes ys h =
     ap (λ r. r >>= λ line. moves_at (empty_position line.0) line.1) (board_more bytes ys (omega arith))
     ∙ more_bind (with_rest ys) (λ p. p) (length ys) (board_at bytes) (λ line. moves_at (empty_position line.0) line.1)
-        (λ line. moves_at (empty_position line.0) line.1)
+    (λ line. moves_at (empty_position line.0) line.1)
     (λ line read. let empty = first_empty line.0 (spelled_parts line.0 (board_gives bytes line read).0).0 in
     let spent = subst (Spends behind (length bytes) 18) read (board_spends bytes) in
     moves_more (empty_position line.0) line.1 ys (omega arith) (omega arith))

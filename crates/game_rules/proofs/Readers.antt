@@ -1,7 +1,7 @@
 -- How the readers of a game text go: what is read at each step, how much of the text it takes, and that what follows
 -- decides nothing.
-use Rattle.std.proofs.Common.{◌≡◌, ℕ, suc, ◌+◌, ◌-◌, ◌<◌, ◌≤◌, Bool, true, false, ◌&&◌, ◌==◌, cond, List, [], ◌∷◌, ◌++◌, length, take, drop, take_while, Option,
-    Some, None, is_some, is_none, Result, Ok, Err, refl, sym, ap, ◌∙◌, subst, nat_le, nat_lt, eqb, inl, inr, arith}
+use Rattle.std.proofs.Common.{◌≡◌, ℕ, suc, ◌+◌, ◌-◌, ◌<◌, ◌≤◌, Bool, true, false, ◌&&◌, ◌==◌, cond, List, [], ◌∷◌, ◌++◌, length, take, drop, take_while, Option}
+use Rattle.std.proofs.Common.{Some, None, is_some, is_none, Result, Ok, Err, refl, sym, ap, ◌∙◌, subst, nat_le, nat_lt, eqb, inl, inr, arith}
 use Rattle.std.proofs.lemmas.Bool.{cases_Bool, cases_lt, and_parts, and_from, lt-ltb, leb-true, le-leb, eqb-true, eq-eqb, ne_eqb}
 use Rattle.std.proofs.lemmas.List.{length-append, drop-append-le, take-append-le, take-append-drop}
 use Rattle.std.proofs.lemmas.List.Folds.{prefix_len-append, length-prefix_len}
@@ -130,21 +130,21 @@ module _ (spelled : List ℕ → Option ℕ) (too_long : (run : List ℕ) → 3 
   size_more bytes ys h = elim (cases_lt (prefix_len is_digit bytes) (length bytes)) [
     | inl within ↦
         let same : prefix_len is_digit (bytes ++ ys) ≡ prefix_len is_digit bytes = prefix_len-append is_digit bytes ys
-            ∙ cond_past _ _ _ (ne_eqb (prefix_len is_digit bytes) (length bytes) (λ (e : prefix_len is_digit bytes ≡ length bytes). omega arith)) in
+        ∙ cond_past _ _ _ (ne_eqb (prefix_len is_digit bytes) (length bytes) (λ (e : prefix_len is_digit bytes ≡ length bytes). omega arith)) in
         let run : take_while is_digit (bytes ++ ys) ≡ take_while is_digit bytes = ap (λ n. take n (bytes ++ ys)) same
-            ∙ take-append-le (prefix_len is_digit bytes) bytes ys (omega arith) in
+        ∙ take-append-le (prefix_len is_digit bytes) bytes ys (omega arith) in
         ap (λ run. read_as (spelled run) (drop (length run) (bytes ++ ys)) (bytes ++ ys)) run
         ∙ ap (λ rest. read_as (spelled (take_while is_digit bytes)) rest (bytes ++ ys))
-            (drop-append-le (length (take_while is_digit bytes)) bytes ys (omega (arith, length-prefix_len is_digit bytes)))
+        (drop-append-le (length (take_while is_digit bytes)) bytes ys (omega (arith, length-prefix_len is_digit bytes)))
         ∙ read_more (spelled (take_while is_digit bytes)) (drop (length (take_while is_digit bytes)) bytes)
     | inr all ↦
         let longer : length bytes ≤ prefix_len is_digit (bytes ++ ys) = rw (prefix_len-append is_digit bytes ys)
-            (cond_low (eqb (prefix_len is_digit bytes) (length bytes)) (length bytes + prefix_len is_digit ys) (prefix_len is_digit bytes) (omega arith) all) in
+        (cond_low (eqb (prefix_len is_digit bytes) (length bytes)) (length bytes + prefix_len is_digit ys) (prefix_len is_digit bytes) (omega arith) all) in
         ap (λ n. read_as n (drop (length (take_while is_digit (bytes ++ ys))) (bytes ++ ys)) (bytes ++ ys))
-            (too_long (take_while is_digit (bytes ++ ys)) (omega (arith, length-prefix_len is_digit (bytes ++ ys))))
+        (too_long (take_while is_digit (bytes ++ ys)) (omega (arith, length-prefix_len is_digit (bytes ++ ys))))
         ∙ ap (stop BadSize) (length-append bytes ys)
         ∙ ap (λ n. with_more (λ x. (x.0, x.1 ++ ys)) (length ys) (read_as n (drop (length (take_while is_digit bytes)) bytes) bytes))
-            (sym (too_long (take_while is_digit bytes) (omega (arith, length-prefix_len is_digit bytes))))
+        (sym (too_long (take_while is_digit bytes) (omega (arith, length-prefix_len is_digit bytes))))
   ]
     where
       read_more : (n : Option ℕ) (rest : List ℕ) → read_as n (rest ++ ys) (bytes ++ ys) ≡ with_more (λ x. (x.0, x.1 ++ ys)) (length ys) (read_as n rest bytes)
@@ -239,7 +239,7 @@ module _ (byte : ℕ) (bytes : List ℕ) (p : Position) where
       → Spends nothing (length (byte ∷ bytes)) (empty_count p + 1) (letter_read p byte (length (byte ∷ bytes)) >>= λ q. letters_from q bytes)
   letter_then_spends later = spends_more nothing (length (byte ∷ bytes)) (1 + empty_count p) (empty_count p + 1) _ (omega arith)
       (spends_bind (λ q. length bytes) nothing (length (byte ∷ bytes)) 1 (empty_count p) (letter_read p byte (length (byte ∷ bytes)))
-          (λ q. letters_from q bytes)
+      (λ q. letters_from q bytes)
       (letter_spends p byte (length bytes))
       (λ q read. let fewer : empty_count q + 1 ≡ empty_count p = fewer_empty q read in
       spends_more nothing (length bytes) (empty_count q + 1) (empty_count p) (letters_from q bytes) (omega arith) (later q)))
@@ -247,7 +247,7 @@ module _ (byte : ℕ) (bytes : List ℕ) (p : Position) where
   letter_then_more : (ys : List ℕ)
       → ((q : Position) → empty_count q + 1 ≡ empty_count p → letters_from q (bytes ++ ys) ≡ with_more (λ q. q) (length ys) (letters_from q bytes))
       → (letter_read p byte (length (byte ∷ (bytes ++ ys))) >>= λ q. letters_from q (bytes ++ ys))
-          ≡ with_more (λ q. q) (length ys) (letter_read p byte (length (byte ∷ bytes)) >>= λ q. letters_from q bytes)
+      ≡ with_more (λ q. q) (length ys) (letter_read p byte (length (byte ∷ bytes)) >>= λ q. letters_from q bytes)
   letter_then_more ys later =
       ap (λ left. letter_read p byte left >>= λ q. letters_from q (bytes ++ ys)) (length-append (byte ∷ bytes) ys)
       ∙ ap (λ r. r >>= λ q. letters_from q (bytes ++ ys)) (letter_more p byte (length (byte ∷ bytes)) (length ys))

@@ -1,6 +1,6 @@
 -- Sets of squares: which squares a set by a test has, when two are the same, and the squares of a board.
-use Rattle.std.proofs.Common.{◌≡◌, ◌≢◌, ◌⊎◌, ◌↔◌, ℕ, zero, suc, ◌+◌, ◌<◌, ◌≤◌, Bool, true, false, ◌==◌, List, [], ◌∷◌, filter, length, Option, Some, None,
-    is_none, refl, sym, ap, ◌∙◌, subst, inl, inr, arith, add-one}
+use Rattle.std.proofs.Common.{◌≡◌, ◌≢◌, ◌⊎◌, ◌↔◌, ℕ, zero, suc, ◌+◌, ◌<◌, ◌≤◌, Bool, true, false, ◌==◌, List, [], ◌∷◌, filter, length, Option, Some, None}
+use Rattle.std.proofs.Common.{is_none, refl, sym, ap, ◌∙◌, subst, inl, inr, arith, add-one}
 use Rattle.std.specs.List.{list_any, list_all}
 use Rattle.std.proofs.lemmas.Bool.{cases_Bool, cases_lt, both_ways, and_parts, and_from, eq-eqb, eqb-true}
 use Rattle.std.proofs.lemmas.List.{get_or_past}
@@ -8,8 +8,8 @@ use Rattle.game_rules.specs.Board.{Board, Square, below, on_board}
 use Rattle.game_rules.specs.Position.{Position, board_of, men_in, height, man_in, man_at, is_man, has_man, IsStacked}
 use Rattle.game_rules.specs.declared.Side.{Side}
 use Rattle.game_rules.specs.Squares.{is_empty, is_playable, same_square, has_square, squares_in_column, squares_of_board, widest, squares_where, IsSetOf}
-use Rattle.game_rules.proofs.Lists.{Among, any_gives, any_from, any_agree, all_gives, all_from, Among-filter, Among-filter_gives, Among-map, Among-map_gives,
-    Among-flat_map, Among-flat_map_gives, Among-below, Among-below_gives}
+use Rattle.game_rules.proofs.Lists.{Among, any_gives, any_from, any_agree, all_gives, all_from, Among-filter, Among-filter_gives, Among-map, Among-map_gives}
+use Rattle.game_rules.proofs.Lists.{Among-flat_map, Among-flat_map_gives, Among-below, Among-below_gives}
 use Rattle.game_rules.proofs.Ends.{on_board_parts, on_board_from}
 use Rattle.game_rules.proofs.Moves.{man_past, man_within, was_empty}
 

@@ -1,6 +1,6 @@
 -- The value at an end and after a move, and who wins by it.
-use Rattle.std.proofs.Common.{◌≡◌, ◌⊎◌, ℕ, zero, suc, ◌+◌, ◌<◌, ◌≤◌, Bool, true, false, not, ◌&&◌, ◌||◌, cond, List, [], ◌∷◌, map, subst, length, Some, None,
-    refl, sym, ap, ◌∙◌, inl, inr, arith}
+use Rattle.std.proofs.Common.{◌≡◌, ◌⊎◌, ℕ, zero, suc, ◌+◌, ◌<◌, ◌≤◌, Bool, true, false, not, ◌&&◌, ◌||◌, cond, List, [], ◌∷◌, map, subst, length, Some, None}
+use Rattle.std.proofs.Common.{refl, sym, ap, ◌∙◌, inl, inr, arith}
 use Rattle.std.specs.List.{list_any, list_all}
 use Rattle.std.proofs.lemmas.Bool.{cases_Bool, true_from_ne_false}
 use Rattle.game_rules.specs.Board.{below}
@@ -74,7 +74,7 @@ enough (suc n) zero p left right = let ended = full_ended p (nothing_open p (ome
 enough (suc n) (suc m) p left right =
     ap (λ found. ended_or (end_of p) (best_of (side_to_move p) found))
     (map_same (value_within n) (value_within m) (moved p) (λ q among. let one : empty_count q + 1 ≡ empty_count p = moved_empty p q among in
-        enough n m q (omega arith) (omega arith)))
+    enough n m q (omega arith) (omega arith)))
 
 pub value_at_end : (p : Position) (e : End) → end_of p ≡ Some e → value p ≡ e
 unfolding value value_within
@@ -93,7 +93,7 @@ value_step p h = step (empty_count p) refl (goes_on_empty p h)
     step zero e low = absurd (omega arith)
     step (suc n) e low = rw h (ap (best_of (side_to_move p))
         (map_same (value_within n) value (moved p) (λ q among. let one : empty_count q + 1 ≡ empty_count p = moved_empty p q among in
-            enough n (empty_count q) q (omega arith) (omega arith))))
+        enough n (empty_count q) q (omega arith) (omega arith))))
 
 -- ---- who wins
 

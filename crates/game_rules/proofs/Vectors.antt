@@ -98,8 +98,10 @@ no_list = refl
 
 -- how many groups of four, and how many of five
 abbrev group_counts : ℕ → ℕ → ℕ × ℕ
-group_counts cols rows = (length (groups_of (record { cols = cols; rows = rows; len = Four })),
-    length (groups_of (record { cols = cols; rows = rows; len = Five })))
+group_counts cols rows = (
+  length (groups_of (record { cols = cols; rows = rows; len = Four })),
+  length (groups_of (record { cols = cols; rows = rows; len = Five })),
+)
 
 smallest_board : group_counts 4 4 ≡ (10, 0)
 unfolding groups_of squares_of_board

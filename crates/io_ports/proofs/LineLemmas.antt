@@ -1,8 +1,8 @@
 -- Where a line ends, and what a reader gives of the bytes that it holds.
-use Rattle.std.proofs.Common.{◌≡◌, ◌≢◌, ℕ, ◌+◌, ◌-◌, ◌<◌, ◌≤◌, min, Bool, true, false, cond, not, eqb, ltb, List, [], ◌∷◌, ◌++◌, length, take, drop, get_or,
-    All, Option, Some, None, refl, sym, ap, ◌∙◌, subst, inl, inr, arith, append_assoc}
-use Rattle.std.proofs.lemmas.List.{append-nil, take_all, take-append-le, drop-append-le, take-append-drop, drop_more, drop_all, length-take-le, length-append,
-    length-drop, get_or-take, take_rest}
+use Rattle.std.proofs.Common.{◌≡◌, ◌≢◌, ℕ, ◌+◌, ◌-◌, ◌<◌, ◌≤◌, min, Bool, true, false, cond, not, eqb, ltb, List, [], ◌∷◌, ◌++◌, length, take, drop, get_or}
+use Rattle.std.proofs.Common.{All, Option, Some, None, refl, sym, ap, ◌∙◌, subst, inl, inr, arith, append_assoc}
+use Rattle.std.proofs.lemmas.List.{append-nil, take_all, take-append-le, drop-append-le, take-append-drop, drop_more, drop_all, length-take-le, length-append}
+use Rattle.std.proofs.lemmas.List.{length-drop, get_or-take, take_rest}
 use Rattle.std.proofs.lemmas.List.Folds.{prefix_len-append}
 use Rattle.std.proofs.lemmas.List.Sums.{prefix_len-le-length, fails_before_first, passes_at_first}
 use Rattle.std.proofs.lemmas.Bool.{eqb-true, eq-eqb, lt-ltb, le-ltb, ltb-false, cases_lt}
@@ -190,8 +190,12 @@ module _ (old new : Option (List ℕ)) (before held : List ℕ) (moves : Moves o
   joined_later later = ap (λ l. l ++ later) moves.grown ∙ append_assoc before moves.taken later
 
   pub Takes-long : 8192 < line_len held → Takes (is_end Long false) old new (λ bytes rest. Gives (before ++ bytes) (held ++ rest) Long (take 8192 held) false)
-  Takes-long long = record { taken = moves.taken; gave = moves.gave; last = λ never. cc; fact = λ later none. Gives-long _ held later (joined_later later) long
-      }
+  Takes-long long = record {
+    taken = moves.taken;
+    gave = moves.gave;
+    last = λ never. cc;
+    fact = λ later none. Gives-long _ held later (joined_later later) long;
+  }
 
   pub Takes-line : (n m : ℕ) (fed : Bool) → n ≡ line_len held → n ≤ 8192 → 0 < length held → (n ≡ length held → n ≤ 8192 → IsAtEnd new)
       → fed ≡ ltb n (length held) → m ≡ min (length held) (n + 1)

@@ -62,14 +62,14 @@ Reads_then a b c P Q R first next more = record {
       let open_end : b.ended ≡ true → next.taken ++ later ≡ [] = λ ended. let two = next.stays ended in ap (λ l. l ++ later) two.0 ∙ none two.1 in
       let S : List ℕ → Type 0 = λ l. R (a.ahead ++ l) (c.ahead ++ later) in
       subst S (sym (append_assoc first.taken next.taken later))
-          (more _ (b.ahead ++ (next.taken ++ later)) _ (first.fact (next.taken ++ later) open_end) (next.fact later none));
+      (more _ (b.ahead ++ (next.taken ++ later)) _ (first.fact (next.taken ++ later) open_end) (next.fact later none));
 }
 
 -- what a call of a reader of lines takes, where the end of the input wasn't reached before it
 pub Reads_from : (a b : Pending) (got : LineGot) (text : List ℕ) (fed : Bool) → a.ended ≡ false → b.ended ≡ is_end got fed
     → length b.ahead ≤ most_held → (HoldsFew a.last_read a.ahead → IsAhead got b.last_read b.ahead)
     → Takes (is_end got fed) a.left b.left (λ bytes rest. Gives (a.ahead ++ bytes) (b.ahead ++ rest) got text fed)
-        → Reads a b (λ bytes rest. Gives bytes rest got text fed)
+    → Reads a b (λ bytes rest. Gives bytes rest got text fed)
 Reads_from a b got text fed going end short ahead takes = record {
   taken = takes.taken;
   gave = takes.gave;

@@ -1,6 +1,6 @@
 -- The bytes of a buffer between two places, after a read past them, a step of their start, or a move to the start.
-use Rattle.std.proofs.Common.{◌≡◌, ℕ, ◌+◌, ◌-◌, ◌≤◌, List, [], ◌++◌, length, take, drop, slice_range, Result, OnErr, Ok, Err, Option, sym, ap, ◌∙◌, arith,
-    append_assoc}
+use Rattle.std.proofs.Common.{◌≡◌, ℕ, ◌+◌, ◌-◌, ◌≤◌, List, [], ◌++◌, length, take, drop, slice_range, Result, OnErr, Ok, Err, Option, sym, ap, ◌∙◌, arith}
+use Rattle.std.proofs.Common.{append_assoc}
 use Rattle.std.proofs.lemmas.List.{append-nil, take_at, take-append-le, drop-append-le, drop-take, drop-drop, length-take-le, length-drop}
 use Rattle.std.proofs.Math.Seq.{take-append-add, take-append_seam}
 use Rattle.std.specs.List.{copy_within}

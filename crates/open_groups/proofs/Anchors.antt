@@ -1,6 +1,6 @@
 -- What the anchors of each direction say of a set of groups.
-use Rattle.std.proofs.Common.{◌≡◌, ◌≢◌, ◌<◌, Bool, true, false, ◌&&◌, ◌||◌, List, [], ◌∷◌, length, set, get_or, refl, sym, ap, ◌∙◌, subst, inl, inr, arith,
-    lit<}
+use Rattle.std.proofs.Common.{◌≡◌, ◌≢◌, ◌<◌, Bool, true, false, ◌&&◌, ◌||◌, List, [], ◌∷◌, length, set, get_or, refl, sym, ap, ◌∙◌, subst, inl, inr, arith}
+use Rattle.std.proofs.Common.{lit<}
 use Rattle.std.proofs.lemmas.Bool.{cases_eq, or_cases, and_parts, and_from, eq-eqb, ne_eqb}
 use Rattle.std.proofs.lemmas.List.{get_or-set_same, get_or-set_other, get_or_default}
 use Rattle.game_rules.specs.Board.{Board, Square, same_length}
@@ -36,7 +36,7 @@ module _ (board : Board) (anchors : List (List Square)) (size : length anchors �
   kept : (way : Way) → squares_where (λ s. has_group (groups_anchored board anchors) (group_on board way s)) ≡ anchors_along anchors way
   kept way =
       where_same (λ s. has_group (groups_anchored board anchors) (group_on board way s)) (λ s. test (group_on board way s))
-          (λ s on. anchored_set.has (group_on board way s))
+      (λ s on. anchored_set.has (group_on board way s))
       ∙ sym (each way).in_order
 
   pub determined_anchors : anchors_of (set_anchored board anchors) ≡ anchors
@@ -76,7 +76,7 @@ module _ (a : Inside) (sound : IsSound a) where
       subst (IsSetOf (λ s. has_group (groups_anchored a.size a.anchors) (group_on a.size way s))) (at way ∙ ap (λ xs. anchors_along xs way) sound.determined)
       (set_where (λ s. has_group (groups_anchored a.size a.anchors) (group_on a.size way s))
       (λ s h. anchor_on (widest_with a.size.len) way s
-          (line_widest a.size sound.board way s (lies_parts a.size (group_on a.size way s) (anchored_on (group_on a.size way s) h)).1)))
+      (line_widest a.size sound.board way s (lies_parts a.size (group_on a.size way s) (anchored_on (group_on a.size way s) h)).1)))
     where
       at : (way : Way) → squares_where (λ s. has_group (groups_anchored a.size a.anchors) (group_on a.size way s))
           ≡ anchors_along (anchors_of (set_anchored a.size a.anchors)) way
@@ -118,7 +118,7 @@ module _ (a : Inside) (sound : IsSound a) where
           ∙ ap (λ b. same_group (group_on a.size g.way s) g || b) (ap (λ m. has_square m s) old ∙ (old_along g.way).has s))))
       | inr apart ↦ subst (IsSetOf (λ s. with_group (group_on a.size way s))) (sym (get_or-set_other a.anchors (rank g.way) (rank way) next [] apart))
           (set_same (λ s. has_group (groups_anchored a.size a.anchors) (group_on a.size way s)) (λ s. with_group (group_on a.size way s))
-              (anchors_along a.anchors way) (old_along way) (λ s.
+          (anchors_along a.anchors way) (old_along way) (λ s.
           ap (λ b. b || has_group (groups_anchored a.size a.anchors) (group_on a.size way s)) (sym (other_way s way apart))))
     ]
       where

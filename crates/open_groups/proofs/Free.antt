@@ -57,7 +57,7 @@ module _ (p : Position) (side : Side) (stacked : IsStacked p) (clear : List Squa
       (λ s.
       all_apart (has_square clear) (on_board (board_of p)) (has_man p (other side)) clear_square (line_at p.len way s)
       ∙ ap (λ b. (b && list_all (on_board (board_of p)) (line_at p.len way s)) && not (list_any (has_man p (other side)) (line_at p.len way s)))
-          (sym (same_length_refl p.len)))
+      (sym (same_length_refl p.len)))
 
   pub each_open : (h v u d : List Square) → IsSetOf (λ s. list_all (has_square clear) (line_at p.len H s)) h
       → IsSetOf (λ s. list_all (has_square clear) (line_at p.len V s)) v

@@ -43,8 +43,8 @@ pub both_words : (set : GroupsOn) (gs : List Group) (n low high : ℕ) → gs �
 both_words set gs n low high all least first second =
     let lower : low ≡ mask_l (take 128 (marks_of set)) =
     first ∙ ap (λ hs. mask_l (map (has_group set.groups) hs)) (first_groups gs n least ∙ ap (take 128) all)
-        ∙ ap mask_l (sym (take-map (has_group set.groups) 128 (groups_of set.board))) in
+    ∙ ap mask_l (sym (take-map (has_group set.groups) 128 (groups_of set.board))) in
     let upper : high ≡ mask_l (drop 128 (marks_of set)) =
     second ∙ ap (λ hs. mask_l (map (has_group set.groups) hs)) (later_groups gs n least ∙ ap (drop 128) all)
-        ∙ ap mask_l (sym (drop-map (has_group set.groups) 128 (groups_of set.board))) in
+    ∙ ap mask_l (sym (drop-map (has_group set.groups) 128 (groups_of set.board))) in
     rw (lower, upper) refl

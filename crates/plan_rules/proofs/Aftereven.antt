@@ -18,7 +18,7 @@ aftereven_bars g p q facts set fitted empty supported calm are_true stay held ow
     line_black p q g (fits_more (aftereven g) p fitted) stay (λ u in_line empty_at.
     let upper = each_of_gives facts.empty facts.upper (squares_of g) u supported in_line (empty u ∙ empty_at) in
     let over = any_gives (λ i. set (u.0, u.1 + 1 + i)) (below 10)
-        (each_of_gives facts.empty (some_above set) (squares_of g) u held in_line (empty u ∙ empty_at)) in
+    (each_of_gives facts.empty (some_above set) (squares_of g) u held in_line (empty u ∙ empty_at)) in
     let row = (on_board_parts (board_of p) u.0 u.1 (line_square_on p g (fits_more (aftereven g) p fitted) u in_line)).1 in
     black_under q u (u.0, u.1 + 1 + over.0) row refl (omega arith) (owns (u.0, u.1 + 1 + over.0) over.2) (are_true.uppers u upper))
 

@@ -16,8 +16,8 @@ use Rattle.plan_rules.specs.Laws.{StartLaw, LocalLaw, StepLaw, FactLaw, BarLaw, 
 use Rattle.plan_rules.proofs.Squares.{other_column, other_row}
 use Rattle.plan_rules.proofs.Turns.{turn, answer_at, low_kept, low_above, low_over}
 use Rattle.plan_rules.proofs.Grounds.{fits_shape}
-use Rattle.plan_rules.proofs.Words.{narrow, are_white, is_free, is_free_over, free_from, free_over_from, words_local, zone_on_board, zone_none, foot_low,
-    no_facts, empty_now, filled_now}
+use Rattle.plan_rules.proofs.Words.{narrow, are_white, is_free, is_free_over, free_from, free_over_from, words_local, zone_on_board, zone_none, foot_low}
+use Rattle.plan_rules.proofs.Words.{no_facts, empty_now, filled_now}
 use Rattle.plan_rules.specs.Lawful.{Lawful}
 
 module _ (a b e : Square) where
@@ -125,49 +125,49 @@ module _ (a b e : Square) where
       foot_a : a.1 ≤ height q a.0 + 1
       foot_a = foot_low (zone_of (baseclaim a b e)) q founded a (has_from (zone_of (baseclaim a b e)) a in_a)
           (λ u owned same. elim (has_gives (zone_of (baseclaim a b e)) u owned) [
-        | inl here ↦ omega (arith, ap (λ (v : Square). v.1) here)
-        | inr later ↦ elim later [
-          | inl here ↦ absurd (three.a_b (sym (ap (λ (v : Square). v.0) here ∙ same)))
-          | inr more ↦ elim more [
-            | inl here ↦ absurd (three.a_e (sym (ap (λ (v : Square). v.0) here ∙ same)))
-            | inr last ↦ elim last [ inl here ↦ absurd (three.a_b (sym (ap (λ (v : Square). v.0) here ∙ same))) | inr past ↦ absurd past ]
-          ]
-        ]
-      ])
+            | inl here ↦ omega (arith, ap (λ (v : Square). v.1) here)
+            | inr later ↦ elim later [
+              | inl here ↦ absurd (three.a_b (sym (ap (λ (v : Square). v.0) here ∙ same)))
+              | inr more ↦ elim more [
+                | inl here ↦ absurd (three.a_e (sym (ap (λ (v : Square). v.0) here ∙ same)))
+                | inr last ↦ elim last [ inl here ↦ absurd (three.a_b (sym (ap (λ (v : Square). v.0) here ∙ same))) | inr past ↦ absurd past ]
+              ]
+            ]
+          ])
 
       foot_b : b.1 ≤ height q b.0 + 1
       foot_b = foot_low (zone_of (baseclaim a b e)) q founded b (has_from (zone_of (baseclaim a b e)) b in_b)
           (λ u owned same. elim (has_gives (zone_of (baseclaim a b e)) u owned) [
-        | inl here ↦ absurd (three.a_b (ap (λ (v : Square). v.0) here ∙ same))
-        | inr later ↦ elim later [
-          | inl here ↦ omega (arith, ap (λ (v : Square). v.1) here)
-          | inr more ↦ elim more [
-            | inl here ↦ absurd (three.b_e (sym (ap (λ (v : Square). v.0) here ∙ same)))
-            | inr last ↦ elim last [ inl here ↦ omega (arith, ap (λ (v : Square). v.1) here) | inr past ↦ absurd past ]
-          ]
-        ]
-      ])
+            | inl here ↦ absurd (three.a_b (ap (λ (v : Square). v.0) here ∙ same))
+            | inr later ↦ elim later [
+              | inl here ↦ omega (arith, ap (λ (v : Square). v.1) here)
+              | inr more ↦ elim more [
+                | inl here ↦ absurd (three.b_e (sym (ap (λ (v : Square). v.0) here ∙ same)))
+                | inr last ↦ elim last [ inl here ↦ omega (arith, ap (λ (v : Square). v.1) here) | inr past ↦ absurd past ]
+              ]
+            ]
+          ])
 
       foot_e : e.1 ≤ height q e.0 + 1
       foot_e = foot_low (zone_of (baseclaim a b e)) q founded e (has_from (zone_of (baseclaim a b e)) e in_e)
           (λ u owned same. elim (has_gives (zone_of (baseclaim a b e)) u owned) [
-        | inl here ↦ absurd (three.a_e (ap (λ (v : Square). v.0) here ∙ same))
-        | inr later ↦ elim later [
-          | inl here ↦ absurd (three.b_e (ap (λ (v : Square). v.0) here ∙ same))
-          | inr more ↦ elim more [
-            | inl here ↦ omega (arith, ap (λ (v : Square). v.1) here)
-            | inr last ↦ elim last [ inl here ↦ absurd (three.b_e (ap (λ (v : Square). v.0) here ∙ same)) | inr past ↦ absurd past ]
-          ]
-        ]
-      ])
+            | inl here ↦ absurd (three.a_e (ap (λ (v : Square). v.0) here ∙ same))
+            | inr later ↦ elim later [
+              | inl here ↦ absurd (three.b_e (ap (λ (v : Square). v.0) here ∙ same))
+              | inr more ↦ elim more [
+                | inl here ↦ omega (arith, ap (λ (v : Square). v.1) here)
+                | inr last ↦ elim last [ inl here ↦ absurd (three.b_e (ap (λ (v : Square). v.0) here ∙ same)) | inr past ↦ absurd past ]
+              ]
+            ]
+          ])
 
       -- the square above b answers a, where men stand on b and e
       above_for_a : (m n : Side) → is_playable q a ≡ true → man_at q (above b) ≡ None → man_at q b ≡ Some m → man_at q e ≡ Some n
           → is_one_of claim_words (Some White ∷ Some m ∷ Some n ∷ Some Black ∷ []) ≡ true
-              → Answers (zone_of (baseclaim a b e)) (is_calm (baseclaim a b e)) (reply_to (baseclaim a b e)) q a
+          → Answers (zone_of (baseclaim a b e)) (is_calm (baseclaim a b e)) (reply_to (baseclaim a b e)) q a
       above_for_a m n playable none was_b was_e is_calm_word =
           let open_now : is_playable (after_move q a.0) (above b) ≡ true = answer_at q a (above b) playable (on (above b) in_u) u_a none
-              (low_over q a b m playable was_b) in
+          (low_over q a b m playable was_b) in
           let after = turn q a (above b) white playable open_now in
           let now_b = after.rest b b_a b_u ∙ was_b in
           let now_e = after.rest e e_a e_u ∙ was_e in
@@ -232,7 +232,7 @@ module _ (a b e : Square) where
           | inl word ↦
               let none : man_at q (above b) ≡ None = cc in
               let open_now : is_playable (after_move q b.0) (above b) ≡ true = answer_at q b (above b) playable (on (above b) in_u) u_b none
-                  (low_above q b playable) in
+              (low_above q b playable) in
               let after = turn q b (above b) white playable open_now in
               let was_a : man_at q a ≡ Some White = cc in
               let now_a = after.rest a a_b a_u ∙ was_a in
@@ -275,10 +275,10 @@ module _ (a b e : Square) where
       -- a answers the square above b, where men stand on b and e
       a_for_above : (m n : Side) → is_playable q (above b) ≡ true → man_at q a ≡ None → man_at q b ≡ Some m → man_at q e ≡ Some n
           → is_one_of claim_words (Some Black ∷ Some m ∷ Some n ∷ Some White ∷ []) ≡ true
-              → Answers (zone_of (baseclaim a b e)) (is_calm (baseclaim a b e)) (reply_to (baseclaim a b e)) q (above b)
+          → Answers (zone_of (baseclaim a b e)) (is_calm (baseclaim a b e)) (reply_to (baseclaim a b e)) q (above b)
       a_for_above m n playable none was_b was_e is_calm_word =
           let open_now : is_playable (after_move q (above b).0) a ≡ true = answer_at q (above b) a playable (on a in_a) a_u none
-              (low_kept q (above b) a playable foot_a) in
+          (low_kept q (above b) a playable foot_a) in
           let after = turn q (above b) a white playable open_now in
           let now_b = after.rest b b_u b_a ∙ was_b in
           let now_e = after.rest e e_u e_a ∙ was_e in
@@ -294,12 +294,12 @@ module _ (a b e : Square) where
       at_u : is_playable q (above b) ≡ true → Answers (zone_of (baseclaim a b e)) (is_calm (baseclaim a b e)) (reply_to (baseclaim a b e)) q (above b)
       at_u playable = elim (narrow (is_free_over 1 3) claim_words (word_at q (zone_of (baseclaim a b e))) calm
           (free_over_from q b (on_board_parts (board_of q) b.0 b.1 (on b in_b)).1 playable)) [
-        | inl word ↦ a_for_above White Black playable (cc) (cc) (cc) refl
-        | inr more ↦ elim more [
-          | inl word ↦ a_for_above Black White playable (cc) (cc) (cc) refl
-          | inr past ↦ absurd past
-        ]
-      ]
+            | inl word ↦ a_for_above White Black playable (cc) (cc) (cc) refl
+            | inr more ↦ elim more [
+              | inl word ↦ a_for_above Black White playable (cc) (cc) (cc) refl
+              | inr past ↦ absurd past
+            ]
+          ]
 
   pub baseclaim_keeps : FactLaw (fits (baseclaim a b e)) (is_calm (baseclaim a b e)) (upper_of (baseclaim a b e)) (pair_of (baseclaim a b e))
       (twin_of (baseclaim a b e))

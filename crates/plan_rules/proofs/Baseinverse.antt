@@ -68,16 +68,16 @@ module _ (s t : Square) where
       foot_s : s.1 ≤ height q s.0 + 1
       foot_s = foot_low (zone_of (baseinverse s t)) q founded s (has_from (zone_of (baseinverse s t)) s (inl refl))
           (λ u owned same. elim (has_gives (zone_of (baseinverse s t)) u owned) [
-        | inl here ↦ omega (arith, ap (λ (v : Square). v.1) here)
-        | inr later ↦ elim later [ inl here ↦ absurd (apart (sym same ∙ sym (ap (λ (v : Square). v.0) here))) | inr more ↦ absurd more ]
-      ])
+            | inl here ↦ omega (arith, ap (λ (v : Square). v.1) here)
+            | inr later ↦ elim later [ inl here ↦ absurd (apart (sym same ∙ sym (ap (λ (v : Square). v.0) here))) | inr more ↦ absurd more ]
+          ])
 
       foot_t : t.1 ≤ height q t.0 + 1
       foot_t = foot_low (zone_of (baseinverse s t)) q founded t (has_from (zone_of (baseinverse s t)) t (inr (inl refl)))
           (λ u owned same. elim (has_gives (zone_of (baseinverse s t)) u owned) [
-        | inl here ↦ absurd (apart (ap (λ (v : Square). v.0) here ∙ same))
-        | inr later ↦ elim later [ inl here ↦ omega (arith, ap (λ (v : Square). v.1) here) | inr more ↦ absurd more ]
-      ])
+            | inl here ↦ absurd (apart (ap (λ (v : Square). v.0) here ∙ same))
+            | inr later ↦ elim later [ inl here ↦ omega (arith, ap (λ (v : Square). v.1) here) | inr more ↦ absurd more ]
+          ])
 
       at_s : is_playable q s ≡ true → Answers (zone_of (baseinverse s t)) (is_calm (baseinverse s t)) (reply_to (baseinverse s t)) q s
       at_s playable = elim (narrow (is_free 0) inverse_words (word_at q (zone_of (baseinverse s t))) calm (free_from q s playable)) [
@@ -85,7 +85,7 @@ module _ (s t : Square) where
         | inl word ↦
             let right : man_at q t ≡ None = cc in
             let open_now : is_playable (after_move q s.0) t ≡ true = answer_at q s t playable (on t (inr (inl refl))) t_s right (low_kept q s t playable foot_t)
-                in
+            in
             let after = turn q s t white playable open_now in
             record {
               to = t;
@@ -133,5 +133,11 @@ module _ (s t : Square) where
       never_both q calm (owns s both.0) (owns t both.1)
 
   pub baseinverse_laws : Lawful (baseinverse s t)
-  baseinverse_laws = record { starts = baseinverse_start; is_local = baseinverse_local; steps = baseinverse_step; keeps = baseinverse_keeps; bars =
-      baseinverse_bars }
+  baseinverse_laws = record {
+    starts = baseinverse_start;
+    is_local = baseinverse_local;
+    steps = baseinverse_step;
+    keeps = baseinverse_keeps;
+    bars =
+        baseinverse_bars;
+  }

@@ -1,9 +1,9 @@
 -- Where inverses can begin, from the playable squares, and what a fit of an inverse comes down to there.
-use Rattle.std.proofs.Common.{◌≡◌, ℕ, ◌+◌, ◌<◌, ◌≤◌, ◌%◌, zero, suc, nat_le, add-one, Bool, true, false, not, ◌&&◌, ◌||◌, ◌==◌, nat_lt, cond, List, [], ◌∷◌,
-    ◌++◌, length, map, filter, refl, sym, ap, ◌∙◌, subst, inl, inr, arith}
+use Rattle.std.proofs.Common.{◌≡◌, ℕ, ◌+◌, ◌<◌, ◌≤◌, ◌%◌, zero, suc, nat_le, add-one, Bool, true, false, not, ◌&&◌, ◌||◌, ◌==◌, nat_lt, cond, List, [], ◌∷◌}
+use Rattle.std.proofs.Common.{◌++◌, length, map, filter, refl, sym, ap, ◌∙◌, subst, inl, inr, arith}
 use Rattle.std.specs.List.{list_all, flat_map}
-use Rattle.std.proofs.lemmas.Bool.{cases_Bool, cases_eq, cases_lt, and_parts, and_from, or_cases, or_left, or_right, both_ways, eq-eqb, eqb-true, le-leb,
-    leb-true}
+use Rattle.std.proofs.lemmas.Bool.{cases_Bool, cases_eq, cases_lt, and_parts, and_from, or_cases, or_left, or_right, both_ways, eq-eqb, eqb-true, le-leb}
+use Rattle.std.proofs.lemmas.Bool.{leb-true}
 use Rattle.std.proofs.lemmas.List.{map-append, append-nil, append_assoc}
 use Rattle.std.proofs.lemmas.List.FromFn.{filter_of_map_range_with_len_more}
 use Rattle.std.proofs.lemmas.List.Concat.{flat_map-cons}
@@ -47,7 +47,7 @@ module _ (p : Position) (h : is_board (board_of p) ≡ true) where
           let row : (height p c + 1) % 2 ≡ 0 = eqb-true ((height p c + 1) % 2) 0 even in
           rw even (agree _ _
           (λ is. let at = bottom_row p (c, i + 1) is in
-              eq-eqb i (height p c) (elim at.1 [ inl here ↦ omega (arith, here) | inr over ↦ absurd (omega (arith, at.0, over, row)) ]))
+          eq-eqb i (height p c) (elim at.1 [ inl here ↦ omega (arith, here) | inr over ↦ absurd (omega (arith, at.0, over, row)) ]))
           (λ is.
           let same = eqb-true i (height p c) is in
           and_from (is_even (i + 1)) (is_playable p (c, i + 1) || is_playable p (under (c, i + 1))) (eq-eqb ((i + 1) % 2) 0 (omega (arith, row, same)))
@@ -56,11 +56,11 @@ module _ (p : Position) (h : is_board (board_of p) ≡ true) where
           let row : (height p c + 1) % 2 ≡ 1 = odd_row (height p c + 1) odd in
           rw odd (agree _ _
           (λ is. let at = bottom_row p (c, i + 1) is in
-              eq-eqb i (height p c + 1) (elim at.1 [ inl here ↦ absurd (omega (arith, at.0, here, row)) | inr over ↦ omega (arith, over) ]))
+          eq-eqb i (height p c + 1) (elim at.1 [ inl here ↦ absurd (omega (arith, at.0, here, row)) | inr over ↦ omega (arith, over) ]))
           (λ is.
           let same = eqb-true i (height p c + 1) is in
           let playable : is_playable p (c, height p c + 1) ≡ true = on_top p c within (height p c) (omega (arith, low, same))
-              ∙ eq-eqb (height p c) (height p c) refl in
+          ∙ eq-eqb (height p c) (height p c) refl in
           let near : is_playable p (under (c, i + 1)) ≡ true = ap (λ r. is_playable p (c, r)) (omega (arith, same)) ∙ playable in
           and_from (is_even (i + 1)) (is_playable p (c, i + 1) || is_playable p (under (c, i + 1))) (eq-eqb ((i + 1) % 2) 0 (omega (arith, row, same)))
           (or_right (is_playable p (c, i + 1)) (is_playable p (under (c, i + 1))) near)))
@@ -199,13 +199,13 @@ columns_where p test (u ∷ us) = elim (cases_Bool (test u)) [
       ∙ flat_map-cons (tops_over p) u (filter test us)
       ∙ ap (λ columns. tops_over p u ++ columns) (columns_where p test us)
       ∙ ap (λ columns. columns ++ filter (λ column. test column.0) (flat_map (tops_over p) us))
-          (sym (all_pass (filter (is_low_column u) (squares_in_column p.rows u.0)) passes))
+      (sym (all_pass (filter (is_low_column u) (squares_in_column p.rows u.0)) passes))
       ∙ sym apart
   | inr fails ↦
       ap (λ b. flat_map (tops_over p) (cond b (u ∷ filter test us) (filter test us))) fails
       ∙ columns_where p test us
       ∙ ap (λ columns. columns ++ filter (λ column. test column.0) (flat_map (tops_over p) us))
-          (sym (none_pass (filter (is_low_column u) (squares_in_column p.rows u.0)) fails))
+      (sym (none_pass (filter (is_low_column u) (squares_in_column p.rows u.0)) fails))
       ∙ sym apart
 ]
   where
@@ -229,7 +229,7 @@ columns_over_bottoms p = flat_map (tops_over p) (filter (is_bottom p) (squares_a
 
 pub lowinverse_sites : (p : Position) (lefts rights : List (Square × Square)) → lefts ≡ columns_over_bottoms p → rights ≡ columns_over_bottoms p
     → fitting (λ (two : (Square × Square) × (Square × Square)). lowinverse two.0.0 two.0.1 two.1.0 two.1.1) p (each_with lefts rights)
-        ≡ listed kinds.Lowinverse p
+    ≡ listed kinds.Lowinverse p
 lowinverse_sites p lefts rights first second =
     let written : (Square × Square) × (Square × Square) → RuleInstance = λ two. lowinverse two.0.0 two.0.1 two.1.0 two.1.1 in
     let narrowed = columns_where p (is_bottom p) (squares_at p) in
@@ -237,7 +237,7 @@ lowinverse_sites p lefts rights first second =
     ∙ ap (λ columns. fitting written p (each_with (filter (λ column. is_bottom p column.0) (low_columns p)) columns)) (second ∙ narrowed)
     ∙ fitting_pairs_within written p (λ column. is_bottom p column.0) (λ column. is_bottom p column.0) (low_columns p) (low_columns p) (λ left right good.
     let both = and_parts (nat_lt left.0.0 right.0.0 && is_low_column left.0 left.1) (is_low_column right.0 right.1) (fits_shape (written (left, right)) p good)
-        in
+    in
     let first = and_parts (nat_lt left.0.0 right.0.0) (is_low_column left.0 left.1) both.0 in
     both_bottoms p left.0 right.0 (even_bottom left first.1) (even_bottom right both.1) (fits_more (written (left, right)) p good))
   where
@@ -253,14 +253,14 @@ these_columns p columns same = ap (list_all (is_column_over p)) same ∙ all_fro
     let top = Among-map_gives (λ top. (over.0, top)) (filter (is_low_column over.0) (squares_in_column p.rows over.0.0)) column over.2 in
     let low = Among-filter_gives (is_low_column over.0) (squares_in_column p.rows over.0.0) top.0 top.1 in
     subst (λ column. is_column_over p column ≡ true) top.2
-        (and_from _ _ bottom.1 (and_from _ _ (top_on over.0 top.0 (Among-board_gives (board_of p) over.0 bottom.0) low.0) low.1)))
+    (and_from _ _ bottom.1 (and_from _ _ (top_on over.0 top.0 (Among-board_gives (board_of p) over.0 bottom.0) low.0) low.1)))
   where
     top_on : (bottom top : Square) → on_board (board_of p) bottom ≡ true → Among top (squares_in_column p.rows bottom.0) → on_board (board_of p) top ≡ true
     top_on bottom top on among =
         let at = Among-map_gives (λ i. (bottom.0, i + 1)) (below p.rows) top among in
         let within = Among-below_gives p.rows at.0 at.1 in
         subst (λ u. on_board (board_of p) u ≡ true) at.2
-            (on_board_from (board_of p) bottom.0 (at.0 + 1) (on_board_parts (board_of p) bottom.0 bottom.1 on).0 (omega arith) (omega (arith, within)))
+        (on_board_from (board_of p) bottom.0 (at.0 + 1) (on_board_parts (board_of p) bottom.0 bottom.1 on).0 (omega arith) (omega (arith, within)))
 
 -- ---- the tops over a bottom, two rows up at a time
 
@@ -292,15 +292,15 @@ pub next_top : (bottom : Square) (n : ℕ) → bottom.1 % 2 ≡ 0 → n % 2 ≡ 
 next_top bottom n even_bottom even_row low =
     let column = eq-eqb bottom.0 bottom.0 refl in
     let top : is_low_column bottom (bottom.0, n + 2)
-        ≡ true = and_from _ _ (and_from _ _ (and_from _ _ column (eq-eqb (bottom.1 % 2) 0 even_bottom)) (eq-eqb ((n + 2) % 2) 0 (omega (arith, even_row))))
-        (le-leb (bottom.1 + 2) (n + 2) (omega (arith, low))) in
+    ≡ true = and_from _ _ (and_from _ _ (and_from _ _ column (eq-eqb (bottom.1 % 2) 0 even_bottom)) (eq-eqb ((n + 2) % 2) 0 (omega (arith, even_row))))
+    (le-leb (bottom.1 + 2) (n + 2) (omega (arith, low))) in
     let two : n + 2 ≡ n + 1 + 1 = omega arith in
     ap (tops_within bottom) two
     ∙ tops_more bottom (n + 1)
     ∙ ap (λ r. tops_within bottom (n + 1) ++ cond (is_low_column bottom (bottom.0, r)) ((bottom.0, r) ∷ []) []) (sym two)
     ∙ ap (λ b. tops_within bottom (n + 1) ++ cond b ((bottom.0, n + 2) ∷ []) []) top
     ∙ ap (λ us. us ++ (bottom.0, n + 2) ∷ [])
-        (no_top bottom n (λ high even. let row : (n + 1) % 2 ≡ 0 = eqb-true ((n + 1) % 2) 0 even in omega (arith, row, even_row)))
+    (no_top bottom n (λ high even. let row : (n + 1) % 2 ≡ 0 = eqb-true ((n + 1) % 2) 0 even in omega (arith, row, even_row)))
 
 -- so the columns over a bottom grow by one
 pub column_more : (bottom top : Square) (start now : List (Square × Square)) → bottom.1 % 2 ≡ 0 → top.1 % 2 ≡ 0 → bottom.1 ≤ top.1 → top.0 ≡ bottom.0

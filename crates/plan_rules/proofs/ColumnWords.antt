@@ -1,6 +1,6 @@
 -- The lists of men of a Lowinverse's column say what its squares say.
-use Rattle.std.proofs.Common.{◌≡◌, ◌≢◌, ◌⊎◌, ◌↔◌, ℕ, zero, suc, ◌+◌, ◌-◌, ◌*◌, ◌%◌, ◌<◌, ◌≤◌, ◌==◌, true, cond, List, [], ◌∷◌, length, Some, None, refl, sym,
-    ap, ◌∙◌, inl, inr, arith}
+use Rattle.std.proofs.Common.{◌≡◌, ◌≢◌, ◌⊎◌, ◌↔◌, ℕ, zero, suc, ◌+◌, ◌-◌, ◌*◌, ◌%◌, ◌<◌, ◌≤◌, ◌==◌, true, cond, List, [], ◌∷◌, length, Some, None, refl, sym}
+use Rattle.std.proofs.Common.{ap, ◌∙◌, inl, inr, arith}
 use Rattle.std.specs.List.{slice_get}
 use Rattle.std.proofs.lemmas.Bool.{cases_lt, cases_eq, eqb-true, eq-eqb, and_parts, and_from}
 use Rattle.game_rules.specs.Board.{Square}
@@ -225,7 +225,7 @@ module _ (p : Position) (bottom : Square) (size : ℕ) (low : 1 ≤ bottom.1) wh
       from : IsCappedColumn p bottom size → is_capped size (men_on p (column_up bottom size)) ≡ true
       from h =
           let full : length (men_on p (column_up bottom size)) ≡ size = length_known (men_on p (column_up bottom size)) size size (length_within p size bottom)
-              (omega arith)
+          (omega arith)
           (λ i less. (pair_man i, each i less)) (λ i more within. absurd (omega arith)) in
           and_from _ _ (eq-eqb (length (men_on p (column_up bottom size))) size full)
           (reads_topped (men_on p (column_up bottom size)) (ap (λ n. n % 2) full ∙ odd) (λ i less. each i (omega (arith, full))))

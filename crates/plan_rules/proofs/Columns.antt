@@ -97,11 +97,11 @@ pushed_on q s m (suc n) u playable side low same under high = elim (cases_lt u.1
         let now : man_at (after_move q s.0) u ≡ Some m = ap (man_at (after_move q s.0)) at ∙ placed q s playable ∙ ap (λ side. Some side) side in
         let none_now : men_on (after_move q s.0) (column_up (above u) n) ≡ [] =
         none_on (after_move q s.0) n (above u)
-            (omega (arith, height_here q s playable, parts.1, ap (λ (v : Square). v.1) at, ap (height (after_move q s.0)) (ap (λ (v : Square). v.0) at))) in
+        (omega (arith, height_here q s playable, parts.1, ap (λ (v : Square). v.1) at, ap (height (after_move q s.0)) (ap (λ (v : Square). v.0) at))) in
         let none_before : men_on q (column_up u (suc n))
-            ≡ [] = none_on q (suc n) u (omega (arith, parts.1, ap (λ (v : Square). v.1) at, ap (height q) (ap (λ (v : Square). v.0) at))) in
+        ≡ [] = none_on q (suc n) u (omega (arith, parts.1, ap (λ (v : Square). v.1) at, ap (height q) (ap (λ (v : Square). v.0) at))) in
         ap (λ k. put_first k (men_on (after_move q s.0) (column_up (above u) n))) now ∙ ap (λ men. m ∷ men) none_now
-            ∙ ap (λ men. men ++ m ∷ []) (sym none_before)
+        ∙ ap (λ men. men ++ m ∷ []) (sym none_before)
 
 pub men_on_append : (q : Position) (us vs : List Square) → men_on q (us ++ vs) ≡ men_on q us ++ men_on q vs
 men_on_append q [] vs = refl

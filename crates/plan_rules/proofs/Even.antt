@@ -7,8 +7,8 @@ use Rattle.game_rules.specs.Board.{Square}
 use Rattle.game_rules.specs.Position.{Position, man_at}
 use Rattle.game_rules.specs.declared.Side.{Side}
 use Rattle.plan_rules.specs.Squares.{is_even, span, put_first, word_at, men_on}
-use Rattle.plan_rules.specs.Rules.{RuleInstance, claimeven, baseinverse, lowinverse, highinverse, baseclaim, vertical, aftereven, before, specialbefore,
-    zone_of}
+use Rattle.plan_rules.specs.Rules.{RuleInstance, claimeven, baseinverse, lowinverse, highinverse, baseclaim, vertical, aftereven, before, specialbefore}
+use Rattle.plan_rules.specs.Rules.{zone_of}
 use Rattle.plan_rules.specs.Calm.{Word, is_one_of, even_words, inverse_words, claim_words, high_words, is_calm}
 use Rattle.plan_rules.proofs.Words.{one_of_all}
 use Rattle.plan_rules.proofs.Columns.{men_on_append}
@@ -42,7 +42,7 @@ calm_even (lowinverse x x_top y y_top) q calm =
     eq-eqb (length (men_on q (zone_of (lowinverse x x_top y y_top))) % 2) 0
     (ap (λ n. n % 2) (ap length (men_on_append q (span x x_top) (span y y_top)) ∙ length-append (men_on q (span x x_top)) (men_on q (span y y_top)))
     ∙ low_even (x_top.1 + 1 - x.1) (y_top.1 + 1 - y.1) (men_on q (span x x_top)) (men_on q (span y y_top))
-        (calm_gives q x y (x_top.1 + 1 - x.1) (y_top.1 + 1 - y.1) calm))
+    (calm_gives q x y (x_top.1 + 1 - x.1) (y_top.1 + 1 - y.1) calm))
 calm_even (highinverse x y) q calm = word_even q high_words (zone_of (highinverse x y)) refl calm
 calm_even (baseclaim a b e) q calm = word_even q claim_words (zone_of (baseclaim a b e)) refl calm
 calm_even (vertical e) q calm = refl

@@ -68,7 +68,7 @@ unanswered_gives p ws g lies h =
       line = lies;
       no_black = λ u owned. false_from_ne_true (has_man p Black u) (λ black.
           both_ways (list_any (has_man p Black) (squares_of g)) (not-true _ both.0)
-              (any_from (has_man p Black) (squares_of g) u (has_gives (squares_of g) u owned) black));
+          (any_from (has_man p Black) (squares_of g) u (has_gives (squares_of g) u owned) black));
       no_bar = no_member (λ w. barred w (facts_of p ws) (empty_part p g)) ws (not-true (is_barred p ws g) both.1);
     }
 
@@ -127,6 +127,6 @@ covered_gives p ws members none = record {
   covered = λ u is.
       let all = sym (no_find (is_uncovered p ws) (squares_of_board (board_of p))) ∙ ap is_none none in
       let covered_u = all_gives (λ u. not (is_uncovered p ws u)) (squares_of_board (board_of p)) u all (Among-board (board_of p) u (empty_parts p u is.empty).0)
-          in
+      in
       both_ways (is_uncovered p ws u) (not-true _ covered_u) (uncovered_from p ws u is);
 }

@@ -12,8 +12,8 @@ use Rattle.game_rules.proofs.Groups.{of_rows}
 use Rattle.game_rules.proofs.Moves.{man_past}
 use Rattle.game_rules.proofs.Squares.{agree, has_gives, has_from}
 use Rattle.plan_rules.specs.Squares.{above, under, is_even, is_odd, column_up, span}
-use Rattle.plan_rules.specs.Rules.{RuleInstance, baseinverse, lowinverse, highinverse, baseclaim, vertical, zone_of, has_shape, is_shaped, is_grounded,
-    fits_besides, fits}
+use Rattle.plan_rules.specs.Rules.{RuleInstance, baseinverse, lowinverse, highinverse, baseclaim, vertical, zone_of, has_shape, is_shaped, is_grounded}
+use Rattle.plan_rules.specs.Rules.{fits_besides, fits}
 use Rattle.plan_rules.proofs.Spans.{span_gives, span_from, low_shape}
 use Rattle.plan_rules.proofs.Turns.{playable_parts, playable_empty, empty_parts}
 use Rattle.plan_rules.proofs.Grounds.{fits_empty, fits_more}
@@ -24,7 +24,7 @@ pub fits_where : (w : RuleInstance) (p : Position) → (fits_besides w p ≡ tru
 fits_where w p shape = agree _ _ (λ h. and_from _ _ (fits_empty w p h) (fits_more w p h)) (λ h.
     let both = and_parts (list_all (is_empty p) (zone_of w)) (fits_besides w p) h in
     and_from _ _ (and_from _ _ (and_from _ _ (all_from _ (zone_of w) (λ u among. (empty_parts p u (all_gives (is_empty p) (zone_of w) u both.0 among)).0))
-        (shape both.1)) both.0) both.1)
+    (shape both.1)) both.0) both.1)
 
 -- and where the rule asks for playable squares, not for that either
 fits_free : (w : RuleInstance) (p : Position) → has_shape w (board_of p) ≡ true → (fits_besides w p ≡ true → list_all (is_empty p) (zone_of w) ≡ true)
@@ -54,7 +54,7 @@ empty_over p u board odd playable =
     let rows = even_rows (board_of p) board in
     let within : u.1 + 1 ≤ p.rows = omega (arith, parts.2) in
     and_from _ _ (on_board_from (board_of p) u.0 (u.1 + 1) parts.0 (omega arith) within)
-        (ap is_none (man_past (men_in p u.0) (u.1 + 1) (omega (arith, parts.1))))
+    (ap is_none (man_past (men_in p u.0) (u.1 + 1) (omega (arith, parts.1))))
 
 -- so three playable squares are enough
 pub baseclaim_fits : (a b e : Square) (p : Position) → is_shaped (baseclaim a b e) widest ≡ true → is_board (board_of p) ≡ true
@@ -64,7 +64,7 @@ baseclaim_fits a b e p shaped board = let shape = shape_given (baseclaim a b e) 
     let both = and_parts (is_playable p a) (is_playable p b) e_open.0 in
     let odd_b : is_odd b.1 ≡ true = (and_parts _ _ (and_parts _ _ shape).0).1 in
     and_from _ _ (playable_empty p a both.0)
-        (and_from _ _ (playable_empty p b both.1) (and_from _ _ (playable_empty p e e_open.1) (and_from _ _ (empty_over p b board odd_b both.1) refl))))
+    (and_from _ _ (playable_empty p b both.1) (and_from _ _ (playable_empty p e e_open.1) (and_from _ _ (empty_over p b board odd_b both.1) refl))))
 
 -- two empty squares are two of the board
 pub vertical_fits : (e : Square) (p : Position) → is_shaped (vertical e) widest ≡ true → fits (vertical e) p ≡ (is_empty p e && is_empty p (above e))
@@ -123,7 +123,7 @@ module _ (w : RuleInstance) (p : Position) (x x_top y y_top : Square) (zone : zo
           let tops = and_parts (on_board (board_of p) x_top) (on_board (board_of p) y_top) grounded.0 in
           let over = over_ground p x y grounded.1 in
           and_from _ _ (subst (λ us. list_all (is_empty p) us ≡ true) (sym zone) (list_all-append (is_empty p) (span x x_top) (span y y_top)
-              ∙ and_from _ _ (column_free p x x_top column_x over.0 tops.0) (column_free p y y_top column_y over.1 tops.1)))
+          ∙ and_from _ _ (column_free p x x_top column_x over.0 tops.0) (column_free p y y_top column_y over.1 tops.1)))
           (besides ∙ grounded.1)
 
 -- the tops of a Highinverse are the third squares of its columns
@@ -148,7 +148,7 @@ lowinverse_grounded x x_top y y_top p shape =
     let columns = low_shape x x_top y y_top shape in
     let low_x = columns.left in let low_y = columns.right in
     grounded_fits (lowinverse x x_top y y_top) p x x_top y y_top refl refl low_x.column low_y.column (omega (arith, low_x.rows)) (omega (arith, low_y.rows))
-        shape
+    shape
 
 pub lowinverse_fits : (x x_top y y_top : Square) (p : Position) → is_shaped (lowinverse x x_top y y_top) widest ≡ true
     → fits (lowinverse x x_top y y_top) p ≡ (on_board (board_of p) x_top && on_board (board_of p) y_top && is_grounded p x y)

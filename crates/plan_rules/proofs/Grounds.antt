@@ -1,7 +1,7 @@
 -- Why the columns of a zone are filled below it when White plays there: the zone was founded at the plan's position, or
 -- White's square stands on the column itself, or the zone is an inverse and both floors were filled by a Baseinverse.
-use Rattle.std.proofs.Common.{◌≡◌, ◌≢◌, ◌⊎◌, ℕ, ◌+◌, ◌-◌, ◌<◌, ◌≤◌, true, false, List, [], ◌∷◌, ◌++◌, Option, Some, None, is_none, refl, sym, ap, ◌∙◌, subst,
-    inl, inr, arith}
+use Rattle.std.proofs.Common.{◌≡◌, ◌≢◌, ◌⊎◌, ℕ, ◌+◌, ◌-◌, ◌<◌, ◌≤◌, true, false, List, [], ◌∷◌, ◌++◌, Option, Some, None, is_none, refl, sym, ap, ◌∙◌, subst}
+use Rattle.std.proofs.Common.{inl, inr, arith}
 use Rattle.std.specs.List.{list_all}
 use Rattle.std.proofs.lemmas.Bool.{cases_lt, cases_order, both_ways, and_parts, or_cases, ltb-true, leb-true}
 use Rattle.game_rules.specs.Board.{Square, on_board}
@@ -13,8 +13,8 @@ use Rattle.game_rules.proofs.Ends.{on_board_parts}
 use Rattle.game_rules.proofs.Lists.{Among}
 use Rattle.game_rules.proofs.Squares.{has_gives, has_from}
 use Rattle.plan_rules.specs.Squares.{above, under, column_up, span, men_on}
-use Rattle.plan_rules.specs.Rules.{RuleInstance, claimeven, baseinverse, lowinverse, highinverse, baseclaim, vertical, aftereven, before, specialbefore,
-    zone_of, owns_no_zone, has_shape, is_shaped, is_grounded, fits_besides, fits, rests_on, stands_over, together}
+use Rattle.plan_rules.specs.Rules.{RuleInstance, claimeven, baseinverse, lowinverse, highinverse, baseclaim, vertical, aftereven, before, specialbefore}
+use Rattle.plan_rules.specs.Rules.{zone_of, owns_no_zone, has_shape, is_shaped, is_grounded, fits_besides, fits, rests_on, stands_over, together}
 use Rattle.plan_rules.specs.Calm.{is_one_of, inverse_words, is_calm}
 use Rattle.plan_rules.specs.Laws.{IsFounded}
 use Rattle.plan_rules.specs.Plan.{IsMember, SomeMember, IsPlan, bottoms_of, HasFloors}
@@ -172,7 +172,7 @@ module _ (p q : Position) (ws : List RuleInstance) (plan : IsPlan p ws)
         by_case some =
             let rest = inverse_owner some.member some.place some.is_member floor some.has_it in
             let calm : is_calm (baseinverse rest.s rest.t) q
-                ≡ true = subst (λ v. is_calm v q ≡ true) rest.is_inverse (calms some.place some.member some.is_member) in
+            ≡ true = subst (λ v. is_calm v q ≡ true) rest.is_inverse (calms some.place some.member some.is_member) in
             ap (λ u. is_none (man_at q (under u))) (sym rest.below_x)
             ∙ ap (λ r. is_none (man_at q (rest.s.0, r))) (omega arith)
             ∙ both_or_none (man_at q rest.s) (man_at q rest.t) calm
@@ -236,7 +236,7 @@ module _ (p q : Position) (ws : List RuleInstance) (plan : IsPlan p ws)
       let fit = plan.fitting i (lowinverse x x_top y y_top) member in
       subst (HasFloors q (span x x_top ++ span y y_top)) (some_pair (x, y) bottoms is)
       (two_floors i (lowinverse x x_top y y_top) x y member refl (λ a b. refl) (λ v h. h) (low_two x x_top y y_top p fit)
-          (fits_more (lowinverse x x_top y y_top) p fit)
+      (fits_more (lowinverse x x_top y y_top) p fit)
       (λ past_x past_y. men_on_append q (span x x_top) (span y y_top)
       ∙ ap (λ men. men ++ men_on q (span y y_top)) (none_on q (x_top.1 + 1 - x.1) x past_x) ∙ none_on q (y_top.1 + 1 - y.1) y past_y))
   has_floors i (highinverse x y) bottoms member is =
@@ -276,14 +276,19 @@ module _ (p q : Position) (ws : List RuleInstance) (plan : IsPlan p ws)
       founded_by (a ∷ b ∷ []) q (λ u among. elim (has_gives (a ∷ b ∷ []) u among) [
         | inl here ↦ record { foot = a; same_column = ap (λ (s : Square). s.0) here; in_zone = has_from (a ∷ b ∷ []) a (inl refl); low = still_low a both.0 }
         | inr later ↦ elim later [
-          | inl here ↦ record { foot = b; same_column = ap (λ (s : Square). s.0) here; in_zone = has_from (a ∷ b ∷ []) b (inr (inl refl)); low =
-              still_low b both.1 }
+          | inl here ↦ record {
+            foot = b;
+            same_column = ap (λ (s : Square). s.0) here;
+            in_zone = has_from (a ∷ b ∷ []) b (inr (inl refl));
+            low =
+                still_low b both.1;
+          }
           | inr more ↦ absurd more
         ]
       ])
   founded i (lowinverse x x_top y y_top) member s playable owned =
       inverse_founded i (lowinverse x x_top y y_top) x y member refl (λ a b. refl) (λ v h. h)
-          (low_two x x_top y y_top p (plan.fitting i (lowinverse x x_top y y_top) member))
+      (low_two x x_top y y_top p (plan.fitting i (lowinverse x x_top y y_top) member))
       (fits_more (lowinverse x x_top y y_top) p (plan.fitting i (lowinverse x x_top y y_top) member)) s playable owned
   founded i (highinverse x y) member s playable owned =
       inverse_founded i (highinverse x y) x y member refl (λ a b. refl) (λ v h. h) (high_two x y p (plan.fitting i (highinverse x y) member))
@@ -296,11 +301,21 @@ module _ (p q : Position) (ws : List RuleInstance) (plan : IsPlan p ws)
         | inr later ↦ elim later [
           | inl here ↦ record { foot = b; same_column = ap (λ (s : Square). s.0) here; in_zone = has_from zone b (inr (inl refl)); low = still_low b inner.1 }
           | inr more ↦ elim more [
-            | inl here ↦ record { foot = e; same_column = ap (λ (s : Square). s.0) here; in_zone = has_from zone e (inr (inr (inl refl))); low =
-                still_low e outer.1 }
+            | inl here ↦ record {
+              foot = e;
+              same_column = ap (λ (s : Square). s.0) here;
+              in_zone = has_from zone e (inr (inr (inl refl)));
+              low =
+                  still_low e outer.1;
+            }
             | inr last ↦ elim last [
-              | inl here ↦ record { foot = b; same_column = ap (λ (s : Square). s.0) here; in_zone = has_from zone b (inr (inl refl)); low =
-                  still_low b inner.1 }
+              | inl here ↦ record {
+                foot = b;
+                same_column = ap (λ (s : Square). s.0) here;
+                in_zone = has_from zone b (inr (inl refl));
+                low =
+                    still_low b inner.1;
+              }
               | inr past ↦ absurd past
             ]
           ]

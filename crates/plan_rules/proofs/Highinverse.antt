@@ -16,8 +16,8 @@ use Rattle.plan_rules.specs.Laws.{StartLaw, LocalLaw, StepLaw, FactLaw, BarLaw, 
 use Rattle.plan_rules.proofs.Squares.{other_column, other_row, has_append}
 use Rattle.plan_rules.proofs.Turns.{turn, answer_at, low_kept, low_above, low_over}
 use Rattle.plan_rules.proofs.Grounds.{TwoColumns, high_two}
-use Rattle.plan_rules.proofs.Words.{narrow, mapped, are_white, is_free, is_free_over, free_from, free_over_from, words_local, zone_on_board, zone_none,
-    foot_low, empty_now, filled_now}
+use Rattle.plan_rules.proofs.Words.{narrow, mapped, are_white, is_free, is_free_over, free_from, free_over_from, words_local, zone_on_board, zone_none}
+use Rattle.plan_rules.proofs.Words.{foot_low, empty_now, filled_now}
 use Rattle.plan_rules.specs.Lawful.{Lawful}
 
 -- the other column first
@@ -81,7 +81,7 @@ module _ (u v : Square) (apart : u.0 ≢ v.0) (q : Position) (white : side_to_mo
     | inl word ↦
         let none : man_at q (above u) ≡ None = cc in
         let open_now : is_playable (after_move q u.0) (above u) ≡ true = answer_at q u (above u) playable (on (above u) in_u1) (up_one u) none
-            (low_above q u playable) in
+        (low_above q u playable) in
         let after = turn q u (above u) white playable open_now in
         let was_u2 : man_at q (above (above u)) ≡ None = cc in
         let now_u2 = after.rest (above (above u)) (up_two u) (up_one (above u)) ∙ was_u2 in
@@ -93,14 +93,20 @@ module _ (u v : Square) (apart : u.0 ≢ v.0) (q : Position) (white : side_to_mo
         let now_v2 = after.rest (above (above v)) (back (above (above v)) u refl refl) (back (above (above v)) (above u) refl refl) ∙ was_v2 in
         let v_now = empty_now q u v playable (on v in_v) (back v u refl refl) was_v in
         let here = same_square_refl u in
-        record { to = (above u); is_reply = rw (here, v_now) refl; in_zone = in_u1; playable = open_now; calm_after =
-            rw (after.white, after.black, now_u2, now_v, now_v1, now_v2) refl }
+        record {
+          to = (above u);
+          is_reply = rw (here, v_now) refl;
+          in_zone = in_u1;
+          playable = open_now;
+          calm_after =
+              rw (after.white, after.black, now_u2, now_v, now_v1, now_v2) refl;
+        }
     | inr more ↦ elim more [
       | inl word ↦
           let none : man_at q (above (above v)) ≡ None = cc in
           let below : man_at q (above v) ≡ Some Black = cc in
           let open_now : is_playable (after_move q u.0) (above (above v)) ≡ true = answer_at q u (above (above v)) playable (on (above (above v)) in_v2)
-              (back (above (above v)) u refl refl) none (low_over q u (above v) Black playable below) in
+          (back (above (above v)) u refl refl) none (low_over q u (above v) Black playable below) in
           let after = turn q u (above (above v)) white playable open_now in
           let was_u1 : man_at q (above u) ≡ None = cc in
           let now_u1 = after.rest (above u) (up_one u) (across (above u) (above (above v)) refl refl) ∙ was_u1 in
@@ -112,8 +118,14 @@ module _ (u v : Square) (apart : u.0 ≢ v.0) (q : Position) (white : side_to_mo
           let now_v1 = after.rest (above v) (back (above v) u refl refl) (down_one (above v)) ∙ was_v1 in
           let v_now = filled_now q u v White playable was_v in
           let here = same_square_refl u in
-          record { to = (above (above v)); is_reply = rw (here, v_now) refl; in_zone = in_v2; playable = open_now; calm_after =
-              rw (after.white, now_u1, now_u2, now_v, now_v1, after.black) refl }
+          record {
+            to = (above (above v));
+            is_reply = rw (here, v_now) refl;
+            in_zone = in_v2;
+            playable = open_now;
+            calm_after =
+                rw (after.white, now_u1, now_u2, now_v, now_v1, after.black) refl;
+          }
       | inr past ↦ absurd past
     ]
   ]
@@ -121,69 +133,88 @@ module _ (u v : Square) (apart : u.0 ≢ v.0) (q : Position) (white : side_to_mo
   at_middle : is_playable q (above u) ≡ true → HighAnswer u v q (above u)
   at_middle playable = elim (narrow (is_free_over 0 1) high_words (word_at q (squares u v)) calm
       (free_over_from q u (on_board_parts (board_of q) u.0 u.1 (on u in_u)).1 playable)) [
-    | inl word ↦
-        let none : man_at q (above (above u)) ≡ None = cc in
-        let open_now : is_playable (after_move q (above u).0) (above (above u)) ≡ true = answer_at q (above u) (above (above u)) playable
+        | inl word ↦
+            let none : man_at q (above (above u)) ≡ None = cc in
+            let open_now : is_playable (after_move q (above u).0) (above (above u)) ≡ true = answer_at q (above u) (above (above u)) playable
             (on (above (above u)) in_u2) (up_one (above u)) none (low_above q (above u) playable) in
-        let after = turn q (above u) (above (above u)) white playable open_now in
-        let was_u : man_at q u ≡ Some Black = cc in
-        let now_u = after.rest u (down_one u) (down_two u) ∙ was_u in
-        let was_v : man_at q v ≡ Some White = cc in
-        let now_v = after.rest v (back v (above u) refl refl) (back v (above (above u)) refl refl) ∙ was_v in
-        let was_v1 : man_at q (above v) ≡ Some Black = cc in
-        let now_v1 = after.rest (above v) (back (above v) (above u) refl refl) (back (above v) (above (above u)) refl refl) ∙ was_v1 in
-        let was_v2 : man_at q (above (above v)) ≡ Some White = cc in
-        let now_v2 = after.rest (above (above v)) (back (above (above v)) (above u) refl refl) (back (above (above v)) (above (above u)) refl refl) ∙ was_v2 in
-        let not_u = up_one u in
-        let here = same_square_refl (above u) in
-        record { to = (above (above u)); is_reply = rw (not_u, here) refl; in_zone = in_u2; playable = open_now; calm_after =
-            rw (now_u, after.white, after.black, now_v, now_v1, now_v2) refl }
-    | inr more ↦ elim more [
-      | inl word ↦
-          let none : man_at q (above (above u)) ≡ None = cc in
-          let open_now : is_playable (after_move q (above u).0) (above (above u)) ≡ true = answer_at q (above u) (above (above u)) playable
+            let after = turn q (above u) (above (above u)) white playable open_now in
+            let was_u : man_at q u ≡ Some Black = cc in
+            let now_u = after.rest u (down_one u) (down_two u) ∙ was_u in
+            let was_v : man_at q v ≡ Some White = cc in
+            let now_v = after.rest v (back v (above u) refl refl) (back v (above (above u)) refl refl) ∙ was_v in
+            let was_v1 : man_at q (above v) ≡ Some Black = cc in
+            let now_v1 = after.rest (above v) (back (above v) (above u) refl refl) (back (above v) (above (above u)) refl refl) ∙ was_v1 in
+            let was_v2 : man_at q (above (above v)) ≡ Some White = cc in
+            let far_v2 = back (above (above v)) (above (above u)) refl refl in
+            let now_v2 = after.rest (above (above v)) (back (above (above v)) (above u) refl refl) far_v2 ∙ was_v2 in
+            let not_u = up_one u in
+            let here = same_square_refl (above u) in
+            record {
+              to = (above (above u));
+              is_reply = rw (not_u, here) refl;
+              in_zone = in_u2;
+              playable = open_now;
+              calm_after =
+                  rw (now_u, after.white, after.black, now_v, now_v1, now_v2) refl;
+            }
+        | inr more ↦ elim more [
+          | inl word ↦
+              let none : man_at q (above (above u)) ≡ None = cc in
+              let open_now : is_playable (after_move q (above u).0) (above (above u)) ≡ true = answer_at q (above u) (above (above u)) playable
               (on (above (above u)) in_u2) (up_one (above u)) none (low_above q (above u) playable) in
-          let after = turn q (above u) (above (above u)) white playable open_now in
-          let was_u : man_at q u ≡ Some White = cc in
-          let now_u = after.rest u (down_one u) (down_two u) ∙ was_u in
-          let was_v : man_at q v ≡ Some White = cc in
-          let now_v = after.rest v (back v (above u) refl refl) (back v (above (above u)) refl refl) ∙ was_v in
-          let was_v1 : man_at q (above v) ≡ Some Black = cc in
-          let now_v1 = after.rest (above v) (back (above v) (above u) refl refl) (back (above v) (above (above u)) refl refl) ∙ was_v1 in
-          let was_v2 : man_at q (above (above v)) ≡ Some Black = cc in
-          let now_v2 = after.rest (above (above v)) (back (above (above v)) (above u) refl refl) (back (above (above v)) (above (above u)) refl refl)
+              let after = turn q (above u) (above (above u)) white playable open_now in
+              let was_u : man_at q u ≡ Some White = cc in
+              let now_u = after.rest u (down_one u) (down_two u) ∙ was_u in
+              let was_v : man_at q v ≡ Some White = cc in
+              let now_v = after.rest v (back v (above u) refl refl) (back v (above (above u)) refl refl) ∙ was_v in
+              let was_v1 : man_at q (above v) ≡ Some Black = cc in
+              let now_v1 = after.rest (above v) (back (above v) (above u) refl refl) (back (above v) (above (above u)) refl refl) ∙ was_v1 in
+              let was_v2 : man_at q (above (above v)) ≡ Some Black = cc in
+              let now_v2 = after.rest (above (above v)) (back (above (above v)) (above u) refl refl) (back (above (above v)) (above (above u)) refl refl)
               ∙ was_v2 in
-          let not_u = up_one u in
-          let here = same_square_refl (above u) in
-          record { to = (above (above u)); is_reply = rw (not_u, here) refl; in_zone = in_u2; playable = open_now; calm_after =
-              rw (now_u, after.white, after.black, now_v, now_v1, now_v2) refl }
-      | inr past ↦ absurd past
-    ]
-  ]
+              let not_u = up_one u in
+              let here = same_square_refl (above u) in
+              record {
+                to = (above (above u));
+                is_reply = rw (not_u, here) refl;
+                in_zone = in_u2;
+                playable = open_now;
+                calm_after =
+                    rw (now_u, after.white, after.black, now_v, now_v1, now_v2) refl;
+              }
+          | inr past ↦ absurd past
+        ]
+      ]
 
   at_top : is_playable q (above (above u)) ≡ true → HighAnswer u v q (above (above u))
   at_top playable = elim (narrow (is_free_over 1 2) high_words (word_at q (squares u v)) calm
       (free_over_from q (above u) (on_board_parts (board_of q) (above u).0 (above u).1 (on (above u) in_u1)).1 playable)) [
-    | inl word ↦
-        let none : man_at q v ≡ None = cc in
-        let open_now : is_playable (after_move q (above (above u)).0) v ≡ true = answer_at q (above (above u)) v playable (on v in_v)
+        | inl word ↦
+            let none : man_at q v ≡ None = cc in
+            let open_now : is_playable (after_move q (above (above u)).0) v ≡ true = answer_at q (above (above u)) v playable (on v in_v)
             (back v (above (above u)) refl refl) none (low_kept q (above (above u)) v playable foot_v) in
-        let after = turn q (above (above u)) v white playable open_now in
-        let was_u : man_at q u ≡ Some White = cc in
-        let now_u = after.rest u (down_two u) (across u v refl refl) ∙ was_u in
-        let was_u1 : man_at q (above u) ≡ Some Black = cc in
-        let now_u1 = after.rest (above u) (down_one (above u)) (across (above u) v refl refl) ∙ was_u1 in
-        let was_v1 : man_at q (above v) ≡ None = cc in
-        let now_v1 = after.rest (above v) (back (above v) (above (above u)) refl refl) (up_one v) ∙ was_v1 in
-        let was_v2 : man_at q (above (above v)) ≡ None = cc in
-        let now_v2 = after.rest (above (above v)) (back (above (above v)) (above (above u)) refl refl) (up_two v) ∙ was_v2 in
-        let not_u = up_two u in
-        let not_u1 = up_one (above u) in
-        let here = same_square_refl (above (above u)) in
-        record { to = v; is_reply = rw (not_u, not_u1, here) refl; in_zone = in_v; playable = open_now; calm_after =
-            rw (now_u, now_u1, after.white, after.black, now_v1, now_v2) refl }
-    | inr past ↦ absurd past
-  ]
+            let after = turn q (above (above u)) v white playable open_now in
+            let was_u : man_at q u ≡ Some White = cc in
+            let now_u = after.rest u (down_two u) (across u v refl refl) ∙ was_u in
+            let was_u1 : man_at q (above u) ≡ Some Black = cc in
+            let now_u1 = after.rest (above u) (down_one (above u)) (across (above u) v refl refl) ∙ was_u1 in
+            let was_v1 : man_at q (above v) ≡ None = cc in
+            let now_v1 = after.rest (above v) (back (above v) (above (above u)) refl refl) (up_one v) ∙ was_v1 in
+            let was_v2 : man_at q (above (above v)) ≡ None = cc in
+            let now_v2 = after.rest (above (above v)) (back (above (above v)) (above (above u)) refl refl) (up_two v) ∙ was_v2 in
+            let not_u = up_two u in
+            let not_u1 = up_one (above u) in
+            let here = same_square_refl (above (above u)) in
+            record {
+              to = v;
+              is_reply = rw (not_u, not_u1, here) refl;
+              in_zone = in_v;
+              playable = open_now;
+              calm_after =
+                  rw (now_u, now_u1, after.white, after.black, now_v1, now_v2) refl;
+            }
+        | inr past ↦ absurd past
+      ]
 
   high_answer : (s : Square) → is_playable q s ≡ true → Among s (column_up u 3) → HighAnswer u v q s
   high_answer s playable (inl here) = subst (λ s. HighAnswer u v q s) here (at_bottom (subst (λ s. is_playable q s ≡ true) (sym here) playable))
@@ -232,7 +263,7 @@ module _ (x y : Square) where
     | inl left ↦ first (has_gives (column_up x 3) s left) (high_answer x y two.apart q white on calm foot_y s playable (has_gives (column_up x 3) s left))
     | inr right ↦ second (has_gives (column_up y 3) s right)
         (high_answer y x (λ same. two.apart (sym same)) q white (λ t among. on t (turned_among y x t among)) (swapped x y q calm) foot_x s playable
-            (has_gives (column_up y 3) s right))
+        (has_gives (column_up y 3) s right))
   ]
     where
       two : TwoColumns (zone_of (highinverse x y)) x y
@@ -309,5 +340,11 @@ module _ (x y : Square) where
   ]
 
   pub highinverse_laws : Lawful (highinverse x y)
-  highinverse_laws = record { starts = highinverse_start; is_local = highinverse_local; steps = highinverse_step; keeps = highinverse_keeps; bars =
-      highinverse_bars }
+  highinverse_laws = record {
+    starts = highinverse_start;
+    is_local = highinverse_local;
+    steps = highinverse_step;
+    keeps = highinverse_keeps;
+    bars =
+        highinverse_bars;
+  }

@@ -1,6 +1,6 @@
 -- What the group rules ask of a line, said by sets of squares.
-use Rattle.std.proofs.Common.{◌≡◌, ◌⊎◌, ℕ, zero, suc, add-one, ◌+◌, ◌<◌, ◌≤◌, Bool, true, false, not, ◌&&◌, ◌||◌, ◌==◌, nat_le, nat_lt, List, [], ◌∷◌, None,
-    is_none, refl, sym, ap, ◌∙◌, inl, inr, arith}
+use Rattle.std.proofs.Common.{◌≡◌, ◌⊎◌, ℕ, zero, suc, add-one, ◌+◌, ◌<◌, ◌≤◌, Bool, true, false, not, ◌&&◌, ◌||◌, ◌==◌, nat_le, nat_lt, List, [], ◌∷◌, None}
+use Rattle.std.proofs.Common.{is_none, refl, sym, ap, ◌∙◌, inl, inr, arith}
 use Rattle.std.specs.List.{list_all, list_any, range_with_len}
 use Rattle.std.proofs.Math.Bool.{or-false, or_assoc}
 use Rattle.std.proofs.lemmas.Bool.{cases_Bool, cases_lt, and_parts, and_from, le-leb, lt-ltb, ltb-true}
@@ -83,8 +83,8 @@ below_top p (c, r) empty =
     (λ h.
     let row : r < p.rows = ltb-true r p.rows h in
     and_from _ _ (le-leb 1 r at.1)
-        (and_from _ _ (on_board_from (board_of p) c (r + 1) at.0 (omega arith) (omega arith))
-        (ap is_none (man_past (men_in p c) (r + 1) (omega (arith, high))))))
+    (and_from _ _ (on_board_from (board_of p) c (r + 1) at.0 (omega arith) (omega arith))
+    (ap is_none (man_past (men_in p c) (r + 1) (omega (arith, high))))))
 
 -- one more number of a range
 any_more : (f : ℕ → Bool) (a n : ℕ) → list_any f (range_with_len a (suc n)) ≡ (list_any f (range_with_len a n) || f (a + n))
@@ -134,18 +134,18 @@ unfolding groups_where
 all_open written p gs opened same =
     ap (fitting written p) same
     ∙ fitting_within written p (is_open_for_black p) (groups_of (board_of p))
-        (λ g good. (and_parts (is_open_for_black p g) _ (sym (open_is p g) ∙ opened g good)).0)
+    (λ g good. (and_parts (is_open_for_black p g) _ (sym (open_is p g) ∙ opened g good)).0)
 
 -- ---- Specialbefore
 
 -- what its shape says besides the board
 pub special_parts : (g : Group) (f e0 : Square) (board : Board) → is_shaped (specialbefore g f e0) board ≡ true
     → (lies_on board g ≡ true) × (on_board board f ≡ true) × (not (has_square (squares_of g) f) ≡ true) × (has_square (squares_of g) e0 ≡ true)
-        × (not (f.0 == e0.0) ≡ true)
+    × (not (f.0 == e0.0) ≡ true)
 special_parts g f e0 board h =
     let shape = and_parts (list_all (on_board board) (zone_of (specialbefore g f e0))) (has_shape (specialbefore g f e0) board) h in
     let all = and_parts (lies_on board g && on_board board f && not (has_square (squares_of g) f) && has_square (squares_of g) e0) (not (f.0 == e0.0)) shape.1
-        in
+    in
     let four = and_parts (lies_on board g && on_board board f && not (has_square (squares_of g) f)) (has_square (squares_of g) e0) all.0 in
     let three = and_parts (lies_on board g && on_board board f) (not (has_square (squares_of g) f)) four.0 in
     let two = and_parts (lies_on board g) (on_board board f) three.0 in

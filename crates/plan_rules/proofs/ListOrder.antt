@@ -50,7 +50,7 @@ candidates_order kinds.Baseinverse p = Ordered-map (ByTwo SquarePrecedes SquareP
 candidates_order kinds.Lowinverse p = Ordered-map (ByTwo (ByTwo SquarePrecedes SquarePrecedes) (ByTwo SquarePrecedes SquarePrecedes)) Precedes
     (λ two. lowinverse two.0.0 two.0.1 two.1.0 two.1.1)
     (each_with (low_columns p) (low_columns p)) (λ a b less. less)
-        (Ordered-each (ByTwo SquarePrecedes SquarePrecedes) (ByTwo SquarePrecedes SquarePrecedes) (low_columns p) (low_columns p) (low_order p) (low_order p))
+    (Ordered-each (ByTwo SquarePrecedes SquarePrecedes) (ByTwo SquarePrecedes SquarePrecedes) (low_columns p) (low_columns p) (low_order p) (low_order p))
 candidates_order kinds.Highinverse p = Ordered-map (ByTwo SquarePrecedes SquarePrecedes) Precedes (λ two. highinverse two.0 two.1)
     (each_with (squares_at p) (squares_at p)) (λ a b less. less)
     (Ordered-each SquarePrecedes SquarePrecedes (squares_at p) (squares_at p) (squares_in_order (board_of p)) (squares_in_order (board_of p)))
@@ -58,7 +58,7 @@ candidates_order kinds.Baseclaim p = Ordered-map (ByTwo SquarePrecedes (ByTwo Sq
     (λ three. baseclaim three.0 three.1.0 three.1.1)
     (each_with (playable_squares p) (each_with (playable_squares p) (playable_squares p))) (λ a b less. less)
     (Ordered-each SquarePrecedes (ByTwo SquarePrecedes SquarePrecedes) (playable_squares p) (each_with (playable_squares p) (playable_squares p))
-        (playable_order p) (pairs_order p))
+    (playable_order p) (pairs_order p))
 candidates_order kinds.Vertical p = Ordered-map SquarePrecedes Precedes vertical (squares_at p) (λ a b less. less) (squares_in_order (board_of p))
 candidates_order kinds.Aftereven p = Ordered-map GroupPrecedes Precedes aftereven (groups_of (board_of p)) (λ a b less. less) (groups_in_order (board_of p))
 candidates_order kinds.Before p = Ordered-map GroupPrecedes Precedes before (groups_of (board_of p)) (λ a b less. less) (groups_in_order (board_of p))
@@ -66,7 +66,7 @@ candidates_order kinds.Specialbefore p = Ordered-map (ByTwo GroupPrecedes (ByTwo
     (λ three. specialbefore three.0 three.1.0 three.1.1)
     (each_with (groups_of (board_of p)) (each_with (playable_squares p) (playable_squares p))) (λ a b less. less)
     (Ordered-each GroupPrecedes (ByTwo SquarePrecedes SquarePrecedes) (groups_of (board_of p)) (each_with (playable_squares p) (playable_squares p))
-        (groups_in_order (board_of p)) (pairs_order p))
+    (groups_in_order (board_of p)) (pairs_order p))
 
 pub listed_order : (kind : Kind) (p : Position) → Ordered Precedes (listed kind p)
 listed_order kind p = Ordered-filter Precedes (λ w. fits w p) (candidates kind p) (candidates_order kind p)

@@ -1,19 +1,19 @@
 -- What fits is listed among those of its kind, and what is listed fits.
-use Rattle.std.proofs.Common.{◌≡◌, zero, suc, add-one, true, ◌&&◌, nat_lt, nat_le, ◌+◌, ◌-◌, ◌≤◌, ◌==◌, List, map, filter, refl, sym, ap, ◌∙◌, subst, inl, inr,
-    arith}
+use Rattle.std.proofs.Common.{◌≡◌, zero, suc, add-one, true, ◌&&◌, nat_lt, nat_le, ◌+◌, ◌-◌, ◌≤◌, ◌==◌, List, map, filter, refl, sym, ap, ◌∙◌, subst, inl, inr}
+use Rattle.std.proofs.Common.{arith}
 use Rattle.std.proofs.lemmas.Bool.{and_parts, and_from, eqb-true, leb-true}
 use Rattle.game_rules.specs.Board.{Board, Square, below, on_board}
 use Rattle.game_rules.specs.Position.{Position, board_of}
 use Rattle.game_rules.specs.Squares.{same_square, squares_in_column, is_playable}
 use Rattle.game_rules.specs.Groups.{Group, same_group, lies_on, groups_of}
-use Rattle.game_rules.proofs.Lists.{Among, Among-map, Among-map_gives, Among-filter, Among-filter_gives, Among-below, Among-flat_map, Among-append_left,
-    Among-append_right, any_gives, any_from, all_gives}
+use Rattle.game_rules.proofs.Lists.{Among, Among-map, Among-map_gives, Among-filter, Among-filter_gives, Among-below, Among-flat_map, Among-append_left}
+use Rattle.game_rules.proofs.Lists.{Among-append_right, any_gives, any_from, all_gives}
 use Rattle.game_rules.proofs.Ends.{on_board_parts}
 use Rattle.game_rules.proofs.Squares.{same_square_refl, same_square_is, has_gives, has_on_board}
 use Rattle.game_rules.proofs.Groups.{same_group_refl, same_group_is, group_gives, has_group_of}
 use Rattle.plan_rules.specs.Squares.{above, is_even, span}
-use Rattle.plan_rules.specs.Rules.{RuleInstance, claimeven, baseinverse, lowinverse, highinverse, baseclaim, vertical, aftereven, before, specialbefore,
-    kind_of, zone_of, is_low_column, is_open_line, is_low_line, fits}
+use Rattle.plan_rules.specs.Rules.{RuleInstance, claimeven, baseinverse, lowinverse, highinverse, baseclaim, vertical, aftereven, before, specialbefore}
+use Rattle.plan_rules.specs.Rules.{kind_of, zone_of, is_low_column, is_open_line, is_low_line, fits}
 use Rattle.plan_rules.proofs.Lines.{open_lies}
 use Rattle.plan_rules.proofs.Squares.{column_from}
 use Rattle.plan_rules.proofs.Grounds.{fits_shape, fits_on_board, fits_more}
@@ -122,22 +122,22 @@ low_column p bottom top on top_on h =
     = subst (λ c. Among top (squares_in_column p.rows c)) (sym (low_parts bottom top h).0) (in_column (board_of p) top top_on) in
     Among-flat_map (tops_over p) (squares_at p) bottom (bottom, top) (at_square p bottom on)
     (Among-map (λ top. (bottom, top)) (filter (is_low_column bottom) (squares_in_column p.rows bottom.0)) top
-        (Among-filter (is_low_column bottom) (squares_in_column p.rows bottom.0) top over h))
+    (Among-filter (is_low_column bottom) (squares_in_column p.rows bottom.0) top over h))
 
 fits_candidate : (w : RuleInstance) (p : Position) → fits w p ≡ true → Among w (candidates (kind_of w) p)
 fits_candidate (claimeven x) p h = Among-map claimeven (squares_at p) x (zone_square (claimeven x) p x h (inl refl))
 fits_candidate (baseinverse s t) p h =
     let both = and_parts (is_playable p s) (is_playable p t) (fits_more (baseinverse s t) p h) in
     Among-map (λ two. baseinverse two.0 two.1) (each_with (playable_squares p) (playable_squares p)) (s, t)
-        (Among-each (playable_squares p) (playable_squares p) s t (at_playable p s both.0) (at_playable p t both.1))
+    (Among-each (playable_squares p) (playable_squares p) s t (at_playable p s both.0) (at_playable p t both.1))
 fits_candidate (lowinverse x x_top y y_top) p h =
     let w = lowinverse x x_top y y_top in
     let shape = and_parts (nat_lt x.0 y.0 && is_low_column x x_top) (is_low_column y y_top) (fits_shape w p h) in
     let front = and_parts (nat_lt x.0 y.0) (is_low_column x x_top) shape.0 in
     let left : (u : Square) → Among u (span x x_top)
-        → on_board (board_of p) u ≡ true = λ u among. zone_on w p u h (Among-append_left u (span x x_top) (span y y_top) among) in
+    → on_board (board_of p) u ≡ true = λ u among. zone_on w p u h (Among-append_left u (span x x_top) (span y y_top) among) in
     let right : (u : Square) → Among u (span y y_top)
-        → on_board (board_of p) u ≡ true = λ u among. zone_on w p u h (Among-append_right u (span x x_top) (span y y_top) among) in
+    → on_board (board_of p) u ≡ true = λ u among. zone_on w p u h (Among-append_right u (span x x_top) (span y y_top) among) in
     Among-map (λ two. lowinverse two.0.0 two.0.1 two.1.0 two.1.1) (each_with (low_columns p) (low_columns p)) ((x, x_top), (y, y_top))
     (Among-each (low_columns p) (low_columns p) (x, x_top) (y, y_top)
     (low_column p x x_top (left x (span_ends x x_top front.1).0) (left x_top (span_ends x x_top front.1).1) front.1)
@@ -145,14 +145,14 @@ fits_candidate (lowinverse x x_top y y_top) p h =
 fits_candidate (highinverse x y) p h =
     Among-map (λ two. highinverse two.0 two.1) (each_with (squares_at p) (squares_at p)) (x, y)
     (Among-each (squares_at p) (squares_at p) x y (zone_square (highinverse x y) p x h (inl refl))
-        (zone_square (highinverse x y) p y h (inr (inr (inr (inl refl))))))
+    (zone_square (highinverse x y) p y h (inr (inr (inr (inl refl))))))
 fits_candidate (baseclaim a b e) p h =
     let all = and_parts (is_playable p a && is_playable p b) (is_playable p e) (fits_more (baseclaim a b e) p h) in
     let two = and_parts (is_playable p a) (is_playable p b) all.0 in
     let squares = playable_squares p in
     Among-map (λ three. baseclaim three.0 three.1.0 three.1.1) (each_with squares (each_with squares squares)) (a, (b, e))
     (Among-each squares (each_with squares squares) a (b, e) (at_playable p a two.0)
-        (Among-each squares squares b e (at_playable p b two.1) (at_playable p e all.1)))
+    (Among-each squares squares b e (at_playable p b two.1) (at_playable p e all.1)))
 fits_candidate (vertical e) p h =
     let shape = and_parts (on_board (board_of p) e && on_board (board_of p) (above e)) (is_even e.1) (fits_shape (vertical e) p h) in
     Among-map vertical (squares_at p) e (at_square p e (and_parts (on_board (board_of p) e) (on_board (board_of p) (above e)) shape.0).0)

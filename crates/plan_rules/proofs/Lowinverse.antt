@@ -1,10 +1,10 @@
 -- Lowinverse: below the tops White's square is answered by the one above; a top is answered in the other column, which
 -- shifts that column by one. What is proved of White's move in one column, with the other beside it, holds of both.
-use Rattle.std.proofs.Common.{◌≡◌, ◌≢◌, ◌⊎◌, ℕ, zero, suc, ◌+◌, ◌-◌, ◌%◌, ◌<◌, ◌≤◌, true, false, ◌&&◌, List, [], ◌∷◌, ◌++◌, length, Option, Some, None, refl,
-    sym, ap, ◌∙◌, subst, inl, inr, arith}
+use Rattle.std.proofs.Common.{◌≡◌, ◌≢◌, ◌⊎◌, ℕ, zero, suc, ◌+◌, ◌-◌, ◌%◌, ◌<◌, ◌≤◌, true, false, ◌&&◌, List, [], ◌∷◌, ◌++◌, length, Option, Some, None, refl}
+use Rattle.std.proofs.Common.{sym, ap, ◌∙◌, subst, inl, inr, arith}
 use Rattle.std.specs.List.{slice_get}
-use Rattle.std.proofs.lemmas.Bool.{cases_lt, leb-true, eqb-true, eq-eqb, and_parts, and_from, or_cases, or_left, or_right, cond-true, cond-false,
-    false_from_ne_true}
+use Rattle.std.proofs.lemmas.Bool.{cases_lt, leb-true, eqb-true, eq-eqb, and_parts, and_from, or_cases, or_left, or_right, cond-true, cond-false}
+use Rattle.std.proofs.lemmas.Bool.{false_from_ne_true}
 use Rattle.std.proofs.lemmas.List.{length_push}
 use Rattle.game_rules.specs.Board.{Square, on_board}
 use Rattle.game_rules.specs.Position.{Position, board_of, height, man_at, has_man, men_in, side_to_move, has_room, lowest_empty, other, after_move}
@@ -24,8 +24,8 @@ use Rattle.plan_rules.proofs.Turns.{man_from, answer_at, low_above, side_after, 
 use Rattle.plan_rules.proofs.Grounds.{TwoColumns, low_two, fits_shape}
 use Rattle.plan_rules.proofs.Words.{zone_on_board, zone_none, foot_low}
 use Rattle.plan_rules.proofs.Columns.{man_on, length_within, length_on, length_full, same_on, beside_on, pushed_on}
-use Rattle.plan_rules.proofs.Pairs.{paired_even, shifted_odd, paired_more, paired_topped, paired_shifted, shifted_more, paired_odd, topped_odd, paired_no_two,
-    topped_no_two, shifted_no_two, paired_not_last, shifted_not_last}
+use Rattle.plan_rules.proofs.Pairs.{paired_even, shifted_odd, paired_more, paired_topped, paired_shifted, shifted_more, paired_odd, topped_odd, paired_no_two}
+use Rattle.plan_rules.proofs.Pairs.{topped_no_two, shifted_no_two, paired_not_last, shifted_not_last}
 use Rattle.plan_rules.specs.Lawful.{Lawful}
 
 abbrev some_square : Square → Option Square
@@ -169,7 +169,7 @@ module _ (u v : Square) (n m : ℕ) (odd_n : n % 2 ≡ 1) (odd_m : m % 2 ≡ 1) 
           answer : (j : ℕ) → j < m → height q v.0 + 1 ≡ v.1 + j → TopAnswer i
           answer j within row =
               let now_row : height (after_move q u.0) v.0 + 1 ≡ v.1 + j = ap (λ h. h + 1) (height_beside q (u.0, u.1 + i) v.0 (λ same. apart (sym same)))
-                  ∙ row in
+              ∙ row in
               let open_now : is_playable (after_move q u.0) (v.0, v.1 + j) ≡ true =
               answer_at q (u.0, u.1 + i) (v.0, v.1 + j) playable (on_v j within) (other_column (v.0, v.1 + j) (u.0, u.1 + i) (λ same. apart (sym same)))
               (past_row (v.1 + j) row) (omega arith) in
@@ -282,11 +282,11 @@ module _ (x x_top y y_top : Square) where
   pub lowinverse_local : LocalLaw (zone_of (lowinverse x x_top y y_top)) (is_calm (lowinverse x x_top y y_top))
   lowinverse_local p q same calm =
       let left : men_on p (span x x_top) ≡ men_on q (span x x_top) =
-          same_on q p (span x x_top) (λ u among. same u (has_from zone u (Among-append_left u (span x x_top) (span y y_top) among))) in
+      same_on q p (span x x_top) (λ u among. same u (has_from zone u (Among-append_left u (span x x_top) (span y y_top) among))) in
       let right : men_on p (span y y_top) ≡ men_on q (span y y_top) =
-          same_on q p (span y y_top) (λ u among. same u (has_from zone u (Among-append_right u (span x x_top) (span y y_top) among))) in
+      same_on q p (span y y_top) (λ u among. same u (has_from zone u (Among-append_right u (span x x_top) (span y y_top) among))) in
       calm_from q x y n m (subst (λ us. CalmLow n m us (men_on q (column_up y m))) left
-          (subst (λ vs. CalmLow n m (men_on p (column_up x n)) vs) right (calm_gives p x y n m calm)))
+      (subst (λ vs. CalmLow n m (men_on p (column_up x n)) vs) right (calm_gives p x y n m calm)))
 
   pub lowinverse_keeps : FactLaw (fits (lowinverse x x_top y y_top)) (is_calm (lowinverse x x_top y y_top)) (upper_of (lowinverse x x_top y y_top))
       (pair_of (lowinverse x x_top y y_top)) (twin_of (lowinverse x x_top y y_top))
@@ -348,10 +348,10 @@ module _ (x x_top y y_top : Square) where
           (omega (arith, (column_x p fitted).more)) (omega (arith, (column_y p fitted).more))
           (white_at q x n (n - 1) (low_x p fitted) (omega (arith, (column_x p fitted).more))
           (subst (λ u. has_man q White u ≡ true) (sym (top_is x x_top n (n - 1) (column_x p fitted) (omega (arith, (column_x p fitted).more))))
-              (owns x_top both.0)))
+          (owns x_top both.0)))
           (white_at q y m (m - 1) (low_y p fitted) (omega (arith, (column_y p fitted).more))
           (subst (λ u. has_man q White u ≡ true) (sym (top_is y y_top m (m - 1) (column_y p fitted) (omega (arith, (column_y p fitted).more))))
-              (owns y_top both.1)))
+          (owns y_top both.1)))
     ]
   ]
     where
@@ -430,12 +430,12 @@ module _ (x x_top y y_top : Square) where
             playable = open_now;
             calm_after = calm_from (after_move (after_move q x.0) x.0) x y (x_top.1 + 1 - x.1) (y_top.1 + 1 - y.1)
                 (inner x y (x_top.1 + 1 - x.1) (y_top.1 + 1 - y.1) (column_x p fitted).odd (column_y p fitted).odd two.apart (low_x p fitted) (low_y p fitted) q
-                    white foot_x foot_y cases
+                white foot_x foot_y cases
                 (on_y p q fitted board) i more playable open_now);
           }
       left_column i within playable (inr last) =
           let answer = top x y (x_top.1 + 1 - x.1) (y_top.1 + 1 - y.1) (column_x p fitted).odd (column_y p fitted).odd two.apart (low_x p fitted)
-              (low_y p fitted) q white foot_x foot_y cases
+          (low_y p fitted) q white foot_x foot_y cases
           (on_y p q fitted board) i (omega arith) playable in
           let here = ap (λ u. same_square u x_top) (top_is x x_top (x_top.1 + 1 - x.1) i (column_x p fitted) (omega arith)) ∙ same_square_refl x_top in
           record {
@@ -460,12 +460,12 @@ module _ (x x_top y y_top : Square) where
             playable = open_now;
             calm_after = calm_from (after_move (after_move q y.0) y.0) x y (x_top.1 + 1 - x.1) (y_top.1 + 1 - y.1) (calm_turned _ _ _ _
                 (inner y x (y_top.1 + 1 - y.1) (x_top.1 + 1 - x.1) (column_y p fitted).odd (column_x p fitted).odd turned_apart (low_y p fitted)
-                    (low_x p fitted) q white foot_y foot_x (calm_turned _ _ _ _ cases)
+                (low_x p fitted) q white foot_y foot_x (calm_turned _ _ _ _ cases)
                 (on_x p q fitted board) i more playable open_now));
           }
       right_column i within playable (inr last) =
           let answer = top y x (y_top.1 + 1 - y.1) (x_top.1 + 1 - x.1) (column_y p fitted).odd (column_x p fitted).odd turned_apart (low_y p fitted)
-              (low_x p fitted) q white foot_y foot_x (calm_turned _ _ _ _ cases)
+          (low_x p fitted) q white foot_y foot_x (calm_turned _ _ _ _ cases)
           (on_x p q fitted board) i (omega arith) playable in
           let here = ap (λ u. same_square u y_top) (top_is y y_top (y_top.1 + 1 - y.1) i (column_y p fitted) (omega arith)) ∙ same_square_refl y_top in
           record {

@@ -1,6 +1,6 @@
 -- First places, the least two and the first of an ordered list, in words.
-use Rattle.std.proofs.Common.{◌≡◌, ◌⊎◌, ℕ, zero, suc, ◌+◌, ◌<◌, Bool, true, false, not, List, [], ◌∷◌, Option, Some, None, refl, sym, ap, ◌∙◌, subst, inl, inr,
-    arith}
+use Rattle.std.proofs.Common.{◌≡◌, ◌⊎◌, ℕ, zero, suc, ◌+◌, ◌<◌, Bool, true, false, not, List, [], ◌∷◌, Option, Some, None, refl, sym, ap, ◌∙◌, subst, inl, inr}
+use Rattle.std.proofs.Common.{arith}
 use Rattle.std.specs.List.{slice_get, find, position_from}
 use Rattle.std.specs.Option.{option_map, option_or}
 use Rattle.std.proofs.lemmas.Bool.{cases_Bool, both_ways, cond-true, cond-false, not-true, not-false, not_from_true, not_from_false}
@@ -20,8 +20,15 @@ place_gives test n (x ∷ xs) place h = elim (cases_Bool (test x)) [
       record { index = 0; counted = omega arith; element = x; at = refl; passes = passes; earlier = λ i y less. absurd (omega arith) }
   | inr fails ↦
       let later = place_gives test (n + 1) xs place (rw fails at h) in
-      record { index = suc later.index; counted = omega (arith, later.counted); element = later.element; at = later.at; passes = later.passes; earlier =
-          before fails later.index later.earlier }
+      record {
+        index = suc later.index;
+        counted = omega (arith, later.counted);
+        element = later.element;
+        at = later.at;
+        passes = later.passes;
+        earlier =
+            before fails later.index later.earlier;
+      }
 ]
   where
     before : test x ≡ false → (index : ℕ) → ((i : ℕ) (y : _) → i < index → slice_get xs i ≡ Some y → test y ≡ false) → (i : ℕ) (y : _) → i < suc index
@@ -127,7 +134,7 @@ two_gives test n (x ∷ xs) first second h = by_place (position_from (λ y. not 
         let here : n ≡ first = ap (λ pair. pair.0) both in
         let there : j ≡ second = ap (λ pair. pair.1) both in
         subst (λ k. IsLeastTwo test n (x ∷ xs) k second) here
-            (two_here test n x xs second (place_gives (λ y. not (test x y)) (n + 1) xs second (found ∙ ap (λ k. Some k) there)))
+        (two_here test n x xs second (place_gives (λ y. not (test x y)) (n + 1) xs second (found ∙ ap (λ k. Some k) there)))
     by_place None none h later = two_behind test n x xs first second (λ j y at. not-false (test x y) (none_at (λ y. not (test x y)) (n + 1) xs none j y at))
         (later h)
 
@@ -148,10 +155,10 @@ two_at test n (z ∷ xs) zero (suc right) x y order at_x at_y fails earlier =
     ∙ same_two n (n + 1 + right) (n + 0) (n + suc right) (omega arith) (omega arith)
 two_at test n (z ∷ xs) (suc left) (suc right) x y order at_x at_y fails earlier =
     let none = place_none (λ w. not (test z w)) (n + 1) xs
-        (λ i w at. not_from_true (test z w) (earlier 0 (suc i) z w (omega arith) (inl (omega arith)) refl at)) in
+    (λ i w at. not_from_true (test z w) (earlier 0 (suc i) z w (omega arith) (inl (omega arith)) refl at)) in
     ap (λ found. option_or (option_map (λ j. (n, j)) found) (first_two_from test (n + 1) xs)) none
     ∙ two_at test (n + 1) xs left right x y (omega arith) at_x at_y fails
-        (λ i j v w less before at_v at_w. earlier (suc i) (suc j) v w (omega arith) (moved i j before) at_v at_w)
+    (λ i j v w less before at_v at_w. earlier (suc i) (suc j) v w (omega arith) (moved i j before) at_v at_w)
     ∙ same_two (n + 1 + left) (n + 1 + right) (n + suc left) (n + suc right) (omega arith) (omega arith)
   where
     moved : (i j : ℕ) → (i < left) ⊎ ((i ≡ left) × (j < right)) → (suc i < suc left) ⊎ ((suc i ≡ suc left) × (suc j < suc right))

@@ -1,7 +1,7 @@
 -- First places: of an element that passes a test, and of two that fail a test of two. Places are counted from a number
 -- that is given.
-use Rattle.std.proofs.Common.{◌≡◌, ℕ, ◌+◌, ◌<◌, ◌≤◌, Bool, true, false, not, cond, List, [], ◌∷◌, ◌++◌, length, map, get_or, take, drop, Option, Some, None,
-    refl, sym, ap, ◌∙◌, inl, inr, arith}
+use Rattle.std.proofs.Common.{◌≡◌, ℕ, ◌+◌, ◌<◌, ◌≤◌, Bool, true, false, not, cond, List, [], ◌∷◌, ◌++◌, length, map, get_or, take, drop, Option, Some, None}
+use Rattle.std.proofs.Common.{refl, sym, ap, ◌∙◌, inl, inr, arith}
 use Rattle.std.specs.List.{slice_get, find, position_from}
 use Rattle.std.specs.Option.{option_map, option_or}
 use Rattle.std.proofs.lemmas.Bool.{cases_Bool, lt-ltb, le-ltb, cond-true, cond-false}
@@ -122,16 +122,16 @@ lesser_step n m (Some j) false two (Some i) past_two past = let less = past i re
 -- that goes by the second element still finds the least first one.
 pub two_more : {X : Type 0} (test : X → X → Bool) (n : ℕ) (xs : List X) (y : X)
     → first_two_from test n (xs ++ y ∷ [])
-        ≡ lesser_two (first_two_from test n xs) (option_map (λ i. (i, n + length xs)) (position_from (λ x. not (test x y)) n xs))
+    ≡ lesser_two (first_two_from test n xs) (option_map (λ i. (i, n + length xs)) (position_from (λ x. not (test x y)) n xs))
 two_more test n [] y = refl
 two_more test n (x ∷ xs) y =
     ap (λ place. option_or (option_map (λ j. (n, j)) place) (first_two_from test (n + 1) (xs ++ y ∷ [])))
-        (place_append (λ z. not (test x z)) (n + 1) xs (y ∷ []))
+    (place_append (λ z. not (test x z)) (n + 1) xs (y ∷ []))
     ∙ ap (λ two. option_or (option_map (λ j. (n, j))
-        (option_or (position_from (λ z. not (test x z)) (n + 1) xs) (position_from (λ z. not (test x z)) (n + 1 + length xs) (y ∷ [])))) two)
-        (two_more test (n + 1) xs y)
+    (option_or (position_from (λ z. not (test x z)) (n + 1) xs) (position_from (λ z. not (test x z)) (n + 1 + length xs) (y ∷ [])))) two)
+    (two_more test (n + 1) xs y)
     ∙ lesser_step n (n + 1 + length xs) (position_from (λ z. not (test x z)) (n + 1) xs) (not (test x y)) (first_two_from test (n + 1) xs)
-        (position_from (λ z. not (test z y)) (n + 1) xs)
+    (position_from (λ z. not (test z y)) (n + 1) xs)
     (λ two h. let within = two_within test (n + 1) xs two h in omega (arith, within.0))
     (λ i h. let within = place_within (λ z. not (test z y)) (n + 1) xs i h in omega (arith, within.0))
     ∙ ap (λ m. lesser_two (first_two_from test n (x ∷ xs)) (option_map (λ i. (i, m)) (position_from (λ z. not (test z y)) n (x ∷ xs)))) (omega arith)
@@ -150,9 +150,9 @@ two_next_from test n xs y two m found enough =
     two_more test n xs y
     ∙ ap (λ least. lesser_two least (option_map (λ i. (i, n + length xs)) (position_from (λ x. not (test x y)) n xs))) found
     ∙ ap (λ place. lesser_two (Some two) (option_map (λ i. (i, n + length xs)) place)) (ap (position_from (λ x. not (test x y)) n) (sym (take-append-drop m xs))
-        ∙ place_append (λ x. not (test x y)) n (take m xs) (drop m xs))
+    ∙ place_append (λ x. not (test x y)) n (take m xs) (drop m xs))
     ∙ two_enough two (n + length xs) (position_from (λ x. not (test x y)) n (take m xs))
-        (position_from (λ x. not (test x y)) (n + length (take m xs)) (drop m xs)) behind
+    (position_from (λ x. not (test x y)) (n + length (take m xs)) (drop m xs)) behind
   where
     behind : (i : ℕ) → position_from (λ x. not (test x y)) (n + length (take m xs)) (drop m xs) ≡ Some i → two.0 ≤ i
     behind i h =

@@ -1,8 +1,8 @@
 -- A list whose members fit, and each two of which may stand together, has at most fifty zones and five twins on any
 -- board. Each zone has two squares at least, and each Baseinverse two columns; no two zones share a square, and no two
 -- Baseinverses a column.
-use Rattle.std.proofs.Common.{◌≡◌, ◌≢◌, ℕ, suc, ◌+◌, ◌*◌, ◌<◌, ◌≤◌, Bool, true, ◌||◌, ◌==◌, cond, List, [], ◌∷◌, ◌++◌, length, filter, Option, Some, None,
-    is_some, refl, sym, ap, ◌∙◌, inl, inr, arith}
+use Rattle.std.proofs.Common.{◌≡◌, ◌≢◌, ℕ, suc, ◌+◌, ◌*◌, ◌<◌, ◌≤◌, Bool, true, ◌||◌, ◌==◌, cond, List, [], ◌∷◌, ◌++◌, length, filter, Option, Some, None}
+use Rattle.std.proofs.Common.{is_some, refl, sym, ap, ◌∙◌, inl, inr, arith}
 use Rattle.std.specs.List.{list_all, list_any, flat_map, sum_by}
 use Rattle.std.proofs.lemmas.Bool.{cases_Bool, and_parts, or_cases, or_left, or_right, eqb-true, eq-eqb, ltb-true, false_from_ne_true}
 use Rattle.std.proofs.lemmas.List.FromFn.{length-range_with_len}
@@ -15,8 +15,8 @@ use Rattle.game_rules.proofs.Lists.{Among, all_gives, Among-below}
 use Rattle.game_rules.proofs.Squares.{has_gives, has_from, Among-board}
 use Rattle.game_rules.proofs.Groups.{board_most}
 use Rattle.plan_rules.specs.Squares.{above}
-use Rattle.plan_rules.specs.Rules.{RuleInstance, claimeven, baseinverse, lowinverse, highinverse, baseclaim, zone_of, twin_of, as_list, fits, facts_of,
-    together}
+use Rattle.plan_rules.specs.Rules.{RuleInstance, claimeven, baseinverse, lowinverse, highinverse, baseclaim, zone_of, twin_of, as_list, fits, facts_of}
+use Rattle.plan_rules.specs.Rules.{together}
 use Rattle.plan_rules.specs.Plan.{each_two, is_plan}
 use Rattle.plan_rules.specs.Zones.{owns_zone, zones_from}
 use Rattle.plan_rules.specs.Refusal.{StandTogether}
@@ -192,7 +192,7 @@ twins_apart : (v w : RuleInstance) (c : ℕ) → together v w ≡ true → is_tw
 twins_apart v w c h left right =
     let a = inverse_at v c left in let b = inverse_at w c right in
     let both : together (baseinverse a.s a.t) (baseinverse b.s b.t) ≡ true = ap (λ v. together v (baseinverse b.s b.t)) (sym a.is_inverse)
-        ∙ ap (together v) (sym b.is_inverse) ∙ h in
+    ∙ ap (together v) (sym b.is_inverse) ∙ h in
     inverses_apart a.s a.t b.s b.t both a.foot b.foot a.owned b.owned (a.column ∙ sym b.column)
 
 -- a twin of an instance that fits has two columns of the board
@@ -213,7 +213,7 @@ twins_counted (w ∷ ws) = by_twin (twin_of w) (twins_counted ws)
   where
     by_twin : (twin : Option (Square × Square)) → length (flat_map (λ w. as_list (twin_of w)) ws) ≡ length (filter (λ w. is_some (twin_of w)) ws)
         → length (as_list twin ++ flat_map (λ w. as_list (twin_of w)) ws)
-            ≡ length (cond (is_some twin) (w ∷ filter (λ w. is_some (twin_of w)) ws) (filter (λ w. is_some (twin_of w)) ws))
+        ≡ length (cond (is_some twin) (w ∷ filter (λ w. is_some (twin_of w)) ws) (filter (λ w. is_some (twin_of w)) ws))
     by_twin None rest = rest
     by_twin (Some twin) rest = ap suc rest
 

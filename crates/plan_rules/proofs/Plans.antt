@@ -1,6 +1,6 @@
 -- A plan in words of squares and lines, and the test of it.
-use Rattle.std.proofs.Common.{◌≡◌, ℕ, zero, suc, ◌+◌, ◌<◌, Bool, true, not, ◌||◌, List, [], ◌∷◌, Option, Some, None, is_none, refl, sym, ap, subst, inl, inr,
-    arith}
+use Rattle.std.proofs.Common.{◌≡◌, ℕ, zero, suc, ◌+◌, ◌<◌, Bool, true, not, ◌||◌, List, [], ◌∷◌, Option, Some, None, is_none, refl, sym, ap, subst, inl, inr}
+use Rattle.std.proofs.Common.{arith}
 use Rattle.std.specs.List.{list_all, list_any}
 use Rattle.std.proofs.lemmas.Bool.{cases_Bool, both_ways, and_parts, and_from, or_cases, or_left, or_right, not-true, not_from_false, false_from_ne_true}
 use Rattle.game_rules.specs.Board.{Board, Square, below, on_board, is_line, ways}
@@ -68,9 +68,9 @@ every_line_gives : (board : Board) (test : Group → Bool) → every_line board 
 every_line_gives board test h g lies =
     let parts = lies_parts board g lies in
     let along = all_gives (λ way. every_square board (λ anchor. not (is_line board way anchor) || test (group_on board way anchor))) ways g.way h
-        (Among-ways g.way) in
+    (Among-ways g.way) in
     let at = every_square_gives board (λ anchor. not (is_line board g.way anchor) || test (group_on board g.way anchor)) along g.anchor
-        (anchor_on board g.way g.anchor parts.1) in
+    (anchor_on board g.way g.anchor parts.1) in
     elim (or_cases _ _ at) [
       | inl off ↦ absurd (both_ways (is_line board g.way g.anchor) (not-true _ off) parts.1)
       | inr passes ↦ subst (λ g. test g ≡ true) (group_as board g parts.0) passes
@@ -80,7 +80,7 @@ every_line_from : (board : Board) (test : Group → Bool) → ((g : Group) → l
 every_line_from board test each =
     all_from (λ way. every_square board (λ anchor. not (is_line board way anchor) || test (group_on board way anchor))) ways (λ way _.
     every_square_from board (λ anchor. not (is_line board way anchor) || test (group_on board way anchor))
-        (λ anchor. elim (cases_Bool (is_line board way anchor)) [
+    (λ anchor. elim (cases_Bool (is_line board way anchor)) [
       | inl line ↦ or_right _ _ (each (group_on board way anchor) (lies_from board way anchor line))
       | inr off ↦ or_left _ _ (not_from_false _ off)
     ]))
@@ -102,16 +102,16 @@ plan_gives p ws h =
       compatible = two_give together ws compatible.1;
       covered = λ u empty. elim (or_cases _ _
           (every_square_gives (board_of p) (λ u. not (is_empty p u) || has_owner ws u) covered.1 u (empty_parts p u empty).0)) [
-        | inl filled ↦ absurd (both_ways (is_empty p u) (not-true _ filled) empty)
-        | inr owned ↦ member_of (λ w. has_square (zone_of w) u) ws owned
-      ];
+            | inl filled ↦ absurd (both_ways (is_empty p u) (not-true _ filled) empty)
+            | inr owned ↦ member_of (λ w. has_square (zone_of w) u) ws owned
+          ];
       supported = each_member (λ w. is_supported w (facts_of p ws)) ws supported.1;
       answered = λ g lies no_black. elim
           (or_cases _ _ (every_line_gives (board_of p) (λ g. list_any (has_man p Black) (squares_of g) || is_barred p ws g) answered.1 g lies)) [
-        | inl some ↦ let found = any_gives (has_man p Black) (squares_of g) some in
-            absurd (both_ways (has_man p Black found.0) (no_black found.0 (has_from (squares_of g) found.0 found.1)) found.2)
-        | inr barred_one ↦ member_of (λ w. barred w (facts_of p ws) (empty_part p g)) ws barred_one
-      ];
+            | inl some ↦ let found = any_gives (has_man p Black) (squares_of g) some in
+                absurd (both_ways (has_man p Black found.0) (no_black found.0 (has_from (squares_of g) found.0 found.1)) found.2)
+            | inr barred_one ↦ member_of (λ w. barred w (facts_of p ws) (empty_part p g)) ws barred_one
+          ];
     }
 
 pub plan_from : (p : Position) (ws : List RuleInstance) → IsPlan p ws → is_plan p ws ≡ true
@@ -127,9 +127,9 @@ plan_from p ws plan =
     ])))
     (all_members (λ w. is_supported w (facts_of p ws)) ws plan.supported))
     (every_line_from (board_of p) (λ g. list_any (has_man p Black) (squares_of g) || is_barred p ws g)
-        (λ g lies. elim (cases_Bool (list_any (has_man p Black) (squares_of g))) [
+    (λ g lies. elim (cases_Bool (list_any (has_man p Black) (squares_of g))) [
       | inl some ↦ or_left _ _ some
       | inr none ↦ or_right _ _ (any_member (λ w. barred w (facts_of p ws) (empty_part p g)) ws (plan.answered g lies (λ u owned.
           false_from_ne_true _ (λ black. both_ways (list_any (has_man p Black) (squares_of g)) none
-              (any_from (has_man p Black) (squares_of g) u (has_gives (squares_of g) u owned) black)))))
+          (any_from (has_man p Black) (squares_of g) u (has_gives (squares_of g) u owned) black)))))
     ]))

@@ -1,7 +1,7 @@
 -- Why a list is no plan, in words: each fault exactly where its own condition holds and that of no fault before it; and
 -- which member answers a line.
-use Rattle.std.proofs.Common.{◌≡◌, ◌≢◌, ◌↔◌, ℕ, Bool, true, false, not, if◌then◌else◌, List, Option, Some, None, is_some, is_none, refl, sym, ap, ◌∙◌, subst,
-    inl, inr}
+use Rattle.std.proofs.Common.{◌≡◌, ◌≢◌, ◌↔◌, ℕ, Bool, true, false, not, if◌then◌else◌, List, Option, Some, None, is_some, is_none, refl, sym, ap, ◌∙◌, subst}
+use Rattle.std.proofs.Common.{inl, inr}
 use Rattle.std.specs.List.{list_any, find, position_from}
 use Rattle.std.specs.Option.{option_map, option_or}
 use Rattle.std.proofs.lemmas.Bool.{both_ways, not-false, not_from_true, not_from_false, false_from_ne_true}
@@ -20,14 +20,15 @@ use Rattle.game_rules.proofs.Groups.{squares_in_order, groups_in_order, Among-gr
 use Rattle.plan_rules.specs.Rules.{RuleInstance, fits, facts_of, barred, is_supported, together}
 use Rattle.plan_rules.specs.Plan.{empty_part, is_plan, IsMember, SomeMember}
 use Rattle.plan_rules.specs.Zones.{first_two_from, IsFirstAt}
-use Rattle.plan_rules.specs.Refusal.{PlanFault, not_white_to_move, ended, misfit, clash, uncovered, unsupported, unanswered, is_uncovered, is_unanswered,
-    members_refusal, cover_refusal, plan_refusal, first_barring, answering, StandTogether, IsGoing, IsCovered, IsSupported, IsRefusal}
+use Rattle.plan_rules.specs.Refusal.{PlanFault, not_white_to_move, ended, misfit, clash, uncovered, unsupported, unanswered, is_uncovered, is_unanswered}
+use Rattle.plan_rules.specs.Refusal.{members_refusal, cover_refusal, plan_refusal, first_barring, answering, StandTogether, IsGoing, IsCovered, IsSupported}
+use Rattle.plan_rules.specs.Refusal.{IsRefusal}
 use Rattle.plan_rules.proofs.Turns.{empty_parts}
 use Rattle.plan_rules.proofs.Plans.{none_is, plan_gives}
 use Rattle.plan_rules.proofs.PlaceWords.{place_gives, place_from, place_none, none_at, two_gives, two_from, find_from}
 use Rattle.plan_rules.proofs.Refusals.{no_place, no_two, no_find}
-use Rattle.plan_rules.proofs.FaultWords.{or_gives, or_none, map_gives, map_none, uncovered_gives, uncovered_from, unanswered_gives, unanswered_from,
-    squares_one_way, groups_one_way, together_gives, first_uncovered, first_unanswered, covered_gives}
+use Rattle.plan_rules.proofs.FaultWords.{or_gives, or_none, map_gives, map_none, uncovered_gives, uncovered_from, unanswered_gives, unanswered_from}
+use Rattle.plan_rules.proofs.FaultWords.{squares_one_way, groups_one_way, together_gives, first_uncovered, first_unanswered, covered_gives}
 
 -- ---- from a fault to its condition
 
@@ -81,7 +82,7 @@ refusal_says p ws fault h = by_side (same_side White (side_to_move p)) refl (end
   where
     by_side : (white : Bool) → same_side White (side_to_move p) ≡ white → (end : Option End) → end_of p ≡ end
         → (if not white then Some not_white_to_move else (if is_some end then Some ended else option_or (members_refusal p ws) (cover_refusal p ws)))
-            ≡ Some fault → IsRefusal p ws fault
+        ≡ Some fault → IsRefusal p ws fault
     by_side false side end over h = subst (IsRefusal p ws) (same_Some not_white_to_move fault h) (other_than_white (side_to_move p) side)
     by_side true side (Some end) over h = subst (IsRefusal p ws) (same_Some ended fault h)
         (sym (same_side_is White (side_to_move p) side), λ none. absurd (cc (none, over)))
@@ -91,7 +92,7 @@ refusal_says p ws fault h = by_side (same_side White (side_to_move p)) refl (end
           | inl members ↦ members_say p ws fault going members
           | inr cover ↦
               let parts = or_none (option_map misfit (position_from (λ w. not (fits w p)) 1 ws))
-                  (option_map (λ (two : ℕ × ℕ). clash two.0 two.1) (first_two_from together 1 ws)) cover.0 in
+              (option_map (λ (two : ℕ × ℕ). clash two.0 two.1) (first_two_from together 1 ws)) cover.0 in
               let fit = map_none misfit (position_from (λ w. not (fits w p)) 1 ws) parts.0 in
               let stand = map_none (λ (two : ℕ × ℕ). clash two.0 two.1) (first_two_from together 1 ws) parts.1 in
               cover_says p ws fault going (together_gives p ws fit stand) cover.1
@@ -103,7 +104,7 @@ refusal_says p ws fault h = by_side (same_side White (side_to_move p)) refl (end
 abbrev told : Option ℕ → Option (ℕ × ℕ) → Option Square → Option ℕ → Option Group → Option PlanFault
 told i two u j g =
     option_or (option_or (option_map misfit i) (option_map (λ (two : ℕ × ℕ). clash two.0 two.1) two))
-        (option_or (option_map uncovered u) (option_or (option_map unsupported j) (option_map unanswered g)))
+    (option_or (option_map uncovered u) (option_or (option_map unsupported j) (option_map unanswered g)))
 
 told_if : (white : Bool) (end : Option End) (later : Option PlanFault) → white ≡ true → end ≡ None
     → (if not white then Some not_white_to_move else (if is_some end then Some ended else later)) ≡ later
@@ -126,7 +127,7 @@ told_together p ws going members =
     told_going p ws going
     ∙ told_cover (position_from (λ w. not (fits w p)) 1 ws) (first_two_from together 1 ws)
     (find (is_uncovered p ws) (squares_of_board (board_of p))) (position_from (λ w. not (is_supported w (facts_of p ws))) 1 ws)
-        (find (is_unanswered p ws) (groups_of (board_of p)))
+    (find (is_unanswered p ws) (groups_of (board_of p)))
     (none_is _ (no_place (λ w. fits w p) 1 ws ∙ members.fitting)) (none_is _ (no_two together 1 ws ∙ members.standing))
 
 no_uncovered : (p : Position) (ws : List RuleInstance) → IsCovered p ws → find (is_uncovered p ws) (squares_of_board (board_of p)) ≡ None
@@ -136,11 +137,11 @@ no_uncovered p ws cover = none_is _ (no_find (is_uncovered p ws) (squares_of_boa
 
 told_covered : (p : Position) (ws : List RuleInstance) → IsGoing p → IsCovered p ws
     → plan_refusal p ws ≡ option_or (option_map unsupported (position_from (λ w. not (is_supported w (facts_of p ws))) 1 ws))
-        (option_map unanswered (find (is_unanswered p ws) (groups_of (board_of p))))
+    (option_map unanswered (find (is_unanswered p ws) (groups_of (board_of p))))
 told_covered p ws going cover =
     told_together p ws going cover.members
     ∙ ap (λ u. option_or (option_map uncovered u) (option_or (option_map unsupported (position_from (λ w. not (is_supported w (facts_of p ws))) 1 ws))
-        (option_map unanswered (find (is_unanswered p ws) (groups_of (board_of p))))))
+    (option_map unanswered (find (is_unanswered p ws) (groups_of (board_of p))))))
     (no_uncovered p ws cover)
 
 pub says_refusal : (p : Position) (ws : List RuleInstance) (fault : PlanFault) → IsRefusal p ws fault → plan_refusal p ws ≡ Some fault
@@ -157,12 +158,12 @@ says_refusal p ws ended is = by_end (end_of p) is.1
 says_refusal p ws (misfit i) is =
     told_going p ws is.0
     ∙ ap (λ i. option_or (option_or (option_map misfit i) (option_map (λ (two : ℕ × ℕ). clash two.0 two.1) (first_two_from together 1 ws)))
-        (cover_refusal p ws)) (place_from (λ w. not (fits w p)) 1 ws i is.1)
+    (cover_refusal p ws)) (place_from (λ w. not (fits w p)) 1 ws i is.1)
 says_refusal p ws (clash i j) is =
     told_going p ws is.0
     ∙ told_clash (position_from (λ w. not (fits w p)) 1 ws) (first_two_from together 1 ws)
     (find (is_uncovered p ws) (squares_of_board (board_of p))) (position_from (λ w. not (is_supported w (facts_of p ws))) 1 ws)
-        (find (is_unanswered p ws) (groups_of (board_of p))) i j
+    (find (is_unanswered p ws) (groups_of (board_of p))) i j
     (place_none (λ w. not (fits w p)) 1 ws (λ k w member. not_from_true (fits w p) (is.1 k w member))) (two_from together 1 ws i j is.2)
 says_refusal p ws (uncovered u) is =
     let one = is.2.is_one in
@@ -170,18 +171,18 @@ says_refusal p ws (uncovered u) is =
     (Among-board (board_of p) u (empty_parts p u one.empty).0) (uncovered_from p ws u one) (λ v among h. is.2.first v (uncovered_gives p ws v h)) in
     told_together p ws is.0 is.1
     ∙ ap (λ u. option_or (option_map uncovered u) (option_or (option_map unsupported (position_from (λ w. not (is_supported w (facts_of p ws))) 1 ws))
-        (option_map unanswered (find (is_unanswered p ws) (groups_of (board_of p)))))) found
+    (option_map unanswered (find (is_unanswered p ws) (groups_of (board_of p)))))) found
 says_refusal p ws (unsupported i) is =
     told_covered p ws is.0 is.1
     ∙ ap (λ i. option_or (option_map unsupported i) (option_map unanswered (find (is_unanswered p ws) (groups_of (board_of p)))))
-        (place_from (λ w. not (is_supported w (facts_of p ws))) 1 ws i is.2)
+    (place_from (λ w. not (is_supported w (facts_of p ws))) 1 ws i is.2)
 says_refusal p ws (unanswered g) is =
     let one = is.2.is_one in
     let none = place_none (λ w. not (is_supported w (facts_of p ws))) 1 ws
-        (λ k w member. not_from_true (is_supported w (facts_of p ws)) (is.1.supported k w member)) in
+    (λ k w member. not_from_true (is_supported w (facts_of p ws)) (is.1.supported k w member)) in
     let found = find_from GroupPrecedes (is_unanswered p ws) (groups_of (board_of p)) g (groups_in_order (board_of p)) groups_one_way
     (Among-groups (board_of p) g one.line) (unanswered_from p ws g one)
-        (λ h among left. is.2.first h (unanswered_gives p ws h (Among-groups_gives (board_of p) h among) left)) in
+    (λ h among left. is.2.first h (unanswered_gives p ws h (Among-groups_gives (board_of p) h among) left)) in
     told_covered p ws is.0 is.1.cover
     ∙ ap (λ i. option_or (option_map unsupported i) (option_map unanswered (find (is_unanswered p ws) (groups_of (board_of p))))) none
     ∙ ap (option_map unanswered) found
@@ -202,7 +203,7 @@ answer_none p ws g plan lies = by_man (list_any (has_man p Black) (squares_of g)
     found None at none =
         let some = some_bar none in
         absurd (both_ways (barred some.member (facts_of p ws) (empty_part p g))
-            (none_at (λ w. barred w (facts_of p ws) (empty_part p g)) 1 ws at some.place some.member some.is_member) some.has_it)
+        (none_at (λ w. barred w (facts_of p ws) (empty_part p g)) 1 ws at some.place some.member some.is_member) some.has_it)
 
     by_man : (black : Bool) → list_any (has_man p Black) (squares_of g) ≡ black → is_none (if black then None else first_barring p ws g) ≡ black
     by_man true man = refl

@@ -1,6 +1,6 @@
 -- A list has no refusal exactly where it is a plan.
-use Rattle.std.proofs.Common.{◌≡◌, ℕ, ◌+◌, Bool, true, false, not, ◌&&◌, ◌||◌, if◌then◌else◌, List, [], ◌∷◌, filter, Option, Some, None, is_some, is_none, refl,
-    ap, ◌∙◌, inl, inr}
+use Rattle.std.proofs.Common.{◌≡◌, ℕ, ◌+◌, Bool, true, false, not, ◌&&◌, ◌||◌, if◌then◌else◌, List, [], ◌∷◌, filter, Option, Some, None, is_some, is_none, refl}
+use Rattle.std.proofs.Common.{ap, ◌∙◌, inl, inr}
 use Rattle.std.specs.List.{list_all, list_any, flat_map, find, position_from}
 use Rattle.std.specs.Option.{option_map, option_or}
 use Rattle.std.proofs.lemmas.Bool.{cases_Bool}
@@ -109,7 +109,7 @@ none_of_seven : (white : Bool) (end : Option End) (i : Option ℕ) (two : Option
     → is_none (
     if not white then Some not_white_to_move else (if is_some end then Some ended else
     option_or (option_or (option_map misfit i) (option_map (λ two. clash two.0 two.1) two))
-        (option_or (option_map uncovered u) (option_or (option_map unsupported j) (option_map unanswered g)))))
+    (option_or (option_map uncovered u) (option_or (option_map unsupported j) (option_map unanswered g)))))
     ≡ (white && is_none end && is_none i && is_none two && is_none u && is_none j && is_none g)
 none_of_seven false end i two u j g = refl
 none_of_seven true (Some e) i two u j g = refl
@@ -125,7 +125,7 @@ refusal_is p ws =
     let all = none_of_seven (same_side White (side_to_move p)) (end_of p)
     (position_from (λ w. not (fits w p)) 1 ws) (first_two_from together 1 ws)
     (find (is_uncovered p ws) (squares_of_board (board_of p))) (position_from (λ w. not (is_supported w (facts_of p ws))) 1 ws)
-        (find (is_unanswered p ws) (groups_of (board_of p))) in
+    (find (is_unanswered p ws) (groups_of (board_of p))) in
     let fitting = no_place (λ w. fits w p) 1 ws in
     let standing = no_two together 1 ws in
     let supported = no_place (λ w. is_supported w (facts_of p ws)) 1 ws in

@@ -1,6 +1,6 @@
 -- Where a rule names no square to reply with.
-use Rattle.std.proofs.Common.{◌≡◌, ◌≢◌, ◌⊎◌, ℕ, zero, suc, ◌+◌, ◌-◌, ◌<◌, ◌≤◌, Bool, true, false, not, nat_lt, ◌&&◌, ◌||◌, ◌==◌, List, ◌++◌, Option, Some, None,
-    is_none, is_some, refl, sym, ap, ◌∙◌, subst, arith, cond, inl, inr}
+use Rattle.std.proofs.Common.{◌≡◌, ◌≢◌, ◌⊎◌, ℕ, zero, suc, ◌+◌, ◌-◌, ◌<◌, ◌≤◌, Bool, true, false, not, nat_lt, ◌&&◌, ◌||◌, ◌==◌, List, ◌++◌, Option, Some, None}
+use Rattle.std.proofs.Common.{is_none, is_some, refl, sym, ap, ◌∙◌, subst, arith, cond, inl, inr}
 use Rattle.std.specs.List.{list_any}
 use Rattle.std.proofs.lemmas.List.Folds.{list_any-append}
 use Rattle.std.proofs.Math.Bool.{or-false}
@@ -11,8 +11,8 @@ use Rattle.game_rules.specs.Squares.{same_square, has_square, is_empty}
 use Rattle.game_rules.proofs.Squares.{same_square_is, same_square_refl, has_gives, has_from}
 use Rattle.plan_rules.specs.Squares.{above, span, column_up}
 use Rattle.plan_rules.specs.Causes.{names_twins, is_top, is_full_beside, names_no_reply}
-use Rattle.plan_rules.specs.Rules.{RuleInstance, kind_of, claimeven, baseinverse, lowinverse, highinverse, baseclaim, vertical, aftereven, before,
-    specialbefore, zone_of, is_low_column, has_shape, twin_of, high_reply, low_reply, reply_to, has_no_answer}
+use Rattle.plan_rules.specs.Rules.{RuleInstance, kind_of, claimeven, baseinverse, lowinverse, highinverse, baseclaim, vertical, aftereven, before}
+use Rattle.plan_rules.specs.Rules.{specialbefore, zone_of, is_low_column, has_shape, twin_of, high_reply, low_reply, reply_to, has_no_answer}
 use Rattle.plan_rules.proofs.Squares.{other_row, same_place, has_append, has_left, has_right, column_gives, column_from}
 
 -- what the rule says of each square
@@ -47,7 +47,7 @@ baseclaim_named a b e now last = at (same_square last a) (same_square last b) (s
   where
     at : (i j k l free : Bool)
         → is_none (cond {A = Option Square} i (cond free (Some e) (Some (above b)))
-            (cond j (cond free (Some e) (Some (above b))) (cond k (Some b) (cond l (Some a) None))))
+        (cond j (cond free (Some e) (Some (above b))) (cond k (Some b) (cond l (Some a) None))))
         ≡ (not (i || (j || (k || (l || false)))) || false)
     at true j k l true = refl
     at true j k l false = refl
@@ -73,7 +73,7 @@ high_named u v now last = at (same_square last u) (same_square last (above u)) (
 highinverse_named : (x y : Square) (now : Position) (last : Square) → IsNamed (highinverse x y) now last
 highinverse_named x y now last =
     at (has_square (column_up x 3) last) (has_square (column_up y 3) last) (high_reply x y now last) (high_reply y x now last) (high_named x y now last)
-        (high_named y x now last)
+    (high_named y x now last)
     ∙ ap (λ owned. not owned || false) (sym (list_any-append (same_square last) (column_up x 3) (column_up y 3)))
   where
     at : (a b : Bool) (u v : Option Square) → is_none u ≡ not a → is_none v ≡ not b → is_none (cond a u v) ≡ (not (a || b) || false)
@@ -101,7 +101,7 @@ low_named top other now last = at (same_square last top) (has_room now other.0) 
 lowinverse_named : (x x_top y y_top : Square) (now : Position) (last : Square) → IsNamed (lowinverse x x_top y y_top) now last
 lowinverse_named x x_top y y_top now last =
     at (has_square (span x x_top) last) (has_square (span y y_top) last) _ _ (low_reply x_top y now last) (low_reply y_top x now last)
-        (low_named x_top y now last) (low_named y_top x now last)
+    (low_named x_top y now last) (low_named y_top x now last)
     ∙ ap (λ owned. not owned || has_no_answer (lowinverse x x_top y y_top) now last) (sym (list_any-append (same_square last) (span x x_top) (span y y_top)))
   where
     at : (a b m n : Bool) (u v : Option Square) → is_none u ≡ m → is_none v ≡ n → is_none (cond a u (cond b v None)) ≡ (not (a || b) || cond a m n)
@@ -129,7 +129,7 @@ pub claimeven_missing : (x : Square) (now : Position) (last : Square)
     → is_none (reply_to (claimeven x) now last) ≡ names_no_reply (kind_of (claimeven x)) (zone_of (claimeven x)) now last
 claimeven_missing x now last =
     at (same_square last x) (same_square last (above x)) (same_square (above last) x) (same_square (above last) (above x))
-        (λ here. ap (λ u. same_square (above u) (above x)) (same_square_is last x here) ∙ same_square_refl (above x))
+    (λ here. ap (λ u. same_square (above u) (above x)) (same_square_is last x here) ∙ same_square_refl (above x))
     (λ over. other_over (same_square_is last (above x) over))
   where
     other_over : last ≡ above x → (same_square last x ≡ false) × (same_square (above last) x ≡ false) × (same_square (above last) (above x) ≡ false)
@@ -183,7 +183,7 @@ module _ (bottom top beside : Square) (beside_top : Square) (zone : List Square)
   top_of_column i within = elim (cases_lt (i + 1) (top.1 + 1 - bottom.1)) [
     | inl more ↦
         let over : has_square zone (bottom.0, bottom.1 + i + 1)
-            ≡ true = from_own (bottom.0, bottom.1 + i + 1) (subst (λ r. has_square (span bottom top) (bottom.0, r) ≡ true) (omega arith)
+        ≡ true = from_own (bottom.0, bottom.1 + i + 1) (subst (λ r. has_square (span bottom top) (bottom.0, r) ≡ true) (omega arith)
         (has_from (span bottom top) (bottom.0, bottom.1 + (i + 1)) (column_from bottom (top.1 + 1 - bottom.1) (i + 1) more))) in
         ap not over ∙ sym (other_row (bottom.0, bottom.1 + i) top (λ same. omega arith))
     | inr last ↦
@@ -206,11 +206,11 @@ module _ (bottom top beside : Square) (beside_top : Square) (zone : List Square)
       ≡ not (has_room now beside.0)
   full_other now last here = any_column _ (not (has_room now beside.0)) beside (beside_top.1 + 1 - beside.1)
       (λ u column. ap (λ b. not b && not (has_room now u.0)) (ne_eqb u.0 last.0 (λ same. apart (sym here ∙ sym same ∙ column)))
-          ∙ ap (λ c. not (has_room now c)) column) (omega (arith, low_beside.rows))
+      ∙ ap (λ c. not (has_room now c)) column) (omega (arith, low_beside.rows))
 
 lowinverse_missing : (x x_top y y_top : Square) (now : Position) (last : Square) → has_shape (lowinverse x x_top y y_top) (board_of now) ≡ true
     → is_none (reply_to (lowinverse x x_top y y_top) now last) ≡ names_no_reply (kind_of (lowinverse x x_top y y_top)) (zone_of (lowinverse x x_top y y_top))
-        now last
+    now last
 lowinverse_missing x x_top y y_top now last h =
     lowinverse_named x x_top y y_top now last
     ∙ or_same (has_square zone last) (has_no_answer (lowinverse x x_top y y_top) now last) (is_top zone last && is_full_beside zone now last)
@@ -241,29 +241,29 @@ lowinverse_missing x x_top y y_top now last h =
         let here : last.0 ≡ x.0 = ap (λ (u : Square). u.0) place.2 in
         let top : is_top zone last ≡ same_square last x_top =
         ap (is_top zone) place.2 ∙ top_of_column x x_top y y_top zone low_x low_y (λ same. omega (arith, order)) (has_left (span x x_top) (span y y_top))
-            (has_append (span x x_top) (span y y_top)) place.0 place.1
+        (has_append (span x x_top) (span y y_top)) place.0 place.1
         ∙ sym (ap (λ u. same_square u x_top) place.2) in
         let full : is_full_beside zone now last ≡ not (has_room now y.0) =
         list_any-append (λ u. not (u.0 == last.0) && not (has_room now u.0)) (span x x_top) (span y y_top)
         ∙ ap (λ b. b || list_any (λ u. not (u.0 == last.0) && not (has_room now u.0)) (span y y_top))
         (full_own x x_top y y_top zone low_x low_y (λ same. omega (arith, order)) (has_left (span x x_top) (span y y_top))
-            (has_append (span x x_top) (span y y_top)) now last here)
+        (has_append (span x x_top) (span y y_top)) now last here)
         ∙ full_other x x_top y y_top zone low_x low_y (λ same. omega (arith, order)) (has_left (span x x_top) (span y y_top))
-            (has_append (span x x_top) (span y y_top)) now last here in
+        (has_append (span x x_top) (span y y_top)) now last here in
         cond-true {A = Bool} _ _ _ left ∙ sym (ap (λ b. b && is_full_beside zone now last) top ∙ ap (λ b. same_square last x_top && b) full)
     at (inr right) =
         let place = column_gives y (y_top.1 + 1 - y.1) last (has_gives (span y y_top) last right) in
         let here : last.0 ≡ y.0 = ap (λ (u : Square). u.0) place.2 in
         let top : is_top zone last ≡ same_square last y_top =
         ap (is_top zone) place.2 ∙ top_of_column y y_top x x_top zone low_y low_x (λ same. omega (arith, order)) (has_right (span x x_top) (span y y_top))
-            turned place.0 place.1
+        turned place.0 place.1
         ∙ sym (ap (λ u. same_square u y_top) place.2) in
         let full : is_full_beside zone now last ≡ not (has_room now x.0) =
         list_any-append (λ u. not (u.0 == last.0) && not (has_room now u.0)) (span x x_top) (span y y_top)
         ∙ ap (λ b. b || list_any (λ u. not (u.0 == last.0) && not (has_room now u.0)) (span y y_top))
         (full_other y y_top x x_top zone low_y low_x (λ same. omega (arith, order)) (has_right (span x x_top) (span y y_top)) turned now last here)
         ∙ ap (λ b. not (has_room now x.0) || b)
-            (full_own y y_top x x_top zone low_y low_x (λ same. omega (arith, order)) (has_right (span x x_top) (span y y_top)) turned now last here)
+        (full_own y y_top x x_top zone low_y low_x (λ same. omega (arith, order)) (has_right (span x x_top) (span y y_top)) turned now last here)
         ∙ or-false (not (has_room now x.0)) in
         let beside : has_square (span x x_top) last ≡ false = false_from_ne_true _ (λ left.
         let other = column_gives x (x_top.1 + 1 - x.1) last (has_gives (span x x_top) last left) in

@@ -1,6 +1,6 @@
 -- How many instances of a kind fit at most, on any board.
-use Rattle.std.proofs.Common.{◌≡◌, ◌⊎◌, ℕ, ◌+◌, ◌-◌, ◌*◌, ◌%◌, ◌≤◌, Bool, true, not, ◌&&◌, ◌||◌, ◌==◌, nat_lt, nat_le, cond, List, [], ◌∷◌, length, map, filter,
-    refl, sym, ap, ◌∙◌, inl, inr, arith}
+use Rattle.std.proofs.Common.{◌≡◌, ◌⊎◌, ℕ, ◌+◌, ◌-◌, ◌*◌, ◌%◌, ◌≤◌, Bool, true, not, ◌&&◌, ◌||◌, ◌==◌, nat_lt, nat_le, cond, List, [], ◌∷◌, length, map, filter}
+use Rattle.std.proofs.Common.{refl, sym, ap, ◌∙◌, inl, inr, arith}
 use Rattle.std.specs.List.{list_all, sum_by}
 use Rattle.std.proofs.lemmas.Bool.{cases_Bool, and_parts, and_from, or_cases, or_left, or_right, eqb-true, leb-true, le-leb}
 use Rattle.std.proofs.lemmas.List.{length-map}
@@ -17,8 +17,8 @@ use Rattle.game_rules.proofs.Groups.{on_each_size, board_most, line_widest, grou
 use Rattle.game_rules.proofs.Lists.{all_gives}
 use Rattle.game_rules.proofs.Squares.{Among-board}
 use Rattle.plan_rules.specs.Squares.{above, under, is_even, is_odd}
-use Rattle.plan_rules.specs.Rules.{RuleInstance, claimeven, baseinverse, lowinverse, highinverse, baseclaim, vertical, aftereven, before, specialbefore,
-    is_low_column, is_grounded, is_low_line, fits}
+use Rattle.plan_rules.specs.Rules.{RuleInstance, claimeven, baseinverse, lowinverse, highinverse, baseclaim, vertical, aftereven, before, specialbefore}
+use Rattle.plan_rules.specs.Rules.{is_low_column, is_grounded, is_low_line, fits}
 use Rattle.plan_rules.specs.declared.Kind.{Kind}
 use Rattle.plan_rules.specs.declared.Kind.TheVariants as kinds
 use Rattle.plan_rules.specs.Listing.{squares_at, playable_squares, is_bottom, tops_over, low_columns, each_with, fitting, if_fits, listed, most_listed}
@@ -52,7 +52,7 @@ claimevens_fit : (p : Position) → is_board (board_of p) ≡ true → length (l
 unfolding squares_of_board
 claimevens_fit p h =
     let few = leb-true (sum_by (λ u. one_if (is_odd u.1)) (squares_at p)) 50
-        (on_each_size (λ b. nat_le (sum_by (λ u. one_if (is_odd u.1)) (squares_of_board b)) 50) (λ len. refl) (board_of p) h) in
+    (on_each_size (λ b. nat_le (sum_by (λ u. one_if (is_odd u.1)) (squares_of_board b)) 50) (λ len. refl) (board_of p) h) in
     let fit = fit_sum claimeven (λ u. one_if (is_odd u.1)) p (squares_at p) (λ u good. omega (arith, ap one_if (fits_shape (claimeven u) p good))) in
     omega (arith, few, fit)
 
@@ -60,10 +60,13 @@ verticals_fit : (p : Position) → is_board (board_of p) ≡ true → length (li
 unfolding squares_of_board
 verticals_fit p h =
     let few = leb-true (sum_by (λ u. one_if (is_even u.1)) (squares_at p)) 50
-        (on_each_size (λ b. nat_le (sum_by (λ u. one_if (is_even u.1)) (squares_of_board b)) 50) (λ len. refl) (board_of p) h) in
+    (on_each_size (λ b. nat_le (sum_by (λ u. one_if (is_even u.1)) (squares_of_board b)) 50) (λ len. refl) (board_of p) h) in
     let fit = fit_sum vertical (λ u. one_if (is_even u.1)) p (squares_at p)
-        (λ u good. omega (arith, ap one_if
-        (and_parts (on_board (board_of p) u && on_board (board_of p) (above u)) (is_even u.1) (fits_shape (vertical u) p good)).1)) in
+    (λ u good. omega (
+      arith,
+      ap one_if
+          (and_parts (on_board (board_of p) u && on_board (board_of p) (above u)) (is_even u.1) (fits_shape (vertical u) p good)).1,
+    )) in
     omega (arith, few, fit)
 
 -- ---- playable squares, of which each column has at most one
@@ -87,7 +90,7 @@ over_two : (p : Position) (f : ℕ → ℕ → ℕ)
 over_two p f =
     let each = sum_each (λ two. f two.0.0 two.1.0) (playable_squares p) (playable_squares p) in
     let inner = sum_by-le-sum_by (λ x. sum_by (λ y. f x.0 y.0) (playable_squares p)) (λ x. sum_by (f x.0) (below (board_of p).cols)) (playable_squares p)
-        (λ x. over_playable p (f x.0)) in
+    (λ x. over_playable p (f x.0)) in
     let outer = over_playable p (λ c. sum_by (f c) (below (board_of p).cols)) in
     omega (arith, each, inner, outer)
 
@@ -99,7 +102,7 @@ over_three p f =
     let pairs = each_with (playable_squares p) (playable_squares p) in
     let each = sum_each (λ three. f three.0.0 three.1.0.0 three.1.1.0) (playable_squares p) pairs in
     let inner = sum_by-le-sum_by (λ x. sum_by (λ two. f x.0 two.0.0 two.1.0) pairs)
-        (λ x. sum_by (λ d. sum_by (f x.0 d) (below (board_of p).cols)) (below (board_of p).cols)) (playable_squares p) (λ x. over_two p (f x.0)) in
+    (λ x. sum_by (λ d. sum_by (f x.0 d) (below (board_of p).cols)) (below (board_of p).cols)) (playable_squares p) (λ x. over_two p (f x.0)) in
     let outer = over_playable p (λ c. sum_by (λ d. sum_by (f c d) (below (board_of p).cols)) (below (board_of p).cols)) in
     omega (arith, each, inner, outer)
 
@@ -118,7 +121,7 @@ baseinverses_fit p h =
     let few = leb-true (pairs_of_columns (board_of p)) 45 (on_each_size (λ b. nat_le (pairs_of_columns b) 45) (λ len. refl) (board_of p) h) in
     let sum = over_two p (λ c d. one_if (nat_lt c d)) in
     let fit = fit_sum (λ two. baseinverse two.0 two.1) (λ two. one_if (nat_lt two.0.0 two.1.0)) p (each_with (playable_squares p) (playable_squares p))
-        (λ two good. omega (arith, ap one_if (fits_shape (baseinverse two.0 two.1) p good))) in
+    (λ two good. omega (arith, ap one_if (fits_shape (baseinverse two.0 two.1) p good))) in
     omega (arith, few, sum, fit)
 
 baseclaims_fit : (p : Position) → is_board (board_of p) ≡ true → length (listed kinds.Baseclaim p) ≤ 720
@@ -126,7 +129,7 @@ baseclaims_fit p h =
     let few = leb-true (triples_of_columns (board_of p)) 720 (on_each_size (λ b. nat_le (triples_of_columns b) 720) (λ len. refl) (board_of p) h) in
     let sum = over_three p (λ c d e. one_if (are_apart c d e)) in
     let fit = fit_sum (λ three. baseclaim three.0 three.1.0 three.1.1) (λ three. one_if (are_apart three.0.0 three.1.0.0 three.1.1.0)) p
-        (each_with (playable_squares p) (each_with (playable_squares p) (playable_squares p)))
+    (each_with (playable_squares p) (each_with (playable_squares p) (playable_squares p)))
     (λ three good. omega (arith, ap one_if (apart three.0 three.1.0 three.1.1 good))) in
     omega (arith, few, sum, fit)
   where
@@ -163,13 +166,15 @@ pub both_bottoms : (p : Position) (x y : Square) → is_even x.1 ≡ true → is
     → (is_bottom p x ≡ true) × (is_bottom p y ≡ true)
 both_bottoms p x y even_x even_y grounded = elim (or_cases (is_playable p x && is_playable p y) (is_playable p (under x) && is_playable p (under y)) grounded) [
   | inl here ↦
-      let both = and_parts (is_playable p x) (is_playable p y) here in
-      (and_from _ _ even_x (or_left (is_playable p x) (is_playable p (under x)) both.0),
-          and_from _ _ even_y (or_left (is_playable p y) (is_playable p (under y)) both.1))
+      let both = and_parts (is_playable p x) (is_playable p y) here in (
+        and_from _ _ even_x (or_left (is_playable p x) (is_playable p (under x)) both.0),
+        and_from _ _ even_y (or_left (is_playable p y) (is_playable p (under y)) both.1),
+      )
   | inr below ↦
-      let both = and_parts (is_playable p (under x)) (is_playable p (under y)) below in
-      (and_from _ _ even_x (or_right (is_playable p x) (is_playable p (under x)) both.0),
-          and_from _ _ even_y (or_right (is_playable p y) (is_playable p (under y)) both.1))
+      let both = and_parts (is_playable p (under x)) (is_playable p (under y)) below in (
+        and_from _ _ even_x (or_right (is_playable p x) (is_playable p (under x)) both.0),
+        and_from _ _ even_y (or_right (is_playable p y) (is_playable p (under y)) both.1),
+      )
 ]
 
 -- the number of a pair at two bottoms, and else nothing
@@ -184,7 +189,7 @@ over_bottoms : {X : Type 0} (p : Position) (at : X → Square) (xs : List X) (mu
 over_bottoms p at xs multiple each f =
     let pairs = sum_each (λ two. at_bottoms p f (at two.0) (at two.1)) xs xs in
     let inner = sum_by-le-sum_by (λ x. sum_by (λ y. at_bottoms p f (at x) (at y)) xs)
-        (λ x. where_passes (is_bottom p) (λ u. sum_by (λ d. multiple (f u.0 d)) (below (board_of p).cols)) (at x)) xs beside in
+    (λ x. where_passes (is_bottom p) (λ u. sum_by (λ d. multiple (f u.0 d)) (below (board_of p).cols)) (at x)) xs beside in
     let outer = each (λ c. sum_by (λ d. multiple (f c d)) (below (board_of p).cols)) in
     omega (arith, pairs, inner, outer)
   where
@@ -200,7 +205,7 @@ highinverses_fit p h =
     let few = leb-true (pairs_of_columns (board_of p)) 45 (on_each_size (λ b. nat_le (pairs_of_columns b) 45) (λ len. refl) (board_of p) h) in
     let sum = over_bottoms p (λ u. u) (squares_at p) (λ n. n) (λ f. by_columns (board_of p) (is_bottom p) f (one_bottom p)) (λ c d. one_if (nat_lt c d)) in
     let fit = fit_sum (λ two. highinverse two.0 two.1) (λ two. at_bottoms p (λ c d. one_if (nat_lt c d)) two.0 two.1) p
-        (each_with (squares_at p) (squares_at p)) (λ two good. counted two.0 two.1 good) in
+    (each_with (squares_at p) (squares_at p)) (λ two good. counted two.0 two.1 good) in
     omega (arith, few, sum, fit)
   where
     counted : (x y : Square) → fits (highinverse x y) p ≡ true → 1 ≤ at_bottoms p (λ c d. one_if (nat_lt c d)) x y
@@ -220,7 +225,7 @@ tops_four : (p : Position) → is_board (board_of p) ≡ true → (bottom : Squa
 tops_four p h bottom is =
     let column = squares_in_column p.rows bottom.0 in
     let few = leb-true (sum_by (λ i. one_if (is_top_row (i + 1))) (below p.rows)) 4
-        (on_each_size (λ b. nat_le (sum_by (λ i. one_if (is_top_row (i + 1))) (below b.rows)) 4) (λ len. refl) (board_of p) h) in
+    (on_each_size (λ b. nat_le (sum_by (λ i. one_if (is_top_row (i + 1))) (below b.rows)) 4) (λ len. refl) (board_of p) h) in
     let ones = sum_ones (filter (is_low_column bottom) column) in
     let filtered = sum_filter (is_low_column bottom) (λ u. 1) column in
     let rows = sum_map (where_passes (is_low_column bottom) (λ u. 1)) (λ i. (bottom.0, i + 1)) (below p.rows) in
@@ -253,7 +258,7 @@ over_tops : (p : Position) → is_board (board_of p) ≡ true → (f : ℕ → �
 over_tops p h f =
     let flat = sum_flat (λ column. where_passes (is_bottom p) (λ u. f u.0) column.0) (tops_over p) (squares_at p) in
     let each = sum_by-le-sum_by (λ bottom. sum_by (λ column. where_passes (is_bottom p) (λ u. f u.0) column.0) (tops_over p bottom))
-        (where_passes (is_bottom p) (λ u. 4 * f u.0)) (squares_at p) over in
+    (where_passes (is_bottom p) (λ u. 4 * f u.0)) (squares_at p) over in
     let most = by_columns (board_of p) (is_bottom p) (λ c. 4 * f c) (one_bottom p) in
     omega (arith, flat, each, most)
   where
@@ -282,7 +287,7 @@ lowinverses_fit p h =
     let few = leb-true (pairs_with_tops (board_of p)) 720 (on_each_size (λ b. nat_le (pairs_with_tops b) 720) (λ len. refl) (board_of p) h) in
     let sum = over_bottoms p (λ (column : Square × Square). column.0) (low_columns p) (λ n. 4 * n) (over_tops p h) (λ c d. one_if (nat_lt c d)) in
     let fit = fit_sum (λ (two : (Square × Square) × (Square × Square)). lowinverse two.0.0 two.0.1 two.1.0 two.1.1)
-        (λ two. at_bottoms p (λ c d. one_if (nat_lt c d)) two.0.0 two.1.0) p (each_with (low_columns p) (low_columns p))
+    (λ two. at_bottoms p (λ c d. one_if (nat_lt c d)) two.0.0 two.1.0) p (each_with (low_columns p) (low_columns p))
     (λ two good. counted two.0.0 two.0.1 two.1.0 two.1.1 good) in
     omega (arith, few, sum, fit)
   where
@@ -359,7 +364,7 @@ few_groups : (b : Board) → is_board b ≡ true → (u : Square) → on_board b
 few_groups b h u on =
     let more = groups_more (in_group u) b h in
     let few = leb-true (sum_by (in_group u) (groups_of (widest_with b.len))) 20
-        (all_gives (few_at b.len) (squares_of_board widest) u (few_everywhere b.len) (Among-board widest u (on_widest b h u on))) in
+    (all_gives (few_at b.len) (squares_of_board widest) u (few_everywhere b.len) (Among-board widest u (on_widest b h u on))) in
     omega (arith, more, few)
 
 -- two columns apart, and twenty groups at one of them
@@ -373,7 +378,7 @@ specialbefores_fit p h =
     let few = leb-true (groups_by_columns (board_of p)) 1800 (on_each_size (λ b. nat_le (groups_by_columns b) 1800) (λ len. refl) (board_of p) h) in
     let by_columns = over_two p (λ c d. cond (not (c == d)) 20 0) in
     let fit = fit_sum (λ (three : Group × (Square × Square)). specialbefore three.0 three.1.0 three.1.1) (λ three. special three.0 three.1) p
-        (each_with groups pairs) (λ three good. counted three.0 three.1.0 three.1.1 good) in
+    (each_with groups pairs) (λ three good. counted three.0 three.1.0 three.1.1 good) in
     let each = sum_each (λ (three : Group × (Square × Square)). special three.0 three.1) groups pairs in
     let swapped = sum_swap special groups pairs in
     let most = sum_by-le-sum_by (λ two. sum_by (λ g. special g two) groups) (λ (two : Square × Square). cond (not (two.0.0 == two.1.0)) 20 0) pairs beside in
@@ -396,9 +401,9 @@ specialbefores_fit p h =
     counted : (g : Group) (f e0 : Square) → fits (specialbefore g f e0) p ≡ true → 1 ≤ special g (f, e0)
     counted g f e0 good =
         let shape = and_parts (lies_on (board_of p) g && on_board (board_of p) f && not (has_square (squares_of g) f) && has_square (squares_of g) e0)
-            (not (f.0 == e0.0)) (fits_shape (specialbefore g f e0) p good) in
+        (not (f.0 == e0.0)) (fits_shape (specialbefore g f e0) p good) in
         let owned = (and_parts (lies_on (board_of p) g && on_board (board_of p) f && not (has_square (squares_of g) f)) (has_square (squares_of g) e0)
-            shape.0).1 in
+        shape.0).1 in
         let playable = (and_parts (is_low_line p g && is_playable p f) (is_playable p e0) (fits_more (specialbefore g f e0) p good)).1 in
         let on = (and_parts (on_board (board_of p) e0) (e0.1 == height p e0.0 + 1) playable).0 in
         rw (on, shape.1, owned) (omega arith)

@@ -1,6 +1,6 @@
 -- A list made from fewer sites is whole where each site of an instance that fits is among them.
-use Rattle.std.proofs.Common.{◌≡◌, ℕ, ◌%◌, Bool, true, false, not, ◌==◌, ◌&&◌, nat_le, cond, List, [], ◌∷◌, ◌++◌, map, filter, refl, sym, ap, ◌∙◌, inl, inr,
-    arith}
+use Rattle.std.proofs.Common.{◌≡◌, ℕ, ◌%◌, Bool, true, false, not, ◌==◌, ◌&&◌, nat_le, cond, List, [], ◌∷◌, ◌++◌, map, filter, refl, sym, ap, ◌∙◌, inl, inr}
+use Rattle.std.proofs.Common.{arith}
 use Rattle.std.specs.List.{list_all}
 use Rattle.std.proofs.lemmas.Bool.{cases_Bool, cases_eq, both_ways, and_parts, and_from, eq-eqb, eqb-true, ne_eqb, le-leb}
 use Rattle.std.proofs.lemmas.List.Elements.{filter-append}
@@ -69,7 +69,7 @@ fitting_within written p test xs within =
 
 pub fitting_pairs_within : {X Y : Type 0} (written : X × Y → RuleInstance) (p : Position) (g : X → Bool) (h : Y → Bool) (xs : List X) (ys : List Y)
     → ((x : X) (y : Y) → fits (written (x, y)) p ≡ true → (g x ≡ true) × (h y ≡ true))
-        → fitting written p (each_with (filter g xs) (filter h ys)) ≡ fitting written p (each_with xs ys)
+    → fitting written p (each_with (filter g xs) (filter h ys)) ≡ fitting written p (each_with xs ys)
 fitting_pairs_within written p g h xs ys within =
     ap (fitting written p) (filter_pairs g h xs ys)
     ∙ fitting_within written p (both_pass g h) (each_with xs ys) (λ two good. let both = within two.0 two.1 good in and_from (g two.0) (h two.1) both.0 both.1)
@@ -79,7 +79,7 @@ fitting_pairs_within written p g h xs ys within =
 -- a set of squares that has each site is enough
 pub fitting_where : (written : Square → RuleInstance) (p : Position) (test : Square → Bool) → is_board (board_of p) ≡ true
     → ((u : Square) → fits (written u) p ≡ true → (test u ≡ true) × (on_board (board_of p) u ≡ true))
-        → fitting written p (squares_where test) ≡ fitting written p (squares_at p)
+    → fitting written p (squares_where test) ≡ fitting written p (squares_at p)
 unfolding squares_where
 fitting_where written p test h within =
     fitting_within written p test (squares_of_board widest) (λ u good. (within u good).0)
@@ -96,7 +96,7 @@ every_site written p us set = all_from (λ u. fits (written u) p) us (λ u among
 -- and they are enough
 pub all_sites : (written : Square → RuleInstance) (p : Position) (us : List Square) → is_board (board_of p) ≡ true
     → ((u : Square) → fits (written u) p ≡ true → on_board (board_of p) u ≡ true) → IsSetOf (λ u. fits (written u) p) us
-        → fitting written p us ≡ fitting written p (squares_at p)
+    → fitting written p us ≡ fitting written p (squares_at p)
 all_sites written p us h on set = ap (fitting written p) set.in_order ∙ fitting_where written p (λ u. fits (written u) p) h (λ u good. (good, on u good))
 
 -- the square and the one above it are empty
@@ -167,14 +167,14 @@ pub fitting_triples_within : {X Y Z : Type 0} (written : X × (Y × Z) → RuleI
 fitting_triples_within written p g h k xs ys zs within =
     ap (λ twos. fitting written p (each_with (filter g xs) twos)) (filter_pairs h k ys zs)
     ∙ fitting_pairs_within written p g (both_pass h k) xs (each_with ys zs)
-        (λ x two good. let all = within x two.0 two.1 good in (all.0, and_from (h two.0) (k two.1) all.1 all.2))
+    (λ x two good. let all = within x two.0 two.1 good in (all.0, and_from (h two.0) (k two.1) all.1 all.2))
 
 -- an instance with an empty zone fits where it is shaped and has what its rule asks besides
 pub fits_shaped : (w : RuleInstance) (p : Position) → (is_shaped w (board_of p) ≡ true → list_all (is_empty p) (zone_of w) ≡ true) → fits_besides w p ≡ true
     → fits w p ≡ is_shaped w (board_of p)
 fits_shaped w p empty besides = agree _ _
     (λ good. (and_parts (is_shaped w (board_of p)) (list_all (is_empty p) (zone_of w))
-        (and_parts (is_shaped w (board_of p) && list_all (is_empty p) (zone_of w)) (fits_besides w p) good).0).0)
+    (and_parts (is_shaped w (board_of p) && list_all (is_empty p) (zone_of w)) (fits_besides w p) good).0).0)
     (λ shaped. and_from _ _ (and_from _ _ shaped (empty shaped)) besides)
 
 pub baseinverse_site : (p : Position) (s t : Square) → (is_playable p s && is_playable p t) ≡ true
@@ -189,7 +189,7 @@ baseclaim_site p a b e h playable =
     let all = and_parts (is_playable p a && is_playable p b) (is_playable p e) playable in
     let two = and_parts (is_playable p a) (is_playable p b) all.0 in
     fits_shaped (baseclaim a b e) p
-        (λ shaped. and_from _ _ (playable_empty p a two.0) (and_from _ _ (playable_empty p b two.1) (and_from _ _ (playable_empty p e all.1)
+    (λ shaped. and_from _ _ (playable_empty p a two.0) (and_from _ _ (playable_empty p b two.1) (and_from _ _ (playable_empty p e all.1)
     (and_from _ _ (empty_over p b h (odd shaped) two.1) refl)))) playable
   where
     odd : is_shaped (baseclaim a b e) (board_of p) ≡ true → is_odd b.1 ≡ true
@@ -212,7 +212,7 @@ pub playable_triples : (p : Position) (ss ts us : List Square) → list_all (is_
 playable_triples p ss ts us first second third =
     all_from _ ss (λ s at_s. all_from _ ts (λ t at_t. all_from _ us (λ u at_u.
     and_from _ _ (and_from _ _ (all_gives (is_playable p) ss s first at_s) (all_gives (is_playable p) ts t second at_t))
-        (all_gives (is_playable p) us u third at_u))))
+    (all_gives (is_playable p) us u third at_u))))
 
 -- the playable squares, and those of them that pass a test
 pub all_filtered : {X : Type 0} (test : X → Bool) (xs : List X) → list_all test (filter test xs) ≡ true
@@ -230,8 +230,8 @@ has_playable : (p : Position) (u : Square) → has_square (playable_squares p) u
 has_playable p u = agree _ _
     (λ h. (Among-filter_gives (is_playable p) (squares_at p) u (has_gives (playable_squares p) u h)).1)
     (λ h. has_from (playable_squares p) u
-        (Among-filter (is_playable p) (squares_at p) u (has_gives (squares_at p) u (has_on_board (board_of p) u ∙ (and_parts (on_board (board_of p) u) _ h).0))
-        h))
+    (Among-filter (is_playable p) (squares_at p) u (has_gives (squares_at p) u (has_on_board (board_of p) u ∙ (and_parts (on_board (board_of p) u) _ h).0))
+    h))
 
 -- a set of playable squares is the list of those that pass the test
 pub some_playables : (p : Position) (test : Square → Bool) (us : List Square) → is_board (board_of p) ≡ true
@@ -243,7 +243,7 @@ some_playables p test us h set =
     set.in_order
     ∙ filter_same (λ u. has_square (playable_squares p) u && test u) passes (squares_of_board widest) (λ u among. ap (λ b. b && test u) (has_playable p u))
     ∙ sym (filter_within passes (on_board (board_of p)) (squares_of_board widest)
-        (λ u good. (and_parts (on_board (board_of p) u) _ (and_parts (is_playable p u) (test u) good).0).0))
+    (λ u good. (and_parts (on_board (board_of p) u) _ (and_parts (is_playable p u) (test u) good).0).0))
     ∙ ap (filter passes) (sym (board_squares (board_of p) h))
     ∙ sym (filter_both (is_playable p) test (squares_at p))
 
@@ -273,7 +273,7 @@ claim_rows p a b e h good =
 pub baseclaim_sites : (p : Position) (firsts seconds thirds : List Square) → is_board (board_of p) ≡ true → firsts ≡ filter off_odd_rows (playable_squares p)
     → seconds ≡ filter on_odd_row (playable_squares p)
     → thirds ≡ filter off_odd_rows (playable_squares p)
-        → fitting (λ three. baseclaim three.0 three.1.0 three.1.1) p (each_with firsts (each_with seconds thirds)) ≡ listed kinds.Baseclaim p
+    → fitting (λ three. baseclaim three.0 three.1.0 three.1.1) p (each_with firsts (each_with seconds thirds)) ≡ listed kinds.Baseclaim p
 baseclaim_sites p firsts seconds thirds h first second third =
     let claim : Square × (Square × Square) → RuleInstance = λ three. baseclaim three.0 three.1.0 three.1.1 in
     let evens = filter off_odd_rows (playable_squares p) in let odds = filter on_odd_row (playable_squares p) in
@@ -281,7 +281,7 @@ baseclaim_sites p firsts seconds thirds h first second third =
     ∙ ap (λ us. fitting claim p (each_with evens (each_with us thirds))) second
     ∙ ap (λ us. fitting claim p (each_with evens (each_with odds us))) third
     ∙ fitting_triples_within claim p off_odd_rows on_odd_row off_odd_rows (playable_squares p) (playable_squares p) (playable_squares p)
-        (λ a b e good. claim_rows p a b e h good)
+    (λ a b e good. claim_rows p a b e h good)
 
 -- the playable squares in odd rows, and the others, from a mask of them all
 pub playables_off : (p : Position) (all mask odds us : List Square) → is_board (board_of p) ≡ true → all ≡ playable_squares p → IsSetOf (has_square all) mask

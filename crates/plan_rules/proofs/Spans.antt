@@ -29,13 +29,13 @@ span_gives bottom top u h =
 pub span_from : (bottom top u : Square) → u.0 ≡ bottom.0 → bottom.1 ≤ u.1 → u.1 ≤ top.1 → has_square (span bottom top) u ≡ true
 span_from bottom top u column low high =
     has_from (span bottom top) u (subst (λ v. Among v (span bottom top)) (same_place (bottom.0, bottom.1 + (u.1 - bottom.1)) u (sym column) (omega arith))
-        (column_from bottom (top.1 + 1 - bottom.1) (u.1 - bottom.1) (omega arith)))
+    (column_from bottom (top.1 + 1 - bottom.1) (u.1 - bottom.1) (omega arith)))
 
 -- the same as a test
 pub span_has : (bottom top u : Square) → has_square (span bottom top) u ≡ ((u.0 == bottom.0) && (nat_le bottom.1 u.1 && nat_le u.1 top.1))
 span_has bottom top u = agree _ _
     (λ h. let parts = span_gives bottom top u h in and_from _ _ (eq-eqb u.0 bottom.0 parts.0)
-        (and_from _ _ (le-leb bottom.1 u.1 parts.1) (le-leb u.1 top.1 parts.2)))
+    (and_from _ _ (le-leb bottom.1 u.1 parts.1) (le-leb u.1 top.1 parts.2)))
     (λ h.
     let both = and_parts (u.0 == bottom.0) _ h in
     let rows = and_parts (nat_le bottom.1 u.1) (nat_le u.1 top.1) both.1 in
@@ -75,7 +75,7 @@ module _ (x x_top y y_top : Square) where
   -- a shape asks only the four written squares to be on the board
   pub lowinverse_shaped : (board : Board) → is_shaped (lowinverse x x_top y y_top) board
       ≡ (nat_lt x.0 y.0 && (on_board board x && on_board board x_top && is_low_column x x_top)
-          && (on_board board y && on_board board y_top && is_low_column y y_top))
+      && (on_board board y && on_board board y_top && is_low_column y y_top))
   lowinverse_shaped board = agree _ _ to from
     where
       in_zone : own_shape ≡ true → list_all (on_board board) zone ≡ true → (on_board board x ≡ true) × (on_board board x_top ≡ true) × (on_board board y ≡ true)
@@ -84,7 +84,7 @@ module _ (x x_top y y_top : Square) where
           let shape = low_shape x x_top y y_top h in
           let low_x = shape.left in let low_y = shape.right in
           let on : (u : Square) → has_square zone u ≡ true
-              → on_board board u ≡ true = λ u owned. all_gives (on_board board) zone u all (has_gives zone u owned) in (
+          → on_board board u ≡ true = λ u owned. all_gives (on_board board) zone u all (has_gives zone u owned) in (
             on x (has_left (span x x_top) (span y y_top) x (span_from x x_top x refl (omega arith) (omega (arith, low_x.rows)))),
             on x_top (has_left (span x x_top) (span y y_top) x_top (span_from x x_top x_top (sym low_x.column) (omega (arith, low_x.rows)) (omega arith))),
             on y (has_right (span x x_top) (span y y_top) y (span_from y y_top y refl (omega arith) (omega (arith, low_y.rows)))),
@@ -93,7 +93,7 @@ module _ (x x_top y y_top : Square) where
 
       to : is_shaped (lowinverse x x_top y y_top) board ≡ true
           → (nat_lt x.0 y.0 && (on_board board x && on_board board x_top && is_low_column x x_top)
-              && (on_board board y && on_board board y_top && is_low_column y y_top)) ≡ true
+          && (on_board board y && on_board board y_top && is_low_column y y_top)) ≡ true
       to h =
           let both = and_parts (list_all (on_board board) zone) own_shape h in
           let on = in_zone both.1 both.0 in
@@ -114,7 +114,7 @@ module _ (x x_top y y_top : Square) where
           let low_x = low_column x x_top in_x.1 in
           let low_y = low_column y y_top in_y.1 in
           and_from _ _ (list_all-append (on_board board) (span x x_top) (span y y_top)
-              ∙ and_from _ _ (span_on board x x_top on_x.0 on_x.1 low_x.column) (span_on board y y_top on_y.0 on_y.1 low_y.column))
+          ∙ and_from _ _ (span_on board x x_top on_x.0 on_x.1 low_x.column) (span_on board y y_top on_y.0 on_y.1 low_y.column))
           (and_from _ _ (and_from _ _ left.0 in_x.1) in_y.1)
 
   -- a shape on one board is a shape on the widest
@@ -180,9 +180,12 @@ module _ (x x_top y y_top : Square) where
       step : (bottom top : Square) → 1 ≤ bottom.1 → has_square (span bottom (under top)) u ≡ true → (has_square (span bottom top) u ≡ true)
           × (nat_le 1 u.1 ≡ true) × (has_square (span bottom top) (above u) ≡ true)
       step bottom top low h =
-          let parts = span_gives bottom (under top) u h in
-          (span_from bottom top u parts.0 parts.1 (omega (arith, parts.2)), le-leb 1 u.1 (omega (arith, parts.1)), span_from bottom top (above u) parts.0
-              (omega (arith, parts.1)) (omega (arith, parts.1, parts.2)))
+          let parts = span_gives bottom (under top) u h in (
+            span_from bottom top u parts.0 parts.1 (omega (arith, parts.2)),
+            le-leb 1 u.1 (omega (arith, parts.1)),
+            span_from bottom top (above u) parts.0
+                (omega (arith, parts.1)) (omega (arith, parts.1, parts.2)),
+          )
 
       from : has_square zone u ≡ true → nat_le 1 u.1 ≡ true → has_square zone (above u) ≡ true
           → (has_square zone u && (nat_le 1 u.1 && has_square zone (above u))) ≡ true

@@ -39,9 +39,9 @@ special_widest g f e0 board h shaped =
     let parts = special_parts g f e0 board shaped in
     let lies = lies_parts board g parts.0 in
     let line : is_line (widest_with g.len) g.way g.anchor ≡ true = subst (λ len. is_line (widest_with len) g.way g.anchor ≡ true) (sym lies.0)
-        (line_widest board h g.way g.anchor lies.1) in
+    (line_widest board h g.way g.anchor lies.1) in
     and_from _ _ refl (and_from _ _
-        (and_from _ _ (and_from _ _ (and_from _ _ (and_from _ _ (same_length_refl g.len) line) (on_widest board h f parts.1)) parts.2) parts.3) parts.4)
+    (and_from _ _ (and_from _ _ (and_from _ _ (and_from _ _ (same_length_refl g.len) line) (on_widest board h f parts.1)) parts.2) parts.3) parts.4)
 
 -- what fits has the one square outside the group and the other in it
 pub special_within : (p : Position) (g : Group) (f e0 : Square) → fits (special_of g (f, e0)) p ≡ true → (outside g f ≡ true) × (inside g e0 ≡ true)
@@ -56,7 +56,7 @@ special_fits p g f e0 low play_f play_e out in_group =
     let on = (and_parts (on_board (board_of p) f) _ play_f).0 in
     let apart : not (f.0 == e0.0) ≡ true = ap not (ne_eqb f.0 e0.0 other) in
     and_from _ _ (and_from _ _ (and_from _ _ refl (and_from _ _ (and_from _ _ (and_from _ _ (and_from _ _ lies on) out) in_group) apart)) refl)
-        (and_from _ _ (and_from _ _ low play_f) play_e)
+    (and_from _ _ (and_from _ _ low play_f) play_e)
   where
     -- of one column there is one playable square
     other : f.0 ≢ e0.0
@@ -79,7 +79,7 @@ special_sites p g fs es low first second =
     let own = ap (list_all (inside g)) second ∙ all_filtered (inside g) (playable_squares p) in
     all_from _ fs (λ f at_f. all_from _ es (λ e0 at_e.
     special_fits p g f e0 low (all_gives (is_playable p) fs f play_f at_f) (all_gives (is_playable p) es e0 play_e at_e) (all_gives (outside g) fs f out at_f)
-        (all_gives (inside g) es e0 own at_e)))
+    (all_gives (inside g) es e0 own at_e)))
 
 pub special_pairs : (p : Position) (g : Group) (fs es : List Square) → fs ≡ filter (outside g) (playable_squares p)
     → es ≡ filter (inside g) (playable_squares p)
@@ -94,8 +94,8 @@ pub special_none : (p : Position) (g : Group) (twos : List (Square × Square)) �
 special_none p g [] high = refl
 special_none p g (two ∷ twos) high =
     rw (false_from_ne_true (fits (special_of g two) p)
-        (λ good. both_ways (is_low_line p g) high
-        (and_parts (is_low_line p g) _ (and_parts (is_low_line p g && is_playable p two.0) (is_playable p two.1) (fits_more (special_of g two) p good)).0).0))
+    (λ good. both_ways (is_low_line p g) high
+    (and_parts (is_low_line p g) _ (and_parts (is_low_line p g && is_playable p two.0) (is_playable p two.1) (fits_more (special_of g two) p good)).0).0))
     (special_none p g twos high)
 
 -- the groups that Black can still fill are enough
@@ -112,7 +112,7 @@ special_groups p gs same =
     opened : (g : Group) (two : Square × Square) → fits (special_of g two) p ≡ true → is_open_for_black p g ≡ true
     opened g two good =
         let low = (and_parts (is_low_line p g) _
-            (and_parts (is_low_line p g && is_playable p two.0) (is_playable p two.1) (fits_more (special_of g two) p good)).0).0 in
+        (and_parts (is_low_line p g && is_playable p two.0) (is_playable p two.1) (fits_more (special_of g two) p good)).0).0 in
         (and_parts (is_open_for_black p g) _ (sym (open_is p g) ∙ low_open p g low)).0
 
 -- the playable squares outside a group and those in it, from sets

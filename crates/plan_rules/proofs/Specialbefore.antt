@@ -30,12 +30,12 @@ twin_not_white facts q u v are_true twins white =
       | inl straight ↦
           let both = and_parts _ _ straight in
           ap (has_man q White) (same_square_is v found.0.1 both.1)
-              ∙ are_true.twins at.0 found.0.0 found.0.1 at.1 (ap (has_man q White) (sym (same_square_is u found.0.0 both.0)) ∙ white)
+          ∙ are_true.twins at.0 found.0.0 found.0.1 at.1 (ap (has_man q White) (sym (same_square_is u found.0.0 both.0)) ∙ white)
       | inr turned ↦
           let both = and_parts _ _ turned in
           false_from_ne_true _ (λ other. both_ways (has_man q White u)
           (ap (has_man q White) (same_square_is u found.0.1 both.0)
-              ∙ are_true.twins at.0 found.0.0 found.0.1 at.1 (ap (has_man q White) (sym (same_square_is v found.0.0 both.1)) ∙ other)) white)
+          ∙ are_true.twins at.0 found.0.0 found.0.1 at.1 (ap (has_man q White) (sym (same_square_is v found.0.0 both.1)) ∙ other)) white)
     ]
 
 module _ (g : Group) (f e0 : Square) where
@@ -47,9 +47,9 @@ module _ (g : Group) (f e0 : Square) where
   specialbefore_bars p q facts set fitted empty supported calm are_true stay held owns =
       line_black p q g is_open stay (λ u in_line empty_at.
       let one : (same_square u e0 || facts.upper u || facts.pair u) ≡ true = each_of_gives facts.empty (λ u. same_square u e0 || facts.upper u || facts.pair u)
-          (squares_of g) u others in_line (empty u ∙ empty_at) in
+      (squares_of g) u others in_line (empty u ∙ empty_at) in
       let over : has_man q White (above u)
-          ≡ true = owns (above u) (each_of_gives facts.empty (λ u. set (above u)) (squares_of g) u over_each in_line (empty u ∙ empty_at)) in
+      ≡ true = owns (above u) (each_of_gives facts.empty (λ u. set (above u)) (squares_of g) u over_each in_line (empty u ∙ empty_at)) in
       let row = (on_board_parts (board_of p) u.0 u.1 (line_square_on p g is_open u in_line)).1 in
       black_under q u (above u) row refl (omega arith) over (none u one over))
     where

@@ -1,6 +1,6 @@
 -- Squares, lists of squares and members of lists.
-use Rattle.std.proofs.Common.{◌≡◌, ◌≢◌, ◌⊎◌, ℕ, zero, suc, ◌+◌, ◌<◌, Bool, true, false, ◌||◌, List, [], ◌∷◌, ◌++◌, Some, refl, sym, ap, ◌∙◌, subst, inl, inr,
-    arith}
+use Rattle.std.proofs.Common.{◌≡◌, ◌≢◌, ◌⊎◌, ℕ, zero, suc, ◌+◌, ◌<◌, Bool, true, false, ◌||◌, List, [], ◌∷◌, ◌++◌, Some, refl, sym, ap, ◌∙◌, subst, inl, inr}
+use Rattle.std.proofs.Common.{arith}
 use Rattle.std.specs.List.{list_any, slice_get, find}
 use Rattle.std.proofs.lemmas.Bool.{cases_Bool, and_left, and_right, ne_eqb, cond-true, cond-false}
 use Rattle.game_rules.specs.Board.{Square}

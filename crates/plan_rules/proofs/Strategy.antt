@@ -1,13 +1,13 @@
 -- From the laws of each instance and the table alone: whatever White plays, Black has a reply, each zone stays calm, and
 -- White never has a line.
-use Rattle.std.proofs.Common.{◌≡◌, ◌≢◌, ◌⊎◌, ℕ, zero, suc, ◌+◌, ◌*◌, ◌<◌, ◌≤◌, Bool, true, false, cond, List, [], ◌∷◌, length, Option, Some, None, is_none,
-    refl, sym, ap, ◌∙◌, subst, inl, inr, arith}
+use Rattle.std.proofs.Common.{◌≡◌, ◌≢◌, ◌⊎◌, ℕ, zero, suc, ◌+◌, ◌*◌, ◌<◌, ◌≤◌, Bool, true, false, cond, List, [], ◌∷◌, length, Option, Some, None, is_none}
+use Rattle.std.proofs.Common.{refl, sym, ap, ◌∙◌, subst, inl, inr, arith}
 use Rattle.std.specs.List.{list_all, slice_get, find, flat_map}
 use Rattle.std.specs.Option.{option_map, option_map_or, option_and_then}
 use Rattle.std.proofs.lemmas.Bool.{cases_eq, both_ways, and_parts, and_from, cond-true, false_from_ne_true, not_from_true}
 use Rattle.game_rules.specs.Board.{Square, below, on_board, line_at}
-use Rattle.game_rules.specs.Position.{Position, board_of, men_in, height, man_at, has_man, other, side_to_move, has_room, has_line, is_full, end_of, is_legal,
-    after_move, empty_count, moved, open_columns}
+use Rattle.game_rules.specs.Position.{Position, board_of, men_in, height, man_at, has_man, other, side_to_move, has_room, has_line, is_full, end_of, is_legal}
+use Rattle.game_rules.specs.Position.{after_move, empty_count, moved, open_columns}
 use Rattle.game_rules.specs.Value.{wins, same_end}
 use Rattle.game_rules.specs.Squares.{same_square, has_square, is_empty, is_playable}
 use Rattle.game_rules.specs.Groups.{Group, squares_of, lies_on, group_on}
@@ -16,12 +16,12 @@ use Rattle.game_rules.specs.declared.Side.{Side}
 use Rattle.game_rules.specs.declared.Side.TheVariants.{White, Black}
 use Rattle.game_rules.specs.declared.End.{End}
 use Rattle.game_rules.specs.declared.End.TheVariants as ends
-use Rattle.game_rules.proofs.Lists.{Among-map_gives, Among, any_gives, any_from, all_gives, all_from, Among-below, Among-flat_map_gives, Among-filter,
-    Among-filter_gives, Among-map, chosen}
+use Rattle.game_rules.proofs.Lists.{Among-map_gives, Among, any_gives, any_from, all_gives, all_from, Among-below, Among-flat_map_gives, Among-filter}
+use Rattle.game_rules.proofs.Lists.{Among-filter_gives, Among-map, chosen}
 use Rattle.game_rules.proofs.Moves.{man_past, board_moved, room_column, room_height, empty_count_moved, side_moved}
 use Rattle.game_rules.proofs.Values.{wins_own, wins_other, value_at_end}
-use Rattle.game_rules.proofs.Ends.{on_board_from, has_line_gives, has_line_from, has_line_same, each_step, from_steps, ended_parts, legal_parts, none_for_other,
-    other_kept, disjoint, white_end}
+use Rattle.game_rules.proofs.Ends.{on_board_from, has_line_gives, has_line_from, has_line_same, each_step, from_steps, ended_parts, legal_parts, none_for_other}
+use Rattle.game_rules.proofs.Ends.{other_kept, disjoint, white_end}
 use Rattle.game_rules.proofs.Squares.{has_gives, has_from, same_square_is}
 use Rattle.plan_rules.specs.Squares.{above}
 use Rattle.plan_rules.specs.Rules.{RuleInstance, zone_of, line_of, reply_to, upper_of, pair_of, twin_of, as_list, facts_of, barred}
@@ -29,8 +29,8 @@ use Rattle.plan_rules.specs.Calm.{is_calm}
 use Rattle.plan_rules.specs.Laws.{IsLineOf, Answers, AreTrue, Owns, IsHeld}
 use Rattle.plan_rules.specs.Plan.{empty_part, IsMember, IsPlan, plan_reply, after_turn, after_turns, duel, is_playable_list, is_nil, IsKept, IsAnswered, IsTurn}
 use Rattle.plan_rules.proofs.Squares.{Among-get, get-Among, find_one}
-use Rattle.plan_rules.proofs.Turns.{man_from, has_man_from, playable_from, playable_on_board, playable_room, playable_man, beside, stays, side_after, Turned,
-    turn}
+use Rattle.plan_rules.proofs.Turns.{man_from, has_man_from, playable_from, playable_on_board, playable_room, playable_man, beside, stays, side_after, Turned}
+use Rattle.plan_rules.proofs.Turns.{turn}
 use Rattle.plan_rules.proofs.Table.{always_calm, zones_apart}
 use Rattle.plan_rules.specs.Lawful.{Lawful}
 use Rattle.plan_rules.proofs.Plans.{any_member}
@@ -161,7 +161,7 @@ module _ (laws : (w : RuleInstance) → Lawful w) (p : Position) (ws : List Rule
           calm j v other (inr beside) =
               (laws v).is_local q (after_move (after_move q s.0) answer.to.0)
               (λ u owned_v. sym (turned.rest u (other_zone j v other beside s u owned owned_v)
-                  (other_zone j v other beside answer.to u answer.in_zone owned_v)))
+              (other_zone j v other beside answer.to u answer.in_zone owned_v)))
               (kept.calms j v other)
 
   -- ---- White has no line
@@ -205,14 +205,14 @@ module _ (laws : (w : RuleInstance) → Lawful w) (p : Position) (ws : List Rule
       barring g owns i w member is_barred None line =
           subst (λ line. IsHeld line (after_move (after_move q s.0) answer.to.0)) line
           ((laws w).bars p (after_move (after_move q s.0) answer.to.0) (facts_of p ws) (empty_part p g) (plan.fitting i w member) (λ u. refl)
-              (plan.supported i w member)
+          (plan.supported i w member)
           (answer.calms i w member) facts_next stay_next is_barred
           (λ u in_part. white_same u ∙ owns u (and_parts (is_empty p u) (has_square (squares_of g) u) in_part).1))
       barring g owns i w member is_barred (Some h) line =
           let held : IsHeld (Some h) (after_move q s.0) = subst (λ line. IsHeld line (after_move q s.0)) line
           ((laws w).bars p (after_move q s.0) (facts_of p ws) (empty_part p g) (plan.fitting i w member) (λ u. refl) (plan.supported i w member)
           (always_calm w h line (after_move q s.0)) (facts_same _ _ _ (after_move (after_move q s.0) answer.to.0) (after_move q s.0) white_same facts_next)
-              stay_now is_barred
+          stay_now is_barred
           (λ u in_part. owns u (and_parts (is_empty p u) (has_square (squares_of g) u) in_part).1)) in
           let lies : lies_on (board_of p) h ≡ true = subst (λ line. IsLineOf line p) line ((laws w).starts p (plan.fitting i w member)).line_on_board in
           both_ways (has_line q Black) (ended_parts q going).1
@@ -232,9 +232,9 @@ module _ (laws : (w : RuleInstance) → Lawful w) (p : Position) (ws : List Rule
       let white : has_line (after_move q s.0) White ≡ false = no_line_after q kept going s playable answer in
       let black : has_line (after_move q s.0) Black ≡ false = black_none in
       let full : is_full (after_move q s.0)
-          ≡ false = not_from_true _ (any_from (has_room (after_move q s.0)) (below (length (after_move q s.0).columns)) answer.to.0
+      ≡ false = not_from_true _ (any_from (has_room (after_move q s.0)) (below (length (after_move q s.0).columns)) answer.to.0
       (Among-below (length (after_move q s.0).columns) answer.to.0
-          (room_column (after_move q s.0) answer.to.0 (playable_room (after_move q s.0) answer.to answer.playable)))
+      (room_column (after_move q s.0) answer.to.0 (playable_room (after_move q s.0) answer.to answer.playable)))
       (playable_room (after_move q s.0) answer.to answer.playable)) in
       rw (white, black, full) refl
     where
@@ -257,7 +257,7 @@ module _ (laws : (w : RuleInstance) → Lawful w) (p : Position) (ws : List Rule
     facts = facts_true (after_move (after_move q s.0) answer.to.0) answer.calms;
     no_line = ap (λ side. has_line (after_move (after_move q s.0) answer.to.0) (other side)) (sym turn_now)
         ∙ has_line_same (after_move (after_move q s.0) answer.to.0) (after_move q s.0) (other (side_to_move (after_move q s.0)))
-            (board_moved (after_move q s.0) answer.to.0)
+        (board_moved (after_move q s.0) answer.to.0)
         (other_kept (after_move q s.0) answer.to.0 (playable_room (after_move q s.0) answer.to answer.playable))
         ∙ ap (λ side. has_line (after_move q s.0) (other side)) turn_now
         ∙ no_line_after q kept going s playable answer;
@@ -304,7 +304,7 @@ module _ (laws : (w : RuleInstance) → Lawful w) (p : Position) (ws : List Rule
 
           after_known : (e : Option End) → e ≡ None → (t : Option Square) → t ≡ Some answer.to
               → cond (is_none e) (option_map (λ (to : Square). after_move (after_move q column) to.0) t) None
-                  ≡ Some (after_move (after_move q column) answer.to.0)
+              ≡ Some (after_move (after_move q column) answer.to.0)
           after_known e none t some = rw (none, some) refl
 
   -- ---- the whole play
@@ -313,11 +313,11 @@ module _ (laws : (w : RuleInstance) → Lawful w) (p : Position) (ws : List Rule
   kept_along [] q r kept h = let same : q ≡ r = cc in subst (IsKept p ws) same kept
   kept_along (column ∷ columns) q r kept h =
       elim (chosen (is_legal q column) (option_and_then (λ next. after_turns ws next columns) (after_turn ws q column)) None (Some r) h) [
-    | inr illegal ↦ absurd (cc illegal.1)
-    | inl legal ↦
-        let one = take_turn q kept column legal.0 in
-        kept_along columns one.next r one.is_kept (sym (ap (option_and_then (λ next. after_turns ws next columns)) one.is_next) ∙ legal.1)
-  ]
+        | inr illegal ↦ absurd (cc illegal.1)
+        | inl legal ↦
+            let one = take_turn q kept column legal.0 in
+            kept_along columns one.next r one.is_kept (sym (ap (option_and_then (λ next. after_turns ws next columns)) one.is_next) ∙ legal.1)
+      ]
 
   pub kept_at : (columns : List ℕ) (q : Position) → after_turns ws p columns ≡ Some q → IsKept p ws q
   kept_at columns q h = kept_along columns p q first_kept h
@@ -439,7 +439,7 @@ module _ (laws : (w : RuleInstance) → Lawful w) (p : Position) (ws : List Rule
           (Among-map (after_move (after_move q column)) (open_columns (after_move q column)) one.is_answered.reply.0
           (Among-filter (has_room (after_move q column)) (below (length (after_move q column).columns)) one.is_answered.reply.0
           (Among-below (length (after_move q column).columns) one.is_answered.reply.0 (room_column (after_move q column) one.is_answered.reply.0 one.room))
-              one.room)) in
+          one.room)) in
           let fewer = empty_count_moved q column room in
           let fewer_again = empty_count_moved (after_move q column) one.is_answered.reply.0 one.room in
           both_ways (wins White one.next) (lower one.next (omega (arith, ap empty_count one.next_is)) one.is_kept) (ap (wins White) one.next_is ∙ next_won)

@@ -94,10 +94,14 @@ one_passes test m a zero one = omega arith
 one_passes test m a (suc n) one = elim (cases_Bool (test a)) [
   | inl passes ↦
       let rest = none_passes test (λ i. m) (range_with_len (a + 1) n)
-          (λ i among. false_from_ne_true (test i) (λ too. later i (Among-range_gives (a + 1) n i among).0 (one a i passes too))) in
+      (λ i among. false_from_ne_true (test i) (λ too. later i (Among-range_gives (a + 1) n i among).0 (one a i passes too))) in
       omega (arith, rest, sum_by-cons (where_passes test (λ i. m)) a (range_with_len (a + 1) n), ap (λ b. cond b m 0) passes)
-  | inr fails ↦ omega (arith, one_passes test m (a + 1) n one, sum_by-cons (where_passes test (λ i. m)) a (range_with_len (a + 1) n),
-      ap (λ b. cond b m 0) fails)
+  | inr fails ↦ omega (
+    arith,
+    one_passes test m (a + 1) n one,
+    sum_by-cons (where_passes test (λ i. m)) a (range_with_len (a + 1) n),
+    ap (λ b. cond b m 0) fails,
+  )
 ]
   where
     later : (i : ℕ) → a + 1 ≤ i → a ≡ i → ⊥
@@ -116,7 +120,7 @@ by_columns board test f one =
     column c =
         let as_rows = sum_map (where_passes test (λ u. f u.0)) (λ i. (c, i + 1)) (below board.rows) in
         let most = one_passes (λ i. test (c, i + 1)) (f c) 0 board.rows (λ i j first second. let same : i + 1 ≡ j + 1 = one c (i + 1) (j + 1) first second in
-            omega arith) in
+        omega arith) in
         omega (arith, as_rows, most)
 
 -- a longer range has the greater sum, and so has a wider and higher board

@@ -2,8 +2,8 @@
 -- square, and an inverse over two floors rests on one Baseinverse.
 use Rattle.std.proofs.Common.{◌≡◌, ◌+◌, ◌-◌, ◌<◌, ◌≤◌, true, false, not, ◌||◌, ◌==◌, List, [], ◌∷◌, Some, refl, sym, ap, subst, inl, inr, arith}
 use Rattle.std.specs.List.{list_all}
-use Rattle.std.proofs.lemmas.Bool.{both_ways, and_parts, and_from, or_cases, or_left, or_right, ltb-true, eqb-true, eq-eqb, not-true, not_from_false,
-    false_from_ne_true}
+use Rattle.std.proofs.lemmas.Bool.{both_ways, and_parts, and_from, or_cases, or_left, or_right, ltb-true, eqb-true, eq-eqb, not-true, not_from_false}
+use Rattle.std.proofs.lemmas.Bool.{false_from_ne_true}
 use Rattle.game_rules.specs.Board.{Square}
 use Rattle.game_rules.specs.Position.{Position}
 use Rattle.game_rules.specs.Squares.{has_square}
@@ -11,8 +11,8 @@ use Rattle.game_rules.specs.Groups.{Group}
 use Rattle.game_rules.proofs.Lists.{Among, all_gives, all_from}
 use Rattle.game_rules.proofs.Squares.{same_square_is, has_gives, has_from}
 use Rattle.plan_rules.specs.Squares.{above, under}
-use Rattle.plan_rules.specs.Rules.{RuleInstance, claimeven, baseinverse, lowinverse, highinverse, baseclaim, vertical, aftereven, before, specialbefore,
-    zone_of, line_of, owns_no_zone, no_shared_square, no_shared_column, is_over, rests_on, stands_over, together}
+use Rattle.plan_rules.specs.Rules.{RuleInstance, claimeven, baseinverse, lowinverse, highinverse, baseclaim, vertical, aftereven, before, specialbefore}
+use Rattle.plan_rules.specs.Rules.{zone_of, line_of, owns_no_zone, no_shared_square, no_shared_column, is_over, rests_on, stands_over, together}
 use Rattle.plan_rules.specs.Calm.{is_calm}
 
 pub zoneless_owns_none : (w : RuleInstance) → owns_no_zone w ≡ true → (u : Square) → has_square (zone_of w) u ≡ true → ⊥

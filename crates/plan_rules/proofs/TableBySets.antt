@@ -2,16 +2,16 @@
 -- Claimeven is above a zone, each as whether two sets meet.
 use Rattle.std.proofs.Common.{◌≡◌, ◌≤◌, Bool, true, not, ◌&&◌, ◌||◌, ◌==◌, nat_lt, nat_le, List, refl, sym, ap, ◌∙◌, inl, inr, arith}
 use Rattle.std.specs.List.{list_all, list_any}
-use Rattle.std.proofs.lemmas.Bool.{cases_Bool, cases_lt, both_ways, and_parts, and_from, or_cases, or_left, or_right, not-true, not_from_false,
-    false_from_ne_true, lt-ltb, ltb-true, le-leb, leb-true, eq-eqb, eqb-true}
+use Rattle.std.proofs.lemmas.Bool.{cases_Bool, cases_lt, both_ways, and_parts, and_from, or_cases, or_left, or_right, not-true, not_from_false}
+use Rattle.std.proofs.lemmas.Bool.{false_from_ne_true, lt-ltb, ltb-true, le-leb, leb-true, eq-eqb, eqb-true}
 use Rattle.game_rules.specs.Board.{Square, on_board}
 use Rattle.game_rules.specs.Squares.{has_square, widest, IsSetOf}
 use Rattle.game_rules.proofs.Ends.{on_board_parts}
 use Rattle.game_rules.proofs.Lists.{any_gives, any_from, all_gives, all_from}
 use Rattle.game_rules.proofs.Squares.{agree, has_gives, has_from, set_on}
 use Rattle.plan_rules.specs.Rules.{RuleInstance, zone_of, no_shared_square, no_shared_column, is_over, stands_over, together}
-use Rattle.plan_rules.proofs.Table.{Apart, left_zoneless, right_zoneless, columns_apart, left_over, right_over, apart_gives, apart_from, no_shared, no_column,
-    zoneless_owns_none}
+use Rattle.plan_rules.proofs.Table.{Apart, left_zoneless, right_zoneless, columns_apart, left_over, right_over, apart_gives, apart_from, no_shared, no_column}
+use Rattle.plan_rules.proofs.Table.{zoneless_owns_none}
 
 -- ---- by columns first
 
@@ -85,7 +85,7 @@ columns_by_sets us vs a b columns left right whole = agree _ _ to from
         let both = and_parts (on_board widest found.0) _ (sym (whole.has found.0) ∙ has_from columns found.0 found.1) in
         let beside = any_gives (λ v. v.0 == found.0.0) a both.1 in
         no_column us vs beside.0 found.0 apart (sym (left.has beside.0) ∙ has_from a beside.0 beside.1) (sym (right.has found.0) ∙ found.2)
-            (eqb-true beside.0.0 found.0.0 beside.2)))
+        (eqb-true beside.0.0 found.0.0 beside.2)))
 
     from : not (meets columns b) ≡ true → no_shared_column us vs ≡ true
     from h = all_from (λ u. list_all (λ v. not (u.0 == v.0)) vs) us
@@ -108,7 +108,7 @@ over_by_sets x us a up top set part high = agree _ _ to from
         let rows = and_parts (nat_le x.1 found.0.1) (nat_le found.0.1 top.1) column.1 in
         let in_us = sym (set.has found.0) ∙ found.2 in
         not_over found.0 (eqb-true found.0.0 x.0 column.0) (leb-true x.1 found.0.1 rows.0)
-            (all_gives (λ u. not (x.0 == u.0) || nat_lt u.1 x.1) us found.0 over (has_gives us found.0 in_us))))
+        (all_gives (λ u. not (x.0 == u.0) || nat_lt u.1 x.1) us found.0 over (has_gives us found.0 in_us))))
       where
         not_over : (u : Square) → u.0 ≡ x.0 → x.1 ≤ u.1 → (not (x.0 == u.0) || nat_lt u.1 x.1) ≡ true → ⊥
         not_over u same low h = elim (or_cases (not (x.0 == u.0)) (nat_lt u.1 x.1) h) [
@@ -125,7 +125,7 @@ over_by_sets x us a up top set part high = agree _ _ to from
             let in_us = has_from us u among in
             let on = on_board_parts widest u.0 u.1 (set_on (has_square us) a set u in_us) in
             let in_up = part.has u ∙ and_from _ _ (eq-eqb u.0 x.0 (sym (eqb-true x.0 u.0 same)))
-                (and_from _ _ (le-leb x.1 u.1 above) (le-leb u.1 top.1 (omega (arith, on.2)))) in
+            (and_from _ _ (le-leb x.1 u.1 above) (le-leb u.1 top.1 (omega (arith, on.2)))) in
             absurd (both_ways (meets up a) (not-true _ h) (meets_from up a u in_up (set.has u ∙ in_us)))
       ]
     ])
@@ -139,6 +139,6 @@ pub together_of_sets : (v w : RuleInstance) (a b columns : List Square) → IsSe
 together_of_sets v w a b columns left right whole =
     together_by_columns v w
     ∙ ap (λ apart. apart || (no_shared_square (zone_of v) (zone_of w) && (stands_over v w || stands_over w v)))
-        (columns_by_sets (zone_of v) (zone_of w) a b columns left right whole)
+    (columns_by_sets (zone_of v) (zone_of w) a b columns left right whole)
     ∙ ap (λ apart. not (list_any (has_square b) columns) || (apart && (stands_over v w || stands_over w v)))
-        (squares_by_sets (zone_of v) (zone_of w) a b left right)
+    (squares_by_sets (zone_of v) (zone_of w) a b left right)

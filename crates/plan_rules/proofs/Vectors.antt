@@ -11,8 +11,8 @@ use Rattle.game_rules.specs.Groups.{Group}
 use Rattle.game_rules.specs.declared.Length.TheVariants.{Four, Five}
 use Rattle.game_rules.specs.declared.Way.{Way}
 use Rattle.game_rules.specs.declared.Way.TheVariants.{H, U}
-use Rattle.plan_rules.specs.Rules.{RuleInstance, claimeven, baseinverse, lowinverse, highinverse, baseclaim, vertical, aftereven, before, specialbefore,
-    is_shaped, facts_of, barred, together}
+use Rattle.plan_rules.specs.Rules.{RuleInstance, claimeven, baseinverse, lowinverse, highinverse, baseclaim, vertical, aftereven, before, specialbefore}
+use Rattle.plan_rules.specs.Rules.{is_shaped, facts_of, barred, together}
 use Rattle.plan_rules.specs.Plan.{is_plan, plan_reply, after_turn, duel, is_playable_list}
 
 -- a group of four squares
@@ -137,8 +137,11 @@ highinverse_replies : answered 4 4 ([]) (columns_a_b ++ baseinverse (2, 1) (3, 1
 highinverse_replies = refl
 
 lowinverse_replies : answered 4 4 ([]) (six_zones) (2 ∷ 2 ∷ 3 ∷ 2 ∷ 0 ∷ 0 ∷ 1 ∷ 1 ∷ [])
-    ≡ Some (((2, 1), Some (3, 1)) ∷ ((2, 2), Some (2, 3)) ∷ ((3, 2), Some (3, 3)) ∷ ((2, 4), Some (3, 4)) ∷ ((0, 1), Some (0, 2)) ∷ ((0, 3), Some (0, 4))
-    ∷ ((1, 1), Some (1, 2)) ∷ ((1, 3), Some (1, 4)) ∷ [], Some ends.Draw)
+    ≡ Some (
+      ((2, 1), Some (3, 1)) ∷ ((2, 2), Some (2, 3)) ∷ ((3, 2), Some (3, 3)) ∷ ((2, 4), Some (3, 4)) ∷ ((0, 1), Some (0, 2)) ∷ ((0, 3), Some (0, 4))
+          ∷ ((1, 1), Some (1, 2)) ∷ ((1, 3), Some (1, 4)) ∷ [],
+      Some ends.Draw,
+    )
 lowinverse_replies = refl
 
 shifted_replies : answered 4 4 ([]) (six_zones) (2 ∷ 2 ∷ 2 ∷ 3 ∷ [])

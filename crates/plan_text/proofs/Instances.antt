@@ -1,7 +1,7 @@
 -- Instances of the board: where their squares and their line stand, that their texts are read, and what bytes and how
 -- many those have.
-use Rattle.std.proofs.Common.{◌≡◌, ℕ, ◌+◌, ◌<◌, ◌≤◌, true, false, not, ◌&&◌, ◌==◌, nat_lt, nat_le, List, [], ◌∷◌, ◌++◌, length, Some, refl, sym, ap, ◌∙◌, inl,
-    inr, arith, lit<, lit≤}
+use Rattle.std.proofs.Common.{◌≡◌, ℕ, ◌+◌, ◌<◌, ◌≤◌, true, false, not, ◌&&◌, ◌==◌, nat_lt, nat_le, List, [], ◌∷◌, ◌++◌, length, Some, refl, sym, ap, ◌∙◌, inl}
+use Rattle.std.proofs.Common.{inr, arith, lit<, lit≤}
 use Rattle.std.specs.List.{AllByRecursion, list_all}
 use Rattle.std.specs.Fmt.{decimal}
 use Rattle.std.specs.Option.{option_map, option_map_or}
@@ -17,15 +17,15 @@ use Rattle.game_rules.proofs.Lists.{Among, all_gives}
 use Rattle.game_rules.proofs.Squares.{has_gives}
 use Rattle.game_rules.proofs.Ends.{on_board_parts}
 use Rattle.game_rules.proofs.Groups.{board_most, anchor_on, lies_parts, squares_on}
-use Rattle.plan_rules.specs.Rules.{RuleInstance, claimeven, baseinverse, lowinverse, highinverse, baseclaim, vertical, aftereven, before, specialbefore,
-    kind_of, zone_of, is_shaped, has_shape, line_of, is_low_column}
+use Rattle.plan_rules.specs.Rules.{RuleInstance, claimeven, baseinverse, lowinverse, highinverse, baseclaim, vertical, aftereven, before, specialbefore}
+use Rattle.plan_rules.specs.Rules.{kind_of, zone_of, is_shaped, has_shape, line_of, is_low_column}
 use Rattle.plan_rules.specs.Squares.{above, is_even}
 use Rattle.plan_rules.specs.declared.Kind.{Kind}
 use Rattle.plan_rules.specs.declared.Kind.TheVariants as kinds
 use Rattle.plan_rules.proofs.Spans.{lowinverse_shaped}
 use Rattle.plan_text.specs.Words.{◌>>=◌}
-use Rattle.plan_text.specs.Items.{square_text, way_letter, group_text, column_text, rule_letters, parts_text, instance_text, is_named, square_of, group_of,
-    column_of_squares, two_squares, rule_of, of_rule, if_named, instance_of}
+use Rattle.plan_text.specs.Items.{square_text, way_letter, group_text, column_text, rule_letters, parts_text, instance_text, is_named, square_of, group_of}
+use Rattle.plan_text.specs.Items.{column_of_squares, two_squares, rule_of, of_rule, if_named, instance_of}
 use Rattle.plan_text.proofs.Spaced.{all_append, all_each, IsPlain, digits_decimal, IsFreeOf, split_once_at}
 use Rattle.plan_text.proofs.Items.{row_small, square_spelled, group_spelled, both_spelled, rule_spelled}
 
@@ -70,7 +70,7 @@ module _ (board : Board) where
   stands (baseinverse s t) h = (zone_on (baseinverse s t) h s (inl refl), zone_on (baseinverse s t) h t (inr (inl refl)))
   stands (lowinverse x x_top y y_top) h =
       let both = and_parts _ (on_board board y && on_board board y_top && is_low_column y y_top) (sym (lowinverse_shaped x x_top y y_top board)
-          ∙ (named_parts (lowinverse x x_top y y_top) h).1) in
+      ∙ (named_parts (lowinverse x x_top y y_top) h).1) in
       let left = and_parts _ (is_low_column x x_top) (and_parts (nat_lt x.0 y.0) _ both.0).1 in
       let right = and_parts _ (is_low_column y y_top) both.1 in
       (column_stands x x_top left.0 left.1, column_stands y y_top right.0 right.1)
@@ -79,14 +79,17 @@ module _ (board : Board) where
       column_stands bottom top on low = let ends = and_parts (on_board board bottom) (on_board board top) on in
           (ends.0, ends.1, leb-true (bottom.1 + 2) top.1 (and_parts _ (nat_le (bottom.1 + 2) top.1) low).1)
   stands (highinverse x y) h = (zone_on (highinverse x y) h x (inl refl), zone_on (highinverse x y) h y (inr (inr (inr (inl refl)))))
-  stands (baseclaim a b e) h = (zone_on (baseclaim a b e) h a (inl refl), zone_on (baseclaim a b e) h b (inr (inl refl)),
-      zone_on (baseclaim a b e) h e (inr (inr (inl refl))))
+  stands (baseclaim a b e) h = (
+    zone_on (baseclaim a b e) h a (inl refl),
+    zone_on (baseclaim a b e) h b (inr (inl refl)),
+    zone_on (baseclaim a b e) h e (inr (inr (inl refl))),
+  )
   stands (vertical e) h = (and_parts (on_board board e) (on_board board (above e)) (and_parts _ (is_even e.1) (named_parts (vertical e) h).1).0).0
   stands (aftereven g) h = (named_parts (aftereven g) h).2
   stands (before g) h = (named_parts (before g) h).2
   stands (specialbefore g f e0) h =
       let apart = and_parts (lies_on board g && on_board board f && not (has_square (squares_of g) f) && has_square (squares_of g) e0) (not (f.0 == e0.0))
-          (named_parts (specialbefore g f e0) h).1 in
+      (named_parts (specialbefore g f e0) h).1 in
       let in_line = and_parts _ (has_square (squares_of g) e0) apart.0 in
       let on = and_parts (lies_on board g) (on_board board f) (and_parts _ (not (has_square (squares_of g) f)) in_line.0).0 in
       (on.0, on.1, all_gives (on_board board) (squares_of g) e0 (squares_on board g on.0) (has_gives (squares_of g) e0 in_line.1))
@@ -136,8 +139,11 @@ module _ (board : Board) where
 
   module _ (is : is_board board ≡ true) where
     square_high : (u : Square) → On u → IsHigh (square_text u)
-    square_high u on = (omega arith, all_each (λ byte. (48 ≤ byte) × (byte ≤ 57)) (λ byte. 48 ≤ byte) (decimal u.1) (λ byte digit. digit.0)
-        (digits_decimal u.1 (row_small board u is on)))
+    square_high u on = (
+      omega arith,
+      all_each (λ byte. (48 ≤ byte) × (byte ≤ 57)) (λ byte. 48 ≤ byte) (decimal u.1) (λ byte digit. digit.0)
+          (digits_decimal u.1 (row_small board u is on)),
+    )
 
     group_high : (g : Group) → Lies g → IsHigh (group_text g)
     group_high g lies = all_append (λ byte. 48 ≤ byte) (square_text g.anchor) (way_letter g.way ∷ [])
@@ -193,20 +199,20 @@ module _ (board : Board) where
     parts_spelled (baseinverse s t) h = ap (option_map (λ us. baseinverse us.0 us.1)) (pair_spelled s t h.0 h.1)
     parts_spelled (lowinverse x x_top y y_top) h =
         let left : IsFreeOf 44 (column_text x x_top) = all_append (λ byte. (byte == 44) ≡ false) (square_text x) (45 ∷ square_text x_top)
-            (square_free 44 x (lit< tt) h.0.0) (refl, square_free 44 x_top (lit< tt) h.0.1) in
+        (square_free 44 x (lit< tt) h.0.0) (refl, square_free 44 x_top (lit< tt) h.0.1) in
         ap (option_map (λ us. lowinverse us.0.0 us.0.1 us.1.0 us.1.1))
         (both_spelled (column_of_squares board) 44 (column_of_squares board) (column_text x x_top) (column_text y y_top) (x, x_top) (y, y_top) left
-            (column_spelled x x_top h.0) (column_spelled y y_top h.1))
+        (column_spelled x x_top h.0) (column_spelled y y_top h.1))
     parts_spelled (highinverse x y) h = ap (option_map (λ us. highinverse us.0 us.1)) (pair_spelled x y h.0 h.1)
     parts_spelled (baseclaim a b e) h = ap (option_map (λ us. baseclaim us.0 us.1.0 us.1.1))
         (both_spelled (square_of board) 44 (two_squares board) (square_text a) (square_text b ++ 44 ∷ square_text e) a (b, e) (square_free 44 a (lit< tt) h.0)
-            (square_spelled board a is h.0) (pair_spelled b e h.1 h.2))
+        (square_spelled board a is h.0) (pair_spelled b e h.1 h.2))
     parts_spelled (vertical e) h = ap (option_map vertical) (square_spelled board e is h)
     parts_spelled (aftereven g) h = ap (option_map aftereven) (group_spelled board g is h)
     parts_spelled (before g) h = ap (option_map before) (group_spelled board g is h)
     parts_spelled (specialbefore g f e0) h = ap (option_map (λ us. specialbefore us.0 us.1.0 us.1.1))
         (both_spelled (group_of board) 44 (two_squares board) (group_text g) (square_text f ++ 44 ∷ square_text e0) g (f, e0)
-            (free_of 44 (group_text g) (lit< tt) (group_high g h.0)) (group_spelled board g is h.0) (pair_spelled f e0 h.1 h.2))
+        (free_of 44 (group_text g) (lit< tt) (group_high g h.0)) (group_spelled board g is h.0) (pair_spelled f e0 h.1 h.2))
 
     -- ---- how long they are
 
@@ -218,12 +224,20 @@ module _ (board : Board) where
     column_short : (u v : Square) → IsColumn u v → length (column_text u v) ≤ 6
     column_short u v on =
         let rows = on_board_parts board v.0 v.1 on.1 in let most = board_most board is in
-        omega (arith, square_short v on.1, length-append (square_text u) (45 ∷ square_text v), length-decimal-le 1 u.1 (omega arith) (omega (arith, on.2))
-            (row_small board u is on.0))
+        omega (
+          arith,
+          square_short v on.1,
+          length-append (square_text u) (45 ∷ square_text v),
+          length-decimal-le 1 u.1 (omega arith) (omega (arith, on.2))
+              (row_small board u is on.0),
+        )
 
     group_short : (g : Group) → Lies g → length (group_text g) ≤ 4
-    group_short g lies = omega (arith, length-append (square_text g.anchor) (way_letter g.way ∷ []),
-        square_short g.anchor (anchor_on board g.way g.anchor (lies_parts board g lies).1))
+    group_short g lies = omega (
+      arith,
+      length-append (square_text g.anchor) (way_letter g.way ∷ []),
+      square_short g.anchor (anchor_on board g.way g.anchor (lies_parts board g lies).1),
+    )
 
     pair_short : (u v : Square) → On u → On v → length (square_text u ++ 44 ∷ square_text v) ≤ 7
     pair_short u v on_u on_v = omega (arith, length-append (square_text u) (44 ∷ square_text v), square_short u on_u, square_short v on_v)
@@ -258,7 +272,7 @@ module _ (board : Board) where
   pub instance_spelled : (w : RuleInstance) → is_named board w ≡ true → instance_of board (instance_text w) ≡ Some w
   instance_spelled w h =
       ap (λ found. found >>= λ (parts : List ℕ × List ℕ). rule_of parts.0 >>= λ rule. of_rule board rule parts.1 >>= if_named board)
-          (split_once_at 58 (rule_letters (kind_of w)) (parts_text w) (letters (kind_of w)).free)
+      (split_once_at 58 (rule_letters (kind_of w)) (parts_text w) (letters (kind_of w)).free)
       ∙ ap (λ found. found >>= λ rule. of_rule board rule (parts_text w) >>= if_named board) (rule_spelled (kind_of w))
       ∙ ap (λ found. found >>= if_named board) (parts_spelled (named_parts w h).0 w (stands w h))
       ∙ rw h refl

@@ -1,7 +1,7 @@
 -- Squares, groups and instances: what is read is spelled so and is one of the board, and squares and groups of the board
 -- are read from their texts.
-use Rattle.std.proofs.Common.{◌≡◌, ℕ, zero, suc, ◌-◌, ◌<◌, ◌^◌, Bool, true, ◌==◌, List, [], ◌∷◌, ◌++◌, length, take, Option, Some, refl, sym, ap, ◌∙◌, subst,
-    inl, inr, arith}
+use Rattle.std.proofs.Common.{◌≡◌, ℕ, zero, suc, ◌-◌, ◌<◌, ◌^◌, Bool, true, ◌==◌, List, [], ◌∷◌, ◌++◌, length, take, Option, Some, refl, sym, ap, ◌∙◌, subst}
+use Rattle.std.proofs.Common.{inl, inr, arith}
 use Rattle.std.specs.List.{find, slice_index}
 use Rattle.std.specs.Str.{bytes_eq}
 use Rattle.std.specs.Fmt.{decimal}
@@ -21,14 +21,14 @@ use Rattle.game_rules.proofs.Lists.{chosen}
 use Rattle.game_rules.proofs.Numbers.{number_gives, number_spelled}
 use Rattle.game_rules.proofs.Ends.{on_board_parts, on_board_from}
 use Rattle.game_rules.proofs.Groups.{board_most, anchor_on, lies_parts, lies_from, group_as}
-use Rattle.plan_rules.specs.Rules.{RuleInstance, claimeven, baseinverse, lowinverse, highinverse, baseclaim, vertical, aftereven, before, specialbefore,
-    kind_of}
+use Rattle.plan_rules.specs.Rules.{RuleInstance, claimeven, baseinverse, lowinverse, highinverse, baseclaim, vertical, aftereven, before, specialbefore}
+use Rattle.plan_rules.specs.Rules.{kind_of}
 use Rattle.plan_rules.specs.declared.Kind.{Kind}
 use Rattle.plan_rules.specs.declared.Kind.TheVariants as kinds
 use Rattle.plan_text.specs.Words.{◌>>=◌, split_once}
-use Rattle.plan_text.specs.Items.{square_text, way_letter, group_text, column_text, rule_letters, parts_text, instance_text, is_named, square_of, way_of,
-    group_at, group_of, both_of, column_of_squares, two_columns, two_squares, three_squares, group_and_squares, all_rules, rule_of, of_rule, if_named,
-    instance_of}
+use Rattle.plan_text.specs.Items.{square_text, way_letter, group_text, column_text, rule_letters, parts_text, instance_text, is_named, square_of, way_of}
+use Rattle.plan_text.specs.Items.{group_at, group_of, both_of, column_of_squares, two_columns, two_squares, three_squares, group_and_squares, all_rules}
+use Rattle.plan_text.specs.Items.{rule_of, of_rule, if_named, instance_of}
 use Rattle.plan_text.proofs.Spaced.{bind_some, map_some, chosen_some, is_text, letter_read, letter_spelled, IsFreeOf, split_once_gives, split_once_at}
 
 -- what is found passes
@@ -90,9 +90,11 @@ group_read board (first ∷ rest) g h =
     let way = bind_some (way_of (slice_index word (length word - 1))) (λ way. group_at board anchor.0 way) g anchor.2 in
     let found = cond_some (is_line board way.0 anchor.0) (group_on board way.0 anchor.0) g way.2 in
     let letter = way_read (slice_index word (length word - 1)) way.0 way.1 in
-    subst (λ g. (word ≡ group_text g) × (lies_on board g ≡ true)) found.1
-    (last_apart word (length word - 1) (omega arith) ∙ ap (λ start. start ++ slice_index word (length word - 1) ∷ []) (square_read board _ anchor.0 anchor.1).0
-        ∙ ap (λ letter. square_text anchor.0 ++ letter ∷ []) letter, lies_from board way.0 anchor.0 found.0)
+    subst (λ g. (word ≡ group_text g) × (lies_on board g ≡ true)) found.1 (
+      last_apart word (length word - 1) (omega arith) ∙ ap (λ start. start ++ slice_index word (length word - 1) ∷ []) (square_read board _ anchor.0 anchor.1).0
+          ∙ ap (λ letter. square_text anchor.0 ++ letter ∷ []) letter,
+      lies_from board way.0 anchor.0 found.0,
+    )
 
 pub group_spelled : (board : Board) (g : Group) → is_board board ≡ true → lies_on board g ≡ true → group_of board (group_text g) ≡ Some g
 group_spelled board g is lies =
@@ -102,9 +104,9 @@ group_spelled board g is lies =
     let size : length (start ++ last ∷ []) - 1 ≡ length start = omega (arith, length-append start (last ∷ [])) in
     ap (λ n. square_of board (take n (start ++ last ∷ [])) >>= λ anchor. way_of (slice_index (start ++ last ∷ []) n) >>= λ way. group_at board anchor way) size
     ∙ ap (λ word. square_of board word >>= λ anchor. way_of (slice_index (start ++ last ∷ []) (length start)) >>= λ way. group_at board anchor way)
-        (take-append_seam start (last ∷ []))
+    (take-append_seam start (last ∷ []))
     ∙ ap (λ found. found >>= λ anchor. way_of (slice_index (start ++ last ∷ []) (length start)) >>= λ way. group_at board anchor way)
-        (square_spelled board g.anchor is (anchor_on board g.way g.anchor parts.1))
+    (square_spelled board g.anchor is (anchor_on board g.way g.anchor parts.1))
     ∙ ap (λ byte. way_of byte >>= λ way. group_at board g.anchor way) (get_or-append_seam start last [] 0)
     ∙ ap (λ found. found >>= λ way. group_at board g.anchor way) (way_spelled g.way)
     ∙ rw parts.1 (ap Some (group_as board g parts.0))
@@ -121,7 +123,7 @@ both_read {X} {Y} left mark right left_text right_text left_read right_read byte
     let same : ◌≡◌ {A = X × Y} (x.0, y.0) z = cc (y.2) in
     subst (λ (z : X × Y). bytes ≡ left_text z.0 ++ mark ∷ right_text z.1) same
     (split_once_gives mark bytes parts.0 parts.1 ∙ ap (λ start. start ++ mark ∷ parts.0.1) (left_read parts.0.0 x.0 x.1)
-        ∙ ap (λ rest. left_text x.0 ++ mark ∷ rest) (right_read parts.0.1 y.0 y.1))
+    ∙ ap (λ rest. left_text x.0 ++ mark ∷ rest) (right_read parts.0.1 y.0 y.1))
 
 pub both_spelled : {X Y : Type 0} (left : List ℕ → Option X) (mark : ℕ) (right : List ℕ → Option Y) (start rest : List ℕ) (x : X) (y : Y)
     → IsFreeOf mark start → left start ≡ Some x → right rest ≡ Some y → both_of left mark right (start ++ mark ∷ rest) ≡ Some (x, y)
@@ -173,7 +175,7 @@ module _ (board : Board) where
   made_of : {X : Type 0} (rule : Kind) (made : X → RuleInstance) (text : X → List ℕ) → ((x : X) → kind_of (made x) ≡ rule)
       → ((x : X) → text x ≡ parts_text (made x))
       → (read : List ℕ → Option X) → ((bytes : List ℕ) (x : X) → read bytes ≡ Some x → bytes ≡ text x) → (bytes : List ℕ) (w : RuleInstance)
-          → option_map made (read bytes) ≡ Some w → IsOfRule rule bytes w
+      → option_map made (read bytes) ≡ Some w → IsOfRule rule bytes w
   made_of rule made text kind spelled read is bytes w h =
       let found = map_some made (read bytes) w h in
       subst (IsOfRule rule bytes) found.2 (record { kind = kind found.0; spelled = is bytes found.0 found.1 ∙ spelled found.0 })
@@ -203,6 +205,8 @@ module _ (board : Board) where
       let named = cond_some (is_named board found.0) found.0 w found.2 in
       let gives = rule_gives rule.0 parts.0.1 found.0 found.1 in
       let letters : parts.0.0 ≡ rule_letters (kind_of found.0) = rule_read parts.0.0 rule.0 rule.1 ∙ ap rule_letters (sym gives.kind) in
-      subst (λ w. (is_named board w ≡ true) × (bytes ≡ instance_text w)) named.1
-      (named.0, split_once_gives 58 bytes parts.0 parts.1 ∙ ap (λ start. start ++ 58 ∷ parts.0.1) letters
-          ∙ ap (λ rest. rule_letters (kind_of found.0) ++ 58 ∷ rest) gives.spelled)
+      subst (λ w. (is_named board w ≡ true) × (bytes ≡ instance_text w)) named.1 (
+        named.0,
+        split_once_gives 58 bytes parts.0 parts.1 ∙ ap (λ start. start ++ 58 ∷ parts.0.1) letters
+            ∙ ap (λ rest. rule_letters (kind_of found.0) ++ 58 ∷ rest) gives.spelled,
+      )

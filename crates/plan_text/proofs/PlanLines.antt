@@ -1,6 +1,6 @@
 -- The words of a plan's line: those that are read are the texts of instances of the board, and such texts are read.
-use Rattle.std.proofs.Common.{◌≡◌, ℕ, ◌*◌, ◌≤◌, true, ◌&&◌, nat_le, List, [], ◌∷◌, map, flat_map, length, Option, Some, None, codes, refl, sym, ap, ◌∙◌, subst,
-    arith, lit≤}
+use Rattle.std.proofs.Common.{◌≡◌, ℕ, ◌*◌, ◌≤◌, true, ◌&&◌, nat_le, List, [], ◌∷◌, map, flat_map, length, Option, Some, None, codes, refl, sym, ap, ◌∙◌, subst}
+use Rattle.std.proofs.Common.{arith, lit≤}
 use Rattle.std.specs.List.{AllByRecursion}
 use Rattle.std.specs.Str.{bytes_eq}
 use Rattle.std.specs.Option.{option_map_or}
@@ -74,8 +74,13 @@ members_length board ws h = each ws h.2
   where
     each : (ws : List RuleInstance) → AreNamed board ws → length (flat_map (λ word. 32 ∷ word) (map instance_text ws)) ≤ 17 * length ws
     each [] h = lit≤ tt
-    each (w ∷ ws) h = omega (arith, each ws h.1, instance_short board w h.0, length-append (32 ∷ instance_text w)
-        (flat_map (λ word. 32 ∷ word) (map instance_text ws)))
+    each (w ∷ ws) h = omega (
+      arith,
+      each ws h.1,
+      instance_short board w h.0,
+      length-append (32 ∷ instance_text w)
+          (flat_map (λ word. 32 ∷ word) (map instance_text ws)),
+    )
 
 -- what fits at a position has a spelling on its board
 pub fitting_named : (p : Position) (w : RuleInstance) → is_board (board_of p) ≡ true → fits w p ≡ true → is_named (board_of p) w ≡ true
@@ -104,15 +109,17 @@ plan_read board bytes ws h = of_words (words_of bytes) refl h
     of_words [] e h = cc
     of_words (word ∷ words) e h =
         let found = chosen_some (bytes_eq word (codes "plan")) (members_of board words) ws h in
-        let read = members_read board words ws found.1 in
-        (read.1, spaced_words bytes (word ∷ words) e
-            ∙ ap spaced (ap (λ word. word ∷ words) (is_text word (codes "plan") found.0) ∙ ap (λ words. codes "plan" ∷ words) read.0))
+        let read = members_read board words ws found.1 in (
+          read.1,
+          spaced_words bytes (word ∷ words) e
+              ∙ ap spaced (ap (λ word. word ∷ words) (is_text word (codes "plan") found.0) ∙ ap (λ words. codes "plan" ∷ words) read.0),
+        )
 
 -- what is in the grammar is read
 pub plan_spelled : (board : Board) (bytes : List ℕ) (ws : List RuleInstance) → IsPlanLine board bytes ws → read_plan board bytes ≡ Some ws
 plan_spelled board bytes ws h =
     ap (read_plan board) h.1 ∙ ap (plan_of_words board) (words_of_spaced (codes "plan") (map instance_text ws) (plan_plain board ws h.0.2))
-        ∙ members_spelled board ws h.0
+    ∙ members_spelled board ws h.0
 
 -- bytes are the line of one list
 pub one_plan : (board : Board) (bytes : List ℕ) (ws vs : List RuleInstance) → IsPlanLine board bytes ws → IsPlanLine board bytes vs → ws ≡ vs
@@ -125,5 +132,9 @@ plan_bytes board bytes ws h = subst (AllByRecursion (λ byte. 32 ≤ byte)) (sym
 -- the longest line has 5,104 bytes
 pub plan_length : (board : Board) (ws : List RuleInstance) → PlanFits board ws → length (plan_text ws) ≤ 5104
 plan_length board ws h =
-    omega (arith, ap length (spaced_behind (codes "plan") (map instance_text ws)),
-        length-append (codes "plan") (flat_map (λ word. 32 ∷ word) (map instance_text ws)), members_length board ws h)
+    omega (
+      arith,
+      ap length (spaced_behind (codes "plan") (map instance_text ws)),
+      length-append (codes "plan") (flat_map (λ word. 32 ∷ word) (map instance_text ws)),
+      members_length board ws h,
+    )

@@ -1,7 +1,7 @@
 -- Words with a single space between each two, and parts with a mark between them: how they are told apart, and what
 -- bytes they have.
-use Rattle.std.proofs.Common.{◌≡◌, ℕ, ◌+◌, ◌%◌, ◌<◌, ◌≤◌, ◌^◌, Bool, true, false, cond, ◌==◌, nat_le, nat_lt, List, [], ◌∷◌, ◌++◌, flat_map, Option, Some, None,
-    refl, sym, ap, ◌∙◌, subst, append-nil, inl, inr, arith, lit≤}
+use Rattle.std.proofs.Common.{◌≡◌, ℕ, ◌+◌, ◌%◌, ◌<◌, ◌≤◌, ◌^◌, Bool, true, false, cond, ◌==◌, nat_le, nat_lt, List, [], ◌∷◌, ◌++◌, flat_map, Option, Some, None}
+use Rattle.std.proofs.Common.{refl, sym, ap, ◌∙◌, subst, append-nil, inl, inr, arith, lit≤}
 use Rattle.std.specs.List.{All, AllByRecursion, list_all}
 use Rattle.std.specs.Str.{bytes_eq}
 use Rattle.std.specs.Fmt.{decimal}
@@ -127,7 +127,7 @@ split_once_gives mark (byte ∷ bytes) parts h = elim (chosen (byte == mark) (So
   | inr later ↦
       let rest = map_some (λ parts. (byte ∷ parts.0, parts.1)) (split_once mark bytes) parts later.1 in
       subst (λ (parts : List ℕ × List ℕ). byte ∷ bytes ≡ parts.0 ++ mark ∷ parts.1) rest.2
-          (ap (λ bytes. byte ∷ bytes) (split_once_gives mark bytes rest.0 rest.1))
+      (ap (λ bytes. byte ∷ bytes) (split_once_gives mark bytes rest.0 rest.1))
 ]
 
 -- and what has no mark before it is cut there

@@ -215,6 +215,6 @@ feed_at_the_end = refl
 fault_texts : (plan_fault_text not_white_to_move ≡ codes "NotWhiteToMove") × (plan_fault_text ended ≡ codes "Ended")
     × (plan_fault_text (misfit 12) ≡ codes "Misfit 12") × (plan_fault_text (clash 1 300) ≡ codes "Clash 1 300")
     × (plan_fault_text (uncovered (9, 10)) ≡ codes "Uncovered j10") × (plan_fault_text (unsupported 7) ≡ codes "Unsupported 7")
-        × (plan_fault_text (unanswered (line (0, 1))) ≡ codes "Unanswered a1h")
+    × (plan_fault_text (unanswered (line (0, 1))) ≡ codes "Unanswered a1h")
 unfolding digits
 fault_texts = (refl, refl, refl, refl, refl, refl, refl)

@@ -1,6 +1,6 @@
 -- Play goes line by line, and what whole inputs give.
-use Rattle.std.proofs.Common.{◌≡◌, ◌≢◌, ◌⊎◌, ℕ, suc, ◌+◌, true, nat_le, List, [], ◌∷◌, ◌++◌, map, length, Option, Some, None, is_none, Result, Ok, Err, refl,
-    sym, ap, ◌∙◌, inl, inr, arith, append_assoc, append-nil}
+use Rattle.std.proofs.Common.{◌≡◌, ◌≢◌, ◌⊎◌, ℕ, suc, ◌+◌, true, nat_le, List, [], ◌∷◌, ◌++◌, map, length, Option, Some, None, is_none, Result, Ok, Err, refl}
+use Rattle.std.proofs.Common.{sym, ap, ◌∙◌, inl, inr, arith, append_assoc, append-nil}
 use Rattle.std.proofs.lemmas.Bool.{le-leb}
 use Rattle.game_rules.specs.Board.{Square}
 use Rattle.game_rules.specs.Position.{Position, board_of, after_move}
@@ -14,8 +14,8 @@ use Rattle.plan_text.specs.PlanLine.{PlanFits, plan_text}
 use Rattle.plan_text.proofs.PlanLines.{plan_spelled, plan_length}
 use Rattle.proof_text.specs.Spelling.{longest_line}
 use Rattle.proof_text.specs.Texts.{pieces, game_of, behind_game}
-use Rattle.play_text.specs.Play.{PlayEnd, NoMove, AllPlayed, NoReply, move_line, Played, behind, turn_text, column_in, move_refusal, answer_to, with_answer,
-    with_column, play_from, first_move, plan_in, play_by, play_list, play_lines, play_game, play_of}
+use Rattle.play_text.specs.Play.{PlayEnd, NoMove, AllPlayed, NoReply, move_line, Played, behind, turn_text, column_in, move_refusal, answer_to, with_answer}
+use Rattle.play_text.specs.Play.{with_column, play_from, first_move, plan_in, play_by, play_list, play_lines, play_game, play_of}
 use Rattle.play_text.specs.Told.{TellsPlay, IsTold}
 use Rattle.play_text.specs.declared.PlayFault.{PlayFault}
 use Rattle.play_text.specs.declared.PlayKind.{PlayKind}
@@ -33,7 +33,7 @@ abbrev pub GoesOn : List RuleInstance → Position → ℕ → List (List ℕ) �
 GoesOn ws q at xs ys =
     (((play_from ws q at xs).end ≢ AllPlayed) × (play_from ws q at (xs ++ ys) ≡ play_from ws q at xs))
     ⊎ (((play_from ws q at xs).end ≡ AllPlayed)
-        × ((r : Position) × (play_from ws q at (xs ++ ys) ≡ behind (play_from ws q at xs).lines (play_from ws r (at + length xs) ys))))
+    × ((r : Position) × (play_from ws q at (xs ++ ys) ≡ behind (play_from ws q at xs).lines (play_from ws r (at + length xs) ys))))
 
 pub goes_on : (ws : List RuleInstance) (q : Position) (at : ℕ) (xs ys : List (List ℕ)) → GoesOn ws q at xs ys
 goes_on ws q at [] ys = inr (refl, (q, ap (λ at. play_from ws q at ys) (let same : at ≡ at + 0 = omega arith in same)))
@@ -49,16 +49,22 @@ goes_on ws q at (x ∷ xs) ys =
         further : GoesOn ws (after_move (after_move q column) reply.0) (at + 1) xs ys
             → (((play_from ws (after_move (after_move q column) reply.0) (at + 1) xs).end ≢ AllPlayed)
             × (behind (turn_text q column reply ∷ []) (play_from ws (after_move (after_move q column) reply.0) (at + 1) (xs ++ ys))
-                ≡ behind (turn_text q column reply ∷ []) (play_from ws (after_move (after_move q column) reply.0) (at + 1) xs)))
+            ≡ behind (turn_text q column reply ∷ []) (play_from ws (after_move (after_move q column) reply.0) (at + 1) xs)))
             ⊎ (((play_from ws (after_move (after_move q column) reply.0) (at + 1) xs).end ≡ AllPlayed)
             × ((r : Position) × (behind (turn_text q column reply ∷ []) (play_from ws (after_move (after_move q column) reply.0) (at + 1) (xs ++ ys))
-                ≡ behind (turn_text q column reply ∷ (play_from ws (after_move (after_move q column) reply.0) (at + 1) xs).lines)
-                (play_from ws r (at + suc (length xs)) ys))))
+            ≡ behind (turn_text q column reply ∷ (play_from ws (after_move (after_move q column) reply.0) (at + 1) xs).lines)
+            (play_from ws r (at + suc (length xs)) ys))))
         further (inl (stops, same)) = inl (stops, ap (behind (turn_text q column reply ∷ [])) same)
         further (inr (all, (r, same))) =
-            inr (all, (r, ap (behind (turn_text q column reply ∷ []))
-            (same ∙ ap (λ n. behind (play_from ws (after_move (after_move q column) reply.0) (at + 1) xs).lines (play_from ws r n ys))
-            (let more : at + 1 + length xs ≡ at + suc (length xs) = omega arith in more))))
+            inr (
+              all,
+              (
+                r,
+                ap (behind (turn_text q column reply ∷ []))
+                    (same ∙ ap (λ n. behind (play_from ws (after_move (after_move q column) reply.0) (at + 1) xs).lines (play_from ws r n ys))
+                    (let more : at + 1 + length xs ≡ at + suc (length xs) = omega arith in more)),
+              ),
+            )
 
     of_column : (column : Option ℕ) (refusal : Option PlayKind) → column_in (board_of q) x ≡ column → move_refusal q (column_in (board_of q) x) ≡ refusal
         → ((next : Position) → GoesOn ws next (at + 1) xs ys) → GoesOn ws q at (x ∷ xs) ys

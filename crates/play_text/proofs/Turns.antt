@@ -1,6 +1,6 @@
 -- By a plan the lines of play tell the turns of a duel.
-use Rattle.std.proofs.Common.{◌≡◌, ◌≢◌, ℕ, zero, suc, ◌+◌, ◌*◌, Bool, true, false, cond, List, [], ◌∷◌, ◌++◌, map, length, Option, Some, None, refl, sym, ap,
-    ◌∙◌, arith}
+use Rattle.std.proofs.Common.{◌≡◌, ◌≢◌, ℕ, zero, suc, ◌+◌, ◌*◌, Bool, true, false, cond, List, [], ◌∷◌, ◌++◌, map, length, Option, Some, None, refl, sym, ap}
+use Rattle.std.proofs.Common.{◌∙◌, arith}
 use Rattle.std.specs.Bool.{⊤}
 use Rattle.std.specs.List.{slice_get}
 use Rattle.std.proofs.lemmas.Bool.{and_parts}
@@ -55,7 +55,7 @@ pub line_played : (ws : List RuleInstance) (q : Position) (at : ℕ) (line : Lis
     → column_in (board_of q) line ≡ Some column
     → is_legal q column ≡ true
     → play_from ws q at (line ∷ more)
-        ≡ behind (turn_text q column answered.reply ∷ []) (play_from ws (after_move (after_move q column) answered.reply.0) (at + 1) more)
+    ≡ behind (turn_text q column answered.reply ∷ []) (play_from ws (after_move (after_move q column) answered.reply.0) (at + 1) more)
 line_played ws q at line more column answered named legal = rw (named, legal_unrefused q column legal, answer_is ws q column answered) refl
 
 -- ---- turns
@@ -90,14 +90,14 @@ played_in_turns p ws is before q at [] reached = record { columns = []; turns = 
 played_in_turns p ws is before q at (move ∷ moves) reached =
     of_column (column_in (board_of q) move) (move_refusal q (column_in (board_of q) move)) refl refl
     (λ column legal. played_in_turns p ws is (before ++ column ∷ [])
-        (after_move (after_move q column) (plan_answers p ws before q column is reached legal).reply.0) (at + 1) moves
+    (after_move (after_move q column) (plan_answers p ws before q column is reached legal).reply.0) (at + 1) moves
     (turns_more ws p q (after_move (after_move q column) (plan_answers p ws before q column is reached legal).reply.0) before column reached legal
-        (turn_made ws q column (plan_answers p ws before q column is reached legal))))
+    (turn_made ws q column (plan_answers p ws before q column is reached legal))))
   where
     of_column : (column : Option ℕ) (refusal : Option PlayKind) → column_in (board_of q) move ≡ column → move_refusal q (column_in (board_of q) move) ≡ refusal
         → ((column : ℕ) (legal : is_legal q column ≡ true)
         → GoesInTurns ws (after_move (after_move q column) (plan_answers p ws before q column is reached legal).reply.0) moves
-            (play_from ws (after_move (after_move q column) (plan_answers p ws before q column is reached legal).reply.0) (at + 1) moves))
+        (play_from ws (after_move (after_move q column) (plan_answers p ws before q column is reached legal).reply.0) (at + 1) moves))
         → GoesInTurns ws q (move ∷ moves) (play_from ws q at (move ∷ moves))
     of_column column (Some kind) e f later = rw f (record { columns = []; turns = tt; answered = λ same. cc })
     of_column None None e f later = absurd (cc (rw e at f))
@@ -111,8 +111,15 @@ played_in_turns p ws is before q at (move ∷ moves) reached =
           columns = column ∷ behind.columns;
           turns = (
             next,
-            record { letter = column_letter (board_of q) move column e; legal = legal; reply = answered.reply; is_reply = answered.is_reply; turn =
-                turn_made ws q column answered; told = refl },
+            record {
+              letter = column_letter (board_of q) move column e;
+              legal = legal;
+              reply = answered.reply;
+              is_reply = answered.is_reply;
+              turn =
+                  turn_made ws q column answered;
+              told = refl;
+            },
             behind.turns,
           );
           answered = behind.answered;
@@ -244,7 +251,7 @@ legal_played p ws is before q at (column ∷ columns) reached playable =
     let next = after_move (after_move q column) (plan_answers p ws before q column is reached legal).reply.0 in
     let turn : after_turn ws q column ≡ Some next = turn_made ws q column answered in
     let later = legal_played p ws is (before ++ column ∷ []) next (at + 1) columns (turns_more ws p q next before column reached legal turn)
-        (rw turn at (and_parts (is_legal q column) _ playable).1) in
+    (rw turn at (and_parts (is_legal q column) _ playable).1) in
     rw (legal_line q column legal, legal_unrefused q column legal, answer_is ws q column answered) later
 
 pub all_legal_played : (p : Position) (ws : List RuleInstance) (at : ℕ) (columns : List ℕ) → is_plan p ws ≡ true → is_playable_list ws p columns ≡ true

@@ -1,6 +1,6 @@
 -- What the look-ups find after an entry was used or kept.
-use Rattle.std.proofs.Common.{◌≡◌, ℕ, zero, suc, ◌-◌, ◌<◌, ◌≤◌, Bool, true, false, ◌⊎◌, cond, List, [], ◌∷◌, length, take, Option, Some, None, option_map, refl,
-    sym, ap, ◌∙◌, inl, inr, arith}
+use Rattle.std.proofs.Common.{◌≡◌, ℕ, zero, suc, ◌-◌, ◌<◌, ◌≤◌, Bool, true, false, ◌⊎◌, cond, List, [], ◌∷◌, length, take, Option, Some, None, option_map, refl}
+use Rattle.std.proofs.Common.{sym, ap, ◌∙◌, inl, inr, arith}
 use Rattle.std.specs.Option.{option_map_or}
 use Rattle.std.specs.Map.{lookup, lookup_entry, remove_entry}
 use Rattle.std.proofs.lemmas.Bool.{cases_Bool}
@@ -19,18 +19,18 @@ module _ {K X : Type 0} where
   lookup_without gone test [] e there other = cc
   lookup_without gone test (d ∷ es) e there other =
       (elim (gone d.0) as (λ b. gone d.0 ≡ b → lookup test (cond b es (d ∷ remove_entry gone es)) ≡ lookup test (d ∷ es)) [
-    | true ↦ λ t. let h = rw t at there in let same : d ≡ e = cc in sym (rw (ap (λ (e : K × X). test e.0) same ∙ other) refl)
-    | false ↦ λ t. ap (cond (test d.0) (Some d.1)) (lookup_without gone test es e (rw t at there) other)
-  ]) refl
+        | true ↦ λ t. let h = rw t at there in let same : d ≡ e = cc in sym (rw (ap (λ (e : K × X). test e.0) same ∙ other) refl)
+        | false ↦ λ t. ap (cond (test d.0) (Some d.1)) (lookup_without gone test es e (rw t at there) other)
+      ]) refl
 
   lookup_take : (test : K → Bool) (n : ℕ) (es : List (K × X)) (x : X) → lookup test (take n es) ≡ Some x → lookup test es ≡ Some x
   lookup_take test zero es x h = cc
   lookup_take test (suc n) [] x h = cc
   lookup_take test (suc n) (e ∷ es) x h =
       (elim (test e.0) as (λ b. cond b (Some e.1) (lookup test (take n es)) ≡ Some x → cond b (Some e.1) (lookup test es) ≡ Some x) [
-    | true ↦ λ h. h
-    | false ↦ λ h. lookup_take test n es x h
-  ]) h
+        | true ↦ λ h. h
+        | false ↦ λ h. lookup_take test n es x h
+      ]) h
 
   pub take_whole : (n : ℕ) (es : List (K × X)) → length es ≤ n → take n es ≡ es
   take_whole zero [] h = refl
@@ -68,8 +68,10 @@ module _ (p : Position) (q : Question) (f : Found) (t : Entries) (absent : looku
   pub lookup_kept_from : (other : Key) (g : Found) → lookup (same_key other) (entries_kept p q f t) ≡ Some g → (lookup (same_key other) t.entries ≡ Some g)
       ⊎ ((other ≡ own) × (g ≡ f))
   lookup_kept_from other g h = elim (cases_Bool (same_key other own)) [
-    | inl same ↦ inr ((same_key_Decides other own).0 same,
-        sym (some_same (sym (ap (λ b. cond b (Some f) (lookup (same_key other) (take (t.room - 1) t.entries))) same) ∙ front)))
+    | inl same ↦ inr (
+      (same_key_Decides other own).0 same,
+      sym (some_same (sym (ap (λ b. cond b (Some f) (lookup (same_key other) (take (t.room - 1) t.entries))) same) ∙ front)),
+    )
     | inr apart ↦ inl (lookup_take (same_key other) (t.room - 1) t.entries g
         (sym (ap (λ b. cond b (Some f) (lookup (same_key other) (take (t.room - 1) t.entries))) apart) ∙ front))
   ]

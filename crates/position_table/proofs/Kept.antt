@@ -1,6 +1,6 @@
 -- What the cache says of an entry that is put, in the table's words.
-use Rattle.std.proofs.Common.{◌≡◌, ℕ, zero, suc, ◌-◌, ◌<◌, ◌≤◌, Bool, true, false, ◌&&◌, cond, List, [], ◌∷◌, length, Option, Some, None, option_map, nat_lt,
-    slice_get, refl, sym, ap, ◌∙◌, subst, arith}
+use Rattle.std.proofs.Common.{◌≡◌, ℕ, zero, suc, ◌-◌, ◌<◌, ◌≤◌, Bool, true, false, ◌&&◌, cond, List, [], ◌∷◌, length, Option, Some, None, option_map, nat_lt}
+use Rattle.std.proofs.Common.{slice_get, refl, sym, ap, ◌∙◌, subst, arith}
 use Rattle.std.proofs.Math.Bool.{and-true}
 use Rattle.std.proofs.lemmas.Bool.{lt-ltb, ltb-true}
 use Rattle.std.specs.Option.{option_map_or}
@@ -79,7 +79,7 @@ module _ (p : Position) (q : Question) (f : Found) (es : List (Key × Found)) (n
         by : (o : Option Found) → lookup (is_for p q) es ≡ o → w ≡ whole_kept p q (record { entries = es; room = n; whole = w }) true
         by None none =
             let past : length es ≤ n - 1 = past_if_none (is_for p q) es (n - 1)
-                (sym (ap (λ o. option_map_or (λ old. Some (key, old)) o (slice_get es (n - 1))) none) ∙ h) in
+            (sym (ap (λ o. option_map_or (λ old. Some (key, old)) o (slice_get es (n - 1))) none) ∙ h) in
             rw (none, lt-ltb (length es) n (omega (arith, past, some))) (sym (and-true w))
         by (Some old) there = absurd (none≢some (sym h ∙ ap (λ o. option_map_or (λ old. Some (key, old)) o (slice_get es (n - 1))) there))
 
@@ -91,8 +91,12 @@ module _ (p : Position) (q : Question) (f : Found) (es : List (Key × Found)) (n
         by : (o : Option Found) → lookup (is_for p q) es ≡ o → (w && same_key gone.0 key) ≡ whole_kept p q (record { entries = es; room = n; whole = w }) true
         by None none =
             let at : slice_get es (n - 1) ≡ Some gone = sym (ap (λ o. option_map_or (λ old. Some (key, old)) o (slice_get es (n - 1))) none) ∙ h in
-            rw (none, not_below (length es) n (omega (arith, within_if_some (is_for p q) es (n - 1) gone at)), same_key_equiv.symm gone.0 key,
-                absent_at (is_for p q) es (n - 1) gone none at) refl
+            rw (
+              none,
+              not_below (length es) n (omega (arith, within_if_some (is_for p q) es (n - 1) gone at)),
+              same_key_equiv.symm gone.0 key,
+              absent_at (is_for p q) es (n - 1) gone none at,
+            ) refl
         by (Some old) there =
             let at : (key, old) ≡ gone = some_same (sym (ap (λ o. option_map_or (λ old. Some (key, old)) o (slice_get es (n - 1))) there) ∙ h) in
             rw (there, ← at, same_key_equiv.refl key) refl

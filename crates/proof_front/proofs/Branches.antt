@@ -42,8 +42,13 @@ module _ (side : Side) {slots : List (Option Node)} {at : ℕ} {node : Node} (ro
     pub going_leaf : is_zero n ≡ false → is_infinite n ≡ false → IsGoingLeaf slots at
     going_leaf unsettled finite =
         let number = count_same (leaf_number proof l.verdict) n found_leaf in
-        record { node = node; others = _; owns = l.owns; going =
-            l.going.0 (open_leaf proof l.verdict (ap is_zero number ∙ unsettled) (ap is_infinite number ∙ finite)) }
+        record {
+          node = node;
+          others = _;
+          owns = l.owns;
+          going =
+              l.going.0 (open_leaf proof l.verdict (ap is_zero number ∙ unsettled) (ap is_infinite number ∙ finite));
+        }
 
     module _ (closed : Side → Position → Bool) where
       updated_leaf : (kids : Row) → kids ≡ leaves side closed (moves_out node.position)
@@ -67,10 +72,10 @@ module _ (side : Side) {slots : List (Option Node)} {at : ℕ} {node : Node} (ro
           let p = node.position in
           let kids = leaves side closed (moves_out p) in
           let number : node_number side b p kids ≡ leaf_number b l.verdict = sym (in_node side b p kids)
-              ∙ (sym (ap (number_in b) same) ∙ (ap (λ m. number_in b m.numbers) l.node_is ∙ in_leaf side b l.verdict)) in
+          ∙ (sym (ap (number_in b) same) ∙ (ap (λ m. number_in b m.numbers) l.node_is ∙ in_leaf side b l.verdict)) in
           ap (number_of side b smallest) (updated_leaf kids refl)
-              ∙ (as_number side p kids kids (row_of l.rest) (λ c w. refl) b smallest
-              ∙ (ap (λ m. joined smallest m (number_of side b smallest (row_of l.rest))) number ∙ sym (ap (number_of side b smallest) l.row_is)))
+          ∙ (as_number side p kids kids (row_of l.rest) (λ c w. refl) b smallest
+          ∙ (ap (λ m. joined smallest m (number_of side b smallest (row_of l.rest))) number ∙ sym (ap (number_of side b smallest) l.row_is)))
 
   -- ---- an inner node
 
@@ -119,18 +124,35 @@ module _ (side : Side) {slots : List (Option Node)} {at : ℕ} {node : Node} (ro
         kids_begin = sym (ap (λ m. m.first) i.node_is) ∙ some
 
         pub kids_lie : Lies side slots (Some first) i.kids ((at, node) ∷ (cells_of side i.rest ++ others))
-        kids_lie = record { owns = first_to_front (at, node) (cells_of side i.kids) (cells_of side i.rest) others i.owns; first = kids_begin; clean =
-            i.clean.1; going = i.going.0 }
+        kids_lie = record {
+          owns = first_to_front (at, node) (cells_of side i.kids) (cells_of side i.rest) others i.owns;
+          first = kids_begin;
+          clean =
+              i.clean.1;
+          going = i.going.0;
+        }
 
         pub asked_below : IsAsked side slots first own (number_in own node.numbers)
-        asked_below = record { row = i.kids; others = _; lies = kids_lie; number = least_here; unsettled = ap is_zero own_number
-            ∙ zero_own; finite = ap is_infinite own_number ∙ infinite_own }
+        asked_below = record {
+          row = i.kids;
+          others = _;
+          lies = kids_lie;
+          number = least_here;
+          unsettled = ap is_zero own_number
+              ∙ zero_own;
+          finite = ap is_infinite own_number ∙ infinite_own;
+        }
 
         -- new children lie there
         pub new_below : {mid : List (Option Node)} (kids : Placed) → Lies side mid (Some first) kids ((at, node) ∷ (cells_of side i.rest ++ others))
             → LiesBelow side mid at (Some first) node kids (cells_of side i.rest ++ others)
-        new_below kids l = record { owns = exchanged (cells_of side kids) ((at, node) ∷ []) (cells_of side i.rest ++ others) l.owns; begins = l.first; clean =
-            l.clean; going = l.going }
+        new_below kids l = record {
+          owns = exchanged (cells_of side kids) ((at, node) ∷ []) (cells_of side i.rest ++ others) l.owns;
+          begins = l.first;
+          clean =
+              l.clean;
+          going = l.going;
+        }
 
         module _ (closed : Side → Position → Bool) where
           updated_inner : (kids : Row) → kids ≡ updated side closed own (number_in own node.numbers) (row_of i.kids)
@@ -155,38 +177,38 @@ module _ (side : Side) {slots : List (Option Node)} {at : ℕ} {node : Node} (ro
           inner_numbers_same kids e same b smallest =
               let p = node.position in
               let number : node_number side b p kids ≡ node_number side b p (row_of i.kids) = sym (in_node side b p kids)
-                  ∙ (sym (ap (number_in b) same) ∙ (ap (λ m. number_in b m.numbers) i.node_is ∙ in_node side b p (row_of i.kids))) in
+              ∙ (sym (ap (number_in b) same) ∙ (ap (λ m. number_in b m.numbers) i.node_is ∙ in_node side b p (row_of i.kids))) in
               ap (number_of side b smallest) (updated_inner kids e)
-                  ∙ (as_number side p kids kids (row_of i.rest) (λ c w. refl) b smallest
-                  ∙ (ap (λ m. joined smallest m (number_of side b smallest (row_of i.rest))) number ∙ sym (ap (number_of side b smallest) i.row_is)))
+              ∙ (as_number side p kids kids (row_of i.rest) (λ c w. refl) b smallest
+              ∙ (ap (λ m. joined smallest m (number_of side b smallest (row_of i.rest))) number ∙ sym (ap (number_of side b smallest) i.row_is)))
 
           module _ (kids : Placed) (e : row_of kids ≡ updated side closed own (number_in own node.numbers) (row_of i.kids)) (same : (b smallest : Bool)
               → number_of side b smallest (updated side closed own (number_in own node.numbers) (row_of i.kids)) ≡ number_of side b smallest (row_of i.kids))
-              where
-            kept_number : (b : Bool) → node_number side b node.position (row_of kids) ≡ node_number side b node.position (row_of i.kids)
-            kept_number b = ap (number_of side b (takes_least side b node.position)) e ∙ same b (takes_least side b node.position)
+            where
+              kept_number : (b : Bool) → node_number side b node.position (row_of kids) ≡ node_number side b node.position (row_of i.kids)
+              kept_number b = ap (number_of side b (takes_least side b node.position)) e ∙ same b (takes_least side b node.position)
 
-            pub kept_numbers : node.numbers ≡ node_numbers side node.position (row_of kids)
-            kept_numbers = ap (λ m. m.numbers) i.node_is ∙ (rw (kept_number true, kept_number false) refl)
+              pub kept_numbers : node.numbers ≡ node_numbers side node.position (row_of kids)
+              kept_numbers = ap (λ m. m.numbers) i.node_is ∙ (rw (kept_number true, kept_number false) refl)
 
-            -- the path ends here: the node stays as it is
-            pub inner_stays : {new : List (Option Node)} → Lies side new (Some first) kids ((at, node) ∷ (cells_of side i.rest ++ others))
-                → Grew side new at (updated side closed proof n (row_of row)) others
-            inner_stays {new} l =
-                let p = node.position in
-                let unsettled : verdict_on side p (row_of kids) ≡ Unsettled = (rw (kept_number true, kept_number false) refl) ∙ i.clean.0 in
-                let node_is : node ≡ record { position = p; first = first_of kids; next = first_of i.rest; numbers = node_numbers side p (row_of kids) } =
-                i.node_is ∙ (ap (λ f. record { position = p; first = f; next = first_of i.rest; numbers = node_numbers side p (row_of i.kids) })
-                    (kids_begin ∙ sym l.first) ∙ ap (λ m. record { position = p; first = first_of kids; next = first_of i.rest; numbers = m })
-                    (sym (ap (λ m. m.numbers) i.node_is) ∙ kept_numbers)) in
-                record {
-                  placed = inner_at at p kids i.rest;
-                  is = sym (updated_inner (row_of kids) e ∙ ap (λ v. node_as v p (row_of kids) (row_of i.rest)) unsettled);
-                  lies = record {
-                    owns = subst (λ m. Owns new ((at, m) ∷ ((cells_of side kids ++ cells_of side i.rest) ++ others))) node_is
-                        (first_from_front (at, node) (cells_of side kids) (cells_of side i.rest) others l.owns);
-                    first = refl;
-                    clean = (unsettled, l.clean, i.clean.2);
-                    going = (l.going, i.going.1);
-                  };
-                }
+              -- the path ends here: the node stays as it is
+              pub inner_stays : {new : List (Option Node)} → Lies side new (Some first) kids ((at, node) ∷ (cells_of side i.rest ++ others))
+                  → Grew side new at (updated side closed proof n (row_of row)) others
+              inner_stays {new} l =
+                  let p = node.position in
+                  let unsettled : verdict_on side p (row_of kids) ≡ Unsettled = (rw (kept_number true, kept_number false) refl) ∙ i.clean.0 in
+                  let node_is : node ≡ record { position = p; first = first_of kids; next = first_of i.rest; numbers = node_numbers side p (row_of kids) } =
+                  i.node_is ∙ (ap (λ f. record { position = p; first = f; next = first_of i.rest; numbers = node_numbers side p (row_of i.kids) })
+                  (kids_begin ∙ sym l.first) ∙ ap (λ m. record { position = p; first = first_of kids; next = first_of i.rest; numbers = m })
+                  (sym (ap (λ m. m.numbers) i.node_is) ∙ kept_numbers)) in
+                  record {
+                    placed = inner_at at p kids i.rest;
+                    is = sym (updated_inner (row_of kids) e ∙ ap (λ v. node_as v p (row_of kids) (row_of i.rest)) unsettled);
+                    lies = record {
+                      owns = subst (λ m. Owns new ((at, m) ∷ ((cells_of side kids ++ cells_of side i.rest) ++ others))) node_is
+                          (first_from_front (at, node) (cells_of side kids) (cells_of side i.rest) others l.owns);
+                      first = refl;
+                      clean = (unsettled, l.clean, i.clean.2);
+                      going = (l.going, i.going.1);
+                    };
+                  }

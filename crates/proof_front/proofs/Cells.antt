@@ -108,7 +108,7 @@ module _ {T : Type 0} where
           let e : i ≡ j = grind arith in
           subst (λ j. values_at j ((i, w) ∷ others) ≡ listed (held (set slots i (Some w)) j)) e
           (at_own i w others ∙ (ap (λ xs. w ∷ xs) (no_other i v others owns)
-              ∙ ap listed (sym (get_or-set_same slots i (Some w) None (within slots i v (mine i v others owns))))))
+          ∙ ap listed (sym (get_or-set_same slots i (Some w) None (within slots i v (mine i v others owns))))))
 
       apart : (j : ℕ) → (i == j) ≡ false → j ≢ i
       apart j past e = grind arith

@@ -146,8 +146,12 @@ module _ (side : Side) where
     pub kids : Placed
     pub rest : Placed
     pub row_is : row_of row ≡ inner node.position (row_of kids) (row_of rest)
-    pub node_is : node ≡ record { position = node.position; first = first_of kids; next = first_of rest; numbers = node_numbers side node.position (row_of kids)
-        }
+    pub node_is : node ≡ record {
+      position = node.position;
+      first = first_of kids;
+      next = first_of rest;
+      numbers = node_numbers side node.position (row_of kids);
+    }
     pub owns : Owns slots ((at, node) ∷ ((cells_of side kids ++ cells_of side rest) ++ others))
     pub clean : (verdict_on side node.position (row_of kids) ≡ Unsettled) × IsClean side (row_of kids) × IsClean side (row_of rest)
     pub going : AreGoing (row_of kids) × AreGoing (row_of rest)

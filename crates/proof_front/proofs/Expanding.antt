@@ -65,7 +65,7 @@ module _ {slots : List (Option Node)} {at : ℕ} (leaf : IsGoingLeaf slots at) (
 
         pub expanded : {new : List (Option Node)} {step : Step} → short ≡ false → step ≢ steps.Full
             → ((node : Node) (kids : Placed) (others : List (Cell Node)) → LiesBelow side mid at first node kids others
-                → IsRenewed side new at node kids others step) → IsExpanded side reach slots new at node others step
+            → IsRenewed side new at node kids others step) → IsExpanded side reach slots new at node others step
         expanded h done renewed =
             let again = renewed node l.row others leaves_below in
             record {

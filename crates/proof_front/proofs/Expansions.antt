@@ -17,8 +17,8 @@ use Rattle.proof_front.proofs.Opening.{opened, kids_of, rest_of}
 use Rattle.proof_front.proofs.Parts.{fewer_below, fewer_beside}
 use Rattle.proof_front.proofs.Skipping.{asked_skipped, updated_skipped, numbers_skipped, lies_with, with_rest, asked_beside}
 use Rattle.proof_front.proofs.Descending.{InnerFirst, leaf_first, inner_first}
-use Rattle.proof_front.proofs.Branches.{asked_leaf, going_leaf, leaf_grew, leaf_numbers_same, asked_inner, kids_lie, asked_below, new_below, inner_grew,
-    inner_numbers_same, kept_numbers, inner_stays}
+use Rattle.proof_front.proofs.Branches.{asked_leaf, going_leaf, leaf_grew, leaf_numbers_same, asked_inner, kids_lie, asked_below, new_below, inner_grew}
+use Rattle.proof_front.proofs.Branches.{inner_numbers_same, kept_numbers, inner_stays}
 
 changed_not_full : {s : Step} → s ≡ steps.Changed → s ≢ steps.Full
 changed_not_full e f = cc
@@ -111,13 +111,18 @@ module _ {side : Side} {old : List (Option Node)} {at : ℕ} {node : Node} (here
       -- what an expansion below it leaves in the pool
       module _ {reach : ℕ} {mid : List (Option Node)} {went : Step}
           (grown : (row : Placed) (others : List (Cell Node)) → Lies side old (Some first) row others
-              → IsGrown side reach old mid first own below row others went) where
+          → IsGrown side reach old mid first own below row others went) where
         pub kids_below : went ≡ steps.Changed → IsAsked side old at proof least → IsBelow side mid at (Some first)
         kids_below changed g =
             let i = first_inner g.lies in
             let kids = (grown i.kids _ (kids_lie side g.row g.others proof least found i own to_move some)).grown (changed_not_full changed) in
-            record { node = node; kids = kids.placed; others = _; lies = new_below side g.row g.others proof least found i own to_move some kids.placed
-                kids.lies }
+            record {
+              node = node;
+              kids = kids.placed;
+              others = _;
+              lies = new_below side g.row g.others proof least found i own to_move some kids.placed
+                  kids.lies;
+            }
 
         module _ {row : Placed} {others : List (Cell Node)} (lies : Lies side old (Some at) row others) where
           inside : InnerFirst side old at node row others
@@ -137,7 +142,7 @@ module _ {side : Side} {old : List (Option Node)} {at : ℕ} {node : Node} (here
           -- the first child has other numbers, so the node is looked at again
           pub changed_grown : {new : List (Option Node)} {step : Step} → went ≡ steps.Changed → step ≢ steps.Full
               → ((node : Node) (kids : Placed) (others : List (Cell Node)) → LiesBelow side mid at (Some first) node kids others
-                  → IsRenewed side new at node kids others step)
+              → IsRenewed side new at node kids others step)
               → IsGrown side reach old new at proof least row others step
           changed_grown changed done renewed =
               let kids = did.grown (changed_not_full changed) in
@@ -153,10 +158,10 @@ module _ {side : Side} {old : List (Option Node)} {at : ℕ} {node : Node} (here
           -- it has the same, so the path ends here
           same_below : went ≡ steps.Same → (b smallest : Bool)
               → number_of side b smallest (updated side (planned reach) own (number_in own node.numbers) (row_of inside.kids))
-                  ≡ number_of side b smallest (row_of inside.kids)
+              ≡ number_of side b smallest (row_of inside.kids)
           same_below same =
               subst (λ m. (b smallest : Bool) → number_of side b smallest (updated side (planned reach) own m (row_of inside.kids))
-                  ≡ number_of side b smallest (row_of inside.kids)) least_below (did.numbers same)
+              ≡ number_of side b smallest (row_of inside.kids)) least_below (did.numbers same)
 
           pub same_grown : went ≢ steps.Changed → IsGrown side reach old mid at proof least row others went
           same_grown kept =
@@ -165,10 +170,10 @@ module _ {side : Side} {old : List (Option Node)} {at : ℕ} {node : Node} (here
                 grown = λ done.
                     let kids = did.grown done in
                     inner_stays side row others proof least found inside own to_move some (planned reach) kids.placed (kids.is ∙ updated_below)
-                        (same_below (the_same went done kept)) kids.lies;
+                    (same_below (the_same went done kept)) kids.lies;
                 numbers = λ same.
                     let kids = did.grown (same_not_full same) in
                     inner_numbers_same side row others proof least found inside own to_move some (planned reach) (row_of kids.placed) (kids.is ∙ updated_below)
                     (kept_numbers side row others proof least found inside own to_move some (planned reach) kids.placed (kids.is ∙ updated_below)
-                        (same_below same));
+                    (same_below same));
               }

@@ -1,7 +1,7 @@
 -- The leaves of a position's moves, placed side by side from the last to the first.
 use Rattle.std.specs.List.{filter}
-use Rattle.std.proofs.Common.{◌≡◌, ℕ, ◌+◌, ◌-◌, ◌<◌, ◌≤◌, Bool, true, false, List, [], ◌∷◌, ◌++◌, length, map, set, take, drop, get_or, Option, None, Some,
-    IfSome, refl, sym, ap, subst, ◌∙◌, arith, inl, inr}
+use Rattle.std.proofs.Common.{◌≡◌, ℕ, ◌+◌, ◌-◌, ◌<◌, ◌≤◌, Bool, true, false, List, [], ◌∷◌, ◌++◌, length, map, set, take, drop, get_or, Option, None, Some}
+use Rattle.std.proofs.Common.{IfSome, refl, sym, ap, subst, ◌∙◌, arith, inl, inr}
 use Rattle.std.proofs.Math.Seq.{take-length}
 use Rattle.std.proofs.lemmas.Bool.{cases_Bool}
 use Rattle.game_rules.specs.Position.{Position, has_room, is_legal, after_move, end_of}
@@ -46,7 +46,7 @@ module _ (p : Position) where
         → made ≡ record { position = after_move p column; first = None; next = beside; numbers = leaf_numbers (verdict_at side closed (after_move p column)) }
         → (result ≡ None → live_slots mid ≡ length mid) → live_slots mid < length mid
         → IfSome result (λ at. at < length mid) → IfSome result (λ at. held mid at ≡ None) → IfSome result (λ at. new ≡ set mid at (Some made))
-            → IfSome result (λ at. live_slots new ≡ live_slots mid + 1)
+        → IfSome result (λ at. live_slots new ≡ live_slots mid + 1)
         → LeavesLie p side closed mid rest beside others → LeavesLie p side closed new order result others
     leaf_before order rest column beside None made others e room m full some inside free put count l = absurd (omega (arith, some, full refl))
     leaf_before {mid} {new} order rest column beside (Some at) made others e room m full some inside free put count l =
@@ -75,5 +75,11 @@ module _ (p : Position) where
     pub leaf_skipped : {slots : List (Option Node)} (order rest : List ℕ) (column : ℕ) (beside : Option ℕ) (others : List (Cell Node)) → order ≡ column ∷ rest
         → has_room p column ≡ false → LeavesLie p side closed slots rest beside others → LeavesLie p side closed slots order beside others
     leaf_skipped order rest column beside others e full l =
-        record { row = l.row; is = l.is ∙ ap (λ cs. leaves side closed (map (after_move p) cs)) (sym (rw (e, full) refl)); going = l.going; begins =
-            l.begins; owns = l.owns }
+        record {
+          row = l.row;
+          is = l.is ∙ ap (λ cs. leaves side closed (map (after_move p) cs)) (sym (rw (e, full) refl));
+          going = l.going;
+          begins =
+              l.begins;
+          owns = l.owns;
+        }

@@ -64,14 +64,24 @@ module _ (side : Side) where
 
     opened_inner : (i : ℕ) (p : Position) (kids rest : Placed) (others : List (Cell Node)) → Lies side slots (Some i) (inner_at i p kids rest) others
         → Opened slots i (record { position = p; first = first_of kids; next = first_of rest; numbers = node_numbers side p (row_of kids) })
-            (inner_at i p kids rest) others
+        (inner_at i p kids rest) others
     opened_inner i p kids rest others lies =
         record {
           cells = refl;
-          below = record { owns = first_to_front _ (cells_of side kids) (cells_of side rest) others lies.owns; first = refl; clean = lies.clean.1; going =
-              lies.going.0 };
-          beside = record { owns = second_to_front _ (cells_of side kids) (cells_of side rest) others lies.owns; first = refl; clean = lies.clean.2; going =
-              lies.going.1 };
+          below = record {
+            owns = first_to_front _ (cells_of side kids) (cells_of side rest) others lies.owns;
+            first = refl;
+            clean = lies.clean.1;
+            going =
+                lies.going.0;
+          };
+          beside = record {
+            owns = second_to_front _ (cells_of side kids) (cells_of side rest) others lies.owns;
+            first = refl;
+            clean = lies.clean.2;
+            going =
+                lies.going.1;
+          };
           number = number;
           count = refl;
           part = part;
@@ -94,15 +104,15 @@ module _ (side : Side) where
         let e : j ≡ i = same_some lies.first in
         let n : cell ≡ node = same_some (sym (mine j cell (cells_of side rest ++ others) lies.owns) ∙ (ap (held slots) e ∙ here)) in
         subst (λ m. Opened slots i m (leaf_at j p v rest) others) n
-            (subst (λ k. Opened slots k cell (leaf_at j p v rest) others) e
-            (opened_leaf j p v rest others (record { owns = lies.owns; first = refl; clean = lies.clean; going = lies.going })))
+        (subst (λ k. Opened slots k cell (leaf_at j p v rest) others) e
+        (opened_leaf j p v rest others (record { owns = lies.owns; first = refl; clean = lies.clean; going = lies.going })))
     opened i node (inner_at j p kids rest) others lies here =
         let cell : Node = record { position = p; first = first_of kids; next = first_of rest; numbers = node_numbers side p (row_of kids) } in
         let e : j ≡ i = same_some lies.first in
         let n : cell ≡ node = same_some (sym (mine j cell ((cells_of side kids ++ cells_of side rest) ++ others) lies.owns) ∙ (ap (held slots) e ∙ here)) in
         subst (λ m. Opened slots i m (inner_at j p kids rest) others) n
-            (subst (λ k. Opened slots k cell (inner_at j p kids rest) others) e
-            (opened_inner j p kids rest others (record { owns = lies.owns; first = refl; clean = lies.clean; going = lies.going })))
+        (subst (λ k. Opened slots k cell (inner_at j p kids rest) others) e
+        (opened_inner j p kids rest others (record { owns = lies.owns; first = refl; clean = lies.clean; going = lies.going })))
 
     -- the slot of a row's first node is live
     pub first_held : (i : ℕ) (row : Placed) (others : List (Cell Node)) → Lies side slots (Some i) row others → IsLive slots i

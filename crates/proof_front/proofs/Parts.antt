@@ -37,8 +37,16 @@ module _ (side : Side) {slots : List (Option Node)} {at : Option ℕ} {i : ℕ} 
     pub small : (proof smallest : Bool) (b : Count) → length slots ≤ 1000000 → b ≡ number_of side proof smallest (row_of (rest_of row))
         → finite_part (number_in proof node.numbers) + finite_part b < 2 ^ 32
     small proof smallest b few e =
-        omega (arith, few, few_nodes side row others lies.owns, o.count, o.part proof, ap finite_part e, number_bound side (row_of (rest_of row)) proof
-        smallest)
+        omega (
+          arith,
+          few,
+          few_nodes side row others lies.owns,
+          o.count,
+          o.part proof,
+          ap finite_part e,
+          number_bound side (row_of (rest_of row)) proof
+              smallest,
+        )
 
     pub numbers_more : (own : Bool) (b : Numbers) (p q : Count) → b ≡ row_numbers side own (row_of (rest_of row)) → p ≡ joined own node.numbers.proof b.proof
         → q ≡ joined (not own) node.numbers.disproof b.disproof
@@ -46,14 +54,19 @@ module _ (side : Side) {slots : List (Option Node)} {at : Option ℕ} {i : ℕ} 
     numbers_more own b p q e f g =
         let proof : p ≡ number_of side true own (row_of row) = f ∙ (ap (λ n. joined own node.numbers.proof n.proof) e ∙ sym (o.number true own)) in
         let disproof : q ≡ number_of side false (not own) (row_of row) = g
-            ∙ (ap (λ n. joined (not own) node.numbers.disproof n.disproof) e ∙ sym (o.number false (not own))) in
+        ∙ (ap (λ n. joined (not own) node.numbers.disproof n.disproof) e ∙ sym (o.number false (not own))) in
         rw (proof, disproof) refl
 
     -- where all below the node was freed, the row beside it is left
     pub beside_freed : {new : List (Option Node)} → Owns new ((i, node) ∷ (cells_of side (rest_of row) ++ others))
         → Lies side new node.next (rest_of row) ((i, node) ∷ others)
-    beside_freed owns = record { owns = exchanged ((i, node) ∷ []) (cells_of side (rest_of row)) others owns; first = o.beside.first; clean =
-        o.beside.clean; going = o.beside.going }
+    beside_freed owns = record {
+      owns = exchanged ((i, node) ∷ []) (cells_of side (rest_of row)) others owns;
+      first = o.beside.first;
+      clean =
+          o.beside.clean;
+      going = o.beside.going;
+    }
 
     pub fewer_freed : {new : List (Option Node)} → Lies side new node.next (rest_of row) ((i, node) ∷ others)
         → node_count (row_at new node.next) < node_count (row_at slots at)

@@ -73,8 +73,14 @@ module _ (side : Side) where
     -- a row has no more nodes than there are slots
     pub few_nodes : (row : Placed) (others : List (Cell Node)) → Owns slots (cells_of side row ++ others)
         → node_count (row_of row) + length others ≤ length slots
-    few_nodes row others owns = omega (arith, length_cells row, length-append (cells_of side row) others, owns.live, count_by-le-length {X = Option Node}
-        is_some slots)
+    few_nodes row others owns = omega (
+      arith,
+      length_cells row,
+      length-append (cells_of side row) others,
+      owns.live,
+      count_by-le-length {X = Option Node}
+          is_some slots,
+    )
 
     -- what is read from a row's first slot on is the row
     pub reads_at : (at : Option ℕ) (row : Placed) (others : List (Cell Node)) → Lies side slots at row others → row_at slots at ≡ row_of row

@@ -86,13 +86,13 @@ module _ (side : Side) {slots : List (Option Node)} {at : ℕ} {first : Option �
   renewed_owns : (read : Node) (n : Numbers) (v : Verdict) (kept : Option ℕ) (mid new : List (Option Node)) → held slots at ≡ Some read
       → n ≡ node_numbers side node.position (row_of kids) → v ≡ verdict_of n.proof n.disproof → Kept v mid kept
       → new ≡ set mid at (Some (record { position = read.position; first = kept; next = read.next; numbers = n })) → live_slots new ≡ live_slots mid
-          → Owns new (renewed side at node kids ++ others)
+      → Owns new (renewed side at node kids ++ others)
   renewed_owns read n v kept mid new here e f k put count =
       let made : record { position = read.position; first = kept; next = read.next; numbers = n } ≡ put_as side node kids kept = rw (read_is read here, e) refl
-          in
+      in
       let is : new ≡ set mid at (Some (put_as side node kids kept)) = put ∙ ap (λ m. set mid at (Some m)) made in
       subst (λ s. Owns s (renewed side at node kids ++ others)) (sym is)
-          (put_back v k (f ∙ ap (λ n. verdict_of n.proof n.disproof) e) (sym (ap live_slots is) ∙ count))
+      (put_back v k (f ∙ ap (λ n. verdict_of n.proof n.disproof) e) (sym (ap live_slots is) ∙ count))
 
   -- the numbers of the children, as a node's
   numbers_are : (read : Node) (own : Bool) (n : Numbers) → held slots at ≡ Some read → own ≡ is_own side read.position → n ≡ row_numbers side own (row_of kids)
@@ -110,7 +110,7 @@ module _ (side : Side) {slots : List (Option Node)} {at : ℕ} {first : Option �
       → held slots at ≡ Some read → own ≡ is_own side read.position
       → n ≡ row_numbers side own (row_of kids) → v ≡ verdict_of n.proof n.disproof → Kept v mid kept
       → new ≡ set mid at (Some (record { position = read.position; first = kept; next = read.next; numbers = n })) → live_slots new ≡ live_slots mid
-          → (step ≡ steps.Same → same_numbers n read.numbers ≡ true)
+      → (step ≡ steps.Same → same_numbers n read.numbers ≡ true)
       → IsRenewed side new at node kids others step
   renewed_again {read} {own} {n} {v} {kept} {mid} {new} here moves e f k put count alike =
       let numbers = numbers_are read own n here moves e in

@@ -1,13 +1,13 @@
 -- A front's tree has one root, whose numbers are the tree's.
-use Rattle.std.proofs.Common.{◌≡◌, ◌≢◌, ◌↔◌, ℕ, ◌+◌, ◌-◌, ◌<◌, ◌≤◌, Bool, true, false, ◌||◌, List, [], ◌∷◌, length, replicate, set, Option, None, Some, IfSome,
-    refl, sym, ap, subst, ◌∙◌, arith, length-set, add-one, if◌then◌else◌, inl, inr}
+use Rattle.std.proofs.Common.{◌≡◌, ◌≢◌, ◌↔◌, ℕ, ◌+◌, ◌-◌, ◌<◌, ◌≤◌, Bool, true, false, ◌||◌, List, [], ◌∷◌, length, replicate, set, Option, None, Some, IfSome}
+use Rattle.std.proofs.Common.{refl, sym, ap, subst, ◌∙◌, arith, length-set, add-one, if◌then◌else◌, inl, inr}
 use Rattle.std.proofs.lemmas.Bool.{cases_lt, ltb-true, lt-ltb}
 use Rattle.std.proofs.lemmas.List.{length-append, get_or-replicate, get_or_past, length-replicate}
 use Rattle.game_rules.specs.Position.{Position}
 use Rattle.game_rules.specs.declared.Side.{Side}
 use Rattle.front_rules.specs.Counts.{least, same_count, is_zero, is_infinite}
-use Rattle.front_rules.specs.Front.{Row, nothing, leaf, inner, node_count, leaf_number, joined, number_of, node_number, root_number, verdict_of, node_as,
-    verdict_at, leaves, moves_out, grown, asked, asked_in, is_settled, planned, front_within, front}
+use Rattle.front_rules.specs.Front.{Row, nothing, leaf, inner, node_count, leaf_number, joined, number_of, node_number, root_number, verdict_of, node_as}
+use Rattle.front_rules.specs.Front.{verdict_at, leaves, moves_out, grown, asked, asked_in, is_settled, planned, front_within, front}
 use Rattle.front_rules.specs.Path.{updated}
 use Rattle.front_rules.proofs.Numbers.{row_dual}
 use Rattle.front_rules.proofs.Updated.{grown_is}
@@ -55,15 +55,15 @@ updated_alone : (side : Side) (closed : Side → Position → Bool) (tree : Row)
 updated_alone side closed nothing h = refl
 updated_alone side closed (leaf p v rest) h =
     let number : root_number side true (leaf p v rest) ≡ leaf_number true v = ap (λ r. least (leaf_number true v) (number_of side true true r)) h
-        ∙ alone_joined true side true (leaf_number true v) in
+    ∙ alone_joined true side true (leaf_number true v) in
     let found : same_count (leaf_number true v) (root_number side true (leaf p v rest)) ≡ true = ap (same_count (leaf_number true v)) number
-        ∙ same_itself (leaf_number true v) in
+    ∙ same_itself (leaf_number true v) in
     rw found (beside_as _ p (leaves side closed (moves_out p)) rest ∙ h)
 updated_alone side closed (inner p kids rest) h =
     let number : root_number side true (inner p kids rest) ≡ node_number side true p kids =
-        ap (λ r. least (node_number side true p kids) (number_of side true true r)) h ∙ alone_joined true side true (node_number side true p kids) in
+    ap (λ r. least (node_number side true p kids) (number_of side true true r)) h ∙ alone_joined true side true (node_number side true p kids) in
     let found : same_count (node_number side true p kids) (root_number side true (inner p kids rest))
-        ≡ true = ap (same_count (node_number side true p kids)) number ∙ same_itself (node_number side true p kids) in
+    ≡ true = ap (same_count (node_number side true p kids)) number ∙ same_itself (node_number side true p kids) in
     rw found (beside_as _ p _ rest ∙ h)
 
 module _ {side : Side} {slots : List (Option Node)} {root : ℕ} (f : IsFront side slots root) where
@@ -84,7 +84,7 @@ module _ {side : Side} {slots : List (Option Node)} {root : ℕ} (f : IsFront si
     number_of_tree proof smallest =
         let o = opened side root node f.tree [] f.lies here in
         o.number proof smallest ∙ (ap (λ r. joined smallest (number_in proof node.numbers) (number_of side proof smallest r)) (rest_beside f.tree ∙ f.alone)
-            ∙ alone_joined smallest side proof (number_in proof node.numbers))
+        ∙ alone_joined smallest side proof (number_in proof node.numbers))
 
     pub number_is : (proof : Bool) → root_number side proof (row_at slots (Some root)) ≡ number_in proof node.numbers
     number_is proof = ap (root_number side proof) tree_is ∙ number_of_tree proof true
@@ -208,10 +208,12 @@ module _ {side : Side} {slots : List (Option Node)} {root : ℕ} (f : IsFront si
           short : (free_slots slots < asked_in side true node.numbers.proof (row_of f.tree)) ↔ (is_full side (length slots) (row_at slots (Some root)) ≡ true)
           short =
               let asked_is : asked side (row_at slots (Some root)) ≡ asked_in side true node.numbers.proof (row_of f.tree) = ap (asked side) (tree_is f)
-                  ∙ ap (λ m. asked_in side true m (row_of f.tree)) (number_of_tree f node here true true) in
-              let free_is : length slots - node_count (row_at slots (Some root)) ≡ free_slots slots = ap (λ m. length slots - m) (sym (live_is f)) in
-              (λ few. rw (asked_is, free_is) (lt-ltb (free_slots slots) _ few), λ full.
-                  ltb-true (free_slots slots) _ (sym (rw (asked_is, free_is) refl) ∙ full))
+              ∙ ap (λ m. asked_in side true m (row_of f.tree)) (number_of_tree f node here true true) in
+              let free_is : length slots - node_count (row_at slots (Some root)) ≡ free_slots slots = ap (λ m. length slots - m) (sym (live_is f)) in (
+                λ few. rw (asked_is, free_is) (lt-ltb (free_slots slots) _ few),
+                λ full.
+                    ltb-true (free_slots slots) _ (sym (rw (asked_is, free_is) refl) ∙ full),
+              )
 
           look : (v : Verdict) (step : Step)
               → (v ≡ Unsettled → (step ≡ steps.Full) ↔ (free_slots slots < asked_in side true node.numbers.proof (row_of f.tree))) → (answer_of v step ≡ Full)
@@ -259,7 +261,7 @@ root_node side reach p = record { position = p; first = None; next = None; numbe
 module _ (side : Side) (reach : ℕ) (p : Position) (mid new : List (Option Node)) (result : Option ℕ) (root : ℕ) (made : Node) (owns : Owns mid [])
     (few : length mid ≤ 1000000) (some : result ≡ Some root) (is : made ≡ root_node side reach p)
     (inside : IfSome result (λ at. at < length mid)) (free : IfSome result (λ at. held mid at ≡ None))
-        (put : IfSome result (λ at. new ≡ set mid at (Some made))) (count : IfSome result (λ at. live_slots new ≡ live_slots mid + 1)) where
+    (put : IfSome result (λ at. new ≡ set mid at (Some made))) (count : IfSome result (λ at. live_slots new ≡ live_slots mid + 1)) where
   put_root : new ≡ set mid root (Some made)
   put_root = if_some (λ at. new ≡ set mid at (Some made)) some put
 
@@ -269,7 +271,7 @@ module _ (side : Side) (reach : ℕ) (p : Position) (mid new : List (Option Node
       record {
         owns = subst (λ s. Owns s ((root, root_node side reach p) ∷ [])) (sym there)
             (placed_to root (root_node side reach p) [] (if_some (λ at. at < length mid) some inside) (if_some (λ at. held mid at ≡ None) some free) owns
-                (sym (ap live_slots there) ∙ if_some (λ at. live_slots new ≡ live_slots mid + 1) some count));
+            (sym (ap live_slots there) ∙ if_some (λ at. live_slots new ≡ live_slots mid + 1) some count));
         first = refl;
         clean = tt;
         going = going_leaves side (planned reach) (p ∷ []);

@@ -1,6 +1,6 @@
 -- The first node of a row hasn't the number that is looked for: what is done in the row beside it is done in the row.
-use Rattle.std.proofs.Common.{◌≡◌, ℕ, nat_lt, if◌then◌else◌, Bool, true, false, List, [], ◌∷◌, ◌++◌, Option, None, Some, refl, sym, ap, subst, ◌∙◌, arith, inl,
-    inr}
+use Rattle.std.proofs.Common.{◌≡◌, ℕ, nat_lt, if◌then◌else◌, Bool, true, false, List, [], ◌∷◌, ◌++◌, Option, None, Some, refl, sym, ap, subst, ◌∙◌, arith, inl}
+use Rattle.std.proofs.Common.{inr}
 use Rattle.std.proofs.lemmas.Bool.{cases_Bool}
 use Rattle.std.proofs.lemmas.Option.{none-some}
 use Rattle.game_rules.specs.Position.{Position}
@@ -89,8 +89,8 @@ module _ (side : Side) where
         let cell = leaf_cell j p v rest others lies in
         let same : (i, node) ≡ (j, record { position = p; first = None; next = first_of more; numbers = leaf_numbers v }) =
         ap (λ k. (k, node)) (sym (same_some lies.first))
-            ∙ ap (λ n. (j, n)) (sym cell ∙ ap (λ a. record { position = p; first = None; next = a; numbers = leaf_numbers v })
-            (ap (λ n. n.next) cell ∙ (e ∙ sym l.first))) in
+        ∙ ap (λ n. (j, n)) (sym cell ∙ ap (λ a. record { position = p; first = None; next = a; numbers = leaf_numbers v })
+        (ap (λ n. n.next) cell ∙ (e ∙ sym l.first))) in
         record {
           owns = subst (λ c. Owns new (c ∷ (cells_of side more ++ others))) same (second_from_front (i, node) [] (cells_of side more) others l.owns);
           first = lies.first;
@@ -101,8 +101,8 @@ module _ (side : Side) where
         let cell = inner_cell j p kids rest others lies in
         let same : (i, node) ≡ (j, record { position = p; first = first_of kids; next = first_of more; numbers = node_numbers side p (row_of kids) }) =
         ap (λ k. (k, node)) (sym (same_some lies.first))
-            ∙ ap (λ n. (j, n)) (sym cell ∙ ap (λ a. record { position = p; first = first_of kids; next = a; numbers = node_numbers side p (row_of kids) })
-            (ap (λ n. n.next) cell ∙ (e ∙ sym l.first))) in
+        ∙ ap (λ n. (j, n)) (sym cell ∙ ap (λ a. record { position = p; first = first_of kids; next = a; numbers = node_numbers side p (row_of kids) })
+        (ap (λ n. n.next) cell ∙ (e ∙ sym l.first))) in
         record {
           owns = subst (λ c. Owns new (c ∷ ((cells_of side kids ++ cells_of side more) ++ others))) same
               (second_from_front (i, node) (cells_of side kids) (cells_of side more) others l.owns);
@@ -169,6 +169,13 @@ module _ (side : Side) where
         infinite (inner_at j p kids rest) e h = cc
 
     pub asked_beside : {next : ℕ} → node.next ≡ Some next → IsAsked side slots next proof n
-    asked_beside e = record { row = rest_of g.row; others = _; lies =
-        record { owns = o.beside.owns; first = o.beside.first ∙ e; clean = o.beside.clean; going = o.beside.going }; number = number_beside; unsettled =
-        g.unsettled; finite = g.finite }
+    asked_beside e = record {
+      row = rest_of g.row;
+      others = _;
+      lies =
+          record { owns = o.beside.owns; first = o.beside.first ∙ e; clean = o.beside.clean; going = o.beside.going };
+      number = number_beside;
+      unsettled =
+          g.unsettled;
+      finite = g.finite;
+    }

@@ -8,8 +8,8 @@ use Rattle.proof_text.specs.Right.{Shown, AreRight, IsVerdict}
 use Rattle.proof_text.specs.Checked.{Why, unless, CheckerState, line_refusal, shown_of, with_line}
 use Rattle.proof_text.specs.Spelling.{lemma_text, verdict_text, VerdictFits, IsLine}
 use Rattle.proof_text.specs.Reading.{read_line}
-use Rattle.proof_text.specs.Texts.{most_lines, said_refusal, bytes_refusal, CheckAnswer, Accepted, verdict_answer, with_said, with_bytes, line_answer,
-    check_from, Entry, LemmaEntry, RemarkEntry, entry_text, lemmas_among, EntryFits}
+use Rattle.proof_text.specs.Texts.{most_lines, said_refusal, bytes_refusal, CheckAnswer, Accepted, verdict_answer, with_said, with_bytes, line_answer}
+use Rattle.proof_text.specs.Texts.{check_from, Entry, LemmaEntry, RemarkEntry, entry_text, lemmas_among, EntryFits}
 use Rattle.proof_text.proofs.Refusals.{none_or, line_of_none, none_of_line, right_of_none, none_of_right, verdict_of_none, none_of_verdict}
 use Rattle.proof_text.proofs.Spelled.{line_read, line_spelled}
 use Rattle.proof_text.proofs.Fold.{bytes_of_none}
@@ -57,9 +57,9 @@ going root known = record { root = root; known = known; verdict = None }
 -- one more line at the start
 with_first : (root : Position) (known : List Shown) (at : ℕ) (bytes : List ℕ) (lines : List (List ℕ)) (v : Verdict) (count : ℕ) (line : Line)
     → at ≤ most_lines → IsLine (board_of root) bytes line → line_refusal (going root known) line ≡ None
-        → check_from (with_line (going root known) line) (at + 1) lines ≡ Accepted v count
+    → check_from (with_line (going root known) line) (at + 1) lines ≡ Accepted v count
     → ((known : List Shown) → check_from (going root known) (at + 1) lines ≡ Accepted v count → AreAccepted root known (at + 1) lines v count)
-        → AreAccepted root known at (bytes ∷ lines) v count
+    → AreAccepted root known at (bytes ∷ lines) v count
 with_first root known at bytes lines v count (ALemma l) within is_line none rest later =
     let one = right_of_none root known l (line_of_none (going root known) (ALemma l) none).1 in
     let shown : known ++ shown_of root l ≡ known ++ (one.0, l.claim) ∷ [] = ap (λ more. known ++ more) (shown_along root l one.0 one.1.along) in
@@ -111,7 +111,7 @@ accepted_lines root known at (bytes ∷ lines) v count h =
     let parts = answer_parts (bytes_refusal s at bytes) at (check_from (with_bytes s bytes) (at + 1) lines) v count h in
     let found = bytes_of_none s at bytes parts.0 in
     let rest : check_from (with_line s found.0) (at + 1) lines ≡ Accepted v count = sym (ap (λ said. check_from (with_said s said) (at + 1) lines) found.1)
-        ∙ parts.1 in
+    ∙ parts.1 in
     with_first root known at bytes lines v count found.0 (leb-true at most_lines found.3) (line_read (board_of root) bytes found.0 found.1) found.2 rest
     (λ known accepted. accepted_lines root known (at + 1) lines v count accepted)
 
@@ -142,17 +142,17 @@ pub lines_accepted : (root : Position) (known : List Shown) (at : ℕ) (entries 
     → check_from (going root known) at (map entry_text entries ++ verdict_text v ∷ []) ≡ Accepted v (length after)
 lines_accepted root known at [] after v fit right verdict_fits verdict_right few =
     past_line (going root known) at (verdict_text v) [] (AVerdict v) (omega arith)
-        (line_spelled (board_of root) (verdict_text v) (AVerdict v) (verdict_fits, refl))
+    (line_spelled (board_of root) (verdict_text v) (AVerdict v) (verdict_fits, refl))
     (none_of_line (going root known) (AVerdict v) refl (none_of_verdict root known v (subst (λ known. IsVerdict root known v) right verdict_right)))
     ∙ ap (λ known. Accepted v (length known)) (sym right)
 lines_accepted root known at (LemmaEntry l ∷ entries) after v fit (p, one, rest) verdict_fits verdict_right few =
     past_line (going root known) at (lemma_text l) (map entry_text entries ++ verdict_text v ∷ []) (ALemma l) (omega arith)
-        (line_spelled (board_of root) (lemma_text l) (ALemma l) (fit.0, refl))
+    (line_spelled (board_of root) (lemma_text l) (ALemma l) (fit.0, refl))
     (none_of_line (going root known) (ALemma l) refl (none_of_right root known l p one))
     ∙ ap (λ more. check_from (going root (known ++ more)) (at + 1) (map entry_text entries ++ verdict_text v ∷ [])) (shown_along root l p one.along)
     ∙ lines_accepted root (known ++ (p, l.claim) ∷ []) (at + 1) entries after v fit.1 rest verdict_fits verdict_right (omega arith)
 lines_accepted root known at (RemarkEntry bytes ∷ entries) after v fit right verdict_fits verdict_right few =
     past_line (going root known) at bytes (map entry_text entries ++ verdict_text v ∷ []) ARemark (omega arith)
-        (line_spelled (board_of root) bytes ARemark fit.0)
+    (line_spelled (board_of root) bytes ARemark fit.0)
     (none_of_line (going root known) ARemark refl refl)
     ∙ lines_accepted root known (at + 1) entries after v fit.1 right verdict_fits verdict_right (omega arith)

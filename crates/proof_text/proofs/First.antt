@@ -1,6 +1,6 @@
 -- The first line that fails, line by line, and texts without a head or a game.
-use Rattle.std.proofs.Common.{Result, ◌≡◌, ◌⊎◌, ℕ, zero, suc, ◌+◌, ◌<◌, ◌≤◌, Bool, true, false, nat_le, cond, List, [], ◌∷◌, ◌++◌, length, take, drop, Option,
-    Some, None, Ok, Err, refl, sym, ap, ◌∙◌, append_assoc, append-nil, inl, inr, arith}
+use Rattle.std.proofs.Common.{Result, ◌≡◌, ◌⊎◌, ℕ, zero, suc, ◌+◌, ◌<◌, ◌≤◌, Bool, true, false, nat_le, cond, List, [], ◌∷◌, ◌++◌, length, take, drop, Option}
+use Rattle.std.proofs.Common.{Some, None, Ok, Err, refl, sym, ap, ◌∙◌, append_assoc, append-nil, inl, inr, arith}
 use Rattle.std.specs.List.{range_with_len}
 use Rattle.std.specs.Str.{bytes_eq}
 use Rattle.std.proofs.lemmas.List.{length-append, length-take-le, take-append-drop, take_all}
@@ -14,9 +14,9 @@ use Rattle.game_rules.specs.declared.InputFault.{InputFault}
 use Rattle.proof_text.specs.Checked.{Why, unless, or_then, CheckerState}
 use Rattle.proof_text.specs.Spelling.{as_line}
 use Rattle.proof_text.specs.Reading.{read_line}
-use Rattle.proof_text.specs.Texts.{pieces, lines_in, longest_line, most_lines, game_prefix, first_number, game_of, whole_game_of, behind_game, said_refusal,
-    bytes_refusal, refusal_at, first_or, first_some, state_after, NoGame, Refused, verdict_answer, lines_answer, line_answer, with_bytes, check_from, start,
-    answer_of, game_answer, first_line, pieces_answer, check_of}
+use Rattle.proof_text.specs.Texts.{pieces, lines_in, longest_line, most_lines, game_prefix, first_number, game_of, whole_game_of, behind_game, said_refusal}
+use Rattle.proof_text.specs.Texts.{bytes_refusal, refusal_at, first_or, first_some, state_after, NoGame, Refused, verdict_answer, lines_answer, line_answer}
+use Rattle.proof_text.specs.Texts.{with_bytes, check_from, start, answer_of, game_answer, first_line, pieces_answer, check_of}
 use Rattle.proof_text.proofs.Pieces.{IsFeedless, pieces_some, lines_line, lines_last}
 use Rattle.proof_text.proofs.Fold.{answer_by_lines}
 use Rattle.proof_text.proofs.Fitting.{long_unread}
@@ -49,7 +49,7 @@ module _ {X : Type 0} (f : ℕ → Option X) where
     where
       of_first : (found : Option X) → f a ≡ found → first_or found a (first_some f (range_with_len (a + 1) n)) ≡ Some (k, x)
           → (first_some f (range_with_len (a + 1) n) ≡ Some (k, x) → (a + 1 ≤ k) × (k < a + 1 + n) × (f k ≡ Some x)
-              × ((i : ℕ) → a + 1 ≤ i → i < k → f i ≡ None))
+          × ((i : ℕ) → a + 1 ≤ i → i < k → f i ≡ None))
           → (a ≤ k) × (k < a + suc n) × (f k ≡ Some x) × ((i : ℕ) → a ≤ i → i < k → f i ≡ None)
       of_first (Some y) e h later =
           let parts = some_pair_parts a k y x h in
@@ -93,7 +93,7 @@ none_refused root lines each = ap (lines_answer root lines) (first_none (refusal
 pub refused_first : (root : Position) (lines : List (List ℕ)) (at : ℕ) (why : Why) → answer_of root lines ≡ Refused at why
     → ((k : ℕ) × (k < length lines) × (at ≡ k + first_number) × (refusal_at root lines k ≡ Some why) × ((i : ℕ) → i < k → refusal_at root lines i ≡ None))
     ⊎ ((at ≡ length lines + first_number) × (why ≡ EndedEarly) × ((state_after root lines).verdict ≡ None)
-        × ((i : ℕ) → i < length lines → refusal_at root lines i ≡ None))
+    × ((i : ℕ) → i < length lines → refusal_at root lines i ≡ None))
 refused_first root lines at why h = of_first (first_some (refusal_at root lines) (below (length lines))) refl h
   where
     ended : (verdict : Option Verdict) (next lemmas : ℕ) → verdict_answer next lemmas verdict ≡ Refused at why
@@ -104,7 +104,7 @@ refused_first root lines at why h = of_first (first_some (refusal_at root lines)
     of_first : (found : Option (ℕ × Why)) → first_some (refusal_at root lines) (below (length lines)) ≡ found → lines_answer root lines found ≡ Refused at why
         → ((k : ℕ) × (k < length lines) × (at ≡ k + first_number) × (refusal_at root lines k ≡ Some why) × ((i : ℕ) → i < k → refusal_at root lines i ≡ None))
         ⊎ ((at ≡ length lines + first_number) × (why ≡ EndedEarly) × ((state_after root lines).verdict ≡ None)
-            × ((i : ℕ) → i < length lines → refusal_at root lines i ≡ None))
+        × ((i : ℕ) → i < length lines → refusal_at root lines i ≡ None))
     of_first (Some (k, found)) e h =
         let given = first_given (refusal_at root lines) (length lines) 0 k found e in
         let place : k + first_number ≡ at = cc in
@@ -135,13 +135,13 @@ out_of_bounds s at bytes (inr long) = unread s at bytes (long_unread (board_of s
 -- a text goes on with its first line
 pub check_line : (s : CheckerState) (at : ℕ) (line rest : List ℕ) → IsFeedless line
     → check_from s at (lines_in (pieces (line ++ 10 ∷ rest)))
-        ≡ line_answer (bytes_refusal s at line) at (check_from (with_bytes s line) (at + 1) (lines_in (pieces rest)))
+    ≡ line_answer (bytes_refusal s at line) at (check_from (with_bytes s line) (at + 1) (lines_in (pieces rest)))
 check_line s at line rest h = ap (check_from s at) (lines_line line rest h)
 
 -- or ends with it
 pub check_last : (s : CheckerState) (at : ℕ) (byte : ℕ) (line : List ℕ) → IsFeedless (byte ∷ line)
     → check_from s at (lines_in (pieces (byte ∷ line)))
-        ≡ line_answer (bytes_refusal s at (byte ∷ line)) at (check_from (with_bytes s (byte ∷ line)) (at + 1) [])
+    ≡ line_answer (bytes_refusal s at (byte ∷ line)) at (check_from (with_bytes s (byte ∷ line)) (at + 1) [])
 check_last s at byte line h = ap (check_from s at) (lines_last byte line h)
 
 -- ---- long lines of a game
@@ -160,7 +160,7 @@ long_moves board moves [] h = refl
 long_moves board moves (next ∷ more) h =
     ap game_at (sym (append_assoc (take game_prefix board) (10 ∷ take game_prefix moves) (10 ∷ [])))
     ∙ same_prefix (take game_prefix board ++ 10 ∷ take game_prefix moves) (10 ∷ [])
-        (omega (arith, length-append (take game_prefix board) (10 ∷ take game_prefix moves), length-take-le game_prefix moves h))
+    (omega (arith, length-append (take game_prefix board) (10 ∷ take game_prefix moves), length-take-le game_prefix moves h))
 
 -- a text whose prefix is long enough is read as its prefix
 prefix_decides : (line rest also : List ℕ) → game_prefix ≤ length line → game_at (take game_prefix line ++ rest) ≡ game_at (line ++ also)
@@ -168,7 +168,7 @@ prefix_decides line rest also h =
     let long : 120 ≤ length (take game_prefix line) = omega (arith, length-take-le game_prefix line h) in
     same_prefix (take game_prefix line) rest long
     ∙ sym (ap (λ whole. game_at (whole ++ also)) (sym (take-append-drop game_prefix line))
-        ∙ ap game_at (append_assoc (take game_prefix line) (drop game_prefix line) also)
+    ∙ ap game_at (append_assoc (take game_prefix line) (drop game_prefix line) also)
     ∙ same_prefix (take game_prefix line) (drop game_prefix line ++ also) long)
 
 moves_decide : (board moves rest also : List ℕ) → game_prefix ≤ length moves
@@ -180,7 +180,7 @@ moves_decide board moves rest also h =
     ∙ sym (ap (λ whole. game_at (board ++ 10 ∷ (whole ++ also))) (sym (take-append-drop game_prefix moves))
     ∙ ap (λ text. game_at (board ++ 10 ∷ text)) (append_assoc (take game_prefix moves) (drop game_prefix moves) also)
     ∙ ap game_at (sym (append_assoc board (10 ∷ take game_prefix moves) (drop game_prefix moves ++ also)))
-        ∙ same_prefix prefix (drop game_prefix moves ++ also) long)
+    ∙ same_prefix prefix (drop game_prefix moves ++ also) long)
 
 -- Looking at the prefixes of the two lines alone changes neither whether they are a game nor their fault.
 pub prefixes_decide : (ps : List (List ℕ)) → game_at (game_of ps) ≡ game_at (whole_game_of ps)
@@ -193,18 +193,18 @@ prefixes_decide (board ∷ moves ∷ []) = elim (cases_lt (length board) game_pr
   | inr long ↦ prefix_decides board (10 ∷ take game_prefix moves) (10 ∷ moves) long
   | inl short ↦ ap (λ board. game_at (board ++ 10 ∷ take game_prefix moves)) (take_all game_prefix board (omega arith))
       ∙ elim (cases_lt (length moves) game_prefix) [
-    | inl both ↦ ap (λ moves. game_at (board ++ 10 ∷ moves)) (take_all game_prefix moves (omega arith))
-    | inr long ↦ ap (λ text. game_at (board ++ 10 ∷ text)) (sym (append-nil (take game_prefix moves))) ∙ moves_decide board moves [] [] long
-        ∙ ap (λ text. game_at (board ++ 10 ∷ text)) (append-nil moves)
-  ]
+        | inl both ↦ ap (λ moves. game_at (board ++ 10 ∷ moves)) (take_all game_prefix moves (omega arith))
+        | inr long ↦ ap (λ text. game_at (board ++ 10 ∷ text)) (sym (append-nil (take game_prefix moves))) ∙ moves_decide board moves [] [] long
+            ∙ ap (λ text. game_at (board ++ 10 ∷ text)) (append-nil moves)
+      ]
 ]
 prefixes_decide (board ∷ moves ∷ next ∷ more) = elim (cases_lt (length board) game_prefix) [
   | inr long ↦ prefix_decides board (10 ∷ as_line (take game_prefix moves)) (10 ∷ as_line moves) long
   | inl short ↦ ap (λ board. game_at (board ++ 10 ∷ as_line (take game_prefix moves))) (take_all game_prefix board (omega arith))
       ∙ elim (cases_lt (length moves) game_prefix) [
-    | inl both ↦ ap (λ moves. game_at (board ++ 10 ∷ as_line moves)) (take_all game_prefix moves (omega arith))
-    | inr long ↦ moves_decide board moves (10 ∷ []) (10 ∷ []) long
-  ]
+        | inl both ↦ ap (λ moves. game_at (board ++ 10 ∷ as_line moves)) (take_all game_prefix moves (omega arith))
+        | inr long ↦ moves_decide board moves (10 ∷ []) (10 ∷ []) long
+      ]
 ]
 
 -- ---- the head of a text
@@ -252,7 +252,11 @@ only_no_game bytes fault h = let some = pieces_some bytes in of_pieces some.0 so
         → (more : List (List ℕ)) × (pieces bytes ≡ first_line ∷ more) × (game_at (game_of more) ≡ Err fault)
     of_pieces first more cut h = elim
         (chosen (bytes_eq first first_line) (game_answer (game_at (game_of more)) (behind_game more)) (Refused 1 BadLine) (NoGame fault) h) [
-      | inr other ↦ absurd (cc other.1)
-      | inl named ↦ (more, cut ∙ ap (λ first. first ∷ more) ((bytes_eq-Decides first first_line).0 named.0), of_game (game_at (game_of more)) (behind_game more)
-          named.1)
-    ]
+          | inr other ↦ absurd (cc other.1)
+          | inl named ↦ (
+            more,
+            cut ∙ ap (λ first. first ∷ more) ((bytes_eq-Decides first first_line).0 named.0),
+            of_game (game_at (game_of more)) (behind_game more)
+                named.1,
+          )
+        ]

@@ -1,6 +1,6 @@
 -- Every right lemma behind a game has a spelling, while its number has one; and no spelling is long.
-use Rattle.std.proofs.Common.{◌≡◌, ℕ, ◌+◌, ◌*◌, ◌<◌, ◌≤◌, true, ◌&&◌, ◌==◌, nat_le, List, [], ◌∷◌, ◌++◌, map, filter, length, Option, Some, None, refl, sym, ap,
-    ◌∙◌, subst, inl, inr, arith, lit<, flat_map, zero, suc}
+use Rattle.std.proofs.Common.{◌≡◌, ℕ, ◌+◌, ◌*◌, ◌<◌, ◌≤◌, true, ◌&&◌, ◌==◌, nat_le, List, [], ◌∷◌, ◌++◌, map, filter, length, Option, Some, None, refl, sym, ap}
+use Rattle.std.proofs.Common.{◌∙◌, subst, inl, inr, arith, lit<, flat_map, zero, suc}
 use Rattle.std.specs.List.{AllByRecursion, list_all}
 use Rattle.std.specs.Fmt.{decimal}
 use Rattle.std.proofs.lemmas.List.{length-append, length-map}
@@ -18,8 +18,8 @@ use Rattle.game_rules.proofs.BoardLine.{empty_count_within}
 use Rattle.game_rules.proofs.Grammar.{board_along}
 use Rattle.proof_text.specs.Lemma.{Cite, Reason, ByEnd, ByOne, ByAll, ByPlan, Lemma, Line, ALemma, ARemark, AVerdict}
 use Rattle.proof_text.specs.Right.{Shown, IsCited, HasReason, IsRight, AreRight, IsVerdict}
-use Rattle.proof_text.specs.Spelling.{claim_word, cite_word, reason_words, lemma_text, verdict_text, greatest_number, longest_path, most_cites, IsNumber,
-    CiteFits, ReasonFits, Fits, VerdictFits, longest_line, is_printable, IsLine, members_in, IsShort}
+use Rattle.proof_text.specs.Spelling.{claim_word, cite_word, reason_words, lemma_text, verdict_text, greatest_number, longest_path, most_cites, IsNumber}
+use Rattle.proof_text.specs.Spelling.{CiteFits, ReasonFits, Fits, VerdictFits, longest_line, is_printable, IsLine, members_in, IsShort}
 use Rattle.proof_text.specs.Reading.{read_line}
 use Rattle.proof_text.proofs.Append.{Shows_number}
 use Rattle.proof_text.proofs.Spelled.{line_read}
@@ -52,8 +52,11 @@ path_within : (path : List ℕ) (p q : Position) (cols : ℕ) → length p.colum
 path_within [] p q cols same h = tt
 path_within (column ∷ path) p q cols same h = elim (chosen (is_legal p column) (played (after_move p column) path) None (Some q) h) [
   | inr illegal ↦ absurd (cc illegal.1)
-  | inl legal ↦ (subst (λ n. column < n) same (room_column p column (legal_parts p column legal.0).1), path_within path (after_move p column) q cols
-      (cols_moved p column ∙ same) legal.1)
+  | inl legal ↦ (
+    subst (λ n. column < n) same (room_column p column (legal_parts p column legal.0).1),
+    path_within path (after_move p column) q cols
+        (cols_moved p column ∙ same) legal.1,
+  )
 ]
 
 -- ---- cites
@@ -85,7 +88,7 @@ some_open p goes =
 
 cites_fit : (known : List Shown) (p : Position) (claim : Claim) (cols : ℕ) → length known ≤ greatest_number → (cites : List Cite)
     → AllByRecursion (λ column. column < cols) (map (λ cite. cite.column) cites) → AllByRecursion (IsCited known p claim) cites
-        → AllByRecursion (CiteFits cols) cites
+    → AllByRecursion (CiteFits cols) cites
 cites_fit known p claim cols few [] within cited = tt
 cites_fit known p claim cols few (cite ∷ cites) within cited =
     let number = Shows_number known cite.lemma (after_move p cite.column) claim cited.0 in
@@ -216,7 +219,7 @@ reason_length board (ByPlan ws) h = omega (arith, members_length board ws h, fur
 pub lemma_length : (board : Board) (l : Lemma) → Fits board l → length (lemma_text l) ≤ 5217
 lemma_length board l h =
     let all : length (lemma_text l) ≡ length (decimal l.number) + further (move_list l.path ∷ claim_word l.claim ∷ reason_words l.reason) =
-        length_spaced (decimal l.number) (move_list l.path ∷ claim_word l.claim ∷ reason_words l.reason) in
+    length_spaced (decimal l.number) (move_list l.path ∷ claim_word l.claim ∷ reason_words l.reason) in
     let number : length (decimal l.number) ≤ 8 = number_length l.number h.number in
     let path : length (move_list l.path) ≤ longest_path = moves_length l.path h.short in
     let claim : length (claim_word l.claim) ≡ 2 = claim_length l.claim in

@@ -1,6 +1,6 @@
 -- Looking for the first line that fails is going through the lines one by one.
-use Rattle.std.proofs.Common.{◌≡◌, ℕ, ◌+◌, Bool, true, false, nat_le, List, [], ◌∷◌, ◌++◌, length, Option, Some, None, refl, sym, ap, ◌∙◌, append_assoc,
-    append-nil, arith}
+use Rattle.std.proofs.Common.{◌≡◌, ℕ, ◌+◌, Bool, true, false, nat_le, List, [], ◌∷◌, ◌++◌, length, Option, Some, None, refl, sym, ap, ◌∙◌, append_assoc}
+use Rattle.std.proofs.Common.{append-nil, arith}
 use Rattle.std.specs.List.{range_with_len, filter_map, slice_index_or}
 use Rattle.std.proofs.lemmas.List.{length-append}
 use Rattle.std.proofs.lemmas.List.Elements.{filter_map-append}
@@ -10,8 +10,8 @@ use Rattle.proof_text.specs.Lemma.{Line, ALemma, ARemark, AVerdict}
 use Rattle.proof_text.specs.Right.{Shown}
 use Rattle.proof_text.specs.Checked.{Why, first_verdict, unless, CheckerState, line_refusal, shown_of, with_line}
 use Rattle.proof_text.specs.Reading.{read_line}
-use Rattle.proof_text.specs.Texts.{most_lines, first_number, shown_by, state_after, said_refusal, bytes_refusal, refusal_at, first_or, first_some,
-    verdict_answer, lines_answer, with_said, with_bytes, line_answer, check_from, start, answer_of}
+use Rattle.proof_text.specs.Texts.{most_lines, first_number, shown_by, state_after, said_refusal, bytes_refusal, refusal_at, first_or, first_some}
+use Rattle.proof_text.specs.Texts.{verdict_answer, lines_answer, with_said, with_bytes, line_answer, check_from, start, answer_of}
 use Rattle.proof_text.proofs.Refusals.{or_none, line_of_none}
 use Rattle.proof_text.specs.declared.Verdict.{Verdict}
 use Rattle.proof_text.specs.declared.Why.TheVariants.{BadLine}
@@ -72,7 +72,7 @@ state_after_push root before at bytes h =
     let board = board_of root in
     let said = filter_map (read_line board) before in
     let more : filter_map (read_line board) (before ++ bytes ∷ []) ≡ said ++ found.0 ∷ [] = filter_map-append (read_line board) before (bytes ∷ [])
-        ∙ ap (λ more. said ++ more) (one (read_line board bytes) found.0 found.1) in
+    ∙ ap (λ more. said ++ more) (one (read_line board bytes) found.0 found.1) in
     ap (λ said. stand root (shown_by root said) (first_verdict said)) more
     ∙ said_push root said found.0 (line_of_none (state_after root before) found.0 found.2).0
     ∙ ap (with_said (state_after root before)) (sym found.1)
@@ -88,7 +88,7 @@ index_seam (first ∷ before) line rest = index_seam before line rest
 
 fold_from : (root : Position) (rest before : List (List ℕ))
     → lines_answer root (before ++ rest) (first_some (refusal_at root (before ++ rest)) (range_with_len (length before) (length rest)))
-        ≡ check_from (state_after root before) (length before + first_number) rest
+    ≡ check_from (state_after root before) (length before + first_number) rest
 fold_from root [] before = ap (λ lines. verdict_answer (length lines + first_number) (length (state_after root lines).known) (state_after root lines).verdict)
     (append-nil before)
 fold_from root (line ∷ rest) before = of_refusal (bytes_refusal (state_after root before) (length before + first_number) line) refl
@@ -107,19 +107,19 @@ fold_from root (line ∷ rest) before = of_refusal (bytes_refusal (state_after r
 
     of_refusal : (r : Option Why) → bytes_refusal (state_after root before) (length before + first_number) line ≡ r
         → lines_answer root ((before ++ line ∷ []) ++ rest)
-            (first_some (refusal_at root ((before ++ line ∷ []) ++ rest)) (range_with_len (length (before ++ line ∷ [])) (length rest)))
+        (first_some (refusal_at root ((before ++ line ∷ []) ++ rest)) (range_with_len (length (before ++ line ∷ [])) (length rest)))
         ≡ check_from (state_after root (before ++ line ∷ [])) (length (before ++ line ∷ []) + first_number) rest
         → lines_answer root (before ++ line ∷ rest)
-            (first_or (refusal_at root (before ++ line ∷ rest) (length before)) (length before)
-            (first_some (refusal_at root (before ++ line ∷ rest)) (range_with_len (length before + 1) (length rest))))
+        (first_or (refusal_at root (before ++ line ∷ rest) (length before)) (length before)
+        (first_some (refusal_at root (before ++ line ∷ rest)) (range_with_len (length before + 1) (length rest))))
         ≡ line_answer (bytes_refusal (state_after root before) (length before + first_number) line) (length before + first_number)
-            (check_from (with_bytes (state_after root before) line) (length before + first_number + 1) rest)
+        (check_from (with_bytes (state_after root before) line) (length before + first_number + 1) rest)
     of_refusal (Some why) e later = rw (here, e) refl
     of_refusal None e later = rw (here, e) (
         ap (λ lines. lines_answer root lines (first_some (refusal_at root lines) (range_with_len (length before + 1) (length rest))))
-            (sym (append_assoc before (line ∷ []) rest))
+        (sym (append_assoc before (line ∷ []) rest))
         ∙ ap (λ n. lines_answer root ((before ++ line ∷ []) ++ rest)
-            (first_some (refusal_at root ((before ++ line ∷ []) ++ rest)) (range_with_len n (length rest)))) (sym longer)
+        (first_some (refusal_at root ((before ++ line ∷ []) ++ rest)) (range_with_len n (length rest)))) (sym longer)
         ∙ later
         ∙ ap (λ s. check_from s (length (before ++ line ∷ []) + first_number) rest) (state_after_push root before (length before + first_number) line e)
         ∙ ap (λ n. check_from (with_bytes (state_after root before) line) n rest) (omega (arith, longer)))

@@ -70,7 +70,7 @@ pub cut_lines : (lines : List (List ℕ)) (rest : List ℕ) → AllByRecursion I
 cut_lines [] rest h = refl
 cut_lines (line ∷ lines) rest h =
     ap pieces (ap (λ text. text ++ rest) (flat_map-cons as_line line lines) ∙ append_assoc (as_line line) (flat_map as_line lines) rest
-        ∙ append_assoc line (10 ∷ []) (flat_map as_line lines ++ rest))
+    ∙ append_assoc line (10 ∷ []) (flat_map as_line lines ++ rest))
     ∙ pieces_line line (flat_map as_line lines ++ rest) h.0
     ∙ ap (λ more. line ∷ more) (cut_lines lines rest h.1)
 
@@ -129,5 +129,5 @@ joined_lines (piece ∷ next ∷ more) (line ∷ lines) last h =
       later.0,
       ap (λ piece. piece ++ 10 ∷ join_with_byte 10 (next ∷ more)) same ∙ ap (λ text. line ++ 10 ∷ text) later.1
           ∙ sym (ap (λ text. text ++ (last ++ last_feed later.0)) (flat_map-cons as_line line lines) ∙ append_assoc (as_line line) (flat_map as_line lines) _
-              ∙ append_assoc line (10 ∷ []) _),
+          ∙ append_assoc line (10 ∷ []) _),
     )

@@ -10,8 +10,8 @@ use Rattle.game_rules.proofs.Moves.{same_position_Decides}
 use Rattle.game_rules.specs.declared.End.{End}
 use Rattle.proof_text.specs.Lemma.{same_claim, claim_of_end, Cite, Reason, ByEnd, ByOne, ByAll, ByPlan, Lemma, Line}
 use Rattle.proof_text.specs.Right.{Shown, lemma_at, goes_by_one, IsCited, HasReason, IsRight, IsVerdict}
-use Rattle.proof_text.specs.Checked.{Why, unless, or_then, end_refusal, shown_refusal, cite_refusal, cites_refusal, move_refusal, reason_refusal, path_refusal,
-    lemma_refusal, is_shown, verdict_stands, CheckerState, content_refusal, line_refusal}
+use Rattle.proof_text.specs.Checked.{Why, unless, or_then, end_refusal, shown_refusal, cite_refusal, cites_refusal, move_refusal, reason_refusal, path_refusal}
+use Rattle.proof_text.specs.Checked.{lemma_refusal, is_shown, verdict_stands, CheckerState, content_refusal, line_refusal}
 use Rattle.proof_text.specs.declared.Claim.{Claim}
 use Rattle.proof_text.specs.declared.Claim.TheVariants.{WhiteWins, WhiteFails, BlackWins, BlackFails}
 use Rattle.proof_text.specs.declared.Verdict.{Verdict}
@@ -96,9 +96,11 @@ none_of_cites known p claim (cite ∷ cites) h = none_or (cite_refusal known p c
 move_of_none : (p : Position) (serves playable : Bool) → move_refusal p serves playable ≡ None → (serves ≡ true) × (end_of p ≡ None) × (playable ≡ true)
 move_of_none p serves playable h =
     let first = or_none (unless serves WrongClaim) _ h in
-    let second = or_none (unless (is_none (end_of p)) WrongPosition) (unless playable MissingMove) first.1 in
-    (unless_none serves WrongClaim first.0, none_is (end_of p) (unless_none (is_none (end_of p)) WrongPosition second.0),
-        unless_none playable MissingMove second.1)
+    let second = or_none (unless (is_none (end_of p)) WrongPosition) (unless playable MissingMove) first.1 in (
+      unless_none serves WrongClaim first.0,
+      none_is (end_of p) (unless_none (is_none (end_of p)) WrongPosition second.0),
+      unless_none playable MissingMove second.1,
+    )
 
 none_of_move : (p : Position) (serves playable : Bool) → serves ≡ true → end_of p ≡ None → playable ≡ true → move_refusal p serves playable ≡ None
 none_of_move p serves playable serving goes may = rw (serving, goes, may) refl
@@ -146,7 +148,7 @@ none_of_reason known p claim (ByAll cites) h =
     let columns = map (λ (cite : Cite). cite.column) cites in
     none_or (move_refusal p (not (goes_by_one claim p)) (bytes_eq columns (open_columns p))) (cites_refusal known p claim cites)
     (none_of_move p (not (goes_by_one claim p)) (bytes_eq columns (open_columns p)) (not_from_false (goes_by_one claim p) h.serves) h.goes_on
-        ((bytes_eq-Decides columns (open_columns p)).1 h.playable))
+    ((bytes_eq-Decides columns (open_columns p)).1 h.playable))
     (none_of_cites known p claim cites h.cited)
 none_of_reason known p claim (ByPlan ws) h =
     none_or (unless (same_claim claim WhiteFails) WrongClaim) (option_map BadPlan (plan_refusal p ws))

@@ -46,7 +46,7 @@ fail_by_all : (side : Side) (p : Position) → end_of p ≡ None → same_side s
 fail_by_all side p goes own each =
     wins_own side p goes (own_turn side p own)
     ∙ false_from_ne_true (list_any (wins side) (moved p))
-        (λ some. let found = any_gives (wins side) (moved p) some in both_ways (wins side found.0) (each found.0 found.1) found.2)
+    (λ some. let found = any_gives (wins side) (moved p) some in both_ways (wins side found.0) (each found.0 found.1) found.2)
 
 by_one : (claim : Claim) (p q : Position) → end_of p ≡ None → goes_by_one claim p ≡ true → Among q (moved p) → claim_holds claim q ≡ true
     → claim_holds claim p ≡ true

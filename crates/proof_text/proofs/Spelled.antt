@@ -1,6 +1,6 @@
 -- A line is read exactly where it is in the grammar; no spelling has a line feed, and none is that of two lines.
-use Rattle.std.proofs.Common.{◌≡◌, ℕ, ◌<◌, ◌≤◌, ◌^◌, Bool, true, false, ◌&&◌, ◌==◌, nat_le, cond, List, [], ◌∷◌, map, length, Some, codes, refl, sym, ap, ◌∙◌,
-    subst, inl, inr, arith, lit<, lit≤}
+use Rattle.std.proofs.Common.{◌≡◌, ℕ, ◌<◌, ◌≤◌, ◌^◌, Bool, true, false, ◌&&◌, ◌==◌, nat_le, cond, List, [], ◌∷◌, map, length, Some, codes, refl, sym, ap, ◌∙◌}
+use Rattle.std.proofs.Common.{subst, inl, inr, arith, lit<, lit≤}
 use Rattle.std.specs.List.{AllByRecursion, list_all}
 use Rattle.std.specs.Str.{bytes_eq}
 use Rattle.std.specs.Fmt.{decimal}
@@ -17,8 +17,8 @@ use Rattle.plan_text.specs.Items.{instance_text, is_named}
 use Rattle.plan_text.proofs.Spaced.{IsPlain, IsDigits, digits_decimal, plain_text, words_of_spaced, spaced_words, spaced_bytes, map_some, all_each}
 use Rattle.plan_text.proofs.PlanLines.{member_plain}
 use Rattle.proof_text.specs.Lemma.{Cite, Reason, ByEnd, ByOne, ByAll, ByPlan, Lemma, Line, ALemma, ARemark, AVerdict}
-use Rattle.proof_text.specs.Spelling.{claim_word, cite_word, reason_words, lemma_words, verdict_words, lemma_text, verdict_text, is_printable, is_remark,
-    IsNumber, CiteFits, ReasonFits, Fits, VerdictFits, IsLine, longest_line}
+use Rattle.proof_text.specs.Spelling.{claim_word, cite_word, reason_words, lemma_words, verdict_words, lemma_text, verdict_text, is_printable, is_remark}
+use Rattle.proof_text.specs.Spelling.{IsNumber, CiteFits, ReasonFits, Fits, VerdictFits, IsLine, longest_line}
 use Rattle.proof_text.specs.Reading.{lemma_of, verdict_of, line_of_words, read_line}
 use Rattle.proof_text.proofs.Words.{lemma_read, lemma_spelled, verdict_read, verdict_spelled}
 use Rattle.proof_text.specs.declared.Claim.{Claim}
@@ -102,16 +102,16 @@ line_read board bytes line h = elim (chosen (is_remark bytes) (Some ARemark) (li
     of_words [] e h = cc
     of_words (word ∷ words) e h = elim
         (chosen (bytes_eq word (codes "value")) (option_map AVerdict (verdict_of words)) (option_map ALemma (lemma_of board (word ∷ words))) (Some line) h) [
-      | inl value ↦
-          let found = map_some AVerdict (verdict_of words) line value.1 in
-          let read = verdict_read words found.0 found.1 in
-          let first : word ≡ codes "value" = (bytes_eq-Decides word (codes "value")).0 value.0 in
-          subst (IsLine board bytes) found.2 (read.1, spaced_words bytes (word ∷ words) e ∙ ap spaced (ap (λ word. word ∷ words) first ∙ read.0))
-      | inr other ↦
-          let found = map_some ALemma (lemma_of board (word ∷ words)) line other.1 in
-          let read = lemma_read board (word ∷ words) found.0 found.1 in
-          subst (IsLine board bytes) found.2 (read.1, spaced_words bytes (word ∷ words) e ∙ ap spaced read.0)
-    ]
+          | inl value ↦
+              let found = map_some AVerdict (verdict_of words) line value.1 in
+              let read = verdict_read words found.0 found.1 in
+              let first : word ≡ codes "value" = (bytes_eq-Decides word (codes "value")).0 value.0 in
+              subst (IsLine board bytes) found.2 (read.1, spaced_words bytes (word ∷ words) e ∙ ap spaced (ap (λ word. word ∷ words) first ∙ read.0))
+          | inr other ↦
+              let found = map_some ALemma (lemma_of board (word ∷ words)) line other.1 in
+              let read = lemma_read board (word ∷ words) found.0 found.1 in
+              subst (IsLine board bytes) found.2 (read.1, spaced_words bytes (word ∷ words) e ∙ ap spaced read.0)
+        ]
 
 -- a lemma's spelling is read
 pub lemma_text_read : (board : Board) (l : Lemma) → Fits board l → read_line board (lemma_text l) ≡ Some (ALemma l)
@@ -183,7 +183,7 @@ line_bytes board bytes (AVerdict v) h = subst (AllByRecursion (λ byte. 32 ≤ b
 line_bytes board [] ARemark h = tt
 line_bytes board (byte ∷ bytes) ARemark h =
     let both = and_parts (byte == 35) (list_all is_printable bytes)
-        (and_parts (byte == 35 && list_all is_printable bytes) (nat_le (length (byte ∷ bytes)) longest_line) h).0 in
+    (and_parts (byte == 35 && list_all is_printable bytes) (nat_le (length (byte ∷ bytes)) longest_line) h).0 in
     let hash : byte ≡ 35 = eqb-true byte 35 both.0 in
     (omega arith, printable bytes both.1)
   where

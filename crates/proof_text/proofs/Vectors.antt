@@ -40,9 +40,9 @@ two_squares_left = refl
 abbrev shared : List (List ℕ)
 shared =
     codes "1 aabb W- end" ∷ codes "2 aab W- one b 1" ∷ codes "3 aa W- all b:2" ∷ codes "4 a W- one a 3" ∷ codes "5 bba W- one a 1" ∷ codes "6 bb W- all a:5"
-        ∷ codes "7 b W- one b 6" ∷ codes "8 - W- all a:4 b:7"
+    ∷ codes "7 b W- one b 6" ∷ codes "8 - W- all a:4 b:7"
     ∷ codes "9 aabb B- end" ∷ codes "10 aab B- all b:9" ∷ codes "11 aa B- one b 10" ∷ codes "12 abab B- end" ∷ codes "13 aba B- all b:12"
-        ∷ codes "14 ab B- one a 13" ∷ codes "15 a B- all a:11 b:14" ∷ codes "16 - B- one a 15" ∷ codes "value draw 8 16" ∷ []
+    ∷ codes "14 ab B- one a 13" ∷ codes "15 a B- all a:11 b:14" ∷ codes "16 - B- one a 15" ∷ codes "value draw 8 16" ∷ []
 
 shared_position : check_of (four (codes "cdccddcdaabb") shared) ≡ Accepted (Draw 8 16) 16
 unfolding check_of game_at read_game board_at digits

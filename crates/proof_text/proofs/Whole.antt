@@ -1,6 +1,6 @@
 -- A whole text is accepted exactly where it is right.
-use Rattle.std.proofs.Common.{◌≡◌, ℕ, suc, ◌+◌, ◌≤◌, Bool, true, false, ◌||◌, ◌==◌, nat_le, List, [], ◌∷◌, ◌++◌, map, length, take, Some, Result, Ok, Err,
-    codes, refl, sym, ap, ◌∙◌, subst, append_assoc, append-nil, inl, inr, arith}
+use Rattle.std.proofs.Common.{◌≡◌, ℕ, suc, ◌+◌, ◌≤◌, Bool, true, false, ◌||◌, ◌==◌, nat_le, List, [], ◌∷◌, ◌++◌, map, length, take, Some, Result, Ok, Err}
+use Rattle.std.proofs.Common.{codes, refl, sym, ap, ◌∙◌, subst, append_assoc, append-nil, inl, inr, arith}
 use Rattle.std.specs.List.{AllByRecursion, list_all, join_with_byte, flat_map}
 use Rattle.std.specs.Str.{bytes_eq}
 use Rattle.std.specs.Fmt.{decimal}
@@ -20,14 +20,14 @@ use Rattle.game_rules.specs.declared.InputFault.{InputFault}
 use Rattle.proof_text.specs.Lemma.{Lemma, ALemma, ARemark, AVerdict}
 use Rattle.proof_text.specs.Right.{Shown, AreRight}
 use Rattle.proof_text.specs.Spelling.{lemma_text, verdict_text, as_line, VerdictFits}
-use Rattle.proof_text.specs.Texts.{pieces, last_line, lines_in, game_prefix, first_number, game_of, behind_game, Refused, Accepted, answer_of, game_answer,
-    first_line, pieces_answer, check_of, Entry, LemmaEntry, RemarkEntry, entry_text, entry_lines, lemmas_among, EntryFits, head_of, IsRightText, start,
-    check_from}
+use Rattle.proof_text.specs.Texts.{pieces, last_line, lines_in, game_prefix, first_number, game_of, behind_game, Refused, Accepted, answer_of, game_answer}
+use Rattle.proof_text.specs.Texts.{first_line, pieces_answer, check_of, Entry, LemmaEntry, RemarkEntry, entry_text, entry_lines, lemmas_among, EntryFits}
+use Rattle.proof_text.specs.Texts.{head_of, IsRightText, start, check_from}
 use Rattle.plan_text.proofs.Spaced.{all_append, all_each}
 use Rattle.proof_text.proofs.Append.{length_shown}
 use Rattle.proof_text.proofs.Spelled.{plain_decimal, plain_moves, line_bytes}
-use Rattle.proof_text.proofs.Pieces.{IsFeedless, feedless_high, pieces_line, pieces_last, pieces_feedless, pieces_some, joined, cut_lines, lines_append,
-    joined_lines}
+use Rattle.proof_text.proofs.Pieces.{IsFeedless, feedless_high, pieces_line, pieces_last, pieces_feedless, pieces_some, joined, cut_lines, lines_append}
+use Rattle.proof_text.proofs.Pieces.{joined_lines}
 use Rattle.proof_text.proofs.Fold.{answer_by_lines}
 use Rattle.proof_text.proofs.Accepted.{AreAccepted, accepted_lines, lines_accepted}
 use Rattle.proof_text.specs.declared.Verdict.{Verdict}
@@ -81,25 +81,25 @@ feedless_moves columns =
 lines_of_game : (first second : List ℕ) (root : Position) → IsFeedless first → IsFeedless second
     → game_at (take game_prefix first ++ 10 ∷ as_line (take game_prefix second)) ≡ Ok root
     → (board : Board) × (columns : List ℕ) × (is_spelled board ≡ true) × (played (empty_position board) columns ≡ Some root) × (first ≡ board_line board)
-        × (second ≡ moves_line columns)
+    × (second ≡ moves_line columns)
 lines_of_game first second root one two h =
     let text = take game_prefix first ++ 10 ∷ as_line (take game_prefix second) in
     let short : length text ≤ 119 = game_short text root h in
     let size : length text ≡ length (take game_prefix first) + length (10 ∷ as_line (take game_prefix second)) = length-append (take game_prefix first)
-        (10 ∷ as_line (take game_prefix second)) in
+    (10 ∷ as_line (take game_prefix second)) in
     let more : length (as_line (take game_prefix second)) ≡ length (take game_prefix second) + 1 = length-append (take game_prefix second) (10 ∷ []) in
     let first_short : length first ≤ game_prefix = omega (arith, length-take game_prefix first) in
     let second_short : length second ≤ game_prefix = omega (arith, length-take game_prefix second) in
     let whole : text ≡ first ++ 10 ∷ as_line second = ap (λ bytes. bytes ++ 10 ∷ as_line (take game_prefix second)) (take_all game_prefix first first_short)
-        ∙ ap (λ bytes. first ++ 10 ∷ as_line bytes) (take_all game_prefix second second_short) in
+    ∙ ap (λ bytes. first ++ 10 ∷ as_line bytes) (take_all game_prefix second second_short) in
     let game = read_in_grammar text root h in
     let spelled : first ++ 10 ∷ as_line second ≡ game_text game.board game.columns game.ended = sym whole ∙ game.spelled in
     let cut : pieces (first ++ 10 ∷ as_line second) ≡ first ∷ second ∷ [] ∷ [] = pieces_line first (as_line second) one
-        ∙ ap (λ more. first ∷ more) (pieces_line second [] two) in
+    ∙ ap (λ more. first ∷ more) (pieces_line second [] two) in
     let also : pieces (game_text game.board game.columns game.ended) ≡ board_line game.board ∷ pieces (moves_line game.columns ++ last_feed game.ended) =
     pieces_line (board_line game.board) (moves_line game.columns ++ last_feed game.ended) (feedless_board game.board game.has_board) in
     let same : first ∷ second ∷ [] ∷ [] ≡ board_line game.board ∷ pieces (moves_line game.columns ++ last_feed game.ended) = sym cut ∙ ap pieces spelled
-        ∙ also in
+    ∙ also in
     let rest : second ∷ [] ∷ [] ≡ pieces (moves_line game.columns ++ last_feed game.ended) = cc in
     (game.board, game.columns, game.has_board, game.has_moves, cc, last game.columns game.ended rest)
   where
@@ -107,7 +107,7 @@ lines_of_game first second root one two h =
     last columns true e = let cut : second ∷ [] ∷ [] ≡ moves_line columns ∷ pieces [] = e ∙ pieces_line (moves_line columns) [] (feedless_moves columns) in cc
     last columns false e =
         let cut : second ∷ [] ∷ [] ≡ moves_line columns ∷ [] = e ∙ ap pieces (append-nil (moves_line columns))
-            ∙ pieces_last (moves_line columns) (feedless_moves columns) in
+        ∙ pieces_last (moves_line columns) (feedless_moves columns) in
         cc
 
 -- and the other way round
@@ -117,15 +117,15 @@ game_of_lines : (board : Board) (columns : List ℕ) (root : Position) (next : L
 game_of_lines board columns root next more has_board has_moves =
     let text = game_text board columns true in
     let read : game_at text ≡ Ok root =
-        grammar_read text root (record { board = board; columns = columns; ended = true; has_board = has_board; has_moves = has_moves; spelled = refl }) in
+    grammar_read text root (record { board = board; columns = columns; ended = true; has_board = has_board; has_moves = has_moves; spelled = refl }) in
     let short : length text ≤ 119 = game_short text root read in
     let size : length text ≡ length (board_line board) + suc (length (moves_line columns ++ 10 ∷ [])) =
-        length-append (board_line board) (10 ∷ (moves_line columns ++ 10 ∷ [])) in
+    length-append (board_line board) (10 ∷ (moves_line columns ++ 10 ∷ [])) in
     let rest : length (moves_line columns ++ 10 ∷ []) ≡ length (moves_line columns) + 1 = length-append (moves_line columns) (10 ∷ []) in
     let first : take game_prefix (board_line board) ≡ board_line board = take_all game_prefix (board_line board) (omega arith) in
     let second : take game_prefix (moves_line columns) ≡ moves_line columns = take_all game_prefix (moves_line columns) (omega arith) in
     ap game_at (ap (λ bytes. bytes ++ 10 ∷ as_line (take game_prefix (moves_line columns))) first ∙ ap (λ bytes. board_line board ++ 10 ∷ as_line bytes) second)
-        ∙ read
+    ∙ read
 
 pub board_of_root : (board : Board) (columns : List ℕ) (root : Position) → played (empty_position board) columns ≡ Some root → board_of root ≡ board
 board_of_root board columns root h = board_along columns (empty_position board) root h
@@ -189,7 +189,7 @@ whole_accepted bytes v count h =
           few = lines.few;
           spelled = sym (joined bytes) ∙ ap (join_with_byte 10) cut
               ∙ whole (board_line read.0) (moves_line read.1) (join_with_byte 10 (next ∷ more))
-                  (entry_lines lines.entries ++ (verdict_text v ++ last_feed text.0)) read.4 read.5
+              (entry_lines lines.entries ++ (verdict_text v ++ last_feed text.0)) read.4 read.5
               (text.1 ∙ ap (λ prefix. prefix ++ (verdict_text v ++ last_feed text.0)) (entry_lines_map lines.entries));
         }
       where
@@ -201,12 +201,12 @@ whole_accepted bytes v count h =
         → pieces_answer (first ∷ more) ≡ Accepted v count → IsRightText bytes v count
     of_pieces first more cut feedless h =
         elim (chosen (bytes_eq first first_line) (game_answer (game_at (game_of more)) (behind_game more)) (Refused 1 BadLine) (Accepted v count) h) [
-      | inr other ↦ absurd (cc other.1)
-      | inl named ↦
-          let game = accepted_game (game_at (game_of more)) (behind_game more) v count named.1 in
-          of_game more game.0 (cut ∙ ap (λ first. first ∷ more) ((bytes_eq-Decides first first_line).0 named.0)) feedless.1 game.1
-          (accepted_lines game.0 [] first_number (behind_game more) v count (sym (answer_by_lines game.0 (behind_game more)) ∙ game.2))
-    ]
+          | inr other ↦ absurd (cc other.1)
+          | inl named ↦
+              let game = accepted_game (game_at (game_of more)) (behind_game more) v count named.1 in
+              of_game more game.0 (cut ∙ ap (λ first. first ∷ more) ((bytes_eq-Decides first first_line).0 named.0)) feedless.1 game.1
+              (accepted_lines game.0 [] first_number (behind_game more) v count (sym (answer_by_lines game.0 (behind_game more)) ∙ game.2))
+        ]
 
 -- ---- what is right is accepted
 
@@ -250,7 +250,7 @@ unfolding check_of
 text_answer board columns root text has_board has_moves =
     ap (λ bytes. pieces_answer (pieces bytes)) (sym (regrouped (board_line board) (moves_line columns) text))
     ∙ ap pieces_answer (pieces_line first_line (board_line board ++ 10 ∷ (moves_line columns ++ 10 ∷ text))
-        (feedless_high first_line (high_text first_line refl))
+    (feedless_high first_line (high_text first_line refl))
     ∙ ap (λ more. first_line ∷ more) (pieces_line (board_line board) (moves_line columns ++ 10 ∷ text) (feedless_board board has_board)
     ∙ ap (λ more. board_line board ∷ more) (pieces_line (moves_line columns) text (feedless_moves columns))))
     ∙ of_pieces (pieces_some text)
@@ -259,13 +259,13 @@ text_answer board columns root text has_board has_moves =
         → pieces_answer (first_line ∷ board_line board ∷ moves_line columns ∷ pieces text) ≡ check_from (start root) first_number (lines_in (pieces text))
     of_pieces (next, more, e) =
         rw e (ap (λ r. game_answer r (lines_in (next ∷ more))) (game_of_lines board columns root next more has_board has_moves)
-            ∙ answer_by_lines root (lines_in (next ∷ more)))
+        ∙ answer_by_lines root (lines_in (next ∷ more)))
 
 pub right_accepted : (bytes : List ℕ) (v : Verdict) (count : ℕ) → IsRightText bytes v count → check_of bytes ≡ Accepted v count
 right_accepted bytes v count text =
     let same : board_of text.root ≡ text.board = board_of_root text.board text.columns text.root text.has_moves in
     let fit : AllByRecursion (EntryFits (board_of text.root)) text.entries = subst (λ board. AllByRecursion (EntryFits board) text.entries) (sym same) text.fit
-        in
+    in
     ap check_of text.spelled
     ∙ text_answer text.board text.columns text.root (entry_lines text.entries ++ (verdict_text v ++ last_feed text.ended)) text.has_board text.has_moves
     ∙ ap (check_from (start text.root) first_number) (lines_behind text.board text.entries v text.ended text.fit text.verdict_fits)

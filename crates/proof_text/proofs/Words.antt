@@ -1,6 +1,6 @@
 -- The words of a line: what is read is spelled so and has a spelling, and what is spelled so is read.
-use Rattle.std.proofs.Common.{◌≡◌, ℕ, ◌+◌, ◌<◌, ◌≤◌, ◌^◌, true, false, ◌&&◌, ◌==◌, nat_le, List, [], ◌∷◌, ◌++◌, map, length, Some, None, codes, refl, ap, ◌∙◌,
-    subst, inl, inr, arith}
+use Rattle.std.proofs.Common.{◌≡◌, ℕ, ◌+◌, ◌<◌, ◌≤◌, ◌^◌, true, false, ◌&&◌, ◌==◌, nat_le, List, [], ◌∷◌, ◌++◌, map, length, Some, None, codes, refl, ap, ◌∙◌}
+use Rattle.std.proofs.Common.{subst, inl, inr, arith}
 use Rattle.std.specs.List.{AllByRecursion, list_all}
 use Rattle.std.specs.Str.{bytes_eq}
 use Rattle.std.specs.Fmt.{decimal}
@@ -19,10 +19,10 @@ use Rattle.plan_text.specs.PlanLine.{members_of}
 use Rattle.plan_text.proofs.Spaced.{bind_some, map_some, is_text, letter_read, letter_spelled}
 use Rattle.plan_text.proofs.PlanLines.{members_read, members_spelled}
 use Rattle.proof_text.specs.Lemma.{Cite, Reason, ByEnd, ByOne, ByAll, ByPlan, Lemma}
-use Rattle.proof_text.specs.Spelling.{claim_word, cite_word, reason_words, lemma_words, verdict_words, greatest_number, longest_path, most_cites, IsNumber,
-    CiteFits, ReasonFits, Fits, VerdictFits}
-use Rattle.proof_text.specs.Reading.{number_of, path_of, claim_of, letter_word, cite_of, cites_of, one_of, all_of, plan_of, only, reason_of, lemma_of, with_one,
-    with_two, verdict_of}
+use Rattle.proof_text.specs.Spelling.{claim_word, cite_word, reason_words, lemma_words, verdict_words, greatest_number, longest_path, most_cites, IsNumber}
+use Rattle.proof_text.specs.Spelling.{CiteFits, ReasonFits, Fits, VerdictFits}
+use Rattle.proof_text.specs.Reading.{number_of, path_of, claim_of, letter_word, cite_of, cites_of, one_of, all_of, plan_of, only, reason_of, lemma_of, with_one}
+use Rattle.proof_text.specs.Reading.{with_two, verdict_of}
 use Rattle.proof_text.specs.declared.Claim.{Claim}
 use Rattle.proof_text.specs.declared.Claim.TheVariants.{WhiteWins, WhiteFails, BlackWins, BlackFails}
 use Rattle.proof_text.specs.declared.Verdict.{Verdict}
@@ -59,17 +59,17 @@ path_read cols word path h = elim (chosen (bytes_eq word (codes "-")) (Some []) 
   | inl dash ↦
       let same : [] ≡ path = cc in
       subst (λ path. (word ≡ move_list path) × (length path ≤ longest_path) × AllByRecursion (λ column. column < cols) path) same
-          (is_text word (codes "-") dash.0, omega arith, tt)
+      (is_text word (codes "-") dash.0, omega arith, tt)
   | inr other ↦ elim (chosen (nat_le 1 (length word) && nat_le (length word) longest_path && list_all (is_letter cols) word) (Some (map column_of word)) None
       (Some path) other.1) [
-    | inr fails ↦ absurd (cc fails.1)
-    | inl letters ↦
-        let same : map column_of word ≡ path = cc in
-        let both = and_parts (nat_le 1 (length word) && nat_le (length word) longest_path) (list_all (is_letter cols) word) letters.0 in
-        let size = and_parts (nat_le 1 (length word)) (nat_le (length word) longest_path) both.0 in
-        subst (λ path. (word ≡ move_list path) × (length path ≤ longest_path) × AllByRecursion (λ column. column < cols) path) same
-        (some_letters word (leb-true 1 (length word) size.0) (leb-true (length word) longest_path size.1) (letters_read cols word both.1))
-  ]
+        | inr fails ↦ absurd (cc fails.1)
+        | inl letters ↦
+            let same : map column_of word ≡ path = cc in
+            let both = and_parts (nat_le 1 (length word) && nat_le (length word) longest_path) (list_all (is_letter cols) word) letters.0 in
+            let size = and_parts (nat_le 1 (length word)) (nat_le (length word) longest_path) both.0 in
+            subst (λ path. (word ≡ move_list path) × (length path ≤ longest_path) × AllByRecursion (λ column. column < cols) path) same
+            (some_letters word (leb-true 1 (length word) size.0) (leb-true (length word) longest_path size.1) (letters_read cols word both.1))
+      ]
 ]
   where
     some_letters : (word : List ℕ) → 1 ≤ length word → length word ≤ longest_path → (word ≡ map letter_of (map column_of word))
@@ -87,7 +87,7 @@ path_spelled cols (column ∷ columns) short within =
     let no_dash : ((97 + column) == 45) ≡ false = ne_eqb (97 + column) 45 (λ (e : 97 + column ≡ 45). omega arith) in
     let size : length word ≡ length (column ∷ columns) = length-map (column ∷ columns) letter_of in
     rw no_dash (found word (column ∷ columns)
-        (and_from _ _ (and_from _ _ (le-leb 1 (length word) (omega arith)) (le-leb (length word) longest_path (omega arith))) back.0) back.1)
+    (and_from _ _ (and_from _ _ (le-leb 1 (length word) (omega arith)) (le-leb (length word) longest_path (omega arith))) back.0) back.1)
   where
     letters_spelled : (path : List ℕ) → AllByRecursion (λ column. column < cols) path → (list_all (is_letter cols) (map letter_of path) ≡ true)
         × (map column_of (map letter_of path) ≡ path)
@@ -103,7 +103,7 @@ path_spelled cols (column ∷ columns) short within =
     found : (word path : List ℕ) → (nat_le 1 (length word) && nat_le (length word) longest_path && list_all (is_letter cols) word) ≡ true
         → map column_of word ≡ path
         → (if nat_le 1 (length word) && nat_le (length word) longest_path && list_all (is_letter cols) word then Some (map column_of word) else None)
-            ≡ Some path
+        ≡ Some path
     found word path h same = rw (h, same) refl
 
 -- ---- claims
@@ -154,14 +154,14 @@ cite_read cols (letter ∷ []) cite h = cc
 cite_read cols (letter ∷ colon ∷ digits) cite h =
     elim (chosen (is_letter cols letter && colon == 58) (option_map (λ n. record { column = column_of letter; lemma = n }) (number_of digits)) None (Some cite)
     h) [
-  | inr other ↦ absurd (cc other.1)
-  | inl found ↦
-      let both = and_parts (is_letter cols letter) (colon == 58) found.0 in
-      let named = letter_read cols letter both.0 in
-      let number = map_some (λ n. record { column = column_of letter; lemma = n }) (number_of digits) cite found.1 in
-      let read = number_read digits number.0 number.1 in
-      at number.0 number.2 named (eqb-true colon 58 both.1) read
-]
+      | inr other ↦ absurd (cc other.1)
+      | inl found ↦
+          let both = and_parts (is_letter cols letter) (colon == 58) found.0 in
+          let named = letter_read cols letter both.0 in
+          let number = map_some (λ n. record { column = column_of letter; lemma = n }) (number_of digits) cite found.1 in
+          let read = number_read digits number.0 number.1 in
+          at number.0 number.2 named (eqb-true colon 58 both.1) read
+    ]
   where
     at : (n : ℕ) → record { column = column_of letter; lemma = n } ≡ cite → (letter ≡ letter_of (column_of letter)) × (column_of letter < cols) → colon ≡ 58
         → (digits ≡ decimal n) × IsNumber n
@@ -187,7 +187,7 @@ cites_read cols (word ∷ words) cites h =
     let more = cites_read cols words rest.0 rest.1 in
     let same : first.0 ∷ rest.0 ≡ cites = cc (rest.2) in
     subst (λ cites. (word ∷ words ≡ map cite_word cites) × AllByRecursion (CiteFits cols) cites) same
-        (cons_same word (cite_word first.0) words (map cite_word rest.0) one.0 more.0, (one.1, more.1))
+    (cons_same word (cite_word first.0) words (map cite_word rest.0) one.0 more.0, (one.1, more.1))
   where
     cons_same : (a b : List ℕ) (xs ys : List (List ℕ)) → a ≡ b → xs ≡ ys → a ∷ xs ≡ b ∷ ys
     cons_same a b xs ys e f = cc
@@ -221,17 +221,17 @@ all_read : (board : Board) (words : List (List ℕ)) (reason : Reason) → all_o
     × ReasonFits board reason
 all_read board words reason h =
     elim (chosen (nat_le 1 (length words) && nat_le (length words) most_cites) (option_map ByAll (cites_of board.cols words)) None (Some reason) h) [
-  | inr other ↦ absurd (cc other.1)
-  | inl found ↦
-      let size = and_parts (nat_le 1 (length words)) (nat_le (length words) most_cites) found.0 in
-      let cites = map_some ByAll (cites_of board.cols words) reason found.1 in
-      let read = cites_read board.cols words cites.0 cites.1 in
-      let count : length words ≡ length cites.0 = ap length read.0 ∙ length-map cites.0 cite_word in
-      let few : 1 ≤ length words = leb-true 1 (length words) size.0 in
-      let many : length words ≤ most_cites = leb-true (length words) most_cites size.1 in
-      subst (λ reason. (codes "all" ∷ words ≡ reason_words reason) × ReasonFits board reason) cites.2
-      (ap (λ words. codes "all" ∷ words) read.0, (omega arith, omega arith, read.1))
-]
+      | inr other ↦ absurd (cc other.1)
+      | inl found ↦
+          let size = and_parts (nat_le 1 (length words)) (nat_le (length words) most_cites) found.0 in
+          let cites = map_some ByAll (cites_of board.cols words) reason found.1 in
+          let read = cites_read board.cols words cites.0 cites.1 in
+          let count : length words ≡ length cites.0 = ap length read.0 ∙ length-map cites.0 cite_word in
+          let few : 1 ≤ length words = leb-true 1 (length words) size.0 in
+          let many : length words ≤ most_cites = leb-true (length words) most_cites size.1 in
+          subst (λ reason. (codes "all" ∷ words ≡ reason_words reason) × ReasonFits board reason) cites.2
+          (ap (λ words. codes "all" ∷ words) read.0, (omega arith, omega arith, read.1))
+    ]
 
 plan_read : (board : Board) (words : List (List ℕ)) (reason : Reason) → plan_of board words ≡ Some reason → (codes "plan" ∷ words ≡ reason_words reason)
     × ReasonFits board reason
@@ -270,7 +270,7 @@ pub reason_spelled : (board : Board) (reason : Reason) → ReasonFits board reas
 reason_spelled board ByEnd h = refl
 reason_spelled board (ByOne cite) h =
     ap (λ found. found >>= λ column. number_of (decimal cite.lemma) >>= λ n. Some (ByOne (record { column = column; lemma = n })))
-        (letter_word_spelled board.cols cite.column h.0)
+    (letter_word_spelled board.cols cite.column h.0)
     ∙ ap (λ found. found >>= λ n. Some (ByOne (record { column = cite.column; lemma = n }))) (number_spelled cite.lemma h.1)
 reason_spelled board (ByAll cites) h =
     let size : length (map cite_word cites) ≡ length cites = length-map cites cite_word in
@@ -308,12 +308,12 @@ lemma_read board (number ∷ path ∷ claim ∷ reason) l h =
 pub lemma_spelled : (board : Board) (l : Lemma) → Fits board l → lemma_of board (lemma_words l) ≡ Some l
 lemma_spelled board l h =
     ap (λ found. found >>= λ n. path_of board.cols (move_list l.path) >>= λ moves. claim_of (claim_word l.claim) >>= λ said.
-        reason_of board (reason_words l.reason) >>= λ why. Some (record { number = n; path = moves; claim = said; reason = why }))
-        (number_spelled l.number h.number)
+    reason_of board (reason_words l.reason) >>= λ why. Some (record { number = n; path = moves; claim = said; reason = why }))
+    (number_spelled l.number h.number)
     ∙ ap (λ found. found >>= λ moves. claim_of (claim_word l.claim) >>= λ said. reason_of board (reason_words l.reason) >>= λ why.
-        Some (record { number = l.number; path = moves; claim = said; reason = why })) (path_spelled board.cols l.path h.short h.columns)
+    Some (record { number = l.number; path = moves; claim = said; reason = why })) (path_spelled board.cols l.path h.short h.columns)
     ∙ ap (λ found. found >>= λ said. reason_of board (reason_words l.reason) >>= λ why.
-        Some (record { number = l.number; path = l.path; claim = said; reason = why })) (claim_spelled l.claim)
+    Some (record { number = l.number; path = l.path; claim = said; reason = why })) (claim_spelled l.claim)
     ∙ ap (λ found. found >>= λ why. Some (record { number = l.number; path = l.path; claim = l.claim; reason = why })) (reason_spelled board l.reason h.reason)
 
 -- ---- verdicts
@@ -348,22 +348,22 @@ verdict_read (word ∷ words) v h = elim (chosen (bytes_eq word (codes "win")) (
   | inl win ↦
       let read = one_verdict_read Win words v win.1 in
       subst (λ v. (codes "value" ∷ word ∷ words ≡ verdict_words v) × VerdictFits v) read.3
-          (both (codes "win") (decimal read.0 ∷ []) (is_text word _ win.0) read.1, read.2)
+      (both (codes "win") (decimal read.0 ∷ []) (is_text word _ win.0) read.1, read.2)
   | inr a ↦ elim (chosen (bytes_eq word (codes "loss")) (with_one Loss words) _ (Some v) a.1) [
     | inl loss ↦
         let read = one_verdict_read Loss words v loss.1 in
         subst (λ v. (codes "value" ∷ word ∷ words ≡ verdict_words v) × VerdictFits v) read.3
-            (both (codes "loss") (decimal read.0 ∷ []) (is_text word _ loss.0) read.1, read.2)
+        (both (codes "loss") (decimal read.0 ∷ []) (is_text word _ loss.0) read.1, read.2)
     | inr b ↦ elim (chosen (bytes_eq word (codes "draw")) (with_two Draw words) _ (Some v) b.1) [
       | inl draw ↦
           let read = two_verdict_read Draw words v draw.1 in
           subst (λ v. (codes "value" ∷ word ∷ words ≡ verdict_words v) × VerdictFits v) read.5
-              (both (codes "draw") (decimal read.0 ∷ decimal read.1 ∷ []) (is_text word _ draw.0) read.2, (read.3, read.4))
+          (both (codes "draw") (decimal read.0 ∷ decimal read.1 ∷ []) (is_text word _ draw.0) read.2, (read.3, read.4))
       | inr c ↦ elim (chosen (bytes_eq word (codes "unknown")) (only Unknown words) None (Some v) c.1) [
         | inl unknown ↦
             let nothing = only_read Unknown v words unknown.1 in
             subst (λ v. (codes "value" ∷ word ∷ words ≡ verdict_words v) × VerdictFits v) nothing.1
-                (both (codes "unknown") [] (is_text word _ unknown.0) nothing.0, tt)
+            (both (codes "unknown") [] (is_text word _ unknown.0) nothing.0, tt)
         | inr none ↦ absurd (cc none.1)
       ]
     ]

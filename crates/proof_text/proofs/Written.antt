@@ -1,6 +1,6 @@
 -- What may stand while a proof is written, and that a proof that stands whole is a right text.
-use Rattle.std.proofs.Common.{inl, inr, append-nil, ◌≡◌, ℕ, ◌+◌, ◌≤◌, true, List, [], ◌∷◌, ◌++◌, map, length, Option, Some, None, refl, sym, ap, ◌∙◌, subst,
-    append_assoc, arith}
+use Rattle.std.proofs.Common.{inl, inr, append-nil, ◌≡◌, ℕ, ◌+◌, ◌≤◌, true, List, [], ◌∷◌, ◌++◌, map, length, Option, Some, None, refl, sym, ap, ◌∙◌, subst}
+use Rattle.std.proofs.Common.{append_assoc, arith}
 use Rattle.std.specs.List.{AllByRecursion}
 use Rattle.std.proofs.lemmas.List.{length-append, length-map}
 use Rattle.std.proofs.lemmas.Grind.{flat_map-append}
@@ -84,7 +84,7 @@ lemmas_of white_remark white black_remark black =
 -- their lines, and what follows them
 text_of : (white_remark : Option (List ℕ)) (white : List Lemma) (black_remark : Option (List ℕ)) (black : List Lemma) (last : List ℕ)
     → entry_lines (entries_of white_remark white black_remark black) ++ last ≡ remark_line white_remark
-        ++ (lines_of white ++ (remark_line black_remark ++ (lines_of black ++ last)))
+    ++ (lines_of white ++ (remark_line black_remark ++ (lines_of black ++ last)))
 text_of white_remark white black_remark black last =
     ap (λ text. text ++ last) (lines_remark white_remark (map LemmaEntry white ++ (remark_entries black_remark ++ map LemmaEntry black))
     ∙ ap (λ text. remark_line white_remark ++ text) (lines_append (map LemmaEntry white) (remark_entries black_remark ++ map LemmaEntry black)
@@ -124,7 +124,7 @@ all_short side ls sided = all_each (λ l. (claim_side l.claim ≡ side) × IsSho
 -- a verdict at the end of what is written, within the number of lemmas that have a spelling
 pub proof_right : (board : Board) (columns : List ℕ) (root : Position) (text : List ℕ) (v : Verdict) (proof : IsProof root (head_of board columns) text v)
     → is_spelled board ≡ true → played (empty_position board) columns ≡ Some root → length proof.after ≤ greatest_number
-        → IsRightText text v (length proof.after)
+    → IsRightText text v (length proof.after)
 proof_right board columns root text v proof has_board has_moves few =
     let w = proof.written in
     let right = AreRight_append root [] w.mid proof.after w.white w.black w.white_right w.black_right in
@@ -134,12 +134,12 @@ proof_right board columns root text v proof has_board has_moves few =
     let both : length (w.white ++ w.black) ≡ length w.white + length w.black = length-append w.white w.black in
     let ls = w.white ++ w.black in
     let short : AllByRecursion IsShort ls = all_append IsShort w.white w.black (all_short White w.white w.white_sided) (all_short Black w.black w.black_sided)
-        in
+    in
     let fits : AllByRecursion (Fits board) ls = subst (λ board. AllByRecursion (Fits board) ls) same
-        (right_all_fit root [] ls proof.after root_board (omega arith) short right) in
+    (right_all_fit root [] ls proof.after root_board (omega arith) short right) in
     let among : lemmas_among (entries_of w.white_remark w.white w.black_remark w.black) ≡ ls = lemmas_of w.white_remark w.white w.black_remark w.black in
     let sizes : length (entries_of w.white_remark w.white w.black_remark w.black) ≤ length w.white + length w.black + 2 =
-        size_of w.white_remark w.white w.black_remark w.black in
+    size_of w.white_remark w.white w.black_remark w.black in
     record {
       board = board;
       columns = columns;
@@ -161,7 +161,7 @@ proof_right board columns root text v proof has_board has_moves few =
 -- so it is accepted, with its verdict and all its lemmas
 pub proof_accepted : (board : Board) (columns : List ℕ) (root : Position) (text : List ℕ) (v : Verdict) (proof : IsProof root (head_of board columns) text v)
     → is_spelled board ≡ true → played (empty_position board) columns ≡ Some root → length proof.after ≤ greatest_number
-        → check_of text ≡ Accepted v (length proof.after)
+    → check_of text ≡ Accepted v (length proof.after)
 proof_accepted board columns root text v proof has_board has_moves few =
     right_accepted text v (length proof.after) (proof_right board columns root text v proof has_board has_moves few)
 
@@ -173,7 +173,7 @@ module _ (root : Position) (head text : List ℕ) (remark : Option (List ℕ)) (
   abbrev pub both_written : (last : List ℕ) → AreRight root [] white mid → AreRight root mid black after → AreSided White white → AreSided Black black
       → IsAskedInTurn root mid black
       → IsRemarkLine remark → IsRemarkLine also → text ≡ head ++ (remark_line remark ++ (lines_of white ++ (remark_line also ++ (lines_of black ++ last))))
-          → HasWritten root head text after last
+      → HasWritten root head text after last
   both_written last first second white_sided black_sided asked remarked also_remarked spelled = record {
     white_remark = remark;
     white = white;
@@ -194,7 +194,7 @@ module _ (root : Position) (head text : List ℕ) (remark : Option (List ℕ)) (
   abbrev pub lemmas_stand : AreRight root [] white mid → AreRight root mid black after → AreSided White white → AreSided Black black
       → IsAskedInTurn root mid black
       → IsRemarkLine remark → IsRemarkLine also → text ≡ head ++ (remark_line remark ++ (lines_of white ++ (remark_line also ++ lines_of black)))
-          → MayStand root head text
+      → MayStand root head text
   lemmas_stand first second white_sided black_sided asked remarked also_remarked spelled = record {
     after = after;
     last = [];

@@ -1,6 +1,6 @@
 -- Turns that a plan answers are those of the duel.
-use Rattle.std.proofs.Common.{◌≡◌, ℕ, ◌+◌, Bool, true, false, ◌&&◌, cond, List, [], ◌∷◌, ◌++◌, Option, Some, None, option_and_then, is_none, is_some, Ok, Err,
-    refl, sym, ap, ◌∙◌, subst, inl, inr}
+use Rattle.std.proofs.Common.{◌≡◌, ℕ, ◌+◌, Bool, true, false, ◌&&◌, cond, List, [], ◌∷◌, ◌++◌, Option, Some, None, option_and_then, is_none, is_some, Ok, Err}
+use Rattle.std.proofs.Common.{refl, sym, ap, ◌∙◌, subst, inl, inr}
 use Rattle.std.specs.Option.{option_map_or}
 use Rattle.std.proofs.lemmas.Bool.{cases_Bool, and_parts}
 use Rattle.std.proofs.lemmas.Option.{same_Some}
@@ -83,7 +83,7 @@ answer_made plan q column reply under legal is_reply =
     let turn : after_turn ws q column ≡ Some next = turn_made ws q column answered in
     let leads = turns_more ws plan.at q next before column under.reached.leads legal turn in
     let P : Square → Type 0 = λ reply. HasAnswered (record { plan = plan; stands = q })
-        (record { plan = plan; stands = after_move (after_move q column) reply.0 }) column
+    (record { plan = plan; stands = after_move (after_move q column) reply.0 }) column
     (reply_for (end_of (after_move (after_move q column) reply.0)) reply.0) in
     subst P same (record {
       same_plan = refl;
@@ -118,7 +118,7 @@ pub answers : (plan : Planned) (q now next : Position) (column : ℕ) (last repl
 answers plan q now next column last reply under legal is lowest is_reply next_is =
     let from_now : plan_reply (members plan) (after_move q column) (column, height q column + 1) ≡ Some reply =
     ap (λ now. plan_reply (members plan) now (column, height q column + 1)) (sym is)
-        ∙ ap (plan_reply (members plan) now) (legal_square q column last legal lowest) ∙ is_reply in
+    ∙ ap (plan_reply (members plan) now) (legal_square q column last legal lowest) ∙ is_reply in
     let P : Position → Type 0 = λ next. HasAnswered (record { plan = plan; stands = q }) (record { plan = plan; stands = next }) column
-        (reply_for (end_of next) reply.0) in
+    (reply_for (end_of next) reply.0) in
     subst P (ap (λ now. after_move now reply.0) (sym is) ∙ sym next_is) (answer_made plan q column reply under legal from_now)

@@ -1,7 +1,7 @@
 -- The groups of Black's that Aftereven and Before rest on, as a search finds them: by their empty squares, and a set that
 -- has to have those.
-use Rattle.std.proofs.Common.{◌≡◌, ◌+◌, Bool, true, false, not, ◌&&◌, ◌||◌, ◌==◌, nat_le, nat_lt, List, [], ◌∷◌, length, map, Option, Some, None, refl, sym, ap,
-    ◌∙◌, inl, inr, arith}
+use Rattle.std.proofs.Common.{◌≡◌, ◌+◌, Bool, true, false, not, ◌&&◌, ◌||◌, ◌==◌, nat_le, nat_lt, List, [], ◌∷◌, length, map, Option, Some, None, refl, sym, ap}
+use Rattle.std.proofs.Common.{◌∙◌, inl, inr, arith}
 use Rattle.std.specs.List.{list_all, list_any, find}
 use Rattle.std.specs.Option.{option_map}
 use Rattle.std.proofs.Math.Path.{fun_ext}
@@ -132,7 +132,7 @@ module _ (p : Position) (kept : Kept) (part : List Square) (board : is_board (bo
   both_sets : (g : Group) (first second set : List Square) (test : Square → Bool) → IsSetOf (λ u. nat_le 1 u.1 && test u) second
       → IsSetOf (λ u. has_square first u && has_square second u) set
       → each_of (is_empty p) (has_square set) (squares_of g)
-          ≡ (each_of (is_empty p) (has_square first) (squares_of g) && each_of (is_empty p) test (squares_of g))
+      ≡ (each_of (is_empty p) (has_square first) (squares_of g) && each_of (is_empty p) test (squares_of g))
   both_sets g first second set test is both =
       ap (λ t. each_of (is_empty p) t (squares_of g)) (fun_ext (λ u. both.has u ∙ ap (λ b. has_square first u && b) (is.has u)))
       ∙ each_both (is_empty p) (has_square first) (λ u. nat_le 1 u.1 && test u) (squares_of g)
@@ -141,15 +141,15 @@ module _ (p : Position) (kept : Kept) (part : List Square) (board : is_board (bo
   pub first_aftereven : (groups : List OpenGroup) (below set : List Square) → groups ≡ map (open_group_at p) (groups_for Black p)
       → IsSetOf (λ u. nat_le 1 u.1 && some_above (has_square part) u) below → IsSetOf (λ u. has_square kept.upper u && has_square below u) set
       → option_map (λ (group : OpenGroup). group.id) (find (is_open_within set) groups)
-          ≡ find (λ g. does_answer p (facts_in kept) (has_square part) (aftereven g)) (groups_of (board_of p))
+      ≡ find (λ g. does_answer p (facts_in kept) (has_square part) (aftereven g)) (groups_of (board_of p))
   first_aftereven groups below set same is both = first_along p groups set _ same (λ g lies.
       within_is p g board set
       ∙ ap (λ b. is_free_for Black p g && (list_any (is_empty p) (squares_of g) && b)) (both_sets g kept.upper below set (some_above (has_square part)) is both)
       ∙ grouped (lies_on (board_of p) g) (is_free_for Black p g) (list_any (is_empty p) (squares_of g)) _ lies
       ∙ sym (ap (λ b. b && (each_of (is_empty p) (has_square kept.upper) (squares_of g) && each_of (is_empty p) (some_above (has_square part)) (squares_of g)))
-          (open_is p g))
+      (open_is p g))
       ∙ ap (λ e. is_open_line p g && (each_of e (has_square kept.upper) (squares_of g) && each_of e (some_above (has_square part)) (squares_of g)))
-          (sym has_empty))
+      (sym has_empty))
     where
       grouped : (l f a b : Bool) → l ≡ true → (f && (a && b)) ≡ (((l && f) && a) && b)
       grouped l true true b h = rw h refl
@@ -159,21 +159,21 @@ module _ (p : Position) (kept : Kept) (part : List Square) (board : is_board (bo
   pub first_before : (groups : List OpenGroup) (held lowered set : List Square) → groups ≡ map (open_group_at p) (groups_for Black p)
       → ((u : Square) → has_square part u ≡ true → is_empty p u ≡ true)
       → IsSetOf (λ u. has_square kept.upper u || has_square kept.pair u) held → IsSetOf (λ u. nat_le 1 u.1 && has_square part (u.0, u.1 + 1)) lowered
-          → IsSetOf (λ u. has_square held u && has_square lowered u) set
+      → IsSetOf (λ u. has_square held u && has_square lowered u) set
       → option_map (λ (group : OpenGroup). group.id) (find (is_open_within set) groups) ≡ find (λ g. does_answer p (facts_in kept) (has_square part) (before g))
-          (groups_of (board_of p))
+      (groups_of (board_of p))
   first_before groups held lowered set same inside union low both = first_along p groups set _ same (λ g lies.
       within_is p g board set
       ∙ ap (λ b. is_free_for Black p g && (list_any (is_empty p) (squares_of g) && b)) (both_sets g held lowered set (λ u. has_square part (above u)) low both)
       ∙ ap (λ t. is_free_for Black p g
-          && (list_any (is_empty p) (squares_of g)
-          && (each_of (is_empty p) t (squares_of g) && each_of (is_empty p) (λ u. has_square part (above u)) (squares_of g)))) (fun_ext union.has)
+      && (list_any (is_empty p) (squares_of g)
+      && (each_of (is_empty p) t (squares_of g) && each_of (is_empty p) (λ u. has_square part (above u)) (squares_of g)))) (fun_ext union.has)
       ∙ grouped (lies_on (board_of p) g) (is_free_for Black p g) (list_any (is_empty p) (squares_of g)) _ _ _ lies (below_rows g)
       ∙ sym (ap (λ b. (b && each_of (is_empty p) (λ u. nat_lt u.1 p.rows) (squares_of g))
-          && (each_of (is_empty p) (λ u. has_square kept.upper u || has_square kept.pair u) (squares_of g)
-          && each_of (is_empty p) (λ u. has_square part (above u)) (squares_of g))) (open_is p g))
+      && (each_of (is_empty p) (λ u. has_square kept.upper u || has_square kept.pair u) (squares_of g)
+      && each_of (is_empty p) (λ u. has_square part (above u)) (squares_of g))) (open_is p g))
       ∙ ap (λ e. is_low_line p g && (each_of e (λ u. has_square kept.upper u || has_square kept.pair u) (squares_of g)
-          && each_of e (λ u. has_square part (above u)) (squares_of g))) (sym has_empty))
+      && each_of e (λ u. has_square part (above u)) (squares_of g))) (sym has_empty))
     where
       -- where the squares above are empty ones, none of them is a top square
       row_under : (u : Square) → has_square part (above u) ≡ true → nat_lt u.1 p.rows ≡ true

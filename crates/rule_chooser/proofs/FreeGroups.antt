@@ -1,6 +1,6 @@
 -- The groups that a side can still fill, one after another.
-use Rattle.std.proofs.Common.{◌≡◌, ℕ, ◌+◌, ◌<◌, ◌≤◌, true, false, not, ◌&&◌, if◌then◌else◌, List, [], ◌∷◌, ◌++◌, length, map, filter, take, get_or, refl, sym,
-    ap, ◌∙◌, inl, inr, arith, append-nil}
+use Rattle.std.proofs.Common.{◌≡◌, ℕ, ◌+◌, ◌<◌, ◌≤◌, true, false, not, ◌&&◌, if◌then◌else◌, List, [], ◌∷◌, ◌++◌, length, map, filter, take, get_or, refl, sym}
+use Rattle.std.proofs.Common.{ap, ◌∙◌, inl, inr, arith, append-nil}
 use Rattle.std.specs.List.{list_any}
 use Rattle.std.proofs.Math.Path.{fun_ext}
 use Rattle.std.proofs.lemmas.Bool.{cases_Bool}
@@ -39,14 +39,14 @@ open_left men empties squares g own met groups = rw some (sym (append-nil groups
 pub open_more : (p : Position) (side : Side) (men empties : List Square) (gs : List Group) (i : ℕ) (g : Group) → i < length gs → g ≡ get_or gs i g
     → IsSetOf (has_man p (other side)) men → IsSetOf (is_empty p) empties
     → map (open_group_at p) (filter (is_free_for side p) (take i gs)) ++ open_part men empties g
-        ≡ map (open_group_at p) (filter (is_free_for side p) (take (i + 1) gs))
+    ≡ map (open_group_at p) (filter (is_free_for side p) (take (i + 1) gs))
 open_more p side men empties gs i g within at held bare =
     ap (λ test. map (open_group_at p) (filter (is_free_for side p) (take i gs))
-        ++ (if list_any test (squares_of g) then [] else record { id = g; empty = squares_where (λ u. has_square empties u && has_square (squares_of g) u) }
-        ∷ [])) (fun_ext held.has)
+    ++ (if list_any test (squares_of g) then [] else record { id = g; empty = squares_where (λ u. has_square empties u && has_square (squares_of g) u) }
+    ∷ [])) (fun_ext held.has)
     ∙ ap (λ test. map (open_group_at p) (filter (is_free_for side p) (take i gs))
-        ++ (if list_any (has_man p (other side)) (squares_of g) then []
-        else record { id = g; empty = squares_where (λ u. test u && has_square (squares_of g) u) } ∷ [])) (fun_ext bare.has)
+    ++ (if list_any (has_man p (other side)) (squares_of g) then []
+    else record { id = g; empty = squares_where (λ u. test u && has_square (squares_of g) u) } ∷ [])) (fun_ext bare.has)
     ∙ elim (cases_Bool (list_any (has_man p (other side)) (squares_of g))) [
       | inl some ↦ rw some (append-nil (map (open_group_at p) (filter (is_free_for side p) (take i gs)))
           ∙ sym (filtered_none (is_free_for side p) (open_group_at p) gs i g within at (rw some refl)))

@@ -1,6 +1,6 @@
 -- The list that a set gives, one of White's groups after another.
-use Rattle.std.proofs.Common.{◌≡◌, ℕ, ◌+◌, ◌<◌, ◌≤◌, Bool, true, false, not, ◌||◌, if◌then◌else◌, List, [], ◌∷◌, ◌++◌, length, map, filter, take, drop, get_or,
-    Some, refl, sym, ap, ◌∙◌, subst, inl, inr, arith}
+use Rattle.std.proofs.Common.{◌≡◌, ℕ, ◌+◌, ◌<◌, ◌≤◌, Bool, true, false, not, ◌||◌, if◌then◌else◌, List, [], ◌∷◌, ◌++◌, length, map, filter, take, drop, get_or}
+use Rattle.std.proofs.Common.{Some, refl, sym, ap, ◌∙◌, subst, inl, inr, arith}
 use Rattle.std.specs.List.{list_any, slice_get}
 use Rattle.std.specs.Option.{option_map}
 use Rattle.std.proofs.lemmas.Bool.{cases_Bool}
@@ -87,7 +87,7 @@ module _ (p : Position) (set : List RuleInstance) where
       ∙ map-append written (take zones items) (drop zones items)
       ∙ ap (λ ws. ws ++ written_list (drop zones items)) (ap written_list first ∙ sym is)
       ∙ ap (λ ws. set ++ ws) (ap (λ gs. answers p set gs (written_list (drop zones items))) (sym (drop_all i (groups_for White p) past)) ∙ answered
-          ∙ answers_free (groups_of (board_of p)) [])
+      ∙ answers_free (groups_of (board_of p)) [])
 
 -- a group of the list is free for White
 pub group_free : (p : Position) (groups : List OpenGroup) (i : ℕ) (group : OpenGroup)

@@ -25,8 +25,11 @@ use Rattle.rule_chooser.proofs.BlackGroups.{part_set}
 pub stand_together : (p : Position) (set : List RuleInstance) → is_zone_set p set ≡ true → StandTogether p set
 stand_together p set is =
     let both = and_parts (list_all (λ w. owns_zone w && fits w p) set) (each_two together set) is in
-    record { fitting = all_from (λ w. fits w p) set
-        (λ w among. (and_parts (owns_zone w) (fits w p) (all_gives (λ w. owns_zone w && fits w p) set w both.0 among)).1); standing = both.1 }
+    record {
+      fitting = all_from (λ w. fits w p) set
+          (λ w among. (and_parts (owns_zone w) (fits w p) (all_gives (λ w. owns_zone w && fits w p) set w both.0 among)).1);
+      standing = both.1;
+    }
 
 all_mapped : {X Y : Type 0} (test : Y → Bool) (f : X → Y) (keep : X → Bool) (xs : List X)
     → list_all test (map f (filter keep xs)) ≡ list_all (λ x. not (keep x) || test (f x)) xs
@@ -54,7 +57,7 @@ module _ (p : Position) (set : List RuleInstance) (board : is_board (board_of p)
 
   pub all_answered : (facts : Facts) (groups : List OpenGroup) → facts ≡ facts_of p set → groups ≡ map (open_group_at p) (groups_for White p)
       → list_all (λ (group : OpenGroup). is_answered_by p facts set group.empty) groups ≡ list_all (λ g. not (is_left p set g) || is_some (answer_to p set g))
-          (groups_of (board_of p))
+      (groups_of (board_of p))
   all_answered facts groups same are =
       ap (list_all (λ (group : OpenGroup). is_answered_by p facts set group.empty)) are
       ∙ all_mapped (λ (group : OpenGroup). is_answered_by p facts set group.empty) (open_group_at p) (is_free_for White p) (groups_of (board_of p))

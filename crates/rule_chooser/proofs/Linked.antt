@@ -1,6 +1,6 @@
 -- Zones that are linked by their first square: the numbers of the next ones, and that those passed by may not follow.
-use Rattle.std.proofs.Common.{◌≡◌, ◌⊎◌, ℕ, zero, suc, ◌+◌, ◌<◌, ◌≤◌, Bool, true, false, ◌==◌, List, [], ◌∷◌, length, take, drop, get_or, set, Option, Some,
-    None, slice_get, slice_index_or, refl, sym, ap, ◌∙◌, subst, inl, inr, arith}
+use Rattle.std.proofs.Common.{◌≡◌, ◌⊎◌, ℕ, zero, suc, ◌+◌, ◌<◌, ◌≤◌, Bool, true, false, ◌==◌, List, [], ◌∷◌, length, take, drop, get_or, set, Option, Some}
+use Rattle.std.proofs.Common.{None, slice_get, slice_index_or, refl, sym, ap, ◌∙◌, subst, inl, inr, arith}
 use Rattle.std.specs.Option.{option_map_or}
 use Rattle.std.proofs.lemmas.Bool.{cases_Bool, cases_eq, and_parts, eq-eqb, eqb-true, ne_eqb, both_ways, false_from_ne_true}
 use Rattle.std.proofs.lemmas.List.{drop_more, take-append-drop, get_or-set_same, get_or-set_other}
@@ -103,7 +103,7 @@ begins_there p set w first rest board fitted opens follows =
     least : slice_get (squares_where (has_square (zone_of (written w)))) 0 ≡ least_of (squares_at p) (written w)
     least =
         ap (λ us. slice_get us 0) (where_on_board (board_of p) (has_square (zone_of (written w))) board
-            (λ u h. all_gives (on_board (board_of p)) (zone_of (written w)) u (fits_on_board (written w) p fitted) (has_gives (zone_of (written w)) u h)))
+        (λ u h. all_gives (on_board (board_of p)) (zone_of (written w)) u (fits_on_board (written w) p fitted) (has_gives (zone_of (written w)) u h)))
         ∙ find_filtered (has_square (zone_of (written w))) (squares_at p)
 
     start : (o : Option Square) → starts_at o (first ∷ rest) ≡ true → o ≡ Some first
@@ -120,8 +120,8 @@ passed p set place n all (w ∷ ws) rest only = elim (cases_Bool (least_place w 
   | inl is ↦ ap (λ zs. after p set (written_list zs)) (sym rest) ∙ ap (λ k. after p set (written_list (drop k all))) (sym (next_here place n w ws is))
   | inr other ↦
       after_other p set (written w) (written_list ws)
-          (false_from_ne_true (may_follow p set (written w))
-          (λ follows. both_ways (least_place w == place) other (eq-eqb (least_place w) place (only w (inl refl) follows))))
+      (false_from_ne_true (may_follow p set (written w))
+      (λ follows. both_ways (least_place w == place) other (eq-eqb (least_place w) place (only w (inl refl) follows))))
       ∙ passed p set place (n + 1) all ws (drop_next all ws n w rest) (λ v among. only v (inr among))
       ∙ ap (λ k. after p set (written_list (drop k all))) (sym (next_other place n w ws other))
 ]
@@ -181,7 +181,7 @@ passed_over p set board squares first is some zones listed n =
     let opens = sym (open_is p set board squares is) ∙ (some_at squares first some).1 in
     passed p set (place_of first) n zones (drop n zones) refl (λ w among follows.
     begins_there p set w first (some_at squares first some).0 board
-        (zone_fits p (written w) (subst (Among (written w)) listed (Among-map written zones w (of_drop zones n w among)))).1 opens follows)
+    (zone_fits p (written w) (subst (Among (written w)) listed (Among-map written zones w (of_drop zones n w among)))).1 opens follows)
   where
     of_drop : (zones : List Instance) (n : ℕ) (w : Instance) → Among w (drop n zones) → Among w zones
     of_drop zones n w among = subst (Among w) (take-append-drop n zones) (Among-append_right w (take n zones) (drop n zones) among)

@@ -1,6 +1,6 @@
 -- The sets that come of a set which leaves a square open: a search goes through the zones that may follow, one by one.
-use Rattle.std.proofs.Common.{◌≡◌, ℕ, ◌+◌, ◌<◌, ◌≤◌, ◌-◌, ◌*◌, Bool, true, false, ◌&&◌, not, List, [], ◌∷◌, ◌++◌, length, take, drop, get_or, Some, slice_get,
-    refl, sym, ap, ◌∙◌, subst, arith}
+use Rattle.std.proofs.Common.{◌≡◌, ℕ, ◌+◌, ◌<◌, ◌≤◌, ◌-◌, ◌*◌, Bool, true, false, ◌&&◌, not, List, [], ◌∷◌, ◌++◌, length, take, drop, get_or, Some, slice_get}
+use Rattle.std.proofs.Common.{refl, sym, ap, ◌∙◌, subst, arith}
 use Rattle.std.specs.List.{list_all}
 use Rattle.std.proofs.lemmas.List.{length-append}
 use Rattle.std.proofs.lemmas.Option.{slice_get_read}
@@ -32,7 +32,7 @@ pub record GoesFrom (p : Position) (set now list zones : List Instance) (squares
   pub listed : written_list zones ≡ fitting_zones p
   pub goes : (rest : List (List RuleInstance))
       → choice_among p before (after p (written_list set) (fitting_zones p) ++ rest)
-          ≡ choice_among p left (after p (written_list set) (written_list (drop i zones)) ++ rest)
+      ≡ choice_among p left (after p (written_list set) (written_list (drop i zones)) ++ rest)
   pub same : now ≡ set
   pub mine : (zone : Instance) → slice_get zones i ≡ Some zone → least_place zone ≡ place_of first
 
@@ -41,7 +41,7 @@ passed_by_first : {p : Position} (set : List Instance) {squares : List Square} {
     → OpensAt p (written_list set) squares first
     → is_board (board_of p) ≡ true → written_list zones ≡ fitting_zones p → (n : ℕ)
     → after p (written_list set) (written_list (drop n zones))
-        ≡ after p (written_list set) (written_list (drop (next_at (place_of first) n (drop n zones)) zones))
+    ≡ after p (written_list set) (written_list (drop (next_at (place_of first) n (drop n zones)) zones))
 passed_by_first {p} set {squares} {first} zones opens board listed = passed_over p
     (written_list set) board squares first opens.leaves.open_squares opens.at zones listed
 
@@ -103,7 +103,7 @@ module _ {p : Position} {set now list zones : List Instance} {squares : List Squ
       → may_follow p (written_list set) (written zone) ≡ answer
   told {test} lent_set lend is answers =
       sym (test_is p set t.from.opens.leaves.going t.from.opens.leaves.is_set t.from.board squares zone first lent_set test t.from.opens.leaves.open_squares
-          t.from.opens.at
+      t.from.opens.at
       (lend ∙ t.from.same) is) ∙ answers
 
   -- the number of the next one
@@ -124,7 +124,7 @@ module _ {p : Position} {set now list zones : List Instance} {squares : List Squ
     steps_on : {last : ℕ} {new : List Instance} → new ≡ set
         → ((rest : List (List RuleInstance))
         → choice_among p left (after p (written_list set) (written_list (drop i zones)) ++ rest)
-            ≡ choice_among p last (after p (written_list set) (written_list (drop (i + 1) zones)) ++ rest))
+        ≡ choice_among p last (after p (written_list set) (written_list (drop (i + 1) zones)) ++ rest))
         → GoesFrom p set new list zones squares first before last n
     steps_on {last} kept step =
         record {
@@ -177,7 +177,7 @@ module _ {p : Position} {set now list zones : List Instance} {squares : List Squ
           (visit : (rest : List (List RuleInstance)) → choice_among p left (walk_from p (written_list pushed) ++ rest) ≡ goes_on p mid rest ws found) where
         goes_in : (rest : List (List RuleInstance))
             → choice_among p left (after p (written_list set) (written_list (drop i zones)) ++ rest)
-                ≡ goes_on p mid (after p (written_list set) (written_list (drop (i + 1) zones)) ++ rest) ws found
+            ≡ goes_on p mid (after p (written_list set) (written_list (drop (i + 1) zones)) ++ rest) ws found
         goes_in rest =
             with_one p set t.from.opens.leaves.going t.from.opens.leaves.is_set t.from.board zones i zone left rest t.within t.at follows
             ∙ ap (λ zs. choice_among p left (walk_from p (written_list zs) ++ (after p (written_list set) (written_list (drop (i + 1) zones)) ++ rest)))

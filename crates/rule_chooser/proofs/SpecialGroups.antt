@@ -1,6 +1,6 @@
 -- Where a Specialbefore can answer a group: which squares and which groups of Black's are enough to look at.
-use Rattle.std.proofs.Common.{◌≡◌, ℕ, ◌+◌, ◌<◌, Bool, true, false, ◌&&◌, ◌||◌, ◌==◌, nat_le, List, [], ◌∷◌, length, map, filter, get_or, None, refl, sym, ap,
-    ◌∙◌, subst, inl, inr, arith}
+use Rattle.std.proofs.Common.{◌≡◌, ℕ, ◌+◌, ◌<◌, Bool, true, false, ◌&&◌, ◌||◌, ◌==◌, nat_le, List, [], ◌∷◌, length, map, filter, get_or, None, refl, sym, ap}
+use Rattle.std.proofs.Common.{◌∙◌, subst, inl, inr, arith}
 use Rattle.std.specs.List.{list_all}
 use Rattle.std.specs.Option.{option_or}
 use Rattle.std.proofs.lemmas.Bool.{and_parts, and_from, or_cases, or_right, both_ways, false_from_ne_true, eqb-true}
@@ -84,14 +84,14 @@ module _ (p : Position) (kept : Kept) (part : List Square) (board : is_board (bo
       ≡ first_of p (facts_in kept) (has_square part) (λ two. specialbefore g two.0 two.1) (each_with (playable_squares p) (playable_squares p))
   group_narrowed g playable outside inside group same all outer inner =
       ap (λ fs. first_of p (facts_in kept) (has_square part) (λ two. specialbefore g two.0 two.1) (each_with fs inside))
-          (some_playables p (λ u. is_of_twin kept.twin.items u && has_square part u) outside board outer)
+      (some_playables p (λ u. is_of_twin kept.twin.items u && has_square part u) outside board outer)
       ∙ ap (λ es. first_of p (facts_in kept) (has_square part) (λ two. specialbefore g two.0 two.1)
-          (each_with (filter (λ u. is_of_twin kept.twin.items u && has_square part u) (playable_squares p)) es))
+      (each_with (filter (λ u. is_of_twin kept.twin.items u && has_square part u) (playable_squares p)) es))
       (some_playables p (empty_part p g) inside board
-          (set_same _ _ inside inner (λ u. ap (λ b. b && has_square group u) (all.has u)
-          ∙ ap (λ b. has_square (playable_squares p) u && b) (ap (λ us. has_square us u) same ∙ (part_set p g board).has u))))
+      (set_same _ _ inside inner (λ u. ap (λ b. b && has_square group u) (all.has u)
+      ∙ ap (λ b. has_square (playable_squares p) u && b) (ap (λ us. has_square us u) same ∙ (part_set p g board).has u))))
       ∙ first_narrowed p (facts_in kept) (has_square part) (λ two. specialbefore g two.0 two.1) (λ u. is_of_twin kept.twin.items u && has_square part u)
-          (empty_part p g) (playable_squares p) (playable_squares p)
+      (empty_part p g) (playable_squares p) (playable_squares p)
       (λ f e h. let is = answers g f e h in (and_from _ _ is.of_twin is.in_part, and_from _ _ (playable_empty p e is.inner) is.in_group))
 
   -- a group of which some empty square lies under none of the group that is to be answered
@@ -118,7 +118,7 @@ module _ (p : Position) (kept : Kept) (part : List Square) (board : is_board (bo
       → None ≡ first_special p (facts_in kept) (has_square part)
   none_outside outside is none =
       first_none p (facts_in kept) (has_square part) (λ three. specialbefore three.0 three.1.0 three.1.1) (groups_of (board_of p))
-          (each_with (playable_squares p) (playable_squares p))
+      (each_with (playable_squares p) (playable_squares p))
       (λ g two. false_from_ne_true _ (λ h.
       let at = answers g two.0 two.1 h in
       no_square outside (eqb-true (length outside) 0 none) two.0
@@ -133,12 +133,12 @@ module _ (p : Position) (kept : Kept) (part : List Square) (board : is_board (bo
       → special_along p (facts_in kept) (has_square part) groups ≡ first_special p (facts_in kept) (has_square part)
   along_groups groups same =
       ap (λ gs. first_of p (facts_in kept) (has_square part) (λ three. specialbefore three.0 three.1.0 three.1.1)
-          (each_with gs (each_with (playable_squares p) (playable_squares p))))
+      (each_with gs (each_with (playable_squares p) (playable_squares p))))
       (ap (map (λ (group : OpenGroup). group.id)) same ∙ back (groups_for Black p))
       ∙ ap (λ ys. first_of p (facts_in kept) (has_square part) (λ three. specialbefore three.0 three.1.0 three.1.1) (each_with (groups_for Black p) ys))
-          (sym (filter_all (each_with (playable_squares p) (playable_squares p))))
+      (sym (filter_all (each_with (playable_squares p) (playable_squares p))))
       ∙ first_narrowed p (facts_in kept) (has_square part) (λ three. specialbefore three.0 three.1.0 three.1.1) (is_free_for Black p) (λ two. true)
-          (groups_of (board_of p)) (each_with (playable_squares p) (playable_squares p))
+      (groups_of (board_of p)) (each_with (playable_squares p) (playable_squares p))
       (λ g two h. (free g (answers g two.0 two.1 h).low, refl))
     where
       back : (gs : List Group) → map (λ (group : OpenGroup). group.id) (map (open_group_at p) gs) ≡ gs
@@ -151,8 +151,8 @@ module _ (p : Position) (kept : Kept) (part : List Square) (board : is_board (bo
 -- one group more
 pub along_more : (p : Position) (facts : Facts) (part : Square → Bool) (group : OpenGroup) (groups : List OpenGroup)
     → special_along p facts part (group ∷ groups)
-        ≡ option_or (first_of p facts part (λ two. specialbefore group.id two.0 two.1) (each_with (playable_squares p) (playable_squares p)))
-        (special_along p facts part groups)
+    ≡ option_or (first_of p facts part (λ two. specialbefore group.id two.0 two.1) (each_with (playable_squares p) (playable_squares p)))
+    (special_along p facts part groups)
 along_more p facts part group groups = first_each p facts part (λ three. specialbefore three.0 three.1.0 three.1.1)
     (each_with (playable_squares p) (playable_squares p)) group.id (map (λ (group : OpenGroup). group.id) groups)
 
@@ -167,13 +167,13 @@ group_is p gs groups i group same within at =
 -- the squares that are looked at
 pub outside_is : (p : Position) (twins : List (Square × Square)) (part playable of_twins both outside : List Square)
     → IsSetOf (has_square (playable_squares p)) playable → IsSetOf (is_of_twin twins) of_twins
-        → IsSetOf (λ u. has_square playable u && has_square of_twins u) both
+    → IsSetOf (λ u. has_square playable u && has_square of_twins u) both
     → IsSetOf (λ u. has_square both u && has_square part u) outside
-        → IsSetOf (λ u. has_square (playable_squares p) u && (is_of_twin twins u && has_square part u)) outside
+    → IsSetOf (λ u. has_square (playable_squares p) u && (is_of_twin twins u && has_square part u)) outside
 outside_is p twins part playable of_twins both outside all twin two is =
     set_same _ _ outside is (λ u.
     ap (λ b. b && has_square part u) (two.has u ∙ ap (λ b. b && has_square of_twins u) (all.has u)
-        ∙ ap (λ b. has_square (playable_squares p) u && b) (twin.has u))
+    ∙ ap (λ b. has_square (playable_squares p) u && b) (twin.has u))
     ∙ grouped (has_square (playable_squares p) u) (is_of_twin twins u) (has_square part u))
   where
     grouped : (a b c : Bool) → ((a && b) && c) ≡ (a && (b && c))

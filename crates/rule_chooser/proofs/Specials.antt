@@ -1,6 +1,6 @@
 -- The first Specialbefore of nested lists, and why narrower lists have it too.
-use Rattle.std.proofs.Common.{◌≡◌, ℕ, ◌+◌, ◌<◌, Bool, true, false, if◌then◌else◌, List, [], ◌∷◌, length, map, filter, drop, get_or, Option, Some, None, is_some,
-    refl, sym, ap, ◌∙◌, inl, inr}
+use Rattle.std.proofs.Common.{◌≡◌, ℕ, ◌+◌, ◌<◌, Bool, true, false, if◌then◌else◌, List, [], ◌∷◌, length, map, filter, drop, get_or, Option, Some, None, is_some}
+use Rattle.std.proofs.Common.{refl, sym, ap, ◌∙◌, inl, inr}
 use Rattle.std.specs.List.{find}
 use Rattle.std.specs.Option.{option_map, option_or}
 use Rattle.std.proofs.lemmas.Bool.{cases_Bool, both_ways, false_from_ne_true}
@@ -28,7 +28,7 @@ none_goes view (Some x) rest h = absurd (cc h)
 
 module _ {X R S : Type 0} (F : List X → Option R) (G : X → Option R) (step : (x : X) (xs : List X) → F (x ∷ xs) ≡ option_or (G x) (F xs))
     (view : S → R) (xs : List X) (i : ℕ) (x : X) (found : Option S) (within : i < length xs) (at : x ≡ get_or xs i x) (same : option_map view found ≡ G x)
-        (goes : F (drop i xs) ≡ F xs) where
+    (goes : F (drop i xs) ≡ F xs) where
   step_at : F (drop i xs) ≡ option_or (option_map view found) (F (drop (i + 1) xs))
   step_at =
       at_drop_more F xs i x within ∙ step (get_or xs i x) (drop (i + 1) xs)
@@ -93,7 +93,7 @@ module _ (p : Position) (facts : Facts) (part : Square → Bool) where
         first_narrowed w A B xs ys within
         ∙ sym (first_each w ys x xs
         ∙ ap (λ o. option_or o (first_of p facts part w (each_with xs ys)))
-            (none_of (λ y. w (x, y)) ys (λ y. false_from_ne_true _ (λ h. both_ways (A x) out (within x y h).0))))
+        (none_of (λ y. w (x, y)) ys (λ y. false_from_ne_true _ (λ h. both_ways (A x) out (within x y h).0))))
         )
   ]
 

@@ -27,7 +27,7 @@ module _ (p : Position) (kept : Kept) (part : List Square) (board : is_board (bo
 
   by_sets : (u : Square)
       → (((has_square part u && (nat_le 1 u.1 && has_square part (above u))) && has_square kept.pair u) && not (on_board widest u && ((u.1 % 2) == 1)))
-          ≡ answers_by u
+      ≡ answers_by u
   by_sets u = agree _ _
       (λ h.
       let all = and_parts ((has_square part u && (nat_le 1 u.1 && has_square part (above u))) && has_square kept.pair u) _ h in
@@ -72,8 +72,8 @@ pub vertical_new : (p : Position) (kept : Kept) (part : List Square) (size : Boa
 vertical_new p kept part size e same is =
     ap (λ b. if b then Some e else None)
     (ap (is_shaped (vertical e)) same
-        ∙ vertical_shaped p e (and_parts (fits (vertical e) p) _
-        (find_among (λ e. does_answer p (facts_in kept) (has_square part) (vertical e)) (squares_at p) e is).1).0)
+    ∙ vertical_shaped p e (and_parts (fits (vertical e) p) _
+    (find_among (λ e. does_answer p (facts_in kept) (has_square part) (vertical e)) (squares_at p) e is).1).0)
     ∙ sym is
 
 -- ---- kind by kind

@@ -19,7 +19,7 @@ turned false false false = refl
 
 pub twin_more : (twins : List (Square × Square)) (i : ℕ) (twin : Square × Square) (old one new : List Square) → i < length twins → twin ≡ get_or twins i twin
     → IsSetOf (is_of_twin (take i twins)) old → IsSetOf (λ u. same_square u twin.0 || has_square old u) one
-        → IsSetOf (λ u. same_square u twin.1 || has_square one u) new
+    → IsSetOf (λ u. same_square u twin.1 || has_square one u) new
     → IsSetOf (is_of_twin (take (i + 1) twins)) new
 twin_more twins i twin old one new within at before first second =
     set_same _ _ new second (λ u.

@@ -1,7 +1,7 @@
 -- One set of a walk and what comes after it, as a search goes through them: a set that leaves no square open is tested,
 -- and another one is gone on with, zone after zone.
-use Rattle.std.proofs.Common.{◌≡◌, ℕ, suc, ◌+◌, ◌-◌, ◌<◌, ◌≤◌, Bool, true, false, not, ◌&&◌, ◌||◌, if◌then◌else◌, List, [], ◌∷◌, ◌++◌, length, filter, take,
-    drop, get_or, Some, None, is_some, refl, sym, ap, ◌∙◌, subst, arith}
+use Rattle.std.proofs.Common.{◌≡◌, ℕ, suc, ◌+◌, ◌-◌, ◌<◌, ◌≤◌, Bool, true, false, not, ◌&&◌, ◌||◌, if◌then◌else◌, List, [], ◌∷◌, ◌++◌, length, filter, take}
+use Rattle.std.proofs.Common.{drop, get_or, Some, None, is_some, refl, sym, ap, ◌∙◌, subst, arith}
 use Rattle.std.specs.List.{list_all, flat_map, slice_get}
 use Rattle.std.proofs.Math.Bool.{and-true}
 use Rattle.std.proofs.lemmas.Bool.{and_parts}
@@ -18,8 +18,8 @@ use Rattle.plan_rules.specs.Rules.{RuleInstance, zone_of, together}
 use Rattle.plan_rules.specs.Refusal.{is_uncovered}
 use Rattle.rule_compat.specs.declared.instance.Instance.{Instance}
 use Rattle.rule_compat.specs.Written.{written, written_list}
-use Rattle.walk_rules.specs.Walk.{gave, spent, fitting_zones, open_squares, owns_first, may_follow, walk_from, is_plan_position, is_left, answer_to, given,
-    gives_plan, choice_among, choice_of}
+use Rattle.walk_rules.specs.Walk.{gave, spent, fitting_zones, open_squares, owns_first, may_follow, walk_from, is_plan_position, is_left, answer_to, given}
+use Rattle.walk_rules.specs.Walk.{gives_plan, choice_among, choice_of}
 use Rattle.walk_rules.specs.Steps.{is_zone_set, after}
 use Rattle.walk_rules.specs.Answers.{is_none_of}
 use Rattle.walk_rules.proofs.Fast.{full_test, open_less}
@@ -55,7 +55,7 @@ module _ (p : Position) (set : List RuleInstance) where
   -- the set is visited
   visited : (k : ℕ) (rest : List (List RuleInstance))
       → choice_among p (suc k) (walk_from p set ++ rest)
-          ≡ (if gives_plan p set then gave (given p set) else choice_among p k (after p set (fitting_zones p) ++ rest))
+      ≡ (if gives_plan p set then gave (given p set) else choice_among p k (after p set (fitting_zones p) ++ rest))
   visited k rest = ap (λ sets. choice_among p (suc k) (sets ++ rest)) (walk_step p set) ∙ choice_step p set k (after p set (fitting_zones p) ++ rest)
 
   -- a zone that may follow, and one that may not
@@ -83,7 +83,7 @@ module _ (p : Position) (set : List RuleInstance) where
     full_is k rest answered none told =
         visited k rest
         ∙ ap (λ b. if b then gave (given p set) else choice_among p k (after p set (fitting_zones p) ++ rest)) (full_test p set going is_set
-            ∙ ap (λ us. is_none_of us && list_all (λ g. not (is_left p set g) || is_some (answer_to p set g)) (groups_of (board_of p))) empty ∙ sym told)
+        ∙ ap (λ us. is_none_of us && list_all (λ g. not (is_left p set g) || is_some (answer_to p set g)) (groups_of (board_of p))) empty ∙ sym told)
         ∙ ap (λ sets. if answered then gave (given p set) else choice_among p k (sets ++ rest)) nothing
       where
         empty : open_squares p set ≡ []
@@ -99,9 +99,9 @@ module _ (p : Position) (set : List RuleInstance) where
     open_goes k rest first some =
         visited k rest
         ∙ ap (λ b. if b then gave (given p set) else choice_among p k (after p set (fitting_zones p) ++ rest))
-            (full_test p set going is_set ∙
-            ap (λ us. is_none_of us && list_all (λ g. not (is_left p set g) || is_some (answer_to p set g)) (groups_of (board_of p)))
-            (sym opened ∙ (some_at squares first some).1))
+        (full_test p set going is_set ∙
+        ap (λ us. is_none_of us && list_all (λ g. not (is_left p set g) || is_some (answer_to p set g)) (groups_of (board_of p)))
+        (sym opened ∙ (some_at squares first some).1))
 
     -- a zone may follow where it has that square, and may stand with the set
     pub follows_is : (w : RuleInstance) (first : Square) → slice_get squares 0 ≡ Some first
@@ -119,7 +119,7 @@ module _ (p : Position) (set : List RuleInstance) where
       → IsSetOf (λ u. has_square squares u && not (has_square zone u)) less → IsSetOf (is_uncovered p (set ++ w ∷ [])) less
   uncovered_less w squares zone less was owned is =
       set_same _ _ less is (λ u. ap (λ b. b && not (has_square zone u)) (was.has u) ∙ ap (λ b. is_uncovered p set u && not b) (owned.has u)
-          ∙ sym (open_less p set w u))
+      ∙ sym (open_less p set w u))
 
 -- ---- the list of the zones
 
@@ -158,7 +158,7 @@ module _ (p : Position) (set : List Instance) (going : is_plan_position p ≡ tr
       → IsSetOf (is_uncovered p (written_list set)) squares
       → slice_get squares 0 ≡ Some first → lent ≡ set
       → test ≡ (has_square (zone_of (written zone)) first && list_all (λ v. together v (written zone)) (written_list lent))
-          → test ≡ may_follow p (written_list set) (written zone)
+      → test ≡ may_follow p (written_list set) (written zone)
   test_is squares zone first lent test is some same told =
       told
       ∙ ap (λ zs. has_square (zone_of (written zone)) first && list_all (λ v. together v (written zone)) (written_list zs)) same
@@ -172,15 +172,18 @@ module _ (p : Position) (set : List Instance) (going : is_plan_position p ≡ tr
 
   pub next_room : (zone : Instance) → Among (written zone) (fitting_zones p) → may_follow p (written_list set) (written zone) ≡ true → length set + 1 ≤ 50
   next_room zone among follows =
-      omega (arith, set_room p (written_list set) (written zone) board (one_more p (written_list set) (written zone) is_set among follows),
-          length-map set written)
+      omega (
+        arith,
+        set_room p (written_list set) (written zone) board (one_more p (written_list set) (written zone) is_set among follows),
+        length-map set written,
+      )
 
   pub next_uncovered : (zone : Instance) (squares owned less : List Square) → IsSetOf (is_uncovered p (written_list set)) squares
       → IsSetOf (has_square (zone_of (written zone))) owned
       → IsSetOf (λ u. has_square squares u && not (has_square owned u)) less → IsSetOf (is_uncovered p (written_list (set ++ zone ∷ []))) less
   next_uncovered zone squares owned less was own is =
       subst (λ ws. IsSetOf (is_uncovered p ws) less) (sym (written_more set zone))
-          (uncovered_less p (written_list set) (written zone) squares owned less was own is)
+      (uncovered_less p (written_list set) (written zone) squares owned less was own is)
 
   -- the zones from one on, where that one may follow: its own walk comes first
   pub with_one : (zones : List Instance) (i : ℕ) (zone : Instance) (k : ℕ) (rest : List (List RuleInstance)) → i < length zones → zone ≡ get_or zones i zone
@@ -196,10 +199,10 @@ module _ (p : Position) (set : List Instance) (going : is_plan_position p ≡ tr
   pub without_one : (zones : List Instance) (i : ℕ) (zone : Instance) (k : ℕ) (rest : List (List RuleInstance)) → i < length zones → zone ≡ get_or zones i zone
       → may_follow p (written_list set) (written zone) ≡ false
       → choice_among p k (after p (written_list set) (written_list (drop i zones)) ++ rest)
-          ≡ choice_among p k (after p (written_list set) (written_list (drop (i + 1) zones)) ++ rest)
+      ≡ choice_among p k (after p (written_list set) (written_list (drop (i + 1) zones)) ++ rest)
   without_one zones i zone k rest within at stays =
       ap (λ sets. choice_among p k (sets ++ rest)) (after_drop p (written_list set) zones i zone within at
-          ∙ after_other p (written_list set) (written zone) (written_list (drop (i + 1) zones)) stays)
+      ∙ after_other p (written_list set) (written zone) (written_list (drop (i + 1) zones)) stays)
 
 -- ---- a set that leaves these squares open is visited
 

@@ -1,6 +1,6 @@
 -- The check of a list part by part: the squares that no zone has, and what the refusals of the parts come to.
-use Rattle.std.proofs.Common.{◌≡◌, ℕ, ◌+◌, ◌<◌, ◌≤◌, Bool, true, false, not, ◌&&◌, ◌||◌, if◌then◌else◌, List, [], ◌∷◌, filter, take, get_or, length, Option,
-    Some, None, is_some, is_none, refl, sym, ap, ◌∙◌, inl, inr, arith}
+use Rattle.std.proofs.Common.{◌≡◌, ℕ, ◌+◌, ◌<◌, ◌≤◌, Bool, true, false, not, ◌&&◌, ◌||◌, if◌then◌else◌, List, [], ◌∷◌, filter, take, get_or, length, Option}
+use Rattle.std.proofs.Common.{Some, None, is_some, is_none, refl, sym, ap, ◌∙◌, inl, inr, arith}
 use Rattle.std.specs.List.{list_all, list_any, find, slice_get, position_from}
 use Rattle.std.specs.Option.{option_map, option_or}
 use Rattle.std.proofs.Math.Path.{fun_ext}
@@ -20,8 +20,8 @@ use Rattle.game_rules.proofs.Narrowed.{where_on_board}
 use Rattle.plan_rules.specs.Rules.{RuleInstance, fits, zone_of, facts_of, is_supported, together}
 use Rattle.plan_rules.specs.Zones.{zones_from, first_two_from}
 use Rattle.plan_rules.specs.Plan.{is_plan}
-use Rattle.plan_rules.specs.Refusal.{PlanFault, not_white_to_move, ended, misfit, clash, uncovered, unsupported, unanswered, is_uncovered, is_unanswered,
-    members_refusal, cover_refusal, plan_refusal, StandTogether}
+use Rattle.plan_rules.specs.Refusal.{PlanFault, not_white_to_move, ended, misfit, clash, uncovered, unsupported, unanswered, is_uncovered, is_unanswered}
+use Rattle.plan_rules.specs.Refusal.{members_refusal, cover_refusal, plan_refusal, StandTogether}
 use Rattle.plan_rules.proofs.Places.{two_map}
 use Rattle.plan_rules.proofs.Zones.{any_of_zone, owner_alone}
 use Rattle.plan_rules.proofs.Refusals.{no_place, no_two, refusal_is}
@@ -89,7 +89,7 @@ first_bare p zones empties owned us board empty owners bare =
 bare_is : (p : Position) (list : List Instance) → is_uncovered p (written_list list) ≡ is_bare p (zones_from owns 1 list)
 bare_is p list = fun_ext (λ u. ap (λ b. is_empty p u && not b)
     (any_map (λ w. has_square (zone_of w) u) written list
-        ∙ any_of_zone owns (λ x. has_square (zone_of (written x)) u) 1 list (λ x standing. owner_alone u (written x) standing)))
+    ∙ any_of_zone owns (λ x. has_square (zone_of (written x)) u) 1 list (λ x standing. owner_alone u (written x) standing)))
 
 -- so the first of these is the first uncovered one
 pub bare_from : (p : Position) (list : List Instance) (zones : List (ℕ × Instance)) (found : Option Square) → zones ≡ zones_from owns 1 list
@@ -128,7 +128,7 @@ members_stand p ws none =
 abbrev pub support_refusal : Position → List RuleInstance → Option PlanFault
 support_refusal p ws =
     option_or (option_map unsupported (position_from (λ w. not (is_supported w (facts_of p ws))) 1 ws))
-        (option_map unanswered (find (is_unanswered p ws) (groups_of (board_of p))))
+    (option_map unanswered (find (is_unanswered p ws) (groups_of (board_of p))))
 
 -- an uncovered square comes first
 pub uncovered_refused : (p : Position) (ws : List RuleInstance) (u : Square) → find (is_uncovered p ws) (squares_of_board (board_of p)) ≡ Some u
@@ -145,7 +145,7 @@ unsupported_refused p ws i none first =
 -- and where there is neither, the groups decide
 pub lines_decide : (p : Position) (ws : List RuleInstance) → find (is_uncovered p ws) (squares_of_board (board_of p)) ≡ None
     → position_from (λ w. not (is_supported w (facts_of p ws))) 1 ws ≡ None → option_map unanswered (find (is_unanswered p ws) (groups_of (board_of p)))
-        ≡ cover_refusal p ws
+    ≡ cover_refusal p ws
 lines_decide p ws none no_place =
     ap (λ place. option_or (option_map unsupported place) (option_map unanswered (find (is_unanswered p ws) (groups_of (board_of p))))) (sym no_place)
     ∙ ap (λ found. option_or (option_map uncovered found) (support_refusal p ws)) (sym none)
@@ -155,7 +155,7 @@ lines_decide p ws none no_place =
 -- what comes behind the refusals of the position
 behind : (white : Bool) (end : Option End) (later : Option PlanFault)
     → (if not white then Some not_white_to_move else (if is_some end then Some ended else later))
-        ≡ option_or (if not white then Some not_white_to_move else (if is_some end then Some ended else None)) later
+    ≡ option_or (if not white then Some not_white_to_move else (if is_some end then Some ended else None)) later
 behind false end later = refl
 behind true (Some e) later = refl
 behind true None later = refl

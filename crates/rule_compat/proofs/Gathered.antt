@@ -1,7 +1,7 @@
 -- Going through a list of instances by the second of two members: what each further one adds to the least two that may
 -- not stand together, and to the zones.
-use Rattle.std.proofs.Common.{◌≡◌, ℕ, ◌+◌, ◌<◌, ◌≤◌, Bool, true, false, not, cond, List, [], ◌∷◌, ◌++◌, length, map, take, drop, get_or, Option, Some, None,
-    is_none, refl, sym, ap, ◌∙◌, arith}
+use Rattle.std.proofs.Common.{◌≡◌, ℕ, ◌+◌, ◌<◌, ◌≤◌, Bool, true, false, not, cond, List, [], ◌∷◌, ◌++◌, length, map, take, drop, get_or, Option, Some, None}
+use Rattle.std.proofs.Common.{is_none, refl, sym, ap, ◌∙◌, arith}
 use Rattle.std.specs.List.{list_all, find, position_from}
 use Rattle.std.specs.Option.{option_map}
 use Rattle.std.proofs.lemmas.Bool.{and_parts}
@@ -82,7 +82,7 @@ some_step list i m x two within before at some enough =
     ∙ ap (λ ys. lesser_two (Some two) (option_map (λ k. (k, 1 + length (take i list))) (position_from (λ y. not (stand y x)) 1 ys))) (take-take m i list before)
     ∙ ap (λ place. lesser_two (Some two) (option_map (λ k. (k, 1 + length (take i list))) place)) (first_is (take m list) x)
     ∙ ap (λ j. lesser_two (Some two) (option_map (λ k. (k, j)) (clash_in (zones_from owns 1 (take m list)) x)))
-        (let size = length-take-le i list (omega arith) in omega (arith, size))
+    (let size = length-take-le i list (omega arith) in omega (arith, size))
 
 -- the first members of a list fit where all do
 pub first_fit : (p : Position) (list : List Instance) (i : ℕ) → list_all (λ w. fits w p) (written_list list) ≡ true

@@ -27,7 +27,7 @@ more gives list i x within at =
 pub set_more : (gives : RuleInstance → List Square) (list : List Instance) (i : ℕ) (x : Instance) (old one new : List Square) → i < length list
     → x ≡ get_or list i x
     → IsSetOf (has_square (flat_map gives (written_list (take i list)))) old → IsSetOf (has_square (gives (written x))) one
-        → IsSetOf (λ u. has_square old u || has_square one u) new
+    → IsSetOf (λ u. has_square old u || has_square one u) new
     → IsSetOf (has_square (flat_map gives (written_list (take (i + 1) list)))) new
 set_more gives list i x old one new within at before given union =
     set_same _ _ new union (λ u.
@@ -46,8 +46,14 @@ pub room_for_twin : (p : Position) (list : List Instance) (i : ℕ) (x : Instanc
     → as_list (twin_of (written x)) ≡ twin ∷ [] → length (twins_in (take i list)) < 5
 room_for_twin p list i x twin board standing within at given =
     let all = ap (λ xs. twins_in xs) (sym (take-append-drop (i + 1) list))
-        ∙ ap (flat_map (λ w. as_list (twin_of w))) (map-append written (take (i + 1) list) (drop (i + 1) list))
-        ∙ flat_map-append (λ w. as_list (twin_of w)) (written_list (take (i + 1) list)) (written_list (drop (i + 1) list)) in
+    ∙ ap (flat_map (λ w. as_list (twin_of w))) (map-append written (take (i + 1) list) (drop (i + 1) list))
+    ∙ flat_map-append (λ w. as_list (twin_of w)) (written_list (take (i + 1) list)) (written_list (drop (i + 1) list)) in
     let one = more (λ w. as_list (twin_of w)) list i x within at ∙ ap (λ ys. twins_in (take i list) ++ ys) given in
-    omega (arith, five_twins p (written_list list) board standing, ap length all, length-append (twins_in (take (i + 1) list)) (twins_in (drop (i + 1) list)),
-        ap length one, length-append (twins_in (take i list)) (twin ∷ []))
+    omega (
+      arith,
+      five_twins p (written_list list) board standing,
+      ap length all,
+      length-append (twins_in (take (i + 1) list)) (twins_in (drop (i + 1) list)),
+      ap length one,
+      length-append (twins_in (take i list)) (twin ∷ []),
+    )

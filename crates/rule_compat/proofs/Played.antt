@@ -37,7 +37,7 @@ zones_answer list now last =
     ap (option_and_then answer) (find_map (λ w. has_square (zone_of w) last) written list)
     ∙ then_mapped answer written (find (λ x. has_square (zone_of (written x)) last) list)
     ∙ ap (option_and_then (λ x. answer (written x)))
-        (owner_of_zone owns (λ x. has_square (zone_of (written x)) last) 1 list (λ x standing. owner_alone last (written x) standing))
+    (owner_of_zone owns (λ x. has_square (zone_of (written x)) last) 1 list (λ x standing. owner_alone last (written x) standing))
     ∙ then_mapped (λ x. answer (written x)) (λ (zone : ℕ × Instance). zone.1) found
 
 -- a plan's answer to a move, and what it leaves

@@ -1,6 +1,6 @@
 -- The first line that no member bars, looked for among those without a Black man alone.
-use Rattle.std.proofs.Common.{◌≡◌, ℕ, ◌+◌, ◌&&◌, Bool, true, false, not, List, [], ◌∷◌, filter, Option, Some, None, is_none, is_some, inl, inr, refl, sym, ap,
-    ◌∙◌}
+use Rattle.std.proofs.Common.{◌≡◌, ℕ, ◌+◌, ◌&&◌, Bool, true, false, not, List, [], ◌∷◌, filter, Option, Some, None, is_none, is_some, inl, inr, refl, sym, ap}
+use Rattle.std.proofs.Common.{◌∙◌}
 use Rattle.std.specs.List.{list_any, find, position_from}
 use Rattle.game_rules.specs.Position.{Position, board_of}
 use Rattle.game_rules.specs.Groups.{Group, lies_on, groups_of, groups_where, is_free_for}

@@ -8,8 +8,8 @@ use Rattle.game_rules.specs.Squares.{is_empty}
 use Rattle.game_rules.proofs.Lists.{Among, any_gives, any_from, Among-append_left}
 use Rattle.game_rules.proofs.Squares.{has_gives}
 use Rattle.plan_rules.specs.Squares.{above, is_even, is_odd, span}
-use Rattle.plan_rules.specs.Rules.{RuleInstance, claimeven, baseinverse, lowinverse, highinverse, baseclaim, Facts, zone_of, barred, fits, is_shaped,
-    is_low_column}
+use Rattle.plan_rules.specs.Rules.{RuleInstance, claimeven, baseinverse, lowinverse, highinverse, baseclaim, Facts, zone_of, barred, fits, is_shaped}
+use Rattle.plan_rules.specs.Rules.{is_low_column}
 use Rattle.plan_rules.specs.Zones.{owns_zone}
 use Rattle.plan_rules.proofs.Spans.{span_from}
 
@@ -27,7 +27,7 @@ top_in bottom top h =
     let even = and_parts ((bottom.0 == top.0) && is_even bottom.1) (is_even top.1) rise.0 in
     let same = and_parts (bottom.0 == top.0) (is_even bottom.1) even.0 in
     has_gives (span bottom top) top (span_from bottom top top (sym (eqb-true bottom.0 top.0 same.0)) (omega (arith, leb-true (bottom.1 + 2) top.1 rise.1))
-        (omega arith))
+    (omega arith))
 
 pub barred_out : (p : Position) (w : RuleInstance) (facts : Facts) (set : Square → Bool) → owns_zone w ≡ true → fits w p ≡ true
     → list_any set (zone_of w) ≡ false → barred w facts set ≡ false
@@ -35,15 +35,15 @@ barred_out p (claimeven x) facts set owns fitted none = any_out set (zone_of (cl
 barred_out p (baseinverse s t) facts set owns fitted none = rw (any_out set (zone_of (baseinverse s t)) s none (inl refl)) refl
 barred_out p (lowinverse x x_top y y_top) facts set owns fitted none =
     let shaped = (and_parts (is_shaped (lowinverse x x_top y y_top) (board_of p)) _
-        (and_parts (is_shaped (lowinverse x x_top y y_top) (board_of p) && list_all (is_empty p) (zone_of (lowinverse x x_top y y_top))) _ fitted).0).0 in
+    (and_parts (is_shaped (lowinverse x x_top y y_top) (board_of p) && list_all (is_empty p) (zone_of (lowinverse x x_top y y_top))) _ fitted).0).0 in
     let shape = (and_parts (list_all (on_board (board_of p)) (zone_of (lowinverse x x_top y y_top)))
-        (nat_lt x.0 y.0 && is_low_column x x_top && is_low_column y y_top) shaped).1 in
+    (nat_lt x.0 y.0 && is_low_column x x_top && is_low_column y y_top) shaped).1 in
     let column = (and_parts (nat_lt x.0 y.0) (is_low_column x x_top) (and_parts (nat_lt x.0 y.0 && is_low_column x x_top) (is_low_column y y_top) shape).0).1 in
     let across : list_any (λ u. is_odd u.1 && set u) (span x x_top)
-        ≡ false = none_any _ (span x x_top) (λ u among. last (is_odd u.1) (set u) (out u (Among-append_left u (span x x_top) (span y y_top) among))) in
+    ≡ false = none_any _ (span x x_top) (λ u among. last (is_odd u.1) (set u) (out u (Among-append_left u (span x x_top) (span y y_top) among))) in
     let tops : set x_top ≡ false = out x_top (Among-append_left x_top (span x x_top) (span y y_top) (top_in x x_top column)) in
     let upwards : list_any (λ u. is_odd u.1 && set u && set (above u)) (span x x_top ++ span y y_top)
-        ≡ false = none_any _ (span x x_top ++ span y y_top) (λ u among. middle (is_odd u.1) (set u) (set (above u)) (out u among)) in
+    ≡ false = none_any _ (span x x_top ++ span y y_top) (λ u among. middle (is_odd u.1) (set u) (set (above u)) (out u among)) in
     rw (across, tops, upwards) refl
   where
     out : (u : Square) → Among u (span x x_top ++ span y y_top) → set u ≡ false

@@ -73,15 +73,31 @@ still_held last_read (Some (Drill size moves seed games nodes reach)) input left
 -- behind what was there stands the proof that a run of `prove` wrote
 pub holds_proof : (last_read nodes reach table : ℕ) (front : Option ℕ) (input left : Option (List ℕ)) (old new : List ℕ) (ending : Ending)
     → Outcome (Some (Prove nodes reach front table)) (record { input = input; left = left; last_read = last_read; old = Some old; new = Some new }) ending
-        → (status_of ending ≡ 0) ⊎ (status_of ending ≡ 5) → HoldsProof nodes reach front old new
+    → (status_of ending ≡ 0) ⊎ (status_of ending ≡ 5) → HoldsProof nodes reach front old new
 holds_proof last_read nodes reach table front input left old new endings.Done o ended =
     let proved = o.holds.0 in
-    record { game = o.taken; position = proved.position; is_game = proved.game; verdict = proved.verdict; text = proved.text; proof = proved.proof; behind =
-        proved.written }
+    record {
+      game = o.taken;
+      position = proved.position;
+      is_game = proved.game;
+      verdict = proved.verdict;
+      text = proved.text;
+      proof = proved.proof;
+      behind =
+          proved.written;
+    }
 holds_proof last_read nodes reach table front input left old new endings.Unknown o ended =
     let left = o.holds.0 in
-    record { game = o.taken; position = left.position; is_game = left.game; verdict = verdicts.Unknown; text = left.text; proof = left.proof; behind =
-        left.written }
+    record {
+      game = o.taken;
+      position = left.position;
+      is_game = left.game;
+      verdict = verdicts.Unknown;
+      text = left.text;
+      proof = left.proof;
+      behind =
+          left.written;
+    }
 holds_proof last_read nodes reach table front input left old new endings.Write o ended =
     absurd (other_status 7 ended (λ (e : 7 ≡ 0). omega (arith, e)) (λ (e : 7 ≡ 5). omega (arith, e)))
 holds_proof last_read nodes reach table front input left old new (endings.Input fault) o ended =

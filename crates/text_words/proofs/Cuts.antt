@@ -1,6 +1,6 @@
 -- What is cut at a mark, as the code finds it.
-use Rattle.std.proofs.Common.{◌≡◌, ℕ, zero, suc, ◌+◌, ◌-◌, ◌<◌, Bool, true, false, ◌==◌, List, [], ◌∷◌, ◌++◌, take, drop, length, get_or, Some, None, refl, sym,
-    ap, ◌∙◌, subst, add-one, drop-cons, arith}
+use Rattle.std.proofs.Common.{◌≡◌, ℕ, zero, suc, ◌+◌, ◌-◌, ◌<◌, Bool, true, false, ◌==◌, List, [], ◌∷◌, ◌++◌, take, drop, length, get_or, Some, None, refl, sym}
+use Rattle.std.proofs.Common.{ap, ◌∙◌, subst, add-one, drop-cons, arith}
 use Rattle.std.specs.Option.{option_map}
 use Rattle.std.proofs.lemmas.Bool.{eqb-true}
 use Rattle.std.proofs.lemmas.List.{take_rest, take-append-drop}
@@ -25,14 +25,14 @@ uncut mark (byte ∷ bytes) free = rw free.0 (ap (option_map (λ parts. (byte �
 pub mark_nowhere : (mark : ℕ) (bytes : List ℕ) → IsFirstByte (is_byte mark) bytes None → split_once mark bytes ≡ None
 mark_nowhere mark bytes nowhere =
     uncut mark bytes (subst (IsFreeOf mark) (take-length bytes)
-        (free_before mark bytes (length bytes) (λ k below. fails (get_or bytes k 0 == mark) (nowhere k (omega arith) below))))
+    (free_before mark bytes (length bytes) (λ k below. fails (get_or bytes k 0 == mark) (nowhere k (omega arith) below))))
 
 pub mark_found : (mark : ℕ) (bytes : List ℕ) (end : ℕ) → IsFirstByte (is_byte mark) bytes (Some end)
     → split_once mark bytes ≡ Some (take end bytes, take (length bytes - (end + 1)) (drop (end + 1) bytes))
 mark_found mark bytes end found =
     let free = free_before mark bytes end (λ k below. fails (get_or bytes k 0 == mark) (found.0.before k (omega arith) below)) in
     ap (split_once mark) apart ∙ split_once_at mark (take end bytes) (drop (end + 1) bytes) free
-        ∙ ap (λ rest. Some (take end bytes, rest)) (sym (take_rest bytes (end + 1)))
+    ∙ ap (λ rest. Some (take end bytes, rest)) (sym (take_rest bytes (end + 1)))
   where
     within : end < length bytes
     within = omega (arith, found.0.high)

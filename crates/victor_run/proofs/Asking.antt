@@ -1,7 +1,7 @@
 -- The two questions of a proof, one behind the other.
 use mathlib.Core.Bool.{true≢false}
-use Rattle.std.proofs.Common.{◌≡◌, ◌≢◌, ℕ, ◌+◌, ◌<◌, ◌≤◌, Bool, true, false, List, [], ◌++◌, Option, None, Result, Ok, Err, IfOk, length, refl, sym, ap, ◌∙◌,
-    subst, inl, inr, arith, append-nil, append_assoc}
+use Rattle.std.proofs.Common.{◌≡◌, ◌≢◌, ℕ, ◌+◌, ◌<◌, ◌≤◌, Bool, true, false, List, [], ◌++◌, Option, None, Result, Ok, Err, IfOk, length, refl, sym, ap, ◌∙◌}
+use Rattle.std.proofs.Common.{subst, inl, inr, arith, append-nil, append_assoc}
 use Rattle.std.proofs.lemmas.Bool.{cases_Bool}
 use Rattle.device_rules.specs.Devices.{AppendsPrefix}
 use Rattle.device_rules.proofs.DeviceLaws.{AppendsPrefix_more}
@@ -70,7 +70,7 @@ together : (b : Bool) (old held new : Option (List ℕ)) (remark lemmas also mor
     → AppendsPrefix b old new (remark ++ (lemmas ++ (also ++ more)))
 together b old held new remark lemmas also more first second =
     subst (AppendsPrefix b old new) (append_assoc remark lemmas (also ++ more))
-        (AppendsPrefix_more b old held new (remark ++ lemmas) (also ++ more) first second)
+    (AppendsPrefix_more b old held new (remark ++ lemmas) (also ++ more) first second)
 
 -- ---- one question
 
@@ -150,69 +150,69 @@ in_turn slots reach root mid remark lemmas (inr none) some = absurd (some none.1
 -- ---- both questions
 
 module _ (root : Position) (nodes reach : ℕ) (slots : Option ℕ) (before after : Entries) (old new : Option (List ℕ)) (total most : ℕ) (within : most ≤ nodes)
-    where
-  -- the first question stopped
-  pub asks_none : (stop : SearchStop) → AsksSide root White reach slots [] most (moment before old) (moment after new) total (Err stop)
-      → (stop ≡ Spent → nodes < count (solved_within reach) White root)
-      → Asks root nodes reach slots old new (Err stop)
-  asks_none stop white short = record {
-    white_remark = white.remark;
-    white = white.lemmas;
-    mid = white.shown;
-    black_remark = None;
-    black = [];
-    after = white.shown;
-    text = stopped_text stop old new (remark_line white.remark ++ (lines_of white.lemmas ++ []))
-        (alone (is_whole (Err stop)) old new (remark_line white.remark) (lines_of white.lemmas) white.text);
-    white_remarked = white.remarked;
-    white_line = white.line;
-    black_remarked = inr (refl, refl);
-    black_line = tt;
-    both_remarked = unasked root nodes reach slots stop white.shown None white.below short;
-    white_right = white.right;
-    black_right = refl;
-    white_sided = white.sided;
-    black_sided = tt;
-    white_planned = white.planned;
-    black_planned = tt;
-    verdict = tt;
-    few = omega (arith, white.few, within);
-  }
+  where
+    -- the first question stopped
+    pub asks_none : (stop : SearchStop) → AsksSide root White reach slots [] most (moment before old) (moment after new) total (Err stop)
+        → (stop ≡ Spent → nodes < count (solved_within reach) White root)
+        → Asks root nodes reach slots old new (Err stop)
+    asks_none stop white short = record {
+      white_remark = white.remark;
+      white = white.lemmas;
+      mid = white.shown;
+      black_remark = None;
+      black = [];
+      after = white.shown;
+      text = stopped_text stop old new (remark_line white.remark ++ (lines_of white.lemmas ++ []))
+          (alone (is_whole (Err stop)) old new (remark_line white.remark) (lines_of white.lemmas) white.text);
+      white_remarked = white.remarked;
+      white_line = white.line;
+      black_remarked = inr (refl, refl);
+      black_line = tt;
+      both_remarked = unasked root nodes reach slots stop white.shown None white.below short;
+      white_right = white.right;
+      black_right = refl;
+      white_sided = white.sided;
+      black_sided = tt;
+      white_planned = white.planned;
+      black_planned = tt;
+      verdict = tt;
+      few = omega (arith, white.few, within);
+    }
 
-  -- White wins
-  pub asks_white : (answer : Answer) (to_move : Side) (v : Verdict)
-      → AsksSide root White reach slots [] most (moment before old) (moment after new) total (Ok answer) → answer.yes ≡ true → to_move ≡ side_to_move root
-      → wins White root ≡ true → v ≡ won_by White to_move answer.lemma → Asks root nodes reach slots old new (Ok v)
-  asks_white answer to_move v white won turn wins_root told = record {
-    white_remark = white.remark;
-    white = white.lemmas;
-    mid = white.shown;
-    black_remark = None;
-    black = [];
-    after = white.shown;
-    text = alone true old new (remark_line white.remark) (lines_of white.lemmas) white.text;
-    white_remarked = white.remarked;
-    white_line = white.line;
-    black_remarked = inr (refl, refl);
-    black_line = tt;
-    both_remarked = λ _. unneeded root nodes reach slots white.shown None v wins_root;
-    white_right = white.right;
-    black_right = refl;
-    white_sided = white.sided;
-    black_sided = tt;
-    white_planned = white.planned;
-    black_planned = tt;
-    verdict = (
-      rw told (won_verdict root white.shown White to_move answer.lemma turn
-          (subst (λ b. Shows white.shown answer.lemma root (claim_for White b)) won white.named)),
-      (λ h. won_known White to_move answer.lemma (sym told ∙ h)),
-    );
-    few = omega (arith, white.few, within);
-  }
+    -- White wins
+    pub asks_white : (answer : Answer) (to_move : Side) (v : Verdict)
+        → AsksSide root White reach slots [] most (moment before old) (moment after new) total (Ok answer) → answer.yes ≡ true → to_move ≡ side_to_move root
+        → wins White root ≡ true → v ≡ won_by White to_move answer.lemma → Asks root nodes reach slots old new (Ok v)
+    asks_white answer to_move v white won turn wins_root told = record {
+      white_remark = white.remark;
+      white = white.lemmas;
+      mid = white.shown;
+      black_remark = None;
+      black = [];
+      after = white.shown;
+      text = alone true old new (remark_line white.remark) (lines_of white.lemmas) white.text;
+      white_remarked = white.remarked;
+      white_line = white.line;
+      black_remarked = inr (refl, refl);
+      black_line = tt;
+      both_remarked = λ _. unneeded root nodes reach slots white.shown None v wins_root;
+      white_right = white.right;
+      black_right = refl;
+      white_sided = white.sided;
+      black_sided = tt;
+      white_planned = white.planned;
+      black_planned = tt;
+      verdict = (
+        rw told (won_verdict root white.shown White to_move answer.lemma turn
+            (subst (λ b. Shows white.shown answer.lemma root (claim_for White b)) won white.named)),
+        (λ h. won_known White to_move answer.lemma (sym told ∙ h)),
+      );
+      few = omega (arith, white.few, within);
+    }
 
 module _ (root : Position) (nodes reach : ℕ) (slots : Option ℕ) (before mid after : Entries) (old held new : Option (List ℕ)) (total : ℕ) (first : Answer)
     (begun : ℕ) (white : AsksSide root White reach slots [] begun (moment before old) (moment mid held) total (Ok first)) (none : first.yes ≡ false)
-        (most counted : ℕ) (within : most ≤ nodes) where
+    (most counted : ℕ) (within : most ≤ nodes) where
   white_fails : Shows white.shown first.lemma root (claim_for White false)
   white_fails = subst (λ b. Shows white.shown first.lemma root (claim_for White b)) none white.named
 
@@ -228,7 +228,7 @@ module _ (root : Position) (nodes reach : ℕ) (slots : Option ℕ) (before mid 
     after = (white.shown ++ black.shown);
     text = stopped_text stop old new (remark_line white.remark ++ (lines_of white.lemmas ++ (remark_line black.remark ++ lines_of black.lemmas)))
         (together (is_whole (Err stop)) old held new (remark_line white.remark) (lines_of white.lemmas) (remark_line black.remark) (lines_of black.lemmas)
-            white.text black.text);
+        white.text black.text);
     white_remarked = white.remarked;
     white_line = white.line;
     black_remarked = inl (black.remarked, first.lemma, white_fails);
@@ -297,8 +297,8 @@ pub asked_truth : (root : Position) (nodes reach : ℕ) (slots : Option ℕ) (ol
     → IsVerdict root asks.after v → IsTrueVerdict root v
 asked_truth root nodes reach slots old new r asks v right =
     true_verdict root asks.after v
-        (true_lemmas root [] (asks.white ++ asks.black) asks.after
-        (AreRight_append root [] asks.mid asks.after asks.white asks.black asks.white_right asks.black_right) AreTrue_none) right
+    (true_lemmas root [] (asks.white ++ asks.black) asks.after
+    (AreRight_append root [] asks.mid asks.after asks.white asks.black asks.white_right asks.black_right) AreTrue_none) right
 
 pub same_stop : {A : Type 0} (r : Result A SearchStop) (stop other : SearchStop) → r ≡ Err stop → r ≡ Err other → stop ≡ other
 same_stop r stop other h k = cc

@@ -79,7 +79,7 @@ next_lemma s at bytes size line board within said stands lemma =
     let here : read_line (board_of s.root) bytes ≡ Some line = ap (λ board. read_line board bytes) board ∙ said in
     let none : bytes_refusal s at bytes ≡ None =
     ap (λ few. or_then (unless few BadLine) (said_refusal s (read_line (board_of s.root) bytes))) (le-leb at most_lines within) ∙ ap (said_refusal s) here
-        ∙ stands in
+    ∙ stands in
     let found = lemma_of line lemma in
     (none, found.0, here ∙ ap (λ line. Some line) found.1)
   where

@@ -6,8 +6,8 @@ use Rattle.game_rules.specs.Position.{Position}
 use Rattle.game_rules.specs.Text.{game_at}
 use Rattle.game_rules.specs.declared.InputFault.{InputFault}
 use Rattle.proof_text.specs.Checked.{Why, CheckerState}
-use Rattle.proof_text.specs.Texts.{pieces, lines_in, first_number, game_of, behind_game, bytes_refusal, NoGame, Refused, verdict_answer, line_answer,
-    with_bytes, check_from, start, game_answer, first_line, check_of}
+use Rattle.proof_text.specs.Texts.{pieces, lines_in, first_number, game_of, behind_game, bytes_refusal, NoGame, Refused, verdict_answer, line_answer}
+use Rattle.proof_text.specs.Texts.{with_bytes, check_from, start, game_answer, first_line, check_of}
 use Rattle.proof_text.proofs.Fold.{answer_by_lines}
 use Rattle.proof_text.proofs.First.{out_of_bounds, no_head, with_head}
 use Rattle.proof_text.specs.declared.Why.TheVariants.{BadLine}
@@ -67,7 +67,7 @@ head_named bytes line is named =
     by_piece bytes line (check_of bytes ≡ game_answer (game_at (game_of (pieces line.rest))) (behind_game (pieces line.rest))) is
     (λ fed cut. with_head bytes (pieces line.rest) (cut ∙ ap (λ text. text ∷ pieces line.rest) named))
     (λ fed none cut. with_head bytes [] (cut ∙ ap (λ text. text ∷ []) named)
-        ∙ ap (λ rest. game_answer (game_at (game_of (pieces rest))) (behind_game (pieces rest))) (sym none))
+    ∙ ap (λ rest. game_answer (game_at (game_of (pieces rest))) (behind_game (pieces rest))) (sym none))
     (λ first more cut longer size prefix. absurd (omega (arith, size, ap length named)))
 
 pub head_reaches : (bytes : List ℕ) (line : Cut) → line ≡ next_line bytes → line.text ≡ first_line → GameReaches line.rest → BeginsProof bytes
@@ -93,7 +93,7 @@ pub game_read : (bytes rest : List ℕ) (root : Position) → game_at (game_of (
 unfolding game_from lines_from
 game_read bytes rest root game behind =
     ap (λ r. game_answer r (behind_game (pieces bytes))) game ∙ answer_by_lines root (behind_game (pieces bytes))
-        ∙ ap (check_from (start root) first_number) behind
+    ∙ ap (check_from (start root) first_number) behind
 
 pub game_reaches : (bytes rest : List ℕ) (root : Position) → game_at (game_of (pieces bytes)) ≡ Ok root
     → behind_game (pieces bytes) ≡ lines_in (pieces rest) → LinesReach (start root) first_number rest → GameReaches bytes

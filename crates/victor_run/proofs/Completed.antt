@@ -46,12 +46,12 @@ module _ (s : Streams) where
   prove_completes nodes reach table front endings.Unknown o unread unwritten =
       let left = o.holds.0 in
       IfSome_more s.input (λ bytes. game_at bytes ≡ Ok left.position) _
-          (Consumes-whole s.input s.left o.taken (λ bytes. game_at bytes ≡ Ok left.position) o.gave o.holds.1 left.game)
+      (Consumes-whole s.input s.left o.taken (λ bytes. game_at bytes ≡ Ok left.position) o.gave o.holds.1 left.game)
       (λ bytes at p game cheap. absurd (let same : left.position ≡ p = same_position bytes left.position p at game in
-          omega (arith, left.short, cheap, ap (cost (solved_within reach)) same)))
+      omega (arith, left.short, cheap, ap (cost (solved_within reach)) same)))
   prove_completes nodes reach table front (endings.Input fault) o unread unwritten =
       IfSome_more s.input (λ bytes. game_at bytes ≡ Err fault) _ o.holds.1
-          (λ bytes at p game cheap. absurd (let never : Ok p ≡ Err fault = sym game ∙ at in cc))
+      (λ bytes at p game cheap. absurd (let never : Ok p ≡ Err fault = sym game ∙ at in cc))
   prove_completes nodes reach table front endings.Read o unread unwritten = absurd (unread refl)
   prove_completes nodes reach table front endings.Write o unread unwritten = absurd (unwritten refl)
   prove_completes nodes reach table front endings.Usage o unread unwritten = absurd o.holds
@@ -96,14 +96,14 @@ module _ (s : Streams) where
       → (found : Bool) → IfSome s.input (λ bytes. (p : Position) → game_at bytes ≡ Ok p → solved p reach ≡ found → status_of ending ≡ (if found then 0 else 5))
   explain_completes reach endings.Done o unread unwritten found =
       IfSome_more s.input (λ bytes. game_at bytes ≡ Ok o.holds.0.position) _
-          (Consumes-whole s.input s.left o.taken (λ bytes. game_at bytes ≡ Ok o.holds.0.position) o.gave o.holds.1 o.holds.0.game)
+      (Consumes-whole s.input s.left o.taken (λ bytes. game_at bytes ≡ Ok o.holds.0.position) o.gave o.holds.1 o.holds.0.game)
       (λ bytes at p game is. ap (λ found. if found then 0 else 5)
-          (sym o.holds.0.decided ∙ ap (λ p. solved p reach) (same_position bytes o.holds.0.position p at game) ∙ is))
+      (sym o.holds.0.decided ∙ ap (λ p. solved p reach) (same_position bytes o.holds.0.position p at game) ∙ is))
   explain_completes reach endings.Unknown o unread unwritten found =
       IfSome_more s.input (λ bytes. game_at bytes ≡ Ok o.holds.0.position) _
-          (Consumes-whole s.input s.left o.taken (λ bytes. game_at bytes ≡ Ok o.holds.0.position) o.gave o.holds.1 o.holds.0.game)
+      (Consumes-whole s.input s.left o.taken (λ bytes. game_at bytes ≡ Ok o.holds.0.position) o.gave o.holds.1 o.holds.0.game)
       (λ bytes at p game is. ap (λ found. if found then 0 else 5)
-          (sym o.holds.0.decided ∙ ap (λ p. solved p reach) (same_position bytes o.holds.0.position p at game) ∙ is))
+      (sym o.holds.0.decided ∙ ap (λ p. solved p reach) (same_position bytes o.holds.0.position p at game) ∙ is))
   explain_completes reach (endings.Input fault) o unread unwritten found =
       IfSome_more s.input (λ bytes. game_at bytes ≡ Err fault) _ o.holds.1 (λ bytes at p game is. absurd (let never : Ok p ≡ Err fault = sym game ∙ at in cc))
   explain_completes reach endings.Read o unread unwritten found = absurd (unread refl)

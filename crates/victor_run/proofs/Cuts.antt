@@ -1,6 +1,6 @@
 -- The lines that are got one after the other are those of the text.
-use Rattle.std.proofs.Common.{◌≡◌, ◌⊎◌, ℕ, ◌<◌, ◌≤◌, ◌≢◌, Bool, true, false, List, [], ◌∷◌, ◌++◌, length, take, drop, get_or, Ok, refl, sym, ap, ◌∙◌, subst,
-    append_assoc, append-nil, inl, inr, arith}
+use Rattle.std.proofs.Common.{◌≡◌, ◌⊎◌, ℕ, ◌<◌, ◌≤◌, ◌≢◌, Bool, true, false, List, [], ◌∷◌, ◌++◌, length, take, drop, get_or, Ok, refl, sym, ap, ◌∙◌, subst}
+use Rattle.std.proofs.Common.{append_assoc, append-nil, inl, inr, arith}
 use Rattle.std.specs.List.{All, join_with_byte}
 use Rattle.std.proofs.lemmas.List.{length-append, length-take-le, take-append-le, take-append-drop, get_or-take}
 use Rattle.std.proofs.lemmas.List.Elements.{All-tail}
@@ -60,7 +60,7 @@ long_pieces bytes text rest long =
         let cut : text ≡ take longest_line first = long.prefix ∙ ap (take longest_line) whole ∙ take-append-le longest_line first behind (omega arith) in
         let within : game_prefix ≤ length (take longest_line first) = omega (arith, length-take-le longest_line first (omega arith)) in
         ap (take game_prefix) cut ∙ sym (ap (take game_prefix) (sym (take-append-drop longest_line first))
-            ∙ take-append-le game_prefix (take longest_line first) (drop longest_line first) within)
+        ∙ take-append-le game_prefix (take longest_line first) (drop longest_line first) within)
 
     never : (first behind : List ℕ) → length first ≤ longest_line → bytes ≡ first ++ behind → ((behind ≡ []) ⊎ ((tail : List ℕ) × (behind ≡ 10 ∷ tail))) → ⊥
     never first behind short whole (inl none) = omega (arith, long.long, ap length (whole ∙ ap (λ behind. first ++ behind) none ∙ append-nil first))
@@ -78,7 +78,7 @@ pub by_piece : (bytes : List ℕ) (line : Cut) (P : Type 0) → line ≡ next_li
     → (line.fed ≡ true → pieces bytes ≡ line.text ∷ pieces line.rest → P)
     → (line.fed ≡ false → line.rest ≡ [] → pieces bytes ≡ line.text ∷ [] → P)
     → ((first : List ℕ) (more : List (List ℕ)) → pieces bytes ≡ first ∷ more → longest_line < length first → length line.text ≡ longest_line
-        → take game_prefix line.text ≡ take game_prefix first → P)
+    → take game_prefix line.text ≡ take game_prefix first → P)
     → P
 by_piece bytes line P is fed last long = of_got line.got refl
   where
@@ -153,7 +153,7 @@ kept_long prefix line rest size =
     ap (λ text. prefix ++ text) (append_assoc kept (feed line.fed) rest) ∙ sym (append_assoc prefix kept (feed line.fed ++ rest)) in
     let within : game_prefix ≤ length line.text = omega (arith, size) in
     ap game_at whole ∙ same_prefix (prefix ++ kept) (feed line.fed ++ rest)
-        (omega (arith, length-append prefix kept, length-take-le game_prefix line.text within))
+    (omega (arith, length-append prefix kept, length-take-le game_prefix line.text within))
 
 -- so a text of which that much is kept is no game
 long_no_game : (prefix : List ℕ) (line : Cut) (rest : List ℕ) (root : Position) → length line.text ≡ longest_line
@@ -161,8 +161,12 @@ long_no_game : (prefix : List ℕ) (line : Cut) (rest : List ℕ) (root : Positi
 long_no_game prefix line rest root size game =
     let kept = take game_prefix line.text in
     let within : game_prefix ≤ length line.text = omega (arith, size) in
-    omega (arith, game_short (prefix ++ kept) root (sym (kept_long prefix line rest size) ∙ game), length-append prefix kept,
-        length-take-le game_prefix line.text within)
+    omega (
+      arith,
+      game_short (prefix ++ kept) root (sym (kept_long prefix line rest size) ∙ game),
+      length-append prefix kept,
+      length-take-le game_prefix line.text within,
+    )
 
 -- what is kept of the two lines is read as the text of the game
 pub game_kept : (bytes : List ℕ) (board moves : Cut) → board ≡ next_line bytes → moves ≡ next_line board.rest
@@ -170,12 +174,12 @@ pub game_kept : (bytes : List ℕ) (board moves : Cut) → board ≡ next_line b
 game_kept bytes board moves first second =
     by_piece bytes board (game_at (kept_of board ++ kept_of moves) ≡ game_at (game_of (pieces bytes))) first
     (λ fed cut. ap (λ kept. game_at (kept ++ kept_of moves)) (kept_fed board fed)
-        ∙ ap game_at (append_assoc (take game_prefix board.text) (10 ∷ []) (kept_of moves)) ∙ both cut)
+    ∙ ap game_at (append_assoc (take game_prefix board.text) (10 ∷ []) (kept_of moves)) ∙ both cut)
     (λ fed none cut. ap (λ kept. game_at (kept ++ kept_of moves)) (kept_last board fed)
-        ∙ ap (λ kept. game_at (take game_prefix board.text ++ kept)) (ap kept_of (second ∙ ap next_line none))
+    ∙ ap (λ kept. game_at (take game_prefix board.text ++ kept)) (ap kept_of (second ∙ ap next_line none))
     ∙ ap game_at (append-nil (take game_prefix board.text)) ∙ ap (λ ps. game_at (game_of ps)) (sym cut))
     (λ first more cut longer size prefix. kept_long [] board (kept_of moves) size ∙ ap game_at prefix
-        ∙ sym (ap (λ ps. game_at (game_of ps)) cut ∙ long_board first more (omega (arith, longer))))
+    ∙ sym (ap (λ ps. game_at (game_of ps)) cut ∙ long_board first more (omega (arith, longer))))
   where
     both : pieces bytes ≡ board.text ∷ pieces board.rest → game_at (take game_prefix board.text ++ 10 ∷ kept_of moves) ≡ game_at (game_of (pieces bytes))
     both cut =
@@ -184,7 +188,7 @@ game_kept bytes board moves first second =
         ap (λ kept. game_at (take game_prefix board.text ++ 10 ∷ kept)) (kept_fed moves fed)
         ∙ ap (λ ps. game_at (game_of ps)) (sym (cut ∙ ap (λ ps. board.text ∷ ps) also ∙ ap (λ ps. board.text ∷ moves.text ∷ ps) some.2)))
         (λ fed none also. ap (λ kept. game_at (take game_prefix board.text ++ 10 ∷ kept)) (kept_last moves fed)
-            ∙ ap (λ ps. game_at (game_of ps)) (sym (cut ∙ ap (λ ps. board.text ∷ ps) also)))
+        ∙ ap (λ ps. game_at (game_of ps)) (sym (cut ∙ ap (λ ps. board.text ∷ ps) also)))
         (λ first more also longer size prefix. let head = take game_prefix board.text ++ 10 ∷ [] in
         ap game_at (sym (append_assoc (take game_prefix board.text) (10 ∷ []) (kept_of moves)) ∙ ap (λ kept. head ++ kept) (sym (append-nil (kept_of moves))))
         ∙ kept_long head moves [] size ∙ ap game_at (append_assoc (take game_prefix board.text) (10 ∷ []) (take game_prefix moves.text))
@@ -201,6 +205,6 @@ game_left bytes board moves root first second game =
     (λ fed also. ap behind_game (cut ∙ ap (λ ps. board.text ∷ ps) also))
     (λ fed none also. ap behind_game (cut ∙ ap (λ ps. board.text ∷ ps) also) ∙ ap (λ rest. lines_in (pieces rest)) (sym none))
     (λ first more also longer size prefix.
-        absurd (long_no_game (kept_of board) moves [] root size (ap (λ kept. game_at (kept_of board ++ kept)) (append-nil (kept_of moves)) ∙ game))))
+    absurd (long_no_game (kept_of board) moves [] root size (ap (λ kept. game_at (kept_of board ++ kept)) (append-nil (kept_of moves)) ∙ game))))
     (λ fed none cut. ap behind_game cut ∙ ap (λ (line : Cut). lines_in (pieces line.rest)) (sym (second ∙ ap next_line none)))
     (λ first more cut longer size prefix. absurd (long_no_game [] board (kept_of moves) root size game))

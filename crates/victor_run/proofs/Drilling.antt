@@ -1,6 +1,6 @@
 -- The games of a drill, made and searched one after the other.
-use Rattle.std.proofs.Common.{◌≡◌, ℕ, suc, ◌+◌, ◌<◌, List, [], ◌∷◌, ◌++◌, Option, None, Result, Ok, Err, refl, sym, ap, ◌∙◌, subst, append-nil, append_assoc,
-    arith}
+use Rattle.std.proofs.Common.{◌≡◌, ℕ, suc, ◌+◌, ◌<◌, List, [], ◌∷◌, ◌++◌, Option, None, Result, Ok, Err, refl, sym, ap, ◌∙◌, subst, append-nil, append_assoc}
+use Rattle.std.proofs.Common.{arith}
 use Rattle.game_rules.specs.Board.{Board}
 use Rattle.game_rules.specs.Cost.{cost}
 use Rattle.game_rules.specs.Position.{Position}
@@ -19,7 +19,7 @@ use Rattle.victor_run.proofs.Asking.{asked_truth}
 -- What both questions answer may be told of their game, and where they stopped for want of a budget, that nothing is known.
 pub may_tell : (p : Position) (nodes reach : ℕ) (old new : Option (List ℕ)) (asked : Result Verdict SearchStop) → Asks p nodes reach None old new asked
     → (asked ≡ Err Spent → nodes < cost (solved_within reach) p) → (asked ≡ Err WriteFault → ⊥)
-        → MayTell (cost (solved_within reach)) nodes p (result_unwrap_or asked Unknown)
+    → MayTell (cost (solved_within reach)) nodes p (result_unwrap_or asked Unknown)
 may_tell p nodes reach old new (Ok v) asks short never =
     record { is_true = asked_truth p nodes reach None old new (Ok v) asks v asks.verdict.0; dear = λ unknown. absurd (asks.verdict.1 unknown) }
 may_tell p nodes reach old new (Err Spent) asks short never = record { is_true = tt; dear = λ unknown. short refl }

@@ -68,7 +68,7 @@ proves_game nodes reach slots s p heard ended game (Err failed) h short = (recor
 -- where no game was read, a run keeps what it promises of a fault and of a source that failed
 pub no_game : (s : Streams) (Holds : List ℕ → Ending → Type 0)
     → ((taken : List ℕ) (fault : InputFault) → game_at taken ≡ Err fault → IfSome s.input (λ bytes. game_at bytes ≡ Err fault)
-        → Holds taken (endings.Input fault))
+    → Holds taken (endings.Input fault))
     → ((taken : List ℕ) → Holds taken endings.Read)
     → (stop : InputStop) → TakesGame s.input s.left (Err stop) → Took s 256 (λ taken. Holds taken (input_ending stop))
 no_game s Holds faulty failed (NoGame fault) takes =

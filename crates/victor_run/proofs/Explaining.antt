@@ -1,6 +1,7 @@
 -- What is written of a plan, piece by piece.
-use Rattle.std.proofs.Common.{Result, Ok, Err, IfOk, is_ok, true, zero, suc, inl, inr, if◌then◌else◌, ◌==◌, ◌-◌, ◌<◌, Option, Some, length, get_or, slice_get,
-    codes, arith, subst, append_assoc, ◌≡◌, ℕ, Bool, true, false, List, [], ◌∷◌, ◌++◌, map, filter, cond, refl, sym, ap, ◌∙◌, flat_map, append-nil}
+use Rattle.std.proofs.Common.{Result, Ok, Err, IfOk, is_ok, true, zero, suc, inl, inr, if◌then◌else◌, ◌==◌, ◌-◌, ◌<◌, Option, Some, length, get_or, slice_get}
+use Rattle.std.proofs.Common.{codes, arith, subst, append_assoc, ◌≡◌, ℕ, Bool, true, false, List, [], ◌∷◌, ◌++◌, map, filter, cond, refl, sym, ap, ◌∙◌}
+use Rattle.std.proofs.Common.{flat_map, append-nil}
 use Rattle.std.specs.Option.{option_map, option_map_or}
 use Rattle.std.proofs.lemmas.Option.{get_or_from_slice_get, slice_get_cases}
 use Rattle.std.specs.Io.KnownBytes.{Appends, IsAtEnd}
@@ -79,13 +80,13 @@ module _ (a b c : List ℕ) (old one : Option (List ℕ)) where
       pub line_cut_third : AppendsPrefix false two three c → AppendsPrefix false old three (as_line (a ++ (b ++ c)))
       line_cut_third third = rw (in_line a b c)
           (AppendsPrefix_more false old one three a (b ++ as_line c) first
-              (AppendsPrefix_more false one two three b (as_line c) second (AppendsPrefix_take two three c (10 ∷ []) third)))
+          (AppendsPrefix_more false one two three b (as_line c) second (AppendsPrefix_take two three c (10 ∷ []) third)))
 
       pub line_ends : Appends two three c → (ok : Bool) (new : Option (List ℕ)) → AppendsPrefix ok three new (10 ∷ [])
           → AppendsPrefix ok old new (as_line (a ++ (b ++ c)))
       line_ends third ok new feed = rw (in_line a b c)
           (AppendsPrefix_more ok old one new a (b ++ as_line c) first
-              (AppendsPrefix_more ok one two new b (as_line c) second (AppendsPrefix_more ok two three new c (10 ∷ []) third feed)))
+          (AppendsPrefix_more ok one two new b (as_line c) second (AppendsPrefix_more ok two three new c (10 ∷ []) third feed)))
 
 -- ---- the member that a plan names for a group
 

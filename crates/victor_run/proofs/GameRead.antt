@@ -66,7 +66,7 @@ module _ (a b c : Pending) (one two : List ℕ) (first : Reads a b (λ bytes res
 
   pub game_known : (root : Position) → game_at two ≡ Ok root
       → Reads a c (λ bytes rest. PassesLines 2 bytes rest
-          × ((game_at (game_of (pieces bytes)) ≡ Ok root) × (behind_game (pieces bytes) ≡ lines_in (pieces rest))))
+      × ((game_at (game_of (pieces bytes)) ≡ Ok root) × (behind_game (pieces bytes) ≡ lines_in (pieces rest))))
   game_known root game =
       Reads_then a b c _ _ _ first second (λ bytes mid rest p q.
       let kept = sym (ap game_at (both bytes mid p.1.0 p.1.1 q.1.0)) ∙ game in (

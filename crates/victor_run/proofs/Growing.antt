@@ -1,6 +1,6 @@
 -- Where a front ends, and that its remark is one.
-use Rattle.std.proofs.Common.{◌≡◌, ◌≢◌, ◌⊎◌, ℕ, ◌+◌, ◌%◌, ◌<◌, ◌≤◌, ◌^◌, Bool, true, false, ◌||◌, List, [], ◌∷◌, ◌++◌, ◌==◌, codes, decimal, length, Option,
-    Some, refl, sym, ap, ◌∙◌, subst, inl, inr, arith, length-append}
+use Rattle.std.proofs.Common.{◌≡◌, ◌≢◌, ◌⊎◌, ℕ, ◌+◌, ◌%◌, ◌<◌, ◌≤◌, ◌^◌, Bool, true, false, ◌||◌, List, [], ◌∷◌, ◌++◌, ◌==◌, codes, decimal, length, Option}
+use Rattle.std.proofs.Common.{Some, refl, sym, ap, ◌∙◌, subst, inl, inr, arith, length-append}
 use Rattle.std.specs.List.{list_all}
 use mathlib.Core.Bool.{true≢false}
 use Rattle.std.proofs.lemmas.Bool.{cases_Bool, cases_lt, eq-eqb, ne_eqb, le-leb}
@@ -63,8 +63,8 @@ pub remark_prints : (side : Side) (n : ℕ) (proof disproof : Count) → IsRemar
     → IsRemarkWord (count_word disproof) → is_remark (remark_of side n proof disproof) ≡ true
 remark_prints side n proof disproof first second third =
     remark_if (codes " front " ++ (side_word side ++ 32 ∷ behind_side n proof disproof))
-        (word_prints (side_word side) (behind_side n proof disproof) (side_prints side)
-        (word_prints (decimal n) _ first.0 (word_prints (count_word proof) (count_word disproof) second.0 third.0)))
+    (word_prints (side_word side) (behind_side n proof disproof) (side_prints side)
+    (word_prints (decimal n) _ first.0 (word_prints (count_word proof) (count_word disproof) second.0 third.0)))
     (omega (
       arith,
       first.1,
@@ -148,19 +148,24 @@ grew_none old = record { slots = refl; front = λ root side reach is. is; goes_o
 -- what is said of an expansion is said of the position's front
 pub next_front : (root : Position) (side : Side) (reach slots n : ℕ) (f g : FrontState) → IsFrontOf root side reach n slots f
     → ((p : Position) (n : ℕ) → IsFrontOf p f.side f.reach n (slot_count f) f → IsFrontOf p f.side f.reach (n + 1) (slot_count f) g)
-        → IsFrontOf root side reach (n + 1) slots g
+    → IsFrontOf root side reach (n + 1) slots g
 next_front root side reach slots n f g is step =
     let own : IsFrontOf root f.side f.reach n (slot_count f) f =
-        record { tree = is.tree ∙ rw (is.same_side, is.same_reach) refl; same_side = refl; same_reach = refl; same_slots = refl } in
+    record { tree = is.tree ∙ rw (is.same_side, is.same_reach) refl; same_side = refl; same_reach = refl; same_slots = refl } in
     let next = step root n own in
-    record { tree = next.tree ∙ rw (is.same_side, is.same_reach) refl; same_side = next.same_side ∙ is.same_side; same_reach = next.same_reach
-        ∙ is.same_reach; same_slots = next.same_slots ∙ is.same_slots }
+    record {
+      tree = next.tree ∙ rw (is.same_side, is.same_reach) refl;
+      same_side = next.same_side ∙ is.same_side;
+      same_reach = next.same_reach
+          ∙ is.same_reach;
+      same_slots = next.same_slots ∙ is.same_slots;
+    }
 
 module _ (old now : SizedFront) (n : ℕ) (grew : Grew old now n) (g : Grown) (answer : IsAnswer now.front g) where
   -- one more expansion
   pub grew_more : (next : FrontState) → g ≡ Expanded → n < old.slots
       → ((p : Position) (n : ℕ) → IsFrontOf p now.front.side now.front.reach n (slot_count now.front) now.front
-          → IsFrontOf p now.front.side now.front.reach (n + 1) (slot_count now.front) next)
+      → IsFrontOf p now.front.side now.front.reach (n + 1) (slot_count now.front) next)
       → Grew old (record now { front = next }) (n + 1)
   grew_more next is_expanded within step = record {
     slots = grew.slots;
@@ -174,7 +179,7 @@ module _ (old now : SizedFront) (n : ℕ) (grew : Grew old now n) (g : Grown) (a
       goes root side reach is m h (inr here) =
           let same : n ≡ m = omega (arith, h, here) in
           subst (λ m. is_front_end root side reach old.slots m ≡ false) same
-              (went_on root side reach old.slots n now.front (grew.front root side reach is) g is_expanded answer within)
+          (went_on root side reach old.slots n now.front (grew.front root side reach is) g is_expanded answer within)
 
   -- it stopped
   pub ends_here : g ≢ Expanded → (root : Position) (side : Side) (reach : ℕ) → IsFrontOf root side reach 0 old.slots old.front
@@ -186,8 +191,11 @@ module _ (old now : SizedFront) (n : ℕ) (grew : Grew old now n) (g : Grown) (a
 pub ends_last : (old now : SizedFront) → Grew old now old.slots → (root : Position) (side : Side) (reach : ℕ) → IsFrontOf root side reach 0 old.slots old.front
     → EndsAfter root side reach old.slots old.slots
 ends_last old now grew root side reach is =
-    record { last = last_of (is_settled side (front root side reach old.slots)) (is_full side old.slots (front root side reach old.slots))
-    (old.slots == old.slots) (eq-eqb old.slots old.slots refl); first = grew.goes_on root side reach is }
+    record {
+      last = last_of (is_settled side (front root side reach old.slots)) (is_full side old.slots (front root side reach old.slots))
+          (old.slots == old.slots) (eq-eqb old.slots old.slots refl);
+      first = grew.goes_on root side reach is;
+    }
 
 -- a front that was begun anew for Black
 pub turned : (p : Position) (side : Side) (reach : ℕ) (old new : SizedFront) → IsAfterSome p side reach (Some old) → new.slots ≡ old.slots
@@ -195,14 +203,14 @@ pub turned : (p : Position) (side : Side) (reach : ℕ) (old new : SizedFront) �
     → IsAfter p Black reach 0 (Some new)
 turned p side reach old new (n, is) same begun =
     subst (λ slots. IsFrontOf p Black reach 0 slots new.front) (is.same_slots ∙ sym same)
-        (subst (λ reach. IsFrontOf p Black reach 0 (slot_count old.front) new.front) is.same_reach begun)
+    (subst (λ reach. IsFrontOf p Black reach 0 (slot_count old.front) new.front) is.same_reach begun)
 
 -- ---- what a question's remark leaves in a sink
 
 pub remark_stands : (root : Position) (side : Side) (reach slots n : ℕ) (f : FrontState) (proof disproof : Count) (whole : Bool) (old new : Option (List ℕ))
     → EndsAfter root side reach slots n → IsFrontOf root side reach n slots f
     → ◌≡◌ {A = Count × Count} (proof, disproof) (root_number f.side true (tree_of f), root_number f.side false (tree_of f))
-        → is_remark (remark_of side n proof disproof) ≡ true
+    → is_remark (remark_of side n proof disproof) ≡ true
     → AppendsPrefix whole old new (as_line (remark_of side n proof disproof)) → LeavesRemark (Some slots) reach root side whole old new
 remark_stands root side reach slots n f proof disproof whole old new ends is numbers printable text =
     record { remark = Some (remark_of side n proof disproof); right = (n, ends, ap Some same); line = printable; text = text }

@@ -42,7 +42,7 @@ stops_earlier one two bytes mid a b c stops.Memory goes later h = goes.reaches h
 module _ (a b c : Pending) (head : Reads a b (λ bytes rest. PassesLines 1 bytes rest × GoesOn AtHead bytes AtGame rest)) where
   pub game_known : (root : Position)
       → Reads b c (λ bytes rest. PassesLines 2 bytes rest
-          × ((game_at (game_of (pieces bytes)) ≡ Ok root) × (behind_game (pieces bytes) ≡ lines_in (pieces rest))))
+      × ((game_at (game_of (pieces bytes)) ≡ Ok root) × (behind_game (pieces bytes) ≡ lines_in (pieces rest))))
       → Reads a c (λ bytes rest. PassesLines 3 bytes rest × GoesOn AtHead bytes (AtLine (start root) first_number) rest)
   game_known root game =
       Reads_then a b c _ _ _ head game (λ bytes mid rest p q. (
@@ -86,7 +86,7 @@ module _ (a b c : Pending) (root : Position) (s t : CheckerState) (began : s ≡
   pub lines_known : (end : ℕ) → 3 ≤ end
       → Reads b c (λ bytes rest. PassesLines (end - 3) bytes rest × (lines_from s first_number bytes ≡ verdict_answer end (length t.known) t.verdict))
       → (answer : CheckAnswer) → verdict_answer end (length t.known) t.verdict ≡ answer
-          → Reads a c (λ bytes rest. PassesLines end bytes rest × (check_of bytes ≡ answer))
+      → Reads a c (λ bytes rest. PassesLines end bytes rest × (check_of bytes ≡ answer))
   lines_known end from lines answer is =
       Reads_then a b c _ _ _ game lines (λ bytes m rest p q. (
         passes_most (3 + (end - 3)) end bytes rest (omega (arith, from)) (passes_then 3 (end - 3) bytes m rest p.0 q.0),
@@ -103,8 +103,11 @@ judged_stop old begun last n before after stop reads few all =
     record {
       taken = reads.taken;
       gave = reads.gave;
-      answer = (of_taken old begun last n most_lines_read Stopped reads, of_input old begun last n most_lines_read Stopped reads,
-          of_lines old begun last n (lines_read_until stop) Stopped reads few);
+      answer = (
+        of_taken old begun last n most_lines_read Stopped reads,
+        of_input old begun last n most_lines_read Stopped reads,
+        of_lines old begun last n (lines_read_until stop) Stopped reads few,
+      );
       lines = of_lines old begun last n most_lines_read Stopped reads all;
     }
 

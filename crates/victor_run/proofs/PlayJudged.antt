@@ -1,6 +1,6 @@
 -- Steps of play, one after another; and what `play` promises of all that was played.
-use Rattle.std.proofs.Common.{◌≡◌, ℕ, ◌+◌, ◌-◌, ◌*◌, ◌≤◌, Bool, true, false, List, [], ◌∷◌, ◌++◌, length, Option, Some, None, Result, Ok, Err, IfSome, refl,
-    sym, ap, ◌∙◌, subst, arith, append-nil, length-append}
+use Rattle.std.proofs.Common.{◌≡◌, ℕ, ◌+◌, ◌-◌, ◌*◌, ◌≤◌, Bool, true, false, List, [], ◌∷◌, ◌++◌, length, Option, Some, None, Result, Ok, Err, IfSome, refl}
+use Rattle.std.proofs.Common.{sym, ap, ◌∙◌, subst, arith, append-nil, length-append}
 use Rattle.std.specs.Bool.{⊤}
 use Rattle.std.specs.Result.{OnOk, IfErr}
 use Rattle.std.specs.Io.KnownBytes.{Keeps, Appends}
@@ -24,8 +24,8 @@ use Rattle.play_text.proofs.Steps.{behind_more, told}
 use Rattle.victor_run.specs.Streams.{Streams, TakesLines, WaitsBehind}
 use Rattle.io_ports.specs.Reading.{Pending, Reads, PassesLines}
 use Rattle.victor_run.specs.PlayPromise.{IsPlayed, BeginsPlay}
-use Rattle.victor_run.specs.PlaySteps.{played_at, played_from, end_by, EndsSo, StopsPlay, lines_besides, PassesMoves, IsWaiting, TakesUntil, IsNoMove, IsCaused,
-    HasPlayCause, is_whole, PlayStep, PlaysNext, PlaysMoves, PlaysInput, play_ending}
+use Rattle.victor_run.specs.PlaySteps.{played_at, played_from, end_by, EndsSo, StopsPlay, lines_besides, PassesMoves, IsWaiting, TakesUntil, IsNoMove, IsCaused}
+use Rattle.victor_run.specs.PlaySteps.{HasPlayCause, is_whole, PlayStep, PlaysNext, PlaysMoves, PlaysInput, play_ending}
 use Rattle.victor_run.specs.Outcome.{Outcome}
 use Rattle.victor_words.specs.declared.form.Form.TheVariants.{Play}
 use Rattle.victor_run.specs.declared.ending.Ending.TheVariants as endings
@@ -145,7 +145,7 @@ passes_lines : (xs ys : List (List ℕ)) (n : ℕ) (bytes mid rest : List ℕ) �
     → PassesLines (length (xs ++ ys) + n) bytes rest
 passes_lines xs ys n bytes mid rest p q =
     passes_most (length xs + (length ys + n)) (length (xs ++ ys) + n) bytes rest (omega (arith, length-append xs ys))
-        (passes_then (length xs) (length ys + n) bytes mid rest p q)
+    (passes_then (length xs) (length ys + n) bytes mid rest p q)
 
 pub goes_next : (s t u : Playing) (at : ℕ) (xs ys : List (List ℕ)) (bytes mid rest : List ℕ) → Goes s t at xs bytes mid → PlaysNext t u at (Ok true) ys mid rest
     → Goes s u (at + 1) (xs ++ ys) bytes rest
@@ -202,13 +202,16 @@ game_cause a b before after write why later game = record {
 
 module _ (a b c : Pending) (root : Position)
     (game : Reads a b (λ bytes rest. PassesLines 2 bytes rest
-        × ((game_at (game_of (pieces bytes)) ≡ Ok root) × (behind_game (pieces bytes) ≡ lines_in (pieces rest))))) where
+    × ((game_at (game_of (pieces bytes)) ≡ Ok root) × (behind_game (pieces bytes) ≡ lines_in (pieces rest))))) where
   pub plan_stops : (stop : PlayStop) → Reads b c (λ bytes rest. PassesLines 1 bytes rest × StopsPlay (played_at root bytes) [] stop)
       → Reads a c (λ bytes rest. PassesLines 3 bytes rest × StopsPlay (play_of bytes) [] stop)
   plan_stops stop plan =
       Reads_then a b c _ _ _ game plan
-          (λ bytes mid rest p q. (passes_then 2 1 bytes mid rest p.0 q.0, stops_behind (play_of bytes) (played_at root mid) [] [] stop
-          (game_goes bytes mid root p.1.0 p.1.1) q.1))
+      (λ bytes mid rest p q. (
+        passes_then 2 1 bytes mid rest p.0 q.0,
+        stops_behind (play_of bytes) (played_at root mid) [] [] stop
+            (game_goes bytes mid root p.1.0 p.1.1) q.1,
+      ))
 
   pub plan_goes : (s : Playing) → Reads b c (λ bytes rest. PassesLines 1 bytes rest × (played_at root bytes ≡ played_from s first_move rest))
       → Reads a c (λ bytes rest. PassesLines 3 bytes rest × (play_of bytes ≡ played_from s first_move rest))
@@ -239,7 +242,7 @@ module _ {X : Type 0} (old : Option (List ℕ)) (begun : ℕ) (last : Pending) (
   pub input_stops : (stop : PlayStop) (m : ℕ) → m ≤ lines_besides stop + length lines → IsWaiting last.ahead stop
       → AppendsPrefix (is_whole {X = X} (Err stop)) o n (text_of lines)
       → Reads (fresh old begun) last (λ bytes rest. PassesLines m bytes rest × StopsPlay (play_of bytes) lines stop)
-          → PlaysInput {X = X} old last.left last.last_read o n (Err stop)
+      → PlaysInput {X = X} old last.left last.last_read o n (Err stop)
   input_stops stop m until waits put reads =
       let Stopped : List ℕ → Type 0 = λ bytes. StopsPlay (play_of bytes) lines stop in
       let most = lines_besides stop + length lines in
@@ -256,7 +259,7 @@ module _ {X : Type 0} (old : Option (List ℕ)) (begun : ℕ) (last : Pending) (
     where
       takes_until : (stop : PlayStop) → (IsUndecided last.ahead → WaitsBehind (lines_besides stop + length lines) reads.taken)
           → TakesLines (lines_besides stop + length lines) last.last_read reads.taken → IsWaiting last.ahead stop
-              → TakesUntil stop (length lines) last.last_read reads.taken
+          → TakesUntil stop (length lines) last.last_read reads.taken
       takes_until (stops.Input inputs.Read) undecided takes waits = undecided waits
       takes_until stops.Write undecided takes waits = takes
       takes_until (stops.Input (inputs.NoGame fault)) undecided takes waits = takes
@@ -266,7 +269,7 @@ module _ {X : Type 0} (old : Option (List ℕ)) (begun : ℕ) (last : Pending) (
 
   pub input_played : (x : X) → Appends o n (text_of lines) → last.ended ≡ true
       → Reads (fresh old begun) last (λ bytes rest. PassesLines (4 + length lines) bytes rest
-          × (play_of bytes ≡ record { lines = lines; end = ends.AllPlayed })) → PlaysInput {X = X} old last.left last.last_read o n (Ok x)
+      × (play_of bytes ≡ record { lines = lines; end = ends.AllPlayed })) → PlaysInput {X = X} old last.left last.last_read o n (Ok x)
   input_played x put end reads =
       let All : List ℕ → Type 0 = λ bytes. play_of bytes ≡ record { lines = lines; end = ends.AllPlayed } in
       record {
@@ -275,8 +278,12 @@ module _ {X : Type 0} (old : Option (List ℕ)) (begun : ℕ) (last : Pending) (
         lines = lines;
         few = few;
         written = put;
-        played = (of_taken old begun last (4 + length lines) (4 + length lines) All reads, of_input old begun last (4 + length lines) (4 + length lines) All
-            reads, reads.last (λ never. absurd (cc never)) end);
+        played = (
+          of_taken old begun last (4 + length lines) (4 + length lines) All reads,
+          of_input old begun last (4 + length lines) (4 + length lines) All
+              reads,
+          reads.last (λ never. absurd (cc never)) end,
+        );
         passed = of_lines old begun last (4 + length lines) (4 + length lines) All reads (omega arith);
       }
 
@@ -289,7 +296,7 @@ pub input_moves : {X : Type 0} (old : Option (List ℕ)) (begun : ℕ) (mid last
     → PlaysInput old last.left last.last_read o n result
 input_moves old begun mid last o n s before after (Ok x) start step men end waits =
     input_played old begun last o n step.lines (omega (arith, step.few)) x step.written end
-        (moves_played (fresh old begun) mid last s step.lines start step.reads)
+    (moves_played (fresh old begun) mid last s step.lines start step.reads)
 input_moves {X} old begun mid last o n s before after (Err stop) start step men end waits =
     input_stops old begun last o n step.lines (omega (arith, step.few)) stop (lines_besides stop + length step.lines) (omega arith) waits step.written
     (moves_stop (fresh old begun) mid last s step.lines start stop step.reads)
@@ -328,8 +335,14 @@ module _ {X : Type 0} (s : Streams) where
     taken = input.taken;
     gave = input.gave;
     few = takes_few 4 s.last_read input.lines input.taken (omega arith) input.few input.passed;
-    holds = (input.lines, (input.played.0, input.played.1), told_by input.taken input.lines ends.AllPlayed input.played.0, input.written, input.played.2,
-        input.passed);
+    holds = (
+      input.lines,
+      (input.played.0, input.played.1),
+      told_by input.taken input.lines ends.AllPlayed input.played.0,
+      input.written,
+      input.played.2,
+      input.passed,
+    );
   }
 
   pub plays_stop : (stop : PlayStop) → PlaysInput {X = X} s.input s.left s.last_read s.old s.new (Err stop) → Outcome (Some Play) s (play_ending stop)
@@ -339,8 +352,11 @@ module _ {X : Type 0} (s : Streams) where
         taken = input.taken;
         gave = input.gave;
         few = takes_few 2 s.last_read input.lines input.taken (omega arith) input.few input.passed;
-        holds = (subst (λ lines. IsPlayed input.taken s.input lines (ends.NoGame fault)) none (input.played.0, input.played.1),
-            kept_from s.old s.new input.lines none input.written, takes_first 2 s.last_read input.lines input.taken none input.passed);
+        holds = (
+          subst (λ lines. IsPlayed input.taken s.input lines (ends.NoGame fault)) none (input.played.0, input.played.1),
+          kept_from s.old s.new input.lines none input.written,
+          takes_first 2 s.last_read input.lines input.taken none input.passed,
+        );
       }
   plays_stop stops.NoPlanLine input =
       let none = told_by input.taken input.lines ends.NoPlanLine input.played.0 in
@@ -348,8 +364,13 @@ module _ {X : Type 0} (s : Streams) where
         taken = input.taken;
         gave = input.gave;
         few = takes_few 3 s.last_read input.lines input.taken (omega arith) input.few input.passed;
-        holds = (refl, refl, subst (λ lines. IsPlayed input.taken s.input lines ends.NoPlanLine) none (input.played.0, input.played.1),
-            kept_from s.old s.new input.lines none input.written, takes_first 3 s.last_read input.lines input.taken none input.passed);
+        holds = (
+          refl,
+          refl,
+          subst (λ lines. IsPlayed input.taken s.input lines ends.NoPlanLine) none (input.played.0, input.played.1),
+          kept_from s.old s.new input.lines none input.written,
+          takes_first 3 s.last_read input.lines input.taken none input.passed,
+        );
       }
   plays_stop (stops.NoPlan fault) input =
       let none = told_by input.taken input.lines (ends.NoPlan (fault_of fault)) input.played.0 in
@@ -357,8 +378,11 @@ module _ {X : Type 0} (s : Streams) where
         taken = input.taken;
         gave = input.gave;
         few = takes_few 3 s.last_read input.lines input.taken (omega arith) input.few input.passed;
-        holds = (subst (λ lines. IsPlayed input.taken s.input lines (ends.NoPlan (fault_of fault))) none (input.played.0, input.played.1),
-            kept_from s.old s.new input.lines none input.written, takes_first 3 s.last_read input.lines input.taken none input.passed);
+        holds = (
+          subst (λ lines. IsPlayed input.taken s.input lines (ends.NoPlan (fault_of fault))) none (input.played.0, input.played.1),
+          kept_from s.old s.new input.lines none input.written,
+          takes_first 3 s.last_read input.lines input.taken none input.passed,
+        );
       }
   plays_stop (stops.NoMove fault) input = record {
     taken = input.taken;
@@ -371,13 +395,29 @@ module _ {X : Type 0} (s : Streams) where
     gave = input.gave;
     few = takes_few 3 s.last_read input.lines input.taken (omega arith) input.few
         (input.passed.0, input.passed.1, (Failed, input.passed.2), omega (arith, input.passed.2.1));
-    holds = (input.lines, (begun input.taken input.lines input.played.0, IfSome_each s.input _ (BeginsPlay input.lines) (λ bytes. begun bytes input.lines)
-        input.played.1), input.written, input.passed);
+    holds = (
+      input.lines,
+      (
+        begun input.taken input.lines input.played.0,
+        IfSome_each s.input _ (BeginsPlay input.lines) (λ bytes. begun bytes input.lines)
+            input.played.1,
+      ),
+      input.written,
+      input.passed,
+    );
   }
   plays_stop stops.Write input = record {
     taken = input.taken;
     gave = input.gave;
     few = takes_few 3 s.last_read input.lines input.taken (omega arith) input.few input.passed;
-    holds = (input.lines, (begun input.taken input.lines input.played.0, IfSome_each s.input _ (BeginsPlay input.lines) (λ bytes. begun bytes input.lines)
-        input.played.1), input.written, input.passed);
+    holds = (
+      input.lines,
+      (
+        begun input.taken input.lines input.played.0,
+        IfSome_each s.input _ (BeginsPlay input.lines) (λ bytes. begun bytes input.lines)
+            input.played.1,
+      ),
+      input.written,
+      input.passed,
+    );
   }

@@ -19,8 +19,8 @@ use Rattle.proof_text.specs.Texts.{pieces, lines_in, game_of, behind_game}
 use Rattle.rule_compat.specs.Planned.{Planned, members}
 use Rattle.reply_player.specs.Playing.{Playing, reply_for, HasAnswered}
 use Rattle.reply_player.specs.declared.session.Reply.{Reply}
-use Rattle.play_text.specs.Play.{NoGame, NoPlanLine, NoMove, AllPlayed, Played, ended, behind, end_text, turn_text, column_in, play_from, play_list, play_lines,
-    play_game, plan_in, play_of, first_move}
+use Rattle.play_text.specs.Play.{NoGame, NoPlanLine, NoMove, AllPlayed, Played, ended, behind, end_text, turn_text, column_in, play_from, play_list, play_lines}
+use Rattle.play_text.specs.Play.{play_game, plan_in, play_of, first_move}
 use Rattle.play_text.specs.declared.PlayKind.TheVariants.{BadMove}
 use Rattle.play_text.proofs.Turns.{line_played}
 use Rattle.io_ports.specs.Reading.{Pending, Reads, PassesLines}
@@ -47,16 +47,16 @@ module _ (a b : Pending) (text : List ℕ) (fed : Bool) (root : Position) where
   -- a line that was got is the first that is looked at
   pub plan_got : (result : Result Planned PlayStop) → Reads a b (λ bytes rest. Gives bytes rest Line text fed)
       → ((more : List (List ℕ)) → MatchResult result (λ plan. play_lines root (text ∷ more) ≡ play_from (members plan) root first_move more)
-          (StopsPlay (play_lines root (text ∷ more)) []))
+      (StopsPlay (play_lines root (text ∷ more)) []))
       → Reads a b (λ bytes rest. PassesLines 1 bytes rest
-          × MatchResult result (λ plan. played_at root bytes ≡ played_from (record { plan = plan; stands = root }) first_move rest)
-          (StopsPlay (played_at root bytes) []))
+      × MatchResult result (λ plan. played_at root bytes ≡ played_from (record { plan = plan; stands = root }) first_move rest)
+      (StopsPlay (played_at root bytes) []))
   unfolding played_at played_from
   plan_got result gives answer =
       by_line a b Line text fed gives _ (λ bytes rest is.
       let lines = line_first bytes (record { got = Line; text = text; fed = fed; rest = rest }) is refl in
       let P : List (List ℕ) → Type 0 = λ lines. MatchResult result
-          (λ plan. play_lines root lines ≡ play_from (members plan) root first_move (lines_in (pieces rest))) (StopsPlay (play_lines root lines) []) in
+      (λ plan. play_lines root lines ≡ play_from (members plan) root first_move (lines_in (pieces rest))) (StopsPlay (play_lines root lines) []) in
       subst P (sym lines) (answer (lines_in (pieces rest))))
 
   pub plan_long : Reads a b (λ bytes rest. Gives bytes rest Long text fed)
@@ -73,7 +73,7 @@ module _ (a b : Pending) (text : List ℕ) (fed : Bool) (root : Position) where
   unfolding played_at
   plan_none gives =
       by_line a b Done text fed gives _
-          (λ bytes rest is. ap (play_lines root) (none_left bytes (record { got = Done; text = text; fed = fed; rest = rest }) is refl).0)
+      (λ bytes rest is. ap (play_lines root) (none_left bytes (record { got = Done; text = text; fed = fed; rest = rest }) is refl).0)
 
   -- the source failed
   pub plan_unread : Reads a b (λ bytes rest. Gives bytes rest Failed text fed)
@@ -117,7 +117,7 @@ module _ (old new : Playing) (column : ℕ) (reply : Reply) (has : HasAnswered o
       let end : reply_end reply ≡ end_text (end_of (after_move mid has.answered.reply.0)) =
       ap reply_end has.reply_is ∙ (told_end (end_of new.stands) has.answered.reply.0).1 ∙ ap (λ q. end_text (end_of q)) has.next in
       ap (λ u. as_line (white ++ (32 ∷ (square_text u ++ reply_end reply)))) square
-          ∙ ap (λ end. as_line (white ++ (32 ∷ (square_text has.answered.reply ++ end)))) end
+      ∙ ap (λ end. as_line (white ++ (32 ∷ (square_text has.answered.reply ++ end)))) end
 
   -- two squares are filled
   pub two_fewer : empty_count new.stands + 2 ≡ empty_count old.stands
@@ -166,8 +166,8 @@ module _ (a b : Pending) (text : List ℕ) (fed : Bool) (s : Playing) (at : ℕ)
   unfolding played_from
   moves_none gives =
       by_line a b Done text fed gives _
-          (λ bytes rest is. ap (play_from (members s.plan) s.stands at)
-          (none_left bytes (record { got = Done; text = text; fed = fed; rest = rest }) is refl).0)
+      (λ bytes rest is. ap (play_from (members s.plan) s.stands at)
+      (none_left bytes (record { got = Done; text = text; fed = fed; rest = rest }) is refl).0)
 
   -- the source failed, and no line was passed
   pub moves_unread : Reads a b (λ bytes rest. Gives bytes rest Failed text fed)

@@ -21,7 +21,7 @@ module _ (old : Option (List ℕ)) (begun : ℕ) (last : Pending) (n most : ℕ)
     where
       by : (old left : Option (List ℕ)) → Consumes old left reads.taken → (last.ended ≡ true → IsAtEnd left)
           → ((later : List ℕ) → (last.ended ≡ true → later ≡ []) → PassesLines n (reads.taken ++ later) (last.ahead ++ later) × Holds (reads.taken ++ later))
-              → IfSome old Holds
+          → IfSome old Holds
       by None left gave ended fact = tt
       by (Some bytes) None gave ended fact = absurd gave
       by (Some bytes) (Some rest) gave ended fact = subst Holds (sym gave) (fact rest ended).1

@@ -1,6 +1,6 @@
 -- The form of a command with what was given, both ways.
-use Rattle.std.proofs.Common.{◌≡◌, ℕ, true, ◌&&◌, cond, nat_le, List, [], ◌∷◌, Option, Some, None, IfSome, is_none, option_to_list, unwrap_or, refl, sym, ap,
-    ◌∙◌, subst, inl, inr}
+use Rattle.std.proofs.Common.{◌≡◌, ℕ, true, ◌&&◌, cond, nat_le, List, [], ◌∷◌, Option, Some, None, IfSome, is_none, option_to_list, unwrap_or, refl, sym, ap}
+use Rattle.std.proofs.Common.{◌∙◌, subst, inl, inr}
 use Rattle.std.specs.Int.{IsInRange}
 use Rattle.std.specs.Option.{option_map}
 use Rattle.std.proofs.lemmas.Bool.{and_parts, and_from, leb-true, le-leb}
@@ -10,10 +10,10 @@ use Rattle.game_rules.specs.declared.Length.{Length}
 use Rattle.game_rules.specs.declared.Length.TheVariants.{Four, Five}
 use Rattle.plan_text.proofs.Spaced.{bind_some, map_some, chosen_some}
 use Rattle.plan_text.specs.Words.{◌>>=◌}
-use Rattle.victor_words.specs.Words.{command_of, numbers_of, number_in, usual, usual_nodes, usual_reach, usual_table, AreSlots, HasRanges, IsGiven, most_nodes,
-    most_reach, most_slots, most_room}
-use Rattle.victor_words.specs.Reading.{within, nodes_from, reach_from, front_from, table_from, board_with, size_from, prove_from, none_of_prove, none_given,
-    without_options, explain_from, five_from, drill_from, form_with}
+use Rattle.victor_words.specs.Words.{command_of, numbers_of, number_in, usual, usual_nodes, usual_reach, usual_table, AreSlots, HasRanges, IsGiven, most_nodes}
+use Rattle.victor_words.specs.Words.{most_reach, most_slots, most_room}
+use Rattle.victor_words.specs.Reading.{within, nodes_from, reach_from, front_from, table_from, board_with, size_from, prove_from, none_of_prove, none_given}
+use Rattle.victor_words.specs.Reading.{without_options, explain_from, five_from, drill_from, form_with}
 use Rattle.victor_words.specs.declared.form.Command.{Command}
 use Rattle.victor_words.specs.declared.form.Command.TheVariants as commands
 use Rattle.victor_words.specs.declared.form.Form.{Form}
@@ -84,9 +84,10 @@ front_spelled (Some n) (Some slots) range (inr (none, same)) = cc
 size_gives : (cols rows : ℕ) (size : Board) → size_from cols rows ≡ Some size → (is_spelled size ≡ true) × (cols ∷ rows ∷ [] ≡ size.cols ∷ size.rows ∷ [])
 size_gives cols rows size h =
     let told = chosen_some (is_board (board_with cols rows)) (Some (board_with cols rows)) size h in
-    let same : board_with cols rows ≡ size = cc (told.1) in
-    (subst (λ size. is_spelled size ≡ true) same (and_from (is_board (board_with cols rows)) true told.0 refl),
-        ap (λ (size : Board). size.cols ∷ size.rows ∷ []) same)
+    let same : board_with cols rows ≡ size = cc (told.1) in (
+      subst (λ size. is_spelled size ≡ true) same (and_from (is_board (board_with cols rows)) true told.0 refl),
+      ap (λ (size : Board). size.cols ∷ size.rows ∷ []) same,
+    )
 
 is_four : (len : Length) → same_length len Four ≡ true → Four ≡ len
 is_four Four h = refl
@@ -132,7 +133,7 @@ prove_gives given form h =
     each : (n k : ℕ) (f : Option ℕ) (t : ℕ) → IsGiven (usual Nodes) (Some n) (option_to_list (given Nodes))
         → IsGiven (usual Reach) (Some k) (option_to_list (given Reach))
         → IsGiven (usual Front) f (option_to_list (given Front)) → IsGiven (usual Table) (Some t) (option_to_list (given Table))
-            → HasOptions given (Prove n k f t)
+        → HasOptions given (Prove n k f t)
     each n k f t of_nodes of_reach of_front of_table Nodes = of_nodes
     each n k f t of_nodes of_reach of_front of_table Reach = of_reach
     each n k f t of_nodes of_reach of_front of_table Front = of_front
@@ -148,7 +149,7 @@ bare_gives given bare form ranges numbers options h =
     let third = and_parts (is_none (given Front)) (is_none (given Table)) second.1 in
     let same : bare ≡ form = cc (told.1) in
     subst (IsFormOf (command_of bare) [] given) same
-        (record { command = refl; numbers = sym numbers; options = each first.0 second.0 third.0 third.1; ranges = ranges })
+    (record { command = refl; numbers = sym numbers; options = each first.0 second.0 third.0 third.1; ranges = ranges })
   where
     each : is_none (given Nodes) ≡ true → is_none (given Reach) ≡ true → is_none (given Front) ≡ true → is_none (given Table) ≡ true → HasOptions given bare
     each nodes reach front table Nodes = rw (options Nodes) (none_is (usual Nodes) (given Nodes) nodes)
@@ -164,7 +165,7 @@ explain_gives given form h =
     let k = map_some Explain (reach_from (given Reach)) form told.1 in
     let of_reach = option_gives 0 most_reach usual_reach k.0 (given Reach) k.1 in
     subst (IsFormOf commands.Explain [] given) k.2
-        (record { command = refl; numbers = refl; options = each k.0 none.0 of_reach.1 of_prove.0 of_prove.1; ranges = of_reach.0 })
+    (record { command = refl; numbers = refl; options = each k.0 none.0 of_reach.1 of_prove.0 of_prove.1; ranges = of_reach.0 })
   where
     each : (k : ℕ) → is_none (given Nodes) ≡ true → IsGiven (usual Reach) (Some k) (option_to_list (given Reach)) → is_none (given Front) ≡ true
         → is_none (given Table) ≡ true → HasOptions given (Explain k)
@@ -253,7 +254,7 @@ form_found (Prove n k front t) given options ranges =
     ap (λ found. found >>= λ n. reach_from (given Reach) >>= λ k. front_from (given Front) >>= λ f. table_from (given Table) >>= λ t. Some (Prove n k f t))
     (option_spelled 1 most_nodes usual_nodes n (given Nodes) ranges.0 (options Nodes))
     ∙ ap (λ found. found >>= λ k. front_from (given Front) >>= λ f. table_from (given Table) >>= λ t. Some (Prove n k f t))
-        (option_spelled 0 most_reach usual_reach k (given Reach) ranges.1 (options Reach))
+    (option_spelled 0 most_reach usual_reach k (given Reach) ranges.1 (options Reach))
     ∙ ap (λ found. found >>= λ f. table_from (given Table) >>= λ t. Some (Prove n k f t)) (front_spelled front (given Front) ranges.2 (options Front))
     ∙ ap (λ found. found >>= λ t. Some (Prove n k front t)) (option_spelled 1 most_room usual_table t (given Table) ranges.3 (options Table))
 form_found Check given options ranges = bare_found given Check (λ name. none_says (usual name) (given name) (options name))
@@ -261,11 +262,11 @@ form_found Play given options ranges = bare_found given Play (λ name. none_says
 form_found (Explain k) given options ranges =
     ap (λ b. cond b (option_map Explain (reach_from (given Reach))) None)
     (and_from (is_none (given Nodes)) (none_of_prove given) (none_says (usual Nodes) (given Nodes) (options Nodes))
-        (none_of_prove_found given (Explain k) options refl refl))
+    (none_of_prove_found given (Explain k) options refl refl))
     ∙ ap (option_map Explain) (option_spelled 0 most_reach usual_reach k (given Reach) ranges (options Reach))
 form_found (Drill size moves seed games n k) given options ranges =
     ap (λ b. cond b (five_from (numbers_of (Drill size moves seed games n k)) given) None)
-        (none_of_prove_found given (Drill size moves seed games n k) options refl refl)
+    (none_of_prove_found given (Drill size moves seed games n k) options refl refl)
     ∙ ap (λ found. found >>= λ size. within 0 100 moves >>= λ moves. within 1 2147483646 seed >>= λ seed. within 1 1000 games >>= λ games.
     nodes_from (given Nodes) >>= λ n. reach_from (given Reach) >>= λ k. Some (Drill size moves seed games n k)) (size_spelled size ranges.0.size)
     ∙ ap (λ found. found >>= λ moves. within 1 2147483646 seed >>= λ seed. within 1 1000 games >>= λ games.
@@ -273,9 +274,9 @@ form_found (Drill size moves seed games n k) given options ranges =
     ∙ ap (λ found. found >>= λ seed. within 1 1000 games >>= λ games.
     nodes_from (given Nodes) >>= λ n. reach_from (given Reach) >>= λ k. Some (Drill size moves seed games n k)) (within_spelled 1 2147483646 seed ranges.0.seed)
     ∙ ap (λ found. found >>= λ games. nodes_from (given Nodes) >>= λ n. reach_from (given Reach) >>= λ k. Some (Drill size moves seed games n k))
-        (within_spelled 1 1000 games ranges.0.games)
+    (within_spelled 1 1000 games ranges.0.games)
     ∙ ap (λ found. found >>= λ n. reach_from (given Reach) >>= λ k. Some (Drill size moves seed games n k))
-        (option_spelled 1 most_nodes usual_nodes n (given Nodes) ranges.1 (options Nodes))
+    (option_spelled 1 most_nodes usual_nodes n (given Nodes) ranges.1 (options Nodes))
     ∙ ap (λ found. found >>= λ k. Some (Drill size moves seed games n k)) (option_spelled 0 most_reach usual_reach k (given Reach) ranges.2 (options Reach))
 
 pub form_spelled : (command : Command) (alone : List ℕ) (given : Name → Option ℕ) (form : Form) → IsFormOf command alone given form

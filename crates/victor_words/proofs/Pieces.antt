@@ -1,6 +1,6 @@
 -- Pieces and their words: each piece is read from its own words, and from no others.
-use Rattle.std.proofs.Common.{◌≡◌, ℕ, ◌<◌, ◌≤◌, ◌^◌, false, ◌==◌, cond, List, [], ◌∷◌, ◌++◌, flat_map, Option, Some, None, refl, sym, ap, ◌∙◌, subst,
-    append_assoc, append-nil, inl, inr, arith}
+use Rattle.std.proofs.Common.{◌≡◌, ℕ, ◌<◌, ◌≤◌, ◌^◌, false, ◌==◌, cond, List, [], ◌∷◌, ◌++◌, flat_map, Option, Some, None, refl, sym, ap, ◌∙◌, subst}
+use Rattle.std.proofs.Common.{append_assoc, append-nil, inl, inr, arith}
 use Rattle.std.specs.List.{AllByRecursion}
 use Rattle.std.specs.Option.{option_map}
 use Rattle.std.specs.Str.{bytes_eq}
@@ -63,7 +63,7 @@ digits_unnamed (byte ∷ word) digits = rw (ne_eqb byte 45 (λ (e : byte ≡ 45)
 unmarked : (n : ℕ) → n < 2 ^ 64 → split_once 61 (decimal n) ≡ None
 unmarked n small = uncut 61 (decimal n)
     (all_each (λ byte. (48 ≤ byte) × (byte ≤ 57)) (λ byte. (byte == 61) ≡ false) (decimal n)
-        (λ byte digit. ne_eqb byte 61 (λ (e : byte ≡ 61). omega (arith, digit.1))) (digits_decimal n small))
+    (λ byte digit. ne_eqb byte 61 (λ (e : byte ≡ 61). omega (arith, digit.1))) (digits_decimal n small))
 
 number_read : (n : ℕ) → n ≤ 4294967295 → number_of (decimal n) ≡ Some n
 number_read n small = number_spelled 0 4294967295 n (decimal n) (omega arith) small (omega arith) refl
@@ -162,7 +162,7 @@ goes_on (first ∷ before) [] left small words =
     absurd (no_words first (flat_map words_of before ++ left) (sym words.spelled ∙ append_assoc (words_of first) (flat_map words_of before) left))
 goes_on (first ∷ before) (piece ∷ pieces) left small words =
     let same = same_first piece first (flat_map words_of pieces) (flat_map words_of before ++ left) words.small.0 small.0
-        (sym words.spelled ∙ append_assoc (words_of first) (flat_map words_of before) left) in
+    (sym words.spelled ∙ append_assoc (words_of first) (flat_map words_of before) left) in
     let rest = goes_on before pieces left small.1 (record { spelled = sym same.1; small = words.small.1 }) in
     record { more = rest.more; whole = ap (λ piece. piece ∷ pieces) same.0 ∙ ap (λ pieces. first ∷ pieces) rest.whole; words = rest.words }
 

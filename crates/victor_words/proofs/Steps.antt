@@ -1,6 +1,6 @@
 -- One piece more among the words behind a command, and where the reading of them stops.
-use Rattle.std.proofs.Common.{◌≡◌, ℕ, ◌<◌, ◌≤◌, List, [], ◌∷◌, ◌++◌, flat_map, drop, length, Some, None, option_to_list, refl, sym, ap, ◌∙◌, subst,
-    append_assoc, append-nil, length-append, inl, inr, arith}
+use Rattle.std.proofs.Common.{◌≡◌, ℕ, ◌<◌, ◌≤◌, List, [], ◌∷◌, ◌++◌, flat_map, drop, length, Some, None, option_to_list, refl, sym, ap, ◌∙◌, subst}
+use Rattle.std.proofs.Common.{append_assoc, append-nil, length-append, inl, inr, arith}
 use Rattle.std.specs.List.{AllByRecursion}
 use Rattle.std.proofs.Math.Seq.{drop-append_seam}
 use Rattle.std.proofs.lemmas.List.Concat.{flat_map-append}
@@ -44,13 +44,13 @@ pub one_more_found : (words left : List (List ℕ)) (found next : Found) (piece 
 one_more_found words left found next piece far first adds =
     let start = first_gives left piece first in
     let rest : drop (length (words_of piece)) left ≡ start.rest = ap (drop (length (words_of piece))) start.whole
-        ∙ drop-append_seam (words_of piece) start.rest in
+    ∙ drop-append_seam (words_of piece) start.rest in
     record {
       before = far.before ++ piece ∷ [];
       spelled = far.spelled ∙ ap (λ left. flat_map words_of far.before ++ left) start.whole
           ∙ sym (append_assoc (flat_map words_of far.before) (words_of piece) start.rest)
           ∙ ap (λ words. words ++ start.rest) (sym (flat_map_snoc words_of far.before piece))
-              ∙ ap (λ left. flat_map words_of (far.before ++ piece ∷ []) ++ left) (sym rest);
+          ∙ ap (λ left. flat_map words_of (far.before ++ piece ∷ []) ++ left) (sym rest);
       small = all_append IsSmall far.before (piece ∷ []) far.small (start.small, tt);
       are_found = record {
         options = λ name. flat_map_snoc (given_by name) far.before piece ∙ ap (λ xs. xs ++ given_by name piece) (far.are_found.options name)
@@ -90,13 +90,18 @@ too_many words left found piece far first many pieces words_are few =
         → length (xs ++ f piece) ≤ length (flat_map f (far.before ++ piece ∷ more))
     given_more f xs more own =
         let whole : flat_map f (far.before ++ piece ∷ more) ≡ xs ++ (f piece ++ flat_map f more) = flat_map-append f far.before (piece ∷ more)
-            ∙ ap (λ xs. xs ++ (f piece ++ flat_map f more)) own in
+        ∙ ap (λ xs. xs ++ (f piece ++ flat_map f more)) own in
         omega (arith, ap length whole, length-append xs (f piece), length-append xs (f piece ++ flat_map f more), length-append (f piece) (flat_map f more))
 
     of_more : (more : List Piece) → pieces ≡ far.before ++ piece ∷ more → ⊥
     of_more more whole = elim many [
-      | inl twice ↦ omega (arith, twice.1, few.options twice.0, given_more (given_by twice.0) _ more (far.are_found.options twice.0),
-          ap (λ pieces. length (given twice.0 pieces)) whole)
+      | inl twice ↦ omega (
+        arith,
+        twice.1,
+        few.options twice.0,
+        given_more (given_by twice.0) _ more (far.are_found.options twice.0),
+        ap (λ pieces. length (given twice.0 pieces)) whole,
+      )
       | inr numbers ↦ omega (arith, numbers, few.numbers, given_more own_by _ more far.are_found.numbers, ap (λ pieces. length (own pieces)) whole)
     ]
 

@@ -1,6 +1,6 @@
 -- Words and their one form: what their pieces are like, and that what is read of them is their form.
-use Rattle.std.proofs.Common.{◌≡◌, ℕ, ◌-◌, ◌≤◌, List, [], ◌∷◌, flat_map, map, take, drop, get_or, length, Option, Some, None, option_to_list, IfSome, refl, sym,
-    ap, ◌∙◌, subst, inl, inr, arith}
+use Rattle.std.proofs.Common.{◌≡◌, ℕ, ◌-◌, ◌≤◌, List, [], ◌∷◌, flat_map, map, take, drop, get_or, length, Option, Some, None, option_to_list, IfSome, refl, sym}
+use Rattle.std.proofs.Common.{ap, ◌∙◌, subst, inl, inr, arith}
 use Rattle.std.specs.List.{AllByRecursion}
 use Rattle.std.proofs.lemmas.Bool.{and_parts}
 use Rattle.std.proofs.lemmas.List.{take_rest}
@@ -8,8 +8,8 @@ use Rattle.game_rules.proofs.Groups.{board_most}
 use Rattle.game_rules.specs.Board.{is_board, same_length}
 use Rattle.game_rules.specs.declared.Length.TheVariants.{Four}
 use Rattle.plan_text.proofs.Spaced.{all_left, all_right}
-use Rattle.victor_words.specs.Words.{command_word, words_of, given_by, own_by, given, own, command_of, numbers_of, number_in, usual, HasRanges, IsGiven,
-    IsWritten, IsReadAs}
+use Rattle.victor_words.specs.Words.{command_word, words_of, given_by, own_by, given, own, command_of, numbers_of, number_in, usual, HasRanges, IsGiven}
+use Rattle.victor_words.specs.Words.{IsWritten, IsReadAs}
 use Rattle.victor_words.specs.Reading.{command_named, form_with, number_found, IsSmall, AreWordsOf, AreFew, AreFound}
 use Rattle.victor_words.specs.declared.form.Command.{Command}
 use Rattle.victor_words.specs.declared.form.Form.{Form}
@@ -112,7 +112,7 @@ no_pieces word words never form written = never written.pieces (words_behind wor
 
 form_is : (word : List ℕ) (words : List (List ℕ)) (command : Command) (pieces : List Piece) (numbers : Name → Option ℕ) (form : Form)
     → command_named word ≡ Some command → AreWordsOf pieces words → ((name : Name) → given name pieces ≡ option_to_list (numbers name))
-        → IsWritten (word ∷ words) form
+    → IsWritten (word ∷ words) form
     → form_with command (own pieces) numbers ≡ Some form
 form_is word words command pieces numbers form named words_are options written =
     let same : written.pieces ≡ pieces = same_pieces written.pieces pieces words (words_behind word words form written) words_are in
@@ -145,7 +145,7 @@ pub reads_as : (word : List ℕ) (words : List (List ℕ)) (command : Command) (
     → IsReadAs (word ∷ words) (form_with command found.numbers.items (number_found found))
 reads_as word words command found named (pieces, words_are, are_found) =
     subst (λ alone. IsReadAs (word ∷ words) (form_with command alone (number_found found))) are_found.numbers
-        (at (form_with command (own pieces) (number_found found)) refl)
+    (at (form_with command (own pieces) (number_found found)) refl)
   where
     at : (read : Option Form) → form_with command (own pieces) (number_found found) ≡ read → IsReadAs (word ∷ words) read
     at (Some form) h = form_of_words word words command pieces (number_found found) form named words_are are_found.options h
@@ -167,10 +167,10 @@ pub one_form : (words : List (List ℕ)) (one another : Form) → IsWritten word
 one_form words one another of_one of_another =
     let numbers : Name → Option ℕ = λ name. (as_option (usual name) (number_in one name) _ (of_one.options name)).0 in
     let options : (name : Name) → given name of_one.pieces ≡ option_to_list (numbers name) = λ name.
-        (as_option (usual name) (number_in one name) _ (of_one.options name)).1 in
+    (as_option (usual name) (number_in one name) _ (of_one.options name)).1 in
     let are : AreWordsOf of_one.pieces (flat_map words_of of_one.pieces) = record { spelled = refl; small = small words one of_one } in
     let read = λ (form : Form) (written : IsWritten words form). form_is (command_word (command_of one)) (flat_map words_of of_one.pieces) (command_of one)
-        of_one.pieces numbers form
+    of_one.pieces numbers form
     (command_spelled (command_of one)) are options (subst (λ words. IsWritten words form) of_one.spelled written) in
     let same : Some one ≡ Some another = sym (read one of_one) ∙ read another of_another in
     cc

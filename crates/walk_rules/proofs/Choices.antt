@@ -1,6 +1,6 @@
 -- The sets of a walk, what is chosen among them, and that where a plan is chosen White doesn't win.
-use Rattle.std.proofs.Common.{◌≡◌, ◌↔◌, ℕ, zero, suc, ◌≤◌, true, false, ◌||◌, if◌then◌else◌, List, [], ◌∷◌, ◌++◌, length, filter, take, Some, refl, sym, ap,
-    ◌∙◌, subst, inl, inr, arith}
+use Rattle.std.proofs.Common.{◌≡◌, ◌↔◌, ℕ, zero, suc, ◌≤◌, true, false, ◌||◌, if◌then◌else◌, List, [], ◌∷◌, ◌++◌, length, filter, take, Some, refl, sym, ap}
+use Rattle.std.proofs.Common.{◌∙◌, subst, inl, inr, arith}
 use Rattle.std.specs.List.{slice_get, list_all, list_any}
 use Rattle.std.proofs.lemmas.Bool.{cases_Bool, cases_lt, both_ways, and_parts}
 use Rattle.game_rules.specs.Position.{Position}
@@ -10,8 +10,8 @@ use Rattle.game_rules.proofs.Lists.{Among, any_gives, Among-filter_gives, Among-
 use Rattle.plan_rules.specs.Rules.{RuleInstance, together}
 use Rattle.plan_rules.specs.Plan.{is_plan}
 use Rattle.plan_rules.proofs.Theorems.{plan_wins}
-use Rattle.walk_rules.specs.Walk.{fitting_zones, open_squares, owns_first, may_follow, walk_within, walk_from, is_plan_position, walk, with_all, given,
-    gives_plan, solved, Chosen, gave, no_plan, spent, choice_among, choice_of, is_given}
+use Rattle.walk_rules.specs.Walk.{fitting_zones, open_squares, owns_first, may_follow, walk_within, walk_from, is_plan_position, walk, with_all, given}
+use Rattle.walk_rules.specs.Walk.{gives_plan, solved, Chosen, gave, no_plan, spent, choice_among, choice_of, is_given}
 use Rattle.walk_rules.specs.Steps.{is_zone_set}
 use Rattle.walk_rules.specs.Choice.{NoneOf, IsFirst, IsChoice}
 use Rattle.walk_rules.proofs.Fitting.{zone_fits}
@@ -71,15 +71,15 @@ module _ (p : Position) where
   choice_is (suc k) (set ∷ sets) = elim (cases_Bool (gives_plan p set)) [
     | inl gives ↦ subst (IsChoice p (suc k) (set ∷ sets))
         (sym (choice_step p set k sets ∙ ap (λ b. if b then gave (given p set) else choice_among p k sets) gives)) (record {
-      place = 0;
-      within = omega arith;
-      set = set;
-      is_set = refl;
-      is_first = λ i other within at. absurd (omega arith);
-      gives = gives;
-      is_given = refl;
-      is_plan_now = given_is p set ∙ gives;
-    })
+          place = 0;
+          within = omega arith;
+          set = set;
+          is_set = refl;
+          is_first = λ i other within at. absurd (omega arith);
+          gives = gives;
+          is_given = refl;
+          is_plan_now = given_is p set ∙ gives;
+        })
     | inr fails ↦ subst (IsChoice p (suc k) (set ∷ sets))
         (sym (choice_step p set k sets ∙ ap (λ b. if b then gave (given p set) else choice_among p k sets) fails))
         (choice_later k set sets (choice_among p k sets) fails (choice_is k sets))
@@ -95,7 +95,7 @@ module _ (p : Position) where
   one_first : (k : ℕ) (sets : List (List RuleInstance)) (a b : List RuleInstance) → IsFirst p k sets a → IsFirst p k sets b → a ≡ b
   one_first k sets a b left right =
       let place : left.place ≡ right.place =
-          omega (arith, first_past k right.place sets a left right.is_first, first_past k left.place sets b right left.is_first) in
+      omega (arith, first_past k right.place sets a left right.is_first, first_past k left.place sets b right left.is_first) in
       let set : Some left.set ≡ Some right.set = sym left.is_set ∙ ap (slice_get sets) place ∙ right.is_set in
       let same : left.set ≡ right.set = cc set in
       left.is_given ∙ ap (given p) same ∙ sym right.is_given

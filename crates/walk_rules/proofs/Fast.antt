@@ -1,8 +1,8 @@
 -- What a quick search for a plan rests on: only a set that leaves no square open can give a plan, and then only its
 -- lines have to be asked; a zone may follow where its first square is the first open one; a zone takes its squares from
 -- the open ones and gives them back; and an answer is looked for rule by rule, where it can be.
-use Rattle.std.proofs.Common.{◌≡◌, Bool, true, false, not, ◌&&◌, ◌||◌, List, [], ◌∷◌, ◌++◌, map, filter, Option, Some, None, is_some, is_none, refl, sym, ap,
-    ◌∙◌, subst, inl, inr, ℕ, ◌+◌, ◌-◌, arith}
+use Rattle.std.proofs.Common.{◌≡◌, Bool, true, false, not, ◌&&◌, ◌||◌, List, [], ◌∷◌, ◌++◌, map, filter, Option, Some, None, is_some, is_none, refl, sym, ap}
+use Rattle.std.proofs.Common.{◌∙◌, subst, inl, inr, ℕ, ◌+◌, ◌-◌, arith}
 use Rattle.std.specs.List.{list_all, list_any, find}
 use Rattle.std.specs.Option.{option_or}
 use Rattle.std.proofs.lemmas.Bool.{cases_Bool, both_ways, and_parts, and_from, and_right, or_right, not_from_false, false_from_ne_true}
@@ -19,8 +19,8 @@ use Rattle.game_rules.proofs.Lists.{Among, any_gives, all_gives, all_from, Among
 use Rattle.game_rules.proofs.Narrowed.{filter_both}
 use Rattle.game_rules.proofs.Squares.{same_square_refl, same_square_is, has_gives, filter_same}
 use Rattle.plan_rules.specs.Squares.{above}
-use Rattle.plan_rules.specs.Rules.{RuleInstance, claimeven, baseinverse, lowinverse, highinverse, baseclaim, vertical, aftereven, before, specialbefore,
-    zone_of, Facts, facts_of, fits, barred, is_supported, is_twin, is_low_line, together}
+use Rattle.plan_rules.specs.Rules.{RuleInstance, claimeven, baseinverse, lowinverse, highinverse, baseclaim, vertical, aftereven, before, specialbefore}
+use Rattle.plan_rules.specs.Rules.{zone_of, Facts, facts_of, fits, barred, is_supported, is_twin, is_low_line, together}
 use Rattle.plan_rules.specs.Listing.{squares_at, playable_squares, each_with, listed}
 use Rattle.plan_rules.specs.Plan.{each_two, every_square, has_owner, empty_part, is_barred}
 use Rattle.plan_rules.specs.Zones.{owns_zone}
@@ -66,7 +66,7 @@ pub full_test : (p : Position) (set : List RuleInstance) → is_plan_position p 
 full_test p set going is =
     plan_with p set (supported_by p set) (supported_gives p set)
     ∙ ap (λ b. b && list_all (λ g. list_any (has_man p Black) (squares_of g) || (is_barred p set g || list_any (bars p set g) (supported_by p set)))
-        (groups_of (board_of p))) covers
+    (groups_of (board_of p))) covers
     ∙ ap (λ b. is_none_of (open_squares p set) && b) (all_same _ _ (groups_of (board_of p)) line_is)
   where
     members : (list_all (λ w. owns_zone w && fits w p) set ≡ true) × (each_two together set ≡ true)
@@ -226,7 +226,7 @@ pub answer_by_kind : (p : Position) (set : List RuleInstance) (g : Group)
     → answer_to p set g ≡ option_or (option_or (option_or (first_written p set g vertical (squares_at p))
     (first_written p set g aftereven (groups_of (board_of p)))) (first_written p set g before (groups_of (board_of p))))
     (first_written p set g (λ three. specialbefore three.0 three.1.0 three.1.1)
-        (each_with (groups_of (board_of p)) (each_with (playable_squares p) (playable_squares p))))
+    (each_with (groups_of (board_of p)) (each_with (playable_squares p) (playable_squares p))))
 answer_by_kind p set g =
     split ((listed kinds.Vertical p ++ listed kinds.Aftereven p) ++ listed kinds.Before p) (listed kinds.Specialbefore p)
     ∙ ap (λ o. option_or o (first kinds.Specialbefore)) (split (listed kinds.Vertical p ++ listed kinds.Aftereven p) (listed kinds.Before p))
@@ -276,7 +276,7 @@ vertical_upright p set g e h =
     in_line : (u : Square) → empty_part p g u ≡ true → (i : ℕ) × (step_of g.way g.anchor i ≡ u)
     in_line u h =
         let at = Among-map_gives (step_of g.way g.anchor) (below (line_length g.len)) u
-            (has_gives (squares_of g) u (and_parts (is_empty p u) (has_square (squares_of g) u) h).1) in
+        (has_gives (squares_of g) u (and_parts (is_empty p u) (has_square (squares_of g) u) h).1) in
         (at.0, at.2)
 
 -- where a Specialbefore answers a line, its square outside its own line is an empty one of the line, and a twin of the

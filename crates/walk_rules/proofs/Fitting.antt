@@ -2,8 +2,8 @@
 use Rattle.std.proofs.Common.{◌≡◌, Bool, true, false, not, List, ◌++◌, refl, ap, ◌∙◌, inl, inr}
 use Rattle.game_rules.specs.Position.{Position}
 use Rattle.game_rules.proofs.Lists.{Among, Among-append_cases}
-use Rattle.plan_rules.specs.Rules.{RuleInstance, claimeven, baseinverse, lowinverse, highinverse, baseclaim, vertical, aftereven, before, specialbefore,
-    kind_of, owns_no_zone, fits}
+use Rattle.plan_rules.specs.Rules.{RuleInstance, claimeven, baseinverse, lowinverse, highinverse, baseclaim, vertical, aftereven, before, specialbefore}
+use Rattle.plan_rules.specs.Rules.{kind_of, owns_no_zone, fits}
 use Rattle.plan_rules.specs.Listing.{listed}
 use Rattle.plan_rules.specs.Zones.{owns_zone}
 use Rattle.plan_rules.specs.declared.Kind.{Kind}
@@ -48,7 +48,7 @@ standing_fits p w =
 pub zone_fits : (p : Position) (w : RuleInstance) → Among w (fitting_zones p) → (owns_zone w ≡ true) × (fits w p ≡ true)
 zone_fits p w =
     in_either w (((listed kinds.Claimeven p ++ listed kinds.Baseinverse p) ++ listed kinds.Lowinverse p) ++ listed kinds.Highinverse p)
-        (listed kinds.Baseclaim p)
+    (listed kinds.Baseclaim p)
     (in_either w ((listed kinds.Claimeven p ++ listed kinds.Baseinverse p) ++ listed kinds.Lowinverse p) (listed kinds.Highinverse p)
     (in_either w (listed kinds.Claimeven p ++ listed kinds.Baseinverse p) (listed kinds.Lowinverse p)
     (in_either w (listed kinds.Claimeven p) (listed kinds.Baseinverse p) (owned kinds.Claimeven refl) (owned kinds.Baseinverse refl))

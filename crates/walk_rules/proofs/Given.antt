@@ -1,8 +1,8 @@
 -- The plan that a set gives. Standing instances give nothing to others, own no square and may stand with all, so beside
 -- the set itself they count for the lines that they answer alone. The list that is given answers the same lines as all
 -- standing instances that the set supports.
-use Rattle.std.proofs.Common.{◌≡◌, ◌⊎◌, ℕ, suc, ◌+◌, ◌≤◌, Bool, true, false, not, ◌&&◌, ◌||◌, if◌then◌else◌, List, [], ◌∷◌, ◌++◌, length, Option, Some, None,
-    is_none, refl, sym, ap, ◌∙◌, subst, inl, inr, arith, append-nil, length-append}
+use Rattle.std.proofs.Common.{◌≡◌, ◌⊎◌, ℕ, suc, ◌+◌, ◌≤◌, Bool, true, false, not, ◌&&◌, ◌||◌, if◌then◌else◌, List, [], ◌∷◌, ◌++◌, length, Option, Some, None}
+use Rattle.std.proofs.Common.{is_none, refl, sym, ap, ◌∙◌, subst, inl, inr, arith, append-nil, length-append}
 use Rattle.std.specs.List.{list_all, list_any, flat_map}
 use Rattle.std.proofs.lemmas.Bool.{cases_Bool, or_from, not_from_false}
 use Rattle.std.proofs.lemmas.Grind.{flat_map-append}
@@ -15,8 +15,8 @@ use Rattle.game_rules.specs.declared.Side.TheVariants.{White, Black}
 use Rattle.game_rules.proofs.Lists.{Among, any_gives, any_from, all_from, Among-append_left, Among-append_right, Among-append_cases, Among-filter_gives}
 use Rattle.game_rules.proofs.Squares.{agree}
 use Rattle.game_rules.proofs.Groups.{groups_fit}
-use Rattle.plan_rules.specs.Rules.{RuleInstance, claimeven, baseinverse, lowinverse, highinverse, owns_no_zone, zone_of, facts_of, upper_of, pair_of, twin_of,
-    as_list, fits, barred, is_supported, together}
+use Rattle.plan_rules.specs.Rules.{RuleInstance, claimeven, baseinverse, lowinverse, highinverse, owns_no_zone, zone_of, facts_of, upper_of, pair_of, twin_of}
+use Rattle.plan_rules.specs.Rules.{as_list, fits, barred, is_supported, together}
 use Rattle.plan_rules.specs.Listing.{has_instance}
 use Rattle.plan_rules.specs.Plan.{each_two, every_square, every_line, has_owner, empty_part, is_barred, is_plan}
 use Rattle.plan_rules.proofs.Squares.{find_one}
@@ -152,7 +152,7 @@ plan_same p set xs ys each_x each_y same = plan_with p set xs each_x ∙ ap (λ 
   where
     line_same : (g : Group) → Among g (groups_of (board_of p))
         → (list_any (has_man p Black) (squares_of g) || (is_barred p set g || list_any (bars p set g) xs))
-            ≡ (list_any (has_man p Black) (squares_of g) || (is_barred p set g || list_any (bars p set g) ys))
+        ≡ (list_any (has_man p Black) (squares_of g) || (is_barred p set g || list_any (bars p set g) ys))
     line_same g among = elim (cases_Bool (list_any (has_man p Black) (squares_of g))) [
       | inl black ↦ rw black refl
       | inr no_black ↦ elim (cases_Bool (is_barred p set g)) [
@@ -253,7 +253,7 @@ module _ (p : Position) (set : List RuleInstance) where
       → list_any (bars p set g) listed_answers ≡ list_any (bars p set g) (supported_by p set)
   same_answered g among left_open = agree _ _
       (λ h. let found = any_gives (bars p set g) listed_answers h in any_from (bars p set g) (supported_by p set) found.0 (listed_supported found.0 found.1)
-          found.2)
+      found.2)
       (λ h. let found = find_one (bars p set g) (supported_by p set) h in
       any_from (bars p set g) listed_answers found.1 (answers_has (groups_of (board_of p)) [] g found.1 among left_open found.4) found.3)
 

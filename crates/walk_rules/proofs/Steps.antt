@@ -1,8 +1,8 @@
 -- What is left to visit after a set, for a stack of frames and the zones that are still to be tried: where the walk
 -- begins, what a zone that may follow changes and one that may not, what is left once a frame is taken away, and where the
 -- walk ends. And sets of zones: one more, one less, and how many there can be.
-use Rattle.std.proofs.Common.{◌≡◌, ◌+◌, ◌≤◌, true, false, ◌&&◌, List, [], ◌∷◌, ◌++◌, length, filter, refl, sym, ap, ◌∙◌, inl, inr, arith, append-nil,
-    append_assoc, length-append}
+use Rattle.std.proofs.Common.{◌≡◌, ◌+◌, ◌≤◌, true, false, ◌&&◌, List, [], ◌∷◌, ◌++◌, length, filter, refl, sym, ap, ◌∙◌, inl, inr, arith, append-nil}
+use Rattle.std.proofs.Common.{append_assoc, length-append}
 use Rattle.std.specs.List.{list_all, flat_map}
 use Rattle.std.proofs.lemmas.Bool.{and_parts, and_from}
 use Rattle.std.proofs.lemmas.List.{map-append}
@@ -53,10 +53,10 @@ pub left_push : (p : Position) (frames : List Frame) (w : RuleInstance) (behind 
 left_push p frames w behind follows =
     ap (λ sets. sets ++ after_frames p [] frames) tried
     ∙ ap (λ sets. (set_of frames ++ w ∷ []) ∷ sets)
-        (append_assoc (after p (set_of frames ++ w ∷ []) (fitting_zones p)) (after p (set_of frames) behind) (after_frames p [] frames))
+    (append_assoc (after p (set_of frames ++ w ∷ []) (fitting_zones p)) (after p (set_of frames) behind) (after_frames p [] frames))
     ∙ ap (λ sets. (set_of frames ++ w ∷ []) ∷ (after p (set_of frames ++ w ∷ []) (fitting_zones p) ++ sets)) (sym (after_frames-append p [] frames w behind))
     ∙ ap (λ set. (set_of frames ++ w ∷ []) ∷ (after p set (fitting_zones p) ++ after_frames p [] (frames ++ (w, behind) ∷ [])))
-        (sym (set_of-append frames w behind))
+    (sym (set_of-append frames w behind))
   where
     kept : filter (may_follow p (set_of frames)) (w ∷ behind) ≡ w ∷ filter (may_follow p (set_of frames)) behind
     kept = rw follows refl
@@ -144,7 +144,7 @@ module _ (p : Position) where
   set_bound set board is =
       let both = and_parts (list_all (λ w. owns_zone w && fits w p) set) (each_two together set) is in
       let each : (w : RuleInstance) → Among w set → (owns_zone w ≡ true)
-          × (fits w p ≡ true) = λ w among. and_parts (owns_zone w) (fits w p) (all_gives (λ w. owns_zone w && fits w p) set w both.0 among) in
+      × (fits w p ≡ true) = λ w among. and_parts (owns_zone w) (fits w p) (all_gives (λ w. owns_zone w && fits w p) set w both.0 among) in
       let members : StandTogether p set = record { fitting = all_from (λ w. fits w p) set (λ w among. (each w among).1); standing = both.1 } in
       omega (arith, fifty_members p set board members, ap length (all_own set (λ w among. (each w among).0)))
     where

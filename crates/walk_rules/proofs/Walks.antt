@@ -1,7 +1,7 @@
 -- Each zone that is added takes an open square at least, so as many zones as squares are open are enough: a set's walk is
 -- the set, and then the walks of the sets with one zone more.
-use Rattle.std.proofs.Common.{◌≡◌, ℕ, zero, suc, ◌<◌, ◌≤◌, Bool, true, false, not, ◌&&◌, ◌||◌, List, [], ◌∷◌, ◌++◌, length, filter, refl, sym, ap, ◌∙◌, inl,
-    arith}
+use Rattle.std.proofs.Common.{◌≡◌, ℕ, zero, suc, ◌<◌, ◌≤◌, Bool, true, false, not, ◌&&◌, ◌||◌, List, [], ◌∷◌, ◌++◌, length, filter, refl, sym, ap, ◌∙◌, inl}
+use Rattle.std.proofs.Common.{arith}
 use Rattle.std.specs.List.{list_all, flat_map}
 use Rattle.std.proofs.Math.Bool.{or-false}
 use Rattle.std.proofs.lemmas.Bool.{and_parts, and_from, false_from_ne_true}
@@ -51,7 +51,7 @@ fewer_open p set w follows =
     was_open u h =
         let both = and_parts (is_empty p u) (not (has_owner (set ++ w ∷ []) u)) h in
         and_from (is_empty p u) (not (has_owner set u)) both.0
-            (none_before (has_owner set u) (has_square (zone_of w) u) (ap not (sym (owner_more set w u)) ∙ both.1))
+        (none_before (has_owner set u) (has_square (zone_of w) u) (ap not (sym (owner_more set w u)) ∙ both.1))
 
     closed : (u : Square) → has_square (zone_of w) u ≡ true → is_uncovered p (set ++ w ∷ []) u ≡ false
     closed u owned =
@@ -72,7 +72,7 @@ enough p zones (suc m) zero set low_m low_n =
     ap (λ ws. set ∷ flat_map (λ w. walk_within p zones m (set ++ w ∷ [])) ws) (filter_none (may_follow p set) zones (λ w. none_follows p set w low_n))
 enough p zones (suc m) (suc n) set low_m low_n =
     ap (λ sets. set ∷ sets) (flat_map_same (λ w. walk_within p zones m (set ++ w ∷ [])) (λ w. walk_within p zones n (set ++ w ∷ []))
-        (filter (may_follow p set) zones) (λ w among.
+    (filter (may_follow p set) zones) (λ w among.
     let fewer = fewer_open p set w (Among-filter_gives (may_follow p set) zones w among).1 in
     enough p zones m n (set ++ w ∷ []) (omega (arith, fewer)) (omega (arith, fewer))))
 
@@ -82,6 +82,6 @@ unfolding walk_within walk_from
 walk_step p set =
     enough p (fitting_zones p) (length (open_squares p set)) (suc (length (open_squares p set))) set (omega arith) (omega arith)
     ∙ ap (λ sets. set ∷ sets) (flat_map_same (λ w. walk_within p (fitting_zones p) (length (open_squares p set)) (set ++ w ∷ []))
-        (λ w. walk_from p (set ++ w ∷ [])) (filter (may_follow p set) (fitting_zones p)) (λ w among.
+    (λ w. walk_from p (set ++ w ∷ [])) (filter (may_follow p set) (fitting_zones p)) (λ w among.
     let fewer = fewer_open p set w (Among-filter_gives (may_follow p set) (fitting_zones p) w among).1 in
     enough p (fitting_zones p) (length (open_squares p set)) (length (open_squares p (set ++ w ∷ []))) (set ++ w ∷ []) (omega (arith, fewer)) (omega arith)))

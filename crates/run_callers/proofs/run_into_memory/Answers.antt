@@ -12,4 +12,4 @@ pub returns-clause-proved : goal.returns-clause-proved
 returns-clause-proved g c = λ nodes reach table front written ended.
     let outcome = c.run.ensures.outcome in
     holds_proof (g.S.Source.last_read c.run.new.source) nodes reach table front _ _ c.args.out.now.written c.run.new.out.written outcome.2
-        (by_form _ _ _ outcome.2 (outcome.0, outcome.1, outcome.4) written) (subst (λ status. (status ≡ 0) ⊎ (status ≡ 5)) outcome.3 ended)
+    (by_form _ _ _ outcome.2 (outcome.0, outcome.1, outcome.4) written) (subst (λ status. (status ≡ 0) ⊎ (status ≡ 5)) outcome.3 ended)

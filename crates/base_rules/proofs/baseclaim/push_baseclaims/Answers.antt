@@ -20,8 +20,8 @@ list_triples-requires-clause-room g c =
     let evens = c.squares-evens.ensures ∙ playables_off p _ _ _ c.without.result h all c.of-playables.ensures c.odd_rows.ensures c.without.ensures in
     let odds = c.squares-odds.ensures ∙ playables_on p _ _ _ c.intersection.result h all c.of-playables.ensures c.odd_rows-2.ensures c.intersection.ensures in
     subst (λ ws. length (g.T.Taker.taken c.args.taker.now) + length ws ≤ g.T.Taker.room c.args.taker.now)
-        (sym (baseclaim_sites p _ _ _ h (c.as_slice-2.ensures.value ∙ evens) (c.as_slice-3.ensures.value ∙ odds) (c.as_slice-4.ensures.value ∙ evens)))
-        c.requires
+    (sym (baseclaim_sites p _ _ _ h (c.as_slice-2.ensures.value ∙ evens) (c.as_slice-3.ensures.value ∙ odds) (c.as_slice-4.ensures.value ∙ evens)))
+    c.requires
 
 pub returns-clause-taken : goal.returns-clause-taken
 returns-clause-taken g c =
@@ -30,4 +30,4 @@ returns-clause-taken g c =
     let evens = c.squares-evens.ensures ∙ playables_off p _ _ _ c.without.result h all c.of-playables.ensures c.odd_rows.ensures c.without.ensures in
     let odds = c.squares-odds.ensures ∙ playables_on p _ _ _ c.intersection.result h all c.of-playables.ensures c.odd_rows-2.ensures c.intersection.ensures in
     c.list_triples.ensures.taken ∙ ap (λ ws. g.T.Taker.taken c.args.taker.now ++ ws)
-        (baseclaim_sites p _ _ _ h (c.as_slice-2.ensures.value ∙ evens) (c.as_slice-3.ensures.value ∙ odds) (c.as_slice-4.ensures.value ∙ evens))
+    (baseclaim_sites p _ _ _ h (c.as_slice-2.ensures.value ∙ evens) (c.as_slice-3.ensures.value ∙ odds) (c.as_slice-4.ensures.value ∙ evens))

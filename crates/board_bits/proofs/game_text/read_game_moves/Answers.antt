@@ -6,7 +6,7 @@ use Rattle.board_bits.proofs.game_text.read_game_moves.Goals as goal
 pub overflow_cast-result : goal.overflow_cast-result
 overflow_cast-result c =
     let near : c.saturating_sub.result < 2 ^ 32 = omega (arith, place_near c.args.bytes.now c.in-Err.stop c.in-Err.ensures.position, c.saturating_sub.ensures)
-        in
+    in
     search (rules, near)
 
 pub returns-in-Ok-clause-position : goal.returns-in-Ok-clause-position

@@ -16,7 +16,7 @@ loop-place-preserved c = record {
   so_far = c.push.ensures.items
       ∙ ap (λ xs. xs ++ c.nth_column.result ∷ []) c.loop-place.invariant.so_far
       ∙ ap (λ n. map (column_at c.args.size.cols) (below c.loop-place.place) ++ n ∷ []) (c.nth_column.ensures ∙ c.column_at.ensures.value
-          ∙ ap (λ n. column_at n c.loop-place.place) c.cols.ensures.value)
+      ∙ ap (λ n. column_at n c.loop-place.place) c.cols.ensures.value)
       ∙ sym (map-range_with_len_more (column_at c.args.size.cols) 0 c.loop-place.place c.loop-place.place (omega arith));
   count = omega (arith, c.push.ensures.len, c.loop-place.invariant.count);
 }

@@ -26,11 +26,11 @@ loop-index-preserved c =
         | then-has_room+in-Some w ↦
             ap (λ left. bytes_eq (columns_of left.now) (open_from p (i + 1))) w.left-is
             ∙ column_cited p i column (columns_of c.loop-index.left.now) (columns_of w.in-Some.rest.now) all c.nth_column-column.ensures within
-                (sym c.has_room.ensures ∙ w.if-has_room.true) c.loop-index.invariant.same
+            (sym c.has_room.ensures ∙ w.if-has_room.true) c.loop-index.invariant.same
             (MatchOption-at_some _ _ w.in-Some.rest w.in-Some.is w.behind.ensures)
         | else-has_room w ↦
             ap (λ left. bytes_eq (columns_of left.now) (open_from p (i + 1))) w.left-is
             ∙ column_closed p i column (columns_of c.loop-index.left.now) all c.nth_column-column.ensures within (sym c.has_room.ensures ∙ w.if-has_room.false)
-                c.loop-index.invariant.same
+            c.loop-index.invariant.same
       ];
     }

@@ -22,4 +22,4 @@ returns c =
     let all = written_list c.loop-left.list.items in
     sym (members_are c.args.size c.args.bytes.now all few
     (c.loop-left.invariant.members ∙ ap (λ left. instances_of c.args.size (words_left left) >>= (λ more. Some (all ++ more))) c.in_default.is
-        ∙ ap Some (append-nil all)))
+    ∙ ap Some (append-nil all)))

@@ -10,7 +10,7 @@ pub returns-in_err-put_all-clause-written : goal.returns-in_err-put_all-clause-w
 returns-in_err-put_all-clause-written g c =
     let same = err_from_is_err_and c.from_residual.result c.from_residual.ensures.1 in
     rw (same.1, ← plan_pieces (written_list c.args.list.now))
-        (AppendsPrefix_take _ _ (codes "plan") (members_text (written_list c.args.list.now) ++ 10 ∷ []) c.in_err-put_all.ensures.bytes)
+    (AppendsPrefix_take _ _ (codes "plan") (members_text (written_list c.args.list.now) ++ 10 ∷ []) c.in_err-put_all.ensures.bytes)
 
 pub returns-clause-written : goal.returns-clause-written
 returns-clause-written g c =

@@ -13,7 +13,7 @@ returns-in_err-put_member-clause-written g c =
     let i = c.loop-instance.instance-index in
     let made = flat_map_made (λ w. 32 ∷ instance_text w) written in
     let before : Appends (g.O.Sink.written c.args.out.now) (g.O.Sink.written c.loop-instance.out)
-        (flat_map (λ x. 32 ∷ instance_text (written x)) (take i list)) =
+    (flat_map (λ x. 32 ∷ instance_text (written x)) (take i list)) =
     subst (Appends _ _) (made (take i list)) c.loop-instance.invariant.bytes in
     rw (same.1, made list) (pieces_cut (λ x. 32 ∷ instance_text (written x)) _ _ _ list i c.instance-item.result (omega arith) c.instance-item.is before
-        c.in_err-put_member.ensures.written)
+    c.in_err-put_member.ensures.written)

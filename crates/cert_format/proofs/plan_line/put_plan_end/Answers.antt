@@ -13,4 +13,4 @@ returns-in_err-put_members-clause-written g c =
 pub returns-clause-written : goal.returns-clause-written
 returns-clause-written g c =
     AppendsPrefix_more (is_ok c.put_all.result) _ _ _ (members_text (written_list c.args.members.now)) (10 ∷ []) c.in_ok-put_members.ensures.written
-        c.put_all.ensures.bytes
+    c.put_all.ensures.bytes

@@ -20,4 +20,4 @@ returns c =
     let all = map cite_of c.loop-left.cites.items in
     sym (all_read c.args.size.cols c.args.bytes.now all few
     (c.loop-left.invariant.cites ∙ ap (λ left. cites_of c.args.size.cols (words_left left) >>= (λ more. Some (all ++ more))) c.in_default.is
-        ∙ ap Some (append-nil all)))
+    ∙ ap Some (append-nil all)))

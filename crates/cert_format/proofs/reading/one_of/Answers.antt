@@ -13,11 +13,11 @@ returns-in_err-number_of c =
     let cut : words_of c.args.bytes.now ≡ letter ∷ words_of number.now = MatchOption-at_some _ _ number c.in_ok-number.was c.split_word.ensures.words in
     ap (option_map (λ cite. ByOne (cite_of cite))) c.from_residual-in_err-number_of.ensures
     ∙ sym (letter_and_number c.args.size.cols c.args.bytes.now letter number.now (Some c.in_ok-letter_word.field-0) None cut
-        (sym c.letter_word.ensures ∙ c.in_ok-letter_word.was) (sym c.number_of.ensures ∙ c.in_err-number_of.was))
+    (sym c.letter_word.ensures ∙ c.in_ok-letter_word.was) (sym c.number_of.ensures ∙ c.in_err-number_of.was))
 
 pub returns : goal.returns
 returns c =
     let letter = c.split_word.result.0.now in let number = c.in_ok-number.field-0 in
     let cut : words_of c.args.bytes.now ≡ letter ∷ words_of number.now = MatchOption-at_some _ _ number c.in_ok-number.was c.split_word.ensures.words in
     sym (letter_and_number c.args.size.cols c.args.bytes.now letter number.now (Some c.in_ok-letter_word.field-0) (Some c.in_ok-number_of.field-0) cut
-        (sym c.letter_word.ensures ∙ c.in_ok-letter_word.was) (sym c.number_of.ensures ∙ c.in_ok-number_of.was))
+    (sym c.letter_word.ensures ∙ c.in_ok-letter_word.was) (sym c.number_of.ensures ∙ c.in_ok-number_of.was))

@@ -12,12 +12,12 @@ pub list_fitting-requires-clause-room : goal.list_fitting-requires-clause-room
 list_fitting-requires-clause-room g c =
     let p = c.args.p.now in
     let whole = all_open aftereven p c.as_slice.result.now (λ g good. fits_more (aftereven g) p good) (c.as_slice.ensures.value ∙ c.groups-groups.ensures
-        ∙ c.free_for.ensures.in_order) in
+    ∙ c.free_for.ensures.in_order) in
     subst (λ ws. length (g.T.Taker.taken c.args.taker.now) + length ws ≤ g.T.Taker.room c.args.taker.now) (sym whole) c.requires
 
 pub returns-clause-taken : goal.returns-clause-taken
 returns-clause-taken g c =
     let p = c.args.p.now in
     let whole = all_open aftereven p c.as_slice.result.now (λ g good. fits_more (aftereven g) p good) (c.as_slice.ensures.value ∙ c.groups-groups.ensures
-        ∙ c.free_for.ensures.in_order) in
+    ∙ c.free_for.ensures.in_order) in
     c.list_fitting.ensures.taken ∙ ap (λ ws. g.T.Taker.taken c.args.taker.now ++ ws) whole

@@ -10,7 +10,7 @@ pub returns-then-not-meets : goal.returns-then-not-meets
 returns-then-not-meets c =
     let clear : not (list_any (has_man c.args.p.now White) c.args.squares) ≡ true
     = ap not (sym (c.meets.ensures ∙ any_same (has_square c.white.result) (has_man c.args.p.now White) c.args.squares (λ u among. c.white.ensures.has u))
-        ∙ c.if-not-meets.true) in
+    ∙ c.if-not-meets.true) in
     c.meets-then-not-meets.ensures
     ∙ any_same (has_square c.empties.result) (is_empty c.args.p.now) c.args.squares (λ u among. c.empties.ensures.has u)
     ∙ ap (λ b. b && list_any (is_empty c.args.p.now) c.args.squares) (sym clear)

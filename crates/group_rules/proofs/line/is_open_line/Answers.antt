@@ -14,7 +14,7 @@ returns-then-lies_on c =
     let white : not (list_any (has_man p White) c.group_mask.result) ≡ list_all (λ u. not (has_man p White u)) us
     = ap not (any_in_same (has_man p White) c.group_mask.result us c.group_mask.ensures.has) ∙ none_all (has_man p White) us in
     let lies : lies_on (board_of p) c.args.g ≡ true = sym (ap (λ board. lies_on board c.args.g) c.size.ensures.value) ∙ sym c.lies_on.ensures
-        ∙ c.if-lies_on.true in
+    ∙ c.if-lies_on.true in
     c.is_open.ensures
     ∙ ap (λ b. b && list_any (is_empty p) c.group_mask.result) white
     ∙ ap (λ b. list_all (λ u. not (has_man p White u)) us && b) (any_in_same (is_empty p) c.group_mask.result us c.group_mask.ensures.has)

@@ -28,9 +28,9 @@ loop-rows-preserved c = record {
       ap (λ b. b || has_square c.lowered-lowered.result u) (c.loop-rows.invariant.so_far.has u)
       ∙ ap (λ b. (nat_le 1 u.1 && list_any (λ i. has_square c.args.set (u.0, u.1 + 1 + i)) (below c.loop-rows._rows)) || b) (c.lowered-lowered.ensures.has u)
       ∙ shared (nat_le 1 u.1) (list_any (λ i. has_square c.args.set (u.0, u.1 + 1 + i)) (below c.loop-rows._rows))
-          (has_square c.loop-rows.lowered (u.0, u.1 + 1))
+      (has_square c.loop-rows.lowered (u.0, u.1 + 1))
       ∙ ap (λ b. nat_le 1 u.1 && (list_any (λ i. has_square c.args.set (u.0, u.1 + 1 + i)) (below c.loop-rows._rows) || b))
-          (c.loop-rows.invariant.moved (u.0, u.1 + 1) (omega arith))
+      (c.loop-rows.invariant.moved (u.0, u.1 + 1) (omega arith))
       ∙ ap (λ b. nat_le 1 u.1 && b) (sym (above_more (has_square c.args.set) u c.loop-rows._rows)));
 }
   where
@@ -42,4 +42,4 @@ pub returns : goal.returns
 returns c =
     let rows : c.loop-rows._rows ≡ 10 = omega (arith, c.loop-rows-test.false, c.loop-rows.auto._rows-end) in
     subst (λ k. IsSetOf (λ u. nat_le 1 u.1 && list_any (λ i. has_square c.args.set (u.0, u.1 + 1 + i)) (below k)) c.loop-rows.below) rows
-        c.loop-rows.invariant.so_far
+    c.loop-rows.invariant.so_far

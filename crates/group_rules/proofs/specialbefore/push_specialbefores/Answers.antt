@@ -15,7 +15,7 @@ push_of_group-requires-clause-room g c =
     let room : length (g.T.Taker.taken c.args.taker.now) + length (flat_map adds gs) ≤ g.T.Taker.room c.loop-g.taker
     = omega (arith, c.requires, ap length (fitting_pairs (λ three. special_of three.0 three.1) p gs pairs), ap length whole, c.loop-g.invariant.1) in
     room_for_one adds (g.T.Taker.taken c.args.taker.now) (g.T.Taker.taken c.loop-g.taker) gs c.loop-g.g-index c.g-item.result (g.T.Taker.room c.loop-g.taker)
-        c.loop-g-test.true c.g-item.is c.loop-g.invariant.0 room
+    c.loop-g-test.true c.g-item.is c.loop-g.invariant.0 room
 
 pub loop-g-preserved : goal.loop-g-preserved
 loop-g-preserved g c =
@@ -23,7 +23,7 @@ loop-g-preserved g c =
     let adds : _ → List RuleInstance = λ line. fitting (special_of line) p pairs in (
       c.push_of_group.ensures.taken
           ∙ one_more adds (g.T.Taker.taken c.args.taker.now) (g.T.Taker.taken c.loop-g.taker) c.as_slice-g-items.result.now c.loop-g.g-index c.g-item.result
-              c.loop-g-test.true c.g-item.is c.loop-g.invariant.0,
+          c.loop-g-test.true c.g-item.is c.loop-g.invariant.0,
       c.push_of_group.ensures.room ∙ c.loop-g.invariant.1,
     )
 

@@ -14,5 +14,5 @@ pub returns : goal.returns
 returns c =
     c.loop-playable.invariant
     ∙ ap (map bottom_over) (take_all c.loop-playable.playable-index c.as_slice-playable-items.result.now c.loop-playable-test.false
-        ∙ c.as_slice-playable-items.ensures.value ∙ c.playables-playables.ensures)
+    ∙ c.as_slice-playable-items.ensures.value ∙ c.playables-playables.ensures)
     ∙ all_bottoms c.args.p.now c.has_a_board.ensures.board

@@ -33,7 +33,7 @@ loop-bottom-preserved c =
           c.push.ensures.items
           ∙ ap (λ u. c.loop-bottom.columns.items ++ (c.args.bottom, u) ∷ []) c.step-top.ensures
           ∙ column_more c.args.bottom c.loop-bottom.top c.args.columns.now.items c.loop-bottom.columns.items bottom.0 so_far.even so_far.low so_far.column
-              so_far.items
+          so_far.items
           ∙ ap (λ n. c.args.columns.now.items ++ map (λ (u : Square). (c.args.bottom, u)) (tops_within c.args.bottom n)) (sym row);
       count = omega (arith, row, so_far.count, c.push.ensures.len);
     }
@@ -43,4 +43,4 @@ returns-clause-items c =
     let high = ap (λ (b : Board). b.rows) c.size-size.ensures.value in
     c.loop-bottom.invariant.items
     ∙ ap (λ n. c.args.columns.now.items ++ map (λ (u : Square). (c.args.bottom, u)) (tops_within c.args.bottom n))
-        (omega (arith, high, c.loop-bottom.invariant.within, c.loop-bottom-test.false, c.row.ensures.value, c.rows.ensures.value))
+    (omega (arith, high, c.loop-bottom.invariant.within, c.loop-bottom-test.false, c.row.ensures.value, c.rows.ensures.value))

@@ -14,11 +14,11 @@ list_pairs-requires-clause-sites g c =
 pub list_pairs-requires-clause-room : goal.list_pairs-requires-clause-room
 list_pairs-requires-clause-room g c =
     let whole = lowinverse_sites c.args.p.now c.as_slice.result.now c.as_slice-2.result.now (c.as_slice.ensures.value ∙ c.columns_over_bottoms-columns.ensures)
-        (c.as_slice-2.ensures.value ∙ c.columns_over_bottoms-columns.ensures) in
+    (c.as_slice-2.ensures.value ∙ c.columns_over_bottoms-columns.ensures) in
     subst (λ ws. length (g.T.Taker.taken c.args.taker.now) + length ws ≤ g.T.Taker.room c.args.taker.now) (sym whole) c.requires
 
 pub returns-clause-taken : goal.returns-clause-taken
 returns-clause-taken g c =
     let whole = lowinverse_sites c.args.p.now c.as_slice.result.now c.as_slice-2.result.now (c.as_slice.ensures.value ∙ c.columns_over_bottoms-columns.ensures)
-        (c.as_slice-2.ensures.value ∙ c.columns_over_bottoms-columns.ensures) in
+    (c.as_slice-2.ensures.value ∙ c.columns_over_bottoms-columns.ensures) in
     c.list_pairs.ensures.taken ∙ ap (λ ws. g.T.Taker.taken c.args.taker.now ++ ws) whole

@@ -9,7 +9,7 @@ pub list_fitting-requires-clause-sites : goal.list_fitting-requires-clause-sites
 list_fitting-requires-clause-sites g c =
     let sites = c.as_slice.ensures.value ∙ c.squares-squares.ensures in
     subst (λ us. list_all (λ u. fits (vertical u) c.args.p.now) us ≡ true) (sym sites)
-        (every_site vertical c.args.p.now c.fitting_squares.result c.fitting_squares.ensures)
+    (every_site vertical c.args.p.now c.fitting_squares.result c.fitting_squares.ensures)
 
 pub list_fitting-requires-clause-room : goal.list_fitting-requires-clause-room
 list_fitting-requires-clause-room g c =

@@ -9,4 +9,4 @@ invariant_of-result c =
     let b = c.args.size in
     let line : is_line b c.args.way c.args.anchor ≡ true = sym c.has_line.ensures.value ∙ c.if-has_line.true in
     subst (λ len. is_line (widest_with len) c.args.way c.args.anchor ≡ true) (sym c.length.ensures)
-        (line_widest b c.has_line.ensures.board c.args.way c.args.anchor line)
+    (line_widest b c.has_line.ensures.board c.args.way c.args.anchor line)

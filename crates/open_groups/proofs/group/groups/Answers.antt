@@ -8,27 +8,48 @@ pub push_along-requires-clause-room : goal.push_along-requires-clause-room
 push_along-requires-clause-room c = omega (arith, ways_fit c.args.size c.squares-squares.ensures.board, ap length c.new-groups.ensures)
 
 pub push_along-requires-2-clause-room : goal.push_along-requires-2-clause-room
-push_along-requires-2-clause-room c = omega (arith, ways_fit c.args.size c.squares-squares.ensures.board, ap length c.new-groups.ensures,
-    ap length c.push_along.ensures, length-append c.new-groups.result.items (groups_along c.args.size H))
+push_along-requires-2-clause-room c = omega (
+  arith,
+  ways_fit c.args.size c.squares-squares.ensures.board,
+  ap length c.new-groups.ensures,
+  ap length c.push_along.ensures,
+  length-append c.new-groups.result.items (groups_along c.args.size H),
+)
 
 pub push_along-requires-3-clause-room : goal.push_along-requires-3-clause-room
 push_along-requires-3-clause-room c =
-    omega (arith, ways_fit c.args.size c.squares-squares.ensures.board, ap length c.new-groups.ensures, ap length c.push_along.ensures,
-    length-append c.new-groups.result.items (groups_along c.args.size H), ap length c.push_along-2.ensures, length-append c.push_along.new.groups.items
-    (groups_along c.args.size V))
+    omega (
+      arith,
+      ways_fit c.args.size c.squares-squares.ensures.board,
+      ap length c.new-groups.ensures,
+      ap length c.push_along.ensures,
+      length-append c.new-groups.result.items (groups_along c.args.size H),
+      ap length c.push_along-2.ensures,
+      length-append c.push_along.new.groups.items
+          (groups_along c.args.size V),
+    )
 
 pub push_along-requires-4-clause-room : goal.push_along-requires-4-clause-room
 push_along-requires-4-clause-room c =
-    omega (arith, ways_fit c.args.size c.squares-squares.ensures.board, ap length c.new-groups.ensures, ap length c.push_along.ensures,
-    length-append c.new-groups.result.items (groups_along c.args.size H), ap length c.push_along-2.ensures, length-append c.push_along.new.groups.items
-    (groups_along c.args.size V), ap length c.push_along-3.ensures, length-append c.push_along-2.new.groups.items (groups_along c.args.size U))
+    omega (
+      arith,
+      ways_fit c.args.size c.squares-squares.ensures.board,
+      ap length c.new-groups.ensures,
+      ap length c.push_along.ensures,
+      length-append c.new-groups.result.items (groups_along c.args.size H),
+      ap length c.push_along-2.ensures,
+      length-append c.push_along.new.groups.items
+          (groups_along c.args.size V),
+      ap length c.push_along-3.ensures,
+      length-append c.push_along-2.new.groups.items (groups_along c.args.size U),
+    )
 
 pub returns : goal.returns
 returns c =
     let b = c.args.size in let h = groups_along b H in let v = groups_along b V in let u = groups_along b U in let d = groups_along b D in
     c.push_along-4.ensures
     ∙ ap (λ gs. gs ++ d) (c.push_along-3.ensures
-        ∙ ap (λ gs. gs ++ u) (c.push_along-2.ensures ∙ ap (λ gs. gs ++ v) (c.push_along.ensures ∙ ap (λ gs. gs ++ h) c.new-groups.ensures)))
+    ∙ ap (λ gs. gs ++ u) (c.push_along-2.ensures ∙ ap (λ gs. gs ++ v) (c.push_along.ensures ∙ ap (λ gs. gs ++ h) c.new-groups.ensures)))
     ∙ append_assoc (h ++ v) u d
     ∙ append_assoc h v (u ++ d)
     ∙ sym (groups_by_way b)

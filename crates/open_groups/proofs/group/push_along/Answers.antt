@@ -15,7 +15,7 @@ push-requires c =
     let us = c.args.squares.now in
     let fits : length (anchored_in c.args.size c.args.way (take c.loop-anchor.anchor-index us)) + 1 ≤ length (anchored_in c.args.size c.args.way us)
     = filtered_fits (is_line c.args.size c.args.way) (group_on c.args.size c.args.way) us c.loop-anchor.anchor-index c.anchor-item.result
-        c.loop-anchor-test.true c.anchor-item.is c.in-Some.group (sym c.in-Some.is ∙ c.group_at.ensures) in
+    c.loop-anchor-test.true c.anchor-item.is c.in-Some.group (sym c.in-Some.is ∙ c.group_at.ensures) in
     let all : anchored_in c.args.size c.args.way us ≡ groups_along c.args.size c.args.way
     = ap (anchored_in c.args.size c.args.way) c.requires.squares in (
       lit< tt,
@@ -39,12 +39,12 @@ loop-anchor-preserved c =
           ∙ ap (λ gs. gs ++ w.in-Some.group ∷ []) c.loop-anchor.invariant
           ∙ append_assoc old (anchored_in c.args.size c.args.way (take i us)) (w.in-Some.group ∷ [])
           ∙ ap (λ gs. old ++ gs) (sym (filtered_more (is_line c.args.size c.args.way) (group_on c.args.size c.args.way) us i c.anchor-item.result
-              c.loop-anchor-test.true c.anchor-item.is w.in-Some.group (sym w.in-Some.is ∙ c.group_at.ensures)))
+          c.loop-anchor-test.true c.anchor-item.is w.in-Some.group (sym w.in-Some.is ∙ c.group_at.ensures)))
       | in_default w ↦
           ap (λ (v : ArrayVec GroupId). v.items) w.groups-is
           ∙ c.loop-anchor.invariant
           ∙ ap (λ gs. old ++ gs) (sym (filtered_none (is_line c.args.size c.args.way) (group_on c.args.size c.args.way) us i c.anchor-item.result
-              c.loop-anchor-test.true c.anchor-item.is (sym w.in_default.is ∙ c.group_at.ensures)))
+          c.loop-anchor-test.true c.anchor-item.is (sym w.in_default.is ∙ c.group_at.ensures)))
     ]
 
 pub returns : goal.returns

@@ -17,10 +17,10 @@ each c =
     let length_is = c.length-len.ensures ∙ ap (λ (b : Board). b.len) c.size-size.ensures.value in
     each_open c.args.p.now c.args.side c.size-size.ensures.stacked clear
     (λ u. c.union-clear.ensures.has u ∙ ap (λ b. b || has_square c.men.result u) (c.empties.ensures.has u)
-        ∙ ap (λ b. is_empty c.args.p.now u || b) (c.men.ensures.has u))
+    ∙ ap (λ b. is_empty c.args.p.now u || b) (c.men.ensures.has u))
     c.line_starts.result c.line_starts-2.result c.line_starts-3.result c.line_starts-4.result
     (rw (← length_is) c.line_starts.ensures) (rw (← length_is) c.line_starts-2.ensures) (rw (← length_is) c.line_starts-3.ensures)
-        (rw (← length_is) c.line_starts-4.ensures)
+    (rw (← length_is) c.line_starts-4.ensures)
 
 pub invariant_of-result : goal.invariant_of-result
 invariant_of-result c = rw c.size-size.ensures.value (record {

@@ -10,6 +10,12 @@ pub returns-else-room-lt-MOST_COLS : goal.returns-else-room-lt-MOST_COLS
 returns-else-room-lt-MOST_COLS c =
     let p = has_room c.args.position.now in
     let enough : length (filter p c.args.order.now) ≤ free_slots c.args.pool.now =
-        omega (arith, c.requires, length-filter p c.args.order.now, count_by-le-length p c.args.order.now, c.room-room.ensures.value,
-        c.if-room-lt-MOST_COLS.false) in
+    omega (
+      arith,
+      c.requires,
+      length-filter p c.args.order.now,
+      count_by-le-length p c.args.order.now,
+      c.room-room.ensures.value,
+      c.if-room-lt-MOST_COLS.false,
+    ) in
     le-ltb c.room-room.result 10 c.if-room-lt-MOST_COLS.false ∙ sym (le-ltb (free_slots c.args.pool.now) (length (filter p c.args.order.now)) enough)

@@ -12,7 +12,7 @@ free_row-requires t c =
     let side = c.requires.row.0 in let given = c.requires.row.1 in
     let o = opened_at side given.row given.others c.in-Some.is c.get-node.ensures given.lies in
     let fewer : node_count (row_at c.args.pool.now c.get-node.result.now.first) < t =
-        omega (arith, fewer_below side given.row given.others given.lies o, c.decreases) in
+    omega (arith, fewer_below side given.row given.others given.lies o, c.decreases) in
     (fewer, (side, below_at side given.row given.others given.lies o))
 
 pub free_row-requires-2 : goal.free_row-requires-2
@@ -21,7 +21,7 @@ free_row-requires-2 t c =
     let o = opened_at side given.row given.others c.in-Some.is c.get-node.ensures given.lies in
     let left = beside_freed side given.row given.others given.lies o (c.free_row.ensures.freed side _ _ o.below) in
     let fewer : node_count (row_at c.free_row.new.pool c.get-node.result.now.next) < t =
-        omega (arith, fewer_freed side given.row given.others given.lies o left, c.decreases) in
+    omega (arith, fewer_freed side given.row given.others given.lies o left, c.decreases) in
     (fewer, (side, record { row = _; others = _; lies = left }))
 
 pub give_back-requires : goal.give_back-requires
@@ -37,4 +37,4 @@ returns-clause-freed t c side row others lies =
     let left = beside_freed side row others lies o (c.free_row.ensures.freed side _ _ o.below) in
     subst (λ s. Owns s others) (sym c.give_back.ensures.taken)
     (given_to c.in-Some.slot c.get-node.result.now others (c.free_row-2.ensures.freed side _ _ left) (ap (λ s. live_slots s + 1) (sym c.give_back.ensures.taken)
-        ∙ c.give_back.ensures.count))
+    ∙ c.give_back.ensures.count))

@@ -12,11 +12,21 @@ returns-clause-placed t c others owns =
     let split = first_and_rest c.args.order.now column c.in-len1-up.len_at_least c.column-item.is in
     let room = sym c.has_room.ensures ∙ c.if-not-has_room.false in
     let free : live_slots c.place_leaves-beside.new.pool < length c.place_leaves-beside.new.pool =
-    omega (arith, c.requires.room, c.place_leaves-beside.ensures.live, c.place_leaves-beside.ensures.same,
-        ap length (more_open p c.args.order.now _ column split room)) in
+    omega (
+      arith,
+      c.requires.room,
+      c.place_leaves-beside.ensures.live,
+      c.place_leaves-beside.ensures.same,
+      ap length (more_open p c.args.order.now _ column split room),
+    ) in
     leaf_before p c.args.asked.now.side (planned c.args.asked.now.reach) c.args.order.now _ column c.place_leaves-beside.result c.place.result c.leaf.result
-        others split room
-    (c.leaf.ensures ∙ ap (λ q. record { position = q; first = None; next = c.place_leaves-beside.result; numbers =
-        leaf_numbers (verdict_at c.args.asked.now.side (planned c.args.asked.now.reach) q) }) c.after.ensures)
+    others split room
+    (c.leaf.ensures ∙ ap (λ q. record {
+      position = q;
+      first = None;
+      next = c.place_leaves-beside.result;
+      numbers =
+          leaf_numbers (verdict_at c.args.asked.now.side (planned c.args.asked.now.reach) q);
+    }) c.after.ensures)
     c.place.ensures.full.0 free c.place.ensures.within c.place.ensures.free c.place.ensures.placed c.place.ensures.count
     (c.place_leaves-beside.ensures.placed others owns)

@@ -10,10 +10,10 @@ pub returns-then-does_answer : goal.returns-then-does_answer
 returns-then-does_answer c =
     chosen_then (does_answer c.args.p.now (facts_in c.args.kept.now) (has_square c.args.empty)) _ _
     (ap (λ x. specialbefore x.0 x.1 x.2) (sym (made_is _ (c.args.group, c.args.f, c.args.e0) c.in_ok-rule.rule (sym c.new.ensures ∙ c.in_ok-rule.was))))
-        (sym c.does_answer.ensures ∙ c.if-does_answer.true)
+    (sym c.does_answer.ensures ∙ c.if-does_answer.true)
 
 pub returns-else-does_answer : goal.returns-else-does_answer
 returns-else-does_answer c =
     chosen_else (does_answer c.args.p.now (facts_in c.args.kept.now) (has_square c.args.empty)) _ _
     (ap (λ x. specialbefore x.0 x.1 x.2) (sym (made_is _ (c.args.group, c.args.f, c.args.e0) c.in_ok-rule.rule (sym c.new.ensures ∙ c.in_ok-rule.was))))
-        (sym c.does_answer.ensures ∙ c.if-does_answer.false)
+    (sym c.does_answer.ensures ∙ c.if-does_answer.false)

@@ -12,5 +12,5 @@ pub returns : goal.returns
 returns c =
     c.special_among.ensures
     ∙ group_narrowed c.args.p.now c.args.kept.now c.args.empty c.has_a_board.ensures.board c.requires.kept c.args.group.now.id c.args.playable c.args.outside
-        c.intersection.result c.args.group.now.empty
+    c.intersection.result c.args.group.now.empty
     (ap (λ (group : OpenGroup). group.empty) c.requires.group) c.requires.playable c.requires.outside c.intersection.ensures

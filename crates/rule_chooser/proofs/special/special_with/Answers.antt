@@ -11,7 +11,7 @@ returns-then-is_some c =
     let p = c.args.p.now in let facts = facts_in c.args.kept.now in let part = has_square c.args.empty in
     found_here (first_of p facts part (λ e0. specialbefore c.args.group c.args.f e0)) _ (first_cons p facts part (λ e0. specialbefore c.args.group c.args.f e0))
     (λ x. specialbefore x.0 x.1 x.2) c.as_slice-e0-items.result.now c.loop-e0.e0-index c.e0-item.result c.special_at-found.result c.loop-e0-test.true
-        c.e0-item.is
+    c.e0-item.is
     c.special_at-found.ensures c.loop-e0.invariant (sym c.is_some.ensures ∙ c.if-is_some.true)
     ∙ ap (first_of p facts part (λ e0. specialbefore c.args.group c.args.f e0)) (c.as_slice-e0-items.ensures.value ∙ c.squares.ensures)
 
@@ -19,7 +19,7 @@ pub loop-e0-preserved : goal.loop-e0-preserved
 loop-e0-preserved c =
     let p = c.args.p.now in let facts = facts_in c.args.kept.now in let part = has_square c.args.empty in
     found_later (first_of p facts part (λ e0. specialbefore c.args.group c.args.f e0)) _
-        (first_cons p facts part (λ e0. specialbefore c.args.group c.args.f e0))
+    (first_cons p facts part (λ e0. specialbefore c.args.group c.args.f e0))
     (λ x. specialbefore x.0 x.1 x.2) c.as_slice-e0-items.result.now c.loop-e0.e0-index c.e0-item.result c.special_at-found.result c.loop-e0-test.true
-        c.e0-item.is
+    c.e0-item.is
     c.special_at-found.ensures c.loop-e0.invariant (sym c.is_some.ensures ∙ c.if-is_some.false)

@@ -13,7 +13,7 @@ returns-then-not-is_supported c =
     let at = member_at c.args.list.now i x c.loop-index-test.true c.index-list-index.is in
     let bare = ap not (sym c.is_supported.ensures ∙ c.if-not-is_supported.true) in
     sym (place_here (λ w. not (is_supported w (facts_in c.args.kept.now))) (i + 1) (written_list c.args.list.now) i (written x) at bare)
-        ∙ c.loop-index.invariant
+    ∙ c.loop-index.invariant
 
 pub loop-index-preserved : goal.loop-index-preserved
 loop-index-preserved c =
@@ -22,4 +22,4 @@ loop-index-preserved c =
     let at = member_at c.args.list.now i x c.loop-index-test.true c.index-list-index.is in
     let held = ap not (sym c.is_supported.ensures ∙ c.if-not-is_supported.false) in
     sym (place_next (λ w. not (is_supported w (facts_in c.args.kept.now))) (i + 1) (written_list c.args.list.now) i (written x) at held)
-        ∙ c.loop-index.invariant
+    ∙ c.loop-index.invariant

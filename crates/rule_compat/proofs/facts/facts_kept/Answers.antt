@@ -9,7 +9,7 @@ pub returns : goal.returns
 returns c =
     let facts = facts_of c.args.p.now (written_list c.args.list.now) in
     ap (λ empty. record { empty = empty; upper = has_square c.uppers.result; pair = has_square c.pairs.result; twin = c.twins.result.items })
-        (fun_ext c.empties.ensures.has)
+    (fun_ext c.empties.ensures.has)
     ∙ ap (λ upper. record { empty = facts.empty; upper = upper; pair = has_square c.pairs.result; twin = c.twins.result.items }) (fun_ext c.uppers.ensures.has)
     ∙ ap (λ pair. record { empty = facts.empty; upper = facts.upper; pair = pair; twin = c.twins.result.items }) (fun_ext c.pairs.ensures.has)
     ∙ ap (λ twin. record { empty = facts.empty; upper = facts.upper; pair = facts.pair; twin = twin }) c.twins.ensures

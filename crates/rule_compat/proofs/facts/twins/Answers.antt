@@ -8,7 +8,7 @@ use Rattle.rule_compat.proofs.facts.twins.Goals.{in-Some, in_default}
 pub push-requires : goal.push-requires
 push-requires c =
     let room = room_for_twin c.args.p.now c.args.list.now c.loop-instance.instance-index c.instance-item.result c.in-Some.twin c.has_a_board.ensures.board
-        c.requires c.loop-instance-test.true c.instance-item.is
+    c.requires c.loop-instance-test.true c.instance-item.is
     (ap as_list (sym c.twin.ensures.value ∙ c.in-Some.is)) in
     (lit< tt, omega (arith, room, ap length c.loop-instance.invariant))
 
@@ -16,7 +16,7 @@ pub loop-instance-preserved : goal.loop-instance-preserved
 loop-instance-preserved c =
     let before = twins_in (take c.loop-instance.instance-index c.args.list.now) in
     let gives = more (λ w. as_list (twin_of w)) c.args.list.now c.loop-instance.instance-index c.instance-item.result c.loop-instance-test.true
-        c.instance-item.is in
+    c.instance-item.is in
     elim c.match-twin.branch [
       | in-Some w ↦
           ap (λ twins. twins.items) w.twins-is

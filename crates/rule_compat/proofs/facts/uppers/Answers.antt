@@ -10,7 +10,7 @@ use Rattle.rule_compat.proofs.facts.uppers.Goals as goal
 pub loop-instance-preserved : goal.loop-instance-preserved
 loop-instance-preserved c =
     set_more upper_of c.args.list.now c.loop-instance.instance-index c.instance-item.result c.loop-instance.squares c.upper.result c.union-squares.result
-        c.loop-instance-test.true c.instance-item.is
+    c.loop-instance-test.true c.instance-item.is
     c.loop-instance.invariant c.upper.ensures c.union-squares.ensures
 
 pub returns : goal.returns

@@ -14,9 +14,9 @@ returns-then-bars c =
     let p = c.args.p.now in let g = c.args.g in let ws = written_list c.args.list.now in
     let at = member_at c.args.list.now i x c.loop-index-test.true c.index-list-index.is in
     let same = barred_by_sets p g (written x) (facts_in c.args.kept.now) (facts_of p ws) c.empties.result c.group_mask.result c.intersection-squares.result
-        c.requires.kept c.empties.ensures c.group_mask.ensures c.intersection-squares.ensures in
+    c.requires.kept c.empties.ensures c.group_mask.ensures c.intersection-squares.ensures in
     sym (place_here (λ w. barred w (facts_of p ws) (empty_part p g)) (i + 1) ws i (written x) at (sym same ∙ sym c.bars.ensures ∙ c.if-bars.true))
-        ∙ c.loop-index.invariant
+    ∙ c.loop-index.invariant
 
 pub loop-index-preserved : goal.loop-index-preserved
 loop-index-preserved c =
@@ -24,6 +24,6 @@ loop-index-preserved c =
     let p = c.args.p.now in let g = c.args.g in let ws = written_list c.args.list.now in
     let at = member_at c.args.list.now i x c.loop-index-test.true c.index-list-index.is in
     let same = barred_by_sets p g (written x) (facts_in c.args.kept.now) (facts_of p ws) c.empties.result c.group_mask.result c.intersection-squares.result
-        c.requires.kept c.empties.ensures c.group_mask.ensures c.intersection-squares.ensures in
+    c.requires.kept c.empties.ensures c.group_mask.ensures c.intersection-squares.ensures in
     sym (place_next (λ w. barred w (facts_of p ws) (empty_part p g)) (i + 1) ws i (written x) at (sym same ∙ sym c.bars.ensures ∙ c.if-bars.false))
-        ∙ c.loop-index.invariant
+    ∙ c.loop-index.invariant

@@ -9,4 +9,4 @@ use Rattle.rule_compat.proofs.lines.first_barring.Given as goal
 abbrev pub invariant-loop-index : goal.invariant-loop-index
 invariant-loop-index l =
     position_from (λ w. barred w (facts_of l.p (written_list l.list)) (empty_part l.p l.fn.g)) (l.index + 1) (drop l.index (written_list l.list))
-        ≡ first_barring l.p (written_list l.list) l.fn.g
+    ≡ first_barring l.p (written_list l.list) l.fn.g

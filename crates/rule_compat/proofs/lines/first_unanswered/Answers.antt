@@ -13,7 +13,7 @@ returns-then-is_none c =
     let p = c.args.p.now in let ws = written_list c.args.list.now in let gs = c.as_slice-g-items.result.now in
     let at = slice_get_read gs (length gs) c.loop-g.g-index c.g-item.result refl c.loop-g-test.true c.g-item.is in
     sym (find_here (λ g. not (is_barred p ws g)) gs c.loop-g.g-index c.g-item.result at
-        (none_bars p ws c.g-item.result c.first_barring.result c.is_none.result c.first_barring.ensures c.is_none.ensures ∙ c.if-is_none.true))
+    (none_bars p ws c.g-item.result c.first_barring.result c.is_none.result c.first_barring.ensures c.is_none.ensures ∙ c.if-is_none.true))
     ∙ c.loop-g.invariant
     ∙ first_open_line p ws gs (c.as_slice-g-items.ensures.value ∙ c.groups-groups.ensures ∙ c.free_for.ensures.in_order)
 
@@ -22,8 +22,8 @@ loop-g-preserved c =
     let p = c.args.p.now in let ws = written_list c.args.list.now in let gs = c.as_slice-g-items.result.now in
     let at = slice_get_read gs (length gs) c.loop-g.g-index c.g-item.result refl c.loop-g-test.true c.g-item.is in
     sym (find_next (λ g. not (is_barred p ws g)) gs c.loop-g.g-index c.g-item.result at
-        (none_bars p ws c.g-item.result c.first_barring.result c.is_none.result c.first_barring.ensures c.is_none.ensures ∙ c.if-is_none.false))
-        ∙ c.loop-g.invariant
+    (none_bars p ws c.g-item.result c.first_barring.result c.is_none.result c.first_barring.ensures c.is_none.ensures ∙ c.if-is_none.false))
+    ∙ c.loop-g.invariant
 
 pub returns : goal.returns
 returns c =

@@ -12,9 +12,9 @@ least_two-requires-clause-two c =
     let i = c.loop-index.index in
     let x = c.index-list-index.result in
     let clash = c.first_clash.ensures ∙ ap (λ zone. clash_in c.as_slice.result.now zone.1) c.of-zone.ensures
-        ∙ ap (λ zones. clash_in zones x) (c.as_slice.ensures.value ∙ c.loop-index.invariant.kept) in
+    ∙ ap (λ zones. clash_in zones x) (c.as_slice.ensures.value ∙ c.loop-index.invariant.kept) in
     none_step c.args.list.now i x c.loop-index-test.true c.index-list-index.is c.loop-index.invariant.none
-        ∙ ap (option_map (λ k. (k, i + 1))) (sym clash ∙ c.in-Some.is)
+    ∙ ap (option_map (λ k. (k, i + 1))) (sym clash ∙ c.in-Some.is)
 
 pub least_two-requires-clause-order : goal.least_two-requires-clause-order
 least_two-requires-clause-order c =
@@ -26,11 +26,11 @@ push-requires c =
     let x = c.index-list-index.result in
     let list = c.args.list.now in
     let clash = c.first_clash.ensures ∙ ap (λ zone. clash_in c.as_slice.result.now zone.1) c.of-zone.ensures
-        ∙ ap (λ zones. clash_in zones x) (c.as_slice.ensures.value ∙ c.loop-index.invariant.kept) in
+    ∙ ap (λ zones. clash_in zones x) (c.as_slice.ensures.value ∙ c.loop-index.invariant.kept) in
     let none = none_step list i x c.loop-index-test.true c.index-list-index.is c.loop-index.invariant.none
-        ∙ ap (option_map (λ k. (k, i + 1))) (sym clash ∙ c.in_default.is) in
+    ∙ ap (option_map (λ k. (k, i + 1))) (sym clash ∙ c.in_default.is) in
     let room = room_for_one c.args.p.now list i x c.has_a_board.ensures.board c.requires.fitting c.loop-index-test.true c.index-list-index.is none
-        (sym c.owns_zone.ensures ∙ c.if-owns_zone.true) in
+    (sym c.owns_zone.ensures ∙ c.if-owns_zone.true) in
     (lit< tt, omega (arith, room, ap length c.loop-index.invariant.kept))
 
 pub loop-index-preserved : goal.loop-index-preserved
@@ -43,7 +43,7 @@ loop-index-preserved c =
     elim c.if-owns_zone.branch [
       | then-owns_zone+in_default w ↦
           let clash = w.first_clash.ensures ∙ ap (λ zone. clash_in w.as_slice.result.now zone.1) w.of-zone.ensures
-              ∙ ap (λ zones. clash_in zones x) (w.as_slice.ensures.value ∙ c.loop-index.invariant.kept) in
+          ∙ ap (λ zones. clash_in zones x) (w.as_slice.ensures.value ∙ c.loop-index.invariant.kept) in
           record {
             none = none_step list i x c.loop-index-test.true c.index-list-index.is c.loop-index.invariant.none
                 ∙ ap (option_map (λ k. (k, i + 1))) (sym clash ∙ w.in_default.is);

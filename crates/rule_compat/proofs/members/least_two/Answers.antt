@@ -11,7 +11,7 @@ loop-index-preserved c =
     let x = c.index-list-index.result in
     let clash = c.first_clash.ensures ∙ ap (λ zone. clash_in c.args.zones.now zone.1) c.of-zone.ensures ∙ ap (λ zones. clash_in zones x) c.requires.zones in
     let step = some_step c.args.list.now i (c.args.second - 1) x c.loop-index.least c.loop-index-test.true (omega arith) c.index-list-index.is
-        c.loop-index.invariant.two (omega arith) in
+    c.loop-index.invariant.two (omega arith) in
     record {
       two = step ∙ ap (λ found. lesser_two (Some c.loop-index.least) (option_map (λ k. (k, i + 1)) found)) (sym clash) ∙ c.lesser-least.ensures.value;
       less = omega arith;

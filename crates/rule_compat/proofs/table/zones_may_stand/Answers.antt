@@ -11,27 +11,27 @@ other_way apart shared over under a b c = rw (a, b, c) refl
 pub returns-then-not-meets : goal.returns-then-not-meets
 returns-then-not-meets c =
     let table = together_of_sets (written c.args.a.now) (written c.args.b.now) c.args.a_zone.now c.args.b_zone.now c.args.a_columns.now c.requires.a_owns
-        c.requires.b_owns c.requires.a_columns in
+    c.requires.b_owns c.requires.a_columns in
     sym (table ∙ or_left _ _ (ap not (sym c.meets.ensures ∙ c.if-not-meets.true)))
 
 pub returns-then-meets : goal.returns-then-meets
 returns-then-meets c =
     let table = together_of_sets (written c.args.a.now) (written c.args.b.now) c.args.a_zone.now c.args.b_zone.now c.args.a_columns.now c.requires.a_owns
-        c.requires.b_owns c.requires.a_columns in
+    c.requires.b_owns c.requires.a_columns in
     sym (table ∙ or_from _ _ (ap not (sym c.meets.ensures ∙ c.if-not-meets.false)) (and_left _ _ (not_from_true _ (sym c.meets-2.ensures ∙ c.if-meets.true))))
 
 pub returns-then-stands_over : goal.returns-then-stands_over
 returns-then-stands_over c =
     let table = together_of_sets (written c.args.a.now) (written c.args.b.now) c.args.a_zone.now c.args.b_zone.now c.args.a_columns.now c.requires.a_owns
-        c.requires.b_owns c.requires.a_columns in
+    c.requires.b_owns c.requires.a_columns in
     c.if-stands_over.true ∙ sym (table
-        ∙ or_right _ _ (and_from _ _ (not_from_false _ (sym c.meets-2.ensures ∙ c.if-meets.false))
-        (or_left _ _ (sym c.stands_over.ensures ∙ c.if-stands_over.true))))
+    ∙ or_right _ _ (and_from _ _ (not_from_false _ (sym c.meets-2.ensures ∙ c.if-meets.false))
+    (or_left _ _ (sym c.stands_over.ensures ∙ c.if-stands_over.true))))
 
 pub returns-else-stands_over : goal.returns-else-stands_over
 returns-else-stands_over c =
     let table = together_of_sets (written c.args.a.now) (written c.args.b.now) c.args.a_zone.now c.args.b_zone.now c.args.a_columns.now c.requires.a_owns
-        c.requires.b_owns c.requires.a_columns in
+    c.requires.b_owns c.requires.a_columns in
     c.stands_over-else-stands_over.ensures
     ∙ sym (table ∙ other_way _ _ _ _ (ap not (sym c.meets.ensures ∙ c.if-not-meets.false)) (sym c.meets-2.ensures ∙ c.if-meets.false)
-        (sym c.stands_over.ensures ∙ c.if-stands_over.false))
+    (sym c.stands_over.ensures ∙ c.if-stands_over.false))

@@ -24,6 +24,8 @@ loop-byte-preserved c =
 
 pub returns : goal.returns
 returns c =
-    let bytes = c.args.bytes.now in let i = c.loop-byte.byte-index in
-    (all_digits bytes (λ k within. c.loop-byte.invariant.digits k (omega arith)), c.loop-byte.invariant.value
-        ∙ ap (digits_value 10) (take_all i bytes (omega arith)))
+    let bytes = c.args.bytes.now in let i = c.loop-byte.byte-index in (
+      all_digits bytes (λ k within. c.loop-byte.invariant.digits k (omega arith)),
+      c.loop-byte.invariant.value
+          ∙ ap (digits_value 10) (take_all i bytes (omega arith)),
+    )

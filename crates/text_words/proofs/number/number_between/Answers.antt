@@ -19,4 +19,4 @@ returns-then-number-from c =
     let read = c.in_ok-number.ensures in
     let spelled = digits_spell c.args.bytes.now (record { some = shape.0; few = shape.1; leads = shape.2 }) read.0 in
     sym (number_spelled c.args.low c.args.high c.in_ok-number.number c.args.bytes.now (omega arith) (omega arith) (omega (arith, spelled.0, read.1))
-        (spelled.1 ∙ ap decimal (sym read.1)))
+    (spelled.1 ∙ ap decimal (sym read.1)))

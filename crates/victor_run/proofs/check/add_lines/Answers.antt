@@ -23,7 +23,7 @@ pub returns-clause-answer : goal.returns-clause-answer
 returns-clause-answer g c =
     let before = c.loop-at.invariant in
     let P : Bool → Type 0 = λ more. Reads (pending c.loop-at.lines (g.S.Source.left c.loop-at.source) (g.S.Source.last_read c.loop-at.source))
-        (pending c.add_next.new.lines (g.S.Source.left c.add_next.new.source) (g.S.Source.last_read c.add_next.new.source))
+    (pending c.add_next.new.lines (g.S.Source.left c.add_next.new.source) (g.S.Source.last_read c.add_next.new.source))
     (λ bytes rest. PassesLines 1 bytes rest × Adds c.loop-at.checker c.add_next.new.checker c.loop-at.at more bytes rest) in
     Reads_then _ _ _ _ _ _ before.goes (subst P c.if-branch.false c.in_ok-add_next.ensures.answer) (λ bytes mid rest p q. (
       passes_most (c.loop-at.at - 4 + 1) (c.loop-at.at - 3) bytes rest (omega (arith, before.from)) (passes_then (c.loop-at.at - 4) 1 bytes mid rest p.0 q.0),
@@ -43,7 +43,7 @@ pub loop-at-preserved : goal.loop-at-preserved
 loop-at-preserved g c =
     let before = c.loop-at.invariant in
     let P : Bool → Type 0 = λ more. Reads (pending c.loop-at.lines (g.S.Source.left c.loop-at.source) (g.S.Source.last_read c.loop-at.source))
-        (pending c.add_next.new.lines (g.S.Source.left c.add_next.new.source) (g.S.Source.last_read c.add_next.new.source))
+    (pending c.add_next.new.lines (g.S.Source.left c.add_next.new.source) (g.S.Source.last_read c.add_next.new.source))
     (λ bytes rest. PassesLines 1 bytes rest × Adds c.loop-at.checker c.add_next.new.checker c.loop-at.at more bytes rest) in
     record {
       goes = Reads_then _ _ _ _ _ _ before.goes (subst P c.if-branch.true c.in_ok-add_next.ensures.answer) (λ bytes mid rest p q. (

@@ -24,7 +24,7 @@ returns-in_ok-add_line-in-Line-clause-answer g c =
     let P : List ℕ → Type 0 = λ text. Reads a b (λ bytes rest. Gives bytes rest Line text c.next.new.self.fed) in
     let added = c.in_ok-add_line-in-Line.ensures.answer in
     line_known a b c.text.result.now c.next.new.self.fed c.args.checker.now c.args.at (subst P (sym c.text.ensures) c.in-Line.ensures.gives) added.0
-        c.add_line.new.checker added.1
+    c.add_line.new.checker added.1
 
 pub returns-in_ok-add_line-in-Line-clause-root : goal.returns-in_ok-add_line-in-Line-clause-root
 returns-in_ok-add_line-in-Line-clause-root g c = ap (λ s. s.root) c.in_ok-add_line-in-Line.ensures.answer.1

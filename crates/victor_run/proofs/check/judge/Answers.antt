@@ -17,9 +17,9 @@ returns-in_err-read_head g c =
     let same = err_from_is_err_and c.from_residual.result c.from_residual.ensures.1 in
     let stop = c.in_err-read_head.field-0.0 in
     let P : Cutting → Type 0 = λ lines. Reads (pending lines left begun) last (λ bytes rest. PassesLines 1 bytes rest
-        × StopsBy AtHead bytes (g.S.Source.faults c.args.source.now) (g.S.Source.faults c.read_head.new.source) stop) in
+    × StopsBy AtHead bytes (g.S.Source.faults c.args.source.now) (g.S.Source.faults c.read_head.new.source) stop) in
     rw (same.1, same.2) (judged_stop left begun last 1 _ _ stop (subst P c.new-lines.ensures c.in_err-read_head.ensures.answer) c.in_err-read_head.ensures.stops
-        (omega arith))
+    (omega arith))
 
 pub returns-in_err-root : goal.returns-in_err-root
 returns-in_err-root g c =
@@ -66,7 +66,7 @@ returns-in-Ok g c =
     let answer = ap (verdict_answer end (length t.known)) c.in-Ok.ensures.0 ∙ ap (Accepted v) (sym c.in-Ok.ensures.1) in
     judged_right left begun last end _ _ c.in-Ok.accepted
     (lines_known _ next last c.in_ok-root.root c.new-checker.result t c.new-checker.ensures game end (omega (arith, few.0)) c.in_ok-end.ensures.answer
-        (Accepted v c.in-Ok.accepted.lemmas) answer)
+    (Accepted v c.in-Ok.accepted.lemmas) answer)
     c.in_ok-end.ensures.ended few.1
 
 pub returns : goal.returns
@@ -86,5 +86,5 @@ returns g c =
     let answer = ap (verdict_answer end (length t.known)) c.in-Err.ensures.0 ∙ ap (λ r. Refused r.at (why_of r.why)) (sym c.in-Err.ensures.1) in
     judged_stop left begun last end _ _ (stops.Refused refusal)
     (lines_known _ next last c.in_ok-root.root c.new-checker.result t c.new-checker.ensures game end (omega (arith, few.0)) c.in_ok-end.ensures.answer
-        (Refused refusal.at (why_of refusal.why)) answer)
+    (Refused refusal.at (why_of refusal.why)) answer)
     (omega (arith, here)) few.1

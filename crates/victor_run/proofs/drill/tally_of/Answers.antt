@@ -9,13 +9,13 @@ pub loop-made-preserved : goal.loop-made-preserved
 loop-made-preserved c =
     let drilled = c.loop-made.invariant in
     drilled_more (cost (solved_within c.args.reach)) c.args.nodes (games_from c.args.games c.args.size c.args.moves c.args.seed) c.args.size c.args.moves
-        c.args.games
+    c.args.games
     c.loop-made.made c.loop-made.state c.next_game-game.new.state c.loop-made.tally c.count.new.self c.next_game-game.result drilled
-        c.next_game-game.ensures.list c.count.ensures.more
+    c.next_game-game.ensures.list c.count.ensures.more
     (c.count.ensures.right (cost (solved_within c.args.reach)) c.args.nodes drilled.made c.next_game-game.result drilled.summary c.found.ensures)
 
 pub returns : goal.returns
 returns c =
     all_drilled (cost (solved_within c.args.reach)) c.args.nodes (games_from c.args.games c.args.size c.args.moves c.args.seed) c.args.size c.args.moves
-        c.args.games
+    c.args.games
     c.loop-made.made c.loop-made.state c.loop-made.tally c.loop-made.invariant (omega arith)

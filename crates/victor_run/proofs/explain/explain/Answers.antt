@@ -21,7 +21,7 @@ returns-in-Ok-clause-outcome g c =
     let game = c.in-Ok.game in
     let found = subst (λ p. IfOk c.write_choice.result (λ found. found ≡ solved p c.args.reach)) c.position.ensures.position c.write_choice.ensures.found in
     let written = subst (λ p. AppendsPrefix (is_ok c.write_choice.result) (g.O.Sink.written c.args.out.now) (g.O.Sink.written c.write_choice.new.out)
-        (explanation p c.args.reach)) c.position.ensures.position c.write_choice.ensures.written in
+    (explanation p c.args.reach)) c.position.ensures.position c.write_choice.ensures.written in
     record {
       taken = takes.0;
       gave = takes.1.gave;
@@ -34,8 +34,13 @@ pub returns-in-Err-clause-outcome : goal.returns-in-Err-clause-outcome
 returns-in-Err-clause-outcome g c =
     let out = g.O.Sink.written c.args.out.now in
     let source = c.read_game_input.new.source in
-    let s : Streams = record { input = g.S.Source.left c.args.source.now; left = g.S.Source.left source; last_read = g.S.Source.last_read source;
-        old = out; new = out } in
+    let s : Streams = record {
+      input = g.S.Source.left c.args.source.now;
+      left = g.S.Source.left source;
+      last_read = g.S.Source.last_read source;
+      old = out;
+      new = out;
+    } in
     let keeps = Keeps-refl out in
     rw c.ending.ensures (no_game s (λ taken ending. Explains c.args.reach taken s ending)
     (λ taken fault at whole. (at, whole, keeps)) (λ taken. keeps) c.in-Err.stop c.in-Err.ensures.takes)

@@ -21,7 +21,7 @@ returns-in_err-print_item-clause-written g c =
     let plan = c.args.plan.now in
     let one = named plan.at (members plan) c.args.group c.in-Some.place (sym c.in-Some.ensures.member) in
     rw (same.1, named_line plan c.args.group c.in-Some.place one)
-        (line_cut_first (group_text c.args.group) (codes " by ") (instance_text one.member) _ _ c.in_err-print_item.ensures.written)
+    (line_cut_first (group_text c.args.group) (codes " by ") (instance_text one.member) _ _ c.in_err-print_item.ensures.written)
 
 pub returns-in_err-put_all-clause-written : goal.returns-in_err-put_all-clause-written
 returns-in_err-put_all-clause-written g c =
@@ -30,7 +30,7 @@ returns-in_err-put_all-clause-written g c =
     let one = named plan.at (members plan) c.args.group c.in-Some.place (sym c.in-Some.ensures.member) in
     rw (same.1, named_line plan c.args.group c.in-Some.place one)
     (line_cut_second (group_text c.args.group) (codes " by ") (instance_text one.member) _ _ c.in_ok-print_item.ensures.written _
-        c.in_err-put_all.ensures.bytes)
+    c.in_err-put_all.ensures.bytes)
 
 pub returns-in_err-print_item-2-clause-written : goal.returns-in_err-print_item-2-clause-written
 returns-in_err-print_item-2-clause-written g c =
@@ -38,18 +38,18 @@ returns-in_err-print_item-2-clause-written g c =
     let plan = c.args.plan.now in
     let one = named plan.at (members plan) c.args.group c.in-Some.place (sym c.in-Some.ensures.member) in
     let at : c.index-list-place.result ≡ get_or plan.list (c.in-Some.place - 1) c.index-list-place.result = c.index-list-place.is
-        ∙ ap (λ list. get_or list (c.in-Some.place - 1) c.index-list-place.result) c.list.ensures.value in
+    ∙ ap (λ list. get_or list (c.in-Some.place - 1) c.index-list-place.result) c.list.ensures.value in
     rw (same.1, place_line plan c.args.group c.in-Some.place one c.index-list-place.result at)
     (line_cut_third (group_text c.args.group) (codes " by ") (instance_text (written c.index-list-place.result)) _ _ c.in_ok-print_item.ensures.written _
-        c.in_ok-put_all.ensures.bytes _ c.in_err-print_item-2.ensures.written)
+    c.in_ok-put_all.ensures.bytes _ c.in_err-print_item-2.ensures.written)
 
 pub returns-clause-written : goal.returns-clause-written
 returns-clause-written g c =
     let plan = c.args.plan.now in
     let one = named plan.at (members plan) c.args.group c.in-Some.place (sym c.in-Some.ensures.member) in
     let at : c.index-list-place.result ≡ get_or plan.list (c.in-Some.place - 1) c.index-list-place.result = c.index-list-place.is
-        ∙ ap (λ list. get_or list (c.in-Some.place - 1) c.index-list-place.result) c.list.ensures.value in
+    ∙ ap (λ list. get_or list (c.in-Some.place - 1) c.index-list-place.result) c.list.ensures.value in
     rw (place_line plan c.args.group c.in-Some.place one c.index-list-place.result at)
     (line_ends (group_text c.args.group) (codes " by ") (instance_text (written c.index-list-place.result)) _ _ c.in_ok-print_item.ensures.written _
-        c.in_ok-put_all.ensures.bytes _ c.in_ok-print_item-2.ensures.written
+    c.in_ok-put_all.ensures.bytes _ c.in_ok-print_item-2.ensures.written
     (is_ok c.put_all-2.result) _ c.put_all-2.ensures.bytes)

@@ -20,7 +20,7 @@ returns-in_err-write_answer-clause-written g c =
     let before : Appends (g.O.Sink.written c.args.out.now) (g.O.Sink.written c.loop-group.out) (flat_map (lines_of_group p ws) (take i groups)) =
     subst (Appends _ _) (lines_by_group p ws (take i groups)) c.loop-group.invariant.bytes in
     rw (same.1, lines_by_group p ws groups)
-        (pieces_cut (lines_of_group p ws) _ _ _ groups i c.group-item.result (omega arith) c.group-item.is before c.in_err-write_answer.ensures.written)
+    (pieces_cut (lines_of_group p ws) _ _ _ groups i c.group-item.result (omega arith) c.group-item.is before c.in_err-write_answer.ensures.written)
 
 pub loop-group-preserved : goal.loop-group-preserved
 loop-group-preserved g c =

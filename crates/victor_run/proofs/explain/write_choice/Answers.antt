@@ -16,5 +16,5 @@ returns-clause-found g c =
 pub returns-clause-written : goal.returns-clause-written
 returns-clause-written g c =
     subst (λ chosen. AppendsPrefix (is_ok c.write_chosen.result) (g.O.Sink.written c.args.out.now) (g.O.Sink.written c.write_chosen.new.out)
-        (chosen_text c.args.position.now chosen))
+    (chosen_text c.args.position.now chosen))
     c.choose-choice.ensures.choice c.write_chosen.ensures.written

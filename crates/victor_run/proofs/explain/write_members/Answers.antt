@@ -27,14 +27,14 @@ returns-in_err-print_plan-clause-written g c =
     let same = err_from_is_err_and c.from_residual.result c.from_residual.ensures.1 in
     let ws = members c.args.plan.now in
     let stopped = subst (λ list. AppendsPrefix false (g.O.Sink.written c.args.out.now) (g.O.Sink.written c.print_plan.new.out)
-        (as_line (plan_text (written_list list)))) c.list.ensures.value c.in_err-print_plan.ensures.written in
+    (as_line (plan_text (written_list list)))) c.list.ensures.value c.in_err-print_plan.ensures.written in
     rw same.1 (AppendsPrefix_take _ _ (as_line (plan_text ws)) (owns_lines ws) stopped)
 
 pub returns-clause-written : goal.returns-clause-written
 returns-clause-written g c =
     let ws = members c.args.plan.now in
     let printed = subst (λ list. Appends (g.O.Sink.written c.args.out.now) (g.O.Sink.written c.print_plan.new.out)
-        (as_line (plan_text (written_list list)))) c.list.ensures.value c.in_ok-print_plan.ensures.written in
+    (as_line (plan_text (written_list list)))) c.list.ensures.value c.in_ok-print_plan.ensures.written in
     let owned = subst (λ list. AppendsPrefix (is_ok c.write_zones.result) (g.O.Sink.written c.print_plan.new.out) (g.O.Sink.written c.write_zones.new.out)
-        (owns_lines (written_list list))) c.list-2.ensures.value c.write_zones.ensures.written in
+    (owns_lines (written_list list))) c.list-2.ensures.value c.write_zones.ensures.written in
     AppendsPrefix_more (is_ok c.write_zones.result) _ _ _ (as_line (plan_text ws)) (owns_lines ws) printed owned

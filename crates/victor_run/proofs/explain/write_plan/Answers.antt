@@ -23,7 +23,7 @@ returns-in_err-write_members-clause-written g c =
     let lines = as_line (plan_text ws) ++ owns_lines ws in
     let answers = answer_lines plan.at ws (groups_of (board_of plan.at)) in
     rw (same.1, sym (append_assoc (as_line (plan_text ws)) (owns_lines ws) answers))
-        (AppendsPrefix_take _ _ lines answers c.in_err-write_members.ensures.written)
+    (AppendsPrefix_take _ _ lines answers c.in_err-write_members.ensures.written)
 
 pub returns-in_err-write_answers-clause-written : goal.returns-in_err-write_answers-clause-written
 returns-in_err-write_answers-clause-written g c =
@@ -34,9 +34,9 @@ returns-in_err-write_answers-clause-written g c =
     let answers = answer_lines plan.at ws (groups_of (board_of plan.at)) in
     let listed = c.as_slice.ensures.value ∙ c.groups-groups.ensures ∙ ap groups_of (c.size.ensures.value ∙ ap board_of c.at.ensures.value) in
     let answered = subst (λ gs. AppendsPrefix false (g.O.Sink.written c.write_members.new.out) (g.O.Sink.written c.write_answers.new.out)
-        (answer_lines plan.at ws gs)) listed c.in_err-write_answers.ensures.written in
+    (answer_lines plan.at ws gs)) listed c.in_err-write_answers.ensures.written in
     rw (same.1, sym (append_assoc (as_line (plan_text ws)) (owns_lines ws) answers))
-        (AppendsPrefix_more false _ _ _ lines answers c.in_ok-write_members.ensures.written answered)
+    (AppendsPrefix_more false _ _ _ lines answers c.in_ok-write_members.ensures.written answered)
 
 pub returns-clause-written : goal.returns-clause-written
 returns-clause-written g c =
@@ -46,7 +46,7 @@ returns-clause-written g c =
     let answers = answer_lines plan.at ws (groups_of (board_of plan.at)) in
     let listed = c.as_slice.ensures.value ∙ c.groups-groups.ensures ∙ ap groups_of (c.size.ensures.value ∙ ap board_of c.at.ensures.value) in
     let answered = subst (λ gs. Appends (g.O.Sink.written c.write_members.new.out) (g.O.Sink.written c.write_answers.new.out) (answer_lines plan.at ws gs))
-        listed c.in_ok-write_answers.ensures.written in
+    listed c.in_ok-write_answers.ensures.written in
     let all = Appends-trans _ _ _ lines answers c.in_ok-write_members.ensures.written answered in
     AppendsPrefix_all (is_ok c.flush.result) _ _ (plan_explained plan.at ws) (Appends-kept _ _ _ (plan_explained plan.at ws)
-        (rw (sym (append_assoc (as_line (plan_text ws)) (owns_lines ws) answers)) all) c.flush.ensures.bytes)
+    (rw (sym (append_assoc (as_line (plan_text ws)) (owns_lines ws) answers)) all) c.flush.ensures.bytes)

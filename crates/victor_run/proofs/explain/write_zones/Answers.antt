@@ -15,4 +15,4 @@ returns-in_err-write_zone-clause-written g c =
     let before : Appends (g.O.Sink.written c.args.out.now) (g.O.Sink.written c.loop-instance.out) (flat_map (λ x. owns_line (written x)) (take i list)) =
     subst (Appends _ _) (made (take i list)) c.loop-instance.invariant.bytes in
     rw (same.1, made list) (pieces_cut (λ x. owns_line (written x)) _ _ _ list i c.instance-item.result (omega arith) c.instance-item.is before
-        c.in_err-write_zone.ensures.written)
+    c.in_err-write_zone.ensures.written)

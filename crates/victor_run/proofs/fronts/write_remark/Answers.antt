@@ -10,11 +10,11 @@ returns-clause-remarks g c = λ root reach is.
     let sized = c.in-Some.sized in
     let own : IsFrontOf root c.args.side reach 0 sized.slots sized.front = subst (IsAfter root c.args.side reach 0) c.in-Some.is is in
     rw c.in-Some.is (remark_stands root c.args.side reach sized.slots c.grow-expansions.result c.grow-expansions.new.self.front c.numbers-proof.result.0
-        c.numbers-proof.result.1 (is_ok c.put_all.result) _ _
+    c.numbers-proof.result.1 (is_ok c.put_all.result) _ _
     (c.grow-expansions.ensures.end root c.args.side reach own) (c.grow-expansions.ensures.front root c.args.side reach own) c.numbers-proof.ensures
-        c.remark_line.ensures.remark
+    c.remark_line.ensures.remark
     (subst (AppendsPrefix (is_ok c.put_all.result) (g.O.Sink.written c.args.out.now) (g.O.Sink.written c.put_all.new.out))
-        (c.as_slice.ensures.value ∙ c.remark_line.ensures.line) c.put_all.ensures.bytes))
+    (c.as_slice.ensures.value ∙ c.remark_line.ensures.line) c.put_all.ensures.bytes))
 
 pub returns-clause-front : goal.returns-clause-front
 returns-clause-front g c = λ root reach is.

@@ -25,7 +25,7 @@ returns-in_err-root-clause-plays g c =
     let same = err_from_is_err_and c.from_residual.result c.from_residual.ensures.1 in
     let why = c.in_err-root.field-0.0 in
     let P : Cutting → Type 0 = λ lines. Reads (pending lines left begun) last (λ bytes rest. PassesLines 2 bytes rest
-        × StopsPlay (play_of bytes) [] (stops.Input why)) in
+    × StopsPlay (play_of bytes) [] (stops.Input why)) in
     let stopped = game_stops _ last _ _ why c.in_err-root.ensures.answer in
     rw (same.1, same.2) (input_stops left begun last out out [] (omega arith) (stops.Input why) 2 (omega (arith, game_besides why))
     (game_waits last.ahead c.read_game_lines.result why c.in_err-root.was c.read_game_lines.ensures.waiting)
@@ -47,10 +47,10 @@ returns-in_err-plan-clause-plays g c =
     let stop = c.in_err-plan.field-0.0 in
     let root = c.in_ok-root.root in
     let P : Cutting → Type 0 = λ lines. Reads (pending lines left begun) mid (λ bytes rest. PassesLines 2 bytes rest
-        × ((game_at (game_of (pieces bytes)) ≡ Ok root) × (behind_game (pieces bytes) ≡ lines_in (pieces rest)))) in
+    × ((game_at (game_of (pieces bytes)) ≡ Ok root) × (behind_game (pieces bytes) ≡ lines_in (pieces rest)))) in
     rw (same.1, same.2) (input_stops left begun last out out [] (omega arith) stop 3 (omega (arith, c.in_err-plan.ensures.stops)) c.in_err-plan.ensures.waiting
     (AppendsPrefix_all (is_whole {X = ⊤} (Err stop)) out out [] (Appends-nil out))
-        (plan_stops _ mid last root (subst P c.new-lines.ensures c.in_ok-root.ensures.answer) stop c.in_err-plan.ensures.answer))
+    (plan_stops _ mid last root (subst P c.new-lines.ensures c.in_ok-root.ensures.answer) stop c.in_err-plan.ensures.answer))
 
 pub returns-clause-plays : goal.returns-clause-plays
 returns-clause-plays g c =
@@ -64,9 +64,9 @@ returns-clause-plays g c =
     let begins : Playing = record { plan = plan; stands = root } in
     let same : c.new.result ≡ begins = c.new.ensures.value ∙ ap (λ at. record { plan = plan; stands = at }) c.in_ok-plan.ensures.at.0 in
     let P : Cutting → Type 0 = λ lines. Reads (pending lines left begun) mid (λ bytes rest. PassesLines 2 bytes rest
-        × ((game_at (game_of (pieces bytes)) ≡ Ok root) × (behind_game (pieces bytes) ≡ lines_in (pieces rest)))) in
+    × ((game_at (game_of (pieces bytes)) ≡ Ok root) × (behind_game (pieces bytes) ≡ lines_in (pieces rest)))) in
     let Q : Playing → Type 0 = λ s. Reads (fresh left begun) next (λ bytes rest. PassesLines 3 bytes rest × (play_of bytes ≡ played_from s first_move rest)) in
     let start = plan_goes _ mid next root (subst P c.new-lines.ensures c.in_ok-root.ensures.answer) begins c.in_ok-plan.ensures.answer in
     let few : empty_count c.new.result.stands ≤ 100 = omega (arith, ap (λ (s : Playing). empty_count s.stands) same, c.in_ok-plan.ensures.at.1) in
     input_moves left begun next last _ _ c.new.result _ _ c.play_moves.result (subst Q (sym same) start) c.play_moves.ensures.plays few
-        c.play_moves.ensures.ended c.play_moves.ensures.waiting
+    c.play_moves.ensures.ended c.play_moves.ensures.waiting

@@ -18,8 +18,8 @@ pub returns-in_err-play_next-clause-plays : goal.returns-in_err-play_next-clause
 returns-in_err-play_next-clause-plays g c =
     let same = err_from_is_err_and c.from_residual.result c.from_residual.ensures.1 in
     rw (same.1, same.2) (step_then _ _ _ _ _ _ _ _ _ _ _ _ _ c.loop-at.invariant.goes c.in_err-play_next.ensures.plays
-        (λ xs ys bytes mid rest. goes_stop c.args.session.now c.loop-at.session c.play_next.new.session c.loop-at.at c.in_err-play_next.field-0.0 xs ys bytes
-        mid rest))
+    (λ xs ys bytes mid rest. goes_stop c.args.session.now c.loop-at.session c.play_next.new.session c.loop-at.at c.in_err-play_next.field-0.0 xs ys bytes
+    mid rest))
 
 pub loop-at-preserved : goal.loop-at-preserved
 loop-at-preserved g c =
@@ -28,7 +28,7 @@ loop-at-preserved g c =
     let d = pending c.play_next.new.lines (g.S.Source.left c.play_next.new.source) (g.S.Source.last_read c.play_next.new.source) in
     let P : Bool → Type 0 = λ more. PlayStep b d (g.O.Sink.written c.loop-at.out) (g.O.Sink.written c.play_next.new.out) (is_whole (Ok more))
     (empty_count c.loop-at.session.stands) (empty_count c.play_next.new.session.stands)
-        (PlaysNext c.loop-at.session c.play_next.new.session c.loop-at.at (Ok more)) in
+    (PlaysNext c.loop-at.session c.play_next.new.session c.loop-at.at (Ok more)) in
     let fewer = c.in_ok-play_next.ensures.fewer (ap Ok c.if-branch.true) in
     record {
       goes = step_then _ _ _ _ _ _ _ _ _ _ _ _ _ before.goes (subst P c.if-branch.true c.in_ok-play_next.ensures.plays)
@@ -44,6 +44,6 @@ returns-clause-plays g c =
     let d = pending c.play_next.new.lines (g.S.Source.left c.play_next.new.source) (g.S.Source.last_read c.play_next.new.source) in
     let P : Bool → Type 0 = λ more. PlayStep b d (g.O.Sink.written c.loop-at.out) (g.O.Sink.written c.play_next.new.out) (is_whole (Ok more))
     (empty_count c.loop-at.session.stands) (empty_count c.play_next.new.session.stands)
-        (PlaysNext c.loop-at.session c.play_next.new.session c.loop-at.at (Ok more)) in
+    (PlaysNext c.loop-at.session c.play_next.new.session c.loop-at.at (Ok more)) in
     step_then _ _ _ _ _ _ _ _ _ _ _ _ _ c.loop-at.invariant.goes (subst P c.if-branch.false c.in_ok-play_next.ensures.plays)
-        (λ xs ys bytes mid rest. goes_all c.args.session.now c.loop-at.session c.play_next.new.session c.loop-at.at xs ys bytes mid rest)
+    (λ xs ys bytes mid rest. goes_all c.args.session.now c.loop-at.session c.play_next.new.session c.loop-at.at xs ys bytes mid rest)

@@ -23,7 +23,7 @@ returns-in_err-line-in-Line-clause-plays g c =
     let men = ap (λ (s : Playing). empty_count s.stands) stopped.men in
     rw (same.1, same.2) (step_none a b _ (is_whole {X = Bool} (Err stop)) _ _ _ (omega (arith, men))
     (next_stopped a b c.text.result.now c.next.new.self.fed c.args.session.now c.play_line.new.session c.args.at
-        (subst P (sym c.text.ensures) c.in-Line.ensures.gives) stop stopped.answer stopped.stops))
+    (subst P (sym c.text.ensures) c.in-Line.ensures.gives) stop stopped.answer stopped.stops))
 
 pub returns-in_err-line-in-Line-clause-waiting : goal.returns-in_err-line-in-Line-clause-waiting
 returns-in_err-line-in-Line-clause-waiting g c =
@@ -45,7 +45,7 @@ returns-in-Ok-clause-plays g c =
     let made = c.in_ok-line-in-Line.ensures in
     step_line a b _ _ _ _ _ _ line (subst Put c.as_slice.ensures.value c.in-Ok.ensures.written) made.men
     (next_played a b c.text.result.now c.next.new.self.fed c.args.session.now c.play_line.new.session c.args.at
-        (subst P (sym c.text.ensures) c.in-Line.ensures.gives) line made.answer)
+    (subst P (sym c.text.ensures) c.in-Line.ensures.gives) line made.answer)
 
 pub returns-in-Err-clause-plays : goal.returns-in-Err-clause-plays
 returns-in-Err-clause-plays g c =
@@ -57,13 +57,13 @@ returns-in-Err-clause-plays g c =
     let made = c.in_ok-line-in-Line.ensures in
     step_line a b _ _ _ _ _ _ line (subst Put c.as_slice.ensures.value c.in-Err.ensures.written) made.men
     (next_cut a b c.text.result.now c.next.new.self.fed c.args.session.now c.play_line.new.session c.args.at
-        (subst P (sym c.text.ensures) c.in-Line.ensures.gives) line made.answer)
+    (subst P (sym c.text.ensures) c.in-Line.ensures.gives) line made.answer)
 
 pub returns-in-Long-clause-plays : goal.returns-in-Long-clause-plays
 returns-in-Long-clause-plays g c =
     rw c.no_move.ensures (step_none _ _ _ _ _ _ _ (omega arith)
     (Reads_more _ _ _ _ (moves_long _ _ c.next.new.self.text c.next.new.self.fed c.args.session.now c.args.at c.in-Long.ensures.gives)
-        (λ bytes rest h. ((omega arith, h.0), h.1))))
+    (λ bytes rest h. ((omega arith, h.0), h.1))))
 
 pub returns-in-Done-clause-plays : goal.returns-in-Done-clause-plays
 returns-in-Done-clause-plays g c = step_none _ _ _ _ _ _ _ (omega arith)
@@ -73,4 +73,4 @@ pub returns-in-Failed-clause-plays : goal.returns-in-Failed-clause-plays
 returns-in-Failed-clause-plays g c =
     step_none _ _ _ _ _ _ _ (omega arith)
     (Reads_more _ _ _ _ (moves_unread _ _ c.next.new.self.text c.next.new.self.fed c.args.session.now c.args.at c.in-Failed.ensures.gives)
-        (λ bytes rest h. ((omega arith, h.0), h.1)))
+    (λ bytes rest h. ((omega arith, h.0), h.1)))

@@ -12,7 +12,7 @@ returns-in-Line-clause-answer g c =
     let b = pending c.next.new.self (g.S.Source.left c.next.new.source) (g.S.Source.last_read c.next.new.source) in
     let P : List ℕ → Type 0 = λ text. Reads a b (λ bytes rest. Gives bytes rest Line text c.next.new.self.fed) in
     plan_got a b c.text.result.now c.next.new.self.fed c.args.root.now c.plan_of.result (subst P (sym c.text.ensures) c.in-Line.ensures.gives)
-        c.plan_of.ensures.answer
+    c.plan_of.ensures.answer
 
 pub returns-in-Long-clause-answer : goal.returns-in-Long-clause-answer
 returns-in-Long-clause-answer g c =

@@ -18,8 +18,13 @@ pub returns-in-Err-clause-outcome : goal.returns-in-Err-clause-outcome
 returns-in-Err-clause-outcome g c =
     let out = g.O.Sink.written c.args.out.now in
     let source = c.read_game_input.new.source in
-    let s : Streams = record { input = g.S.Source.left c.args.source.now; left = g.S.Source.left source; last_read = g.S.Source.last_read source;
-        old = out; new = out } in
+    let s : Streams = record {
+      input = g.S.Source.left c.args.source.now;
+      left = g.S.Source.left source;
+      last_read = g.S.Source.last_read source;
+      old = out;
+      new = out;
+    } in
     let keeps = Keeps-refl out in
     rw c.ending.ensures (no_game s (λ taken ending. Proves c.args.nodes c.args.reach c.args.slots taken s ending)
     (λ taken fault at whole. (at, whole, keeps)) (λ taken. keeps) c.in-Err.stop c.in-Err.ensures.takes)

@@ -18,7 +18,7 @@ returns-in_err-put_all-clause-written g c = λ text is_text.
     let game = c.args.game.now in
     let head = c.as_slice.ensures.value ∙ c.head_of.ensures in
     rw same.1 (writes_head c.args.nodes c.args.reach (slots_of c.args.front.now) text game.position (game_in_grammar text game is_text) c.requires.nodes _ _
-        same.0
+    same.0
     (subst (AppendsPrefix false (g.O.Sink.written c.args.out.now) (g.O.Sink.written c.put_all.new.out)) head c.in_err-put_all.ensures.bytes))
 
 pub returns-in-Ok-clause-written : goal.returns-in-Ok-clause-written
@@ -26,40 +26,40 @@ returns-in-Ok-clause-written g c = λ text is_text.
     let game = c.args.game.now in
     let head = c.as_slice.ensures.value ∙ c.head_of.ensures in
     let asks = subst (λ p. Asks p c.args.nodes c.args.reach (slots_of c.args.front.now) (g.O.Sink.written c.put_all.new.out) (g.O.Sink.written c.ask.new.out)
-        (Ok c.in-Ok.verdict))
-        c.position.ensures.position c.in-Ok.ensures.asked in
+    (Ok c.in-Ok.verdict))
+    c.position.ensures.position c.in-Ok.ensures.asked in
     writes_verdict c.args.nodes c.args.reach (slots_of c.args.front.now) text game.position (game_in_grammar text game is_text) c.requires.nodes
-        _ _ (Ok c.in-Ok.verdict) asks c.in-Ok.verdict asks.verdict.0 _ _ c.write_verdict.result (asks.both_remarked refl)
-            (λ unknown. absurd (asks.verdict.1 unknown))
-        (subst (Appends (g.O.Sink.written c.args.out.now) (g.O.Sink.written c.put_all.new.out)) head c.in_ok-put_all.ensures.bytes)
-        asks.text c.write_verdict.ensures.verdict c.write_verdict.ensures.written
+    _ _ (Ok c.in-Ok.verdict) asks c.in-Ok.verdict asks.verdict.0 _ _ c.write_verdict.result (asks.both_remarked refl)
+    (λ unknown. absurd (asks.verdict.1 unknown))
+    (subst (Appends (g.O.Sink.written c.args.out.now) (g.O.Sink.written c.put_all.new.out)) head c.in_ok-put_all.ensures.bytes)
+    asks.text c.write_verdict.ensures.verdict c.write_verdict.ensures.written
 
 pub returns-in-Err-Spent-clause-written : goal.returns-in-Err-Spent-clause-written
 returns-in-Err-Spent-clause-written g c = λ text is_text.
     let game = c.args.game.now in
     let head = c.as_slice.ensures.value ∙ c.head_of.ensures in
     let asked = subst (λ p. Asks p c.args.nodes c.args.reach (slots_of c.args.front.now) (g.O.Sink.written c.put_all.new.out) (g.O.Sink.written c.ask.new.out)
-        (Err c.in-Err-Spent.field-0))
-        c.position.ensures.position c.in-Err-Spent.ensures.asked in
+    (Err c.in-Err-Spent.field-0))
+    c.position.ensures.position c.in-Err-Spent.ensures.asked in
     let asks = subst (λ stop. Asks game.position c.args.nodes c.args.reach (slots_of c.args.front.now) (g.O.Sink.written c.put_all.new.out)
-        (g.O.Sink.written c.ask.new.out) (Err stop))
-        c.in-Err-Spent.field-0-is asked in
+    (g.O.Sink.written c.ask.new.out) (Err stop))
+    c.in-Err-Spent.field-0-is asked in
     let short = subst (λ p. c.args.nodes < cost (solved_within c.args.reach) p) c.position.ensures.position
-        (c.in-Err-Spent.ensures.spent (ap Err c.in-Err-Spent.field-0-is)) in
+    (c.in-Err-Spent.ensures.spent (ap Err c.in-Err-Spent.field-0-is)) in
     writes_verdict c.args.nodes c.args.reach (slots_of c.args.front.now) text game.position (game_in_grammar text game is_text) c.requires.nodes
-        _ _ (Err Spent) asks Unknown tt _ _ c.write_verdict-in-Err-Spent.result (asks.both_remarked refl) (λ unknown. short)
-        (subst (Appends (g.O.Sink.written c.args.out.now) (g.O.Sink.written c.put_all.new.out)) head c.in_ok-put_all.ensures.bytes)
-        asks.text c.write_verdict-in-Err-Spent.ensures.verdict c.write_verdict-in-Err-Spent.ensures.written
+    _ _ (Err Spent) asks Unknown tt _ _ c.write_verdict-in-Err-Spent.result (asks.both_remarked refl) (λ unknown. short)
+    (subst (Appends (g.O.Sink.written c.args.out.now) (g.O.Sink.written c.put_all.new.out)) head c.in_ok-put_all.ensures.bytes)
+    asks.text c.write_verdict-in-Err-Spent.ensures.verdict c.write_verdict-in-Err-Spent.ensures.written
 
 pub returns-in-Err-WriteFault-clause-written : goal.returns-in-Err-WriteFault-clause-written
 returns-in-Err-WriteFault-clause-written g c = λ text is_text.
     let game = c.args.game.now in
     let head = c.as_slice.ensures.value ∙ c.head_of.ensures in
     let asked = subst (λ p. Asks p c.args.nodes c.args.reach (slots_of c.args.front.now) (g.O.Sink.written c.put_all.new.out) (g.O.Sink.written c.ask.new.out)
-        (Err c.in-Err-WriteFault.field-0))
-        c.position.ensures.position c.in-Err-WriteFault.ensures.asked in
+    (Err c.in-Err-WriteFault.field-0))
+    c.position.ensures.position c.in-Err-WriteFault.ensures.asked in
     let asks = subst (λ stop. Asks game.position c.args.nodes c.args.reach (slots_of c.args.front.now) (g.O.Sink.written c.put_all.new.out)
-        (g.O.Sink.written c.ask.new.out) (Err stop))
-        c.in-Err-WriteFault.field-0-is asked in
+    (g.O.Sink.written c.ask.new.out) (Err stop))
+    c.in-Err-WriteFault.field-0-is asked in
     writes_lemmas c.args.nodes c.args.reach (slots_of c.args.front.now) text game.position (game_in_grammar text game is_text) c.requires.nodes _ _ _ _ asks
-        (subst (Appends (g.O.Sink.written c.args.out.now) (g.O.Sink.written c.put_all.new.out)) head c.in_ok-put_all.ensures.bytes)
+    (subst (Appends (g.O.Sink.written c.args.out.now) (g.O.Sink.written c.put_all.new.out)) head c.in_ok-put_all.ensures.bytes)

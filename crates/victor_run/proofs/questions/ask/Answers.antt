@@ -18,17 +18,17 @@ returns-in_err-white-clause-asked g c =
     let most = c.new-lemmas.result + c.args.nodes in
     let same = err_from_is_err_and c.from_residual.result c.from_residual.ensures.1 in
     let white = subst (λ r. AsksSide p White c.args.reach (slots_of c.args.front.now) [] most (moment c.args.table.now (g.O.Sink.written c.args.out.now))
-        (moment c.ask_side.new.table (g.O.Sink.written c.ask_side.new.out)) c.ask_side.new.lemmas r)
-        c.in_err-white.was (c.ask_side.ensures.asked [] (sym c.new-lemmas.ensures) (fits_if_empty c.args.table.now [] c.requires.empty)) in
+    (moment c.ask_side.new.table (g.O.Sink.written c.ask_side.new.out)) c.ask_side.new.lemmas r)
+    c.in_err-white.was (c.ask_side.ensures.asked [] (sym c.new-lemmas.ensures) (fits_if_empty c.args.table.now [] c.requires.empty)) in
     rw (same.1 ∙ ap (λ e. Err e) same.2) (asks_none p c.args.nodes c.args.reach (slots_of c.args.front.now) _ _ _ _ c.ask_side.new.lemmas most
-        (omega (arith, c.new-lemmas.ensures)) c.in_err-white.field-0.0 white (λ spent. c.ask_side.ensures.spent (c.in_err-white.was ∙ ap (λ e. Err e) spent)))
+    (omega (arith, c.new-lemmas.ensures)) c.in_err-white.field-0.0 white (λ spent. c.ask_side.ensures.spent (c.in_err-white.was ∙ ap (λ e. Err e) spent)))
 
 pub returns-in_err-white-clause-spent : goal.returns-in_err-white-clause-spent
 returns-in_err-white-clause-spent g c spent =
     let same = err_from_is_err_and c.from_residual.result c.from_residual.ensures.1 in
     let is_stop : c.from_residual.result ≡ Err c.in_err-white.field-0.0 = same.1 ∙ ap (λ e. Err e) same.2 in
     let short = c.ask_side.ensures.spent (c.in_err-white.was ∙ ap (λ e. Err e) (same_stop c.from_residual.result c.in_err-white.field-0.0 Spent is_stop spent))
-        in
+    in
     omega (arith, short, cost_first (solved_within c.args.reach) c.args.position.now)
 
 pub returns-then-white-clause-asked : goal.returns-then-white-clause-asked
@@ -36,11 +36,11 @@ returns-then-white-clause-asked g c =
     let p = c.args.position.now in
     let most = c.new-lemmas.result + c.args.nodes in
     let white = subst (λ r. AsksSide p White c.args.reach (slots_of c.args.front.now) [] most (moment c.args.table.now (g.O.Sink.written c.args.out.now))
-        (moment c.ask_side.new.table (g.O.Sink.written c.ask_side.new.out)) c.ask_side.new.lemmas r)
-        c.in_ok-white.was (c.ask_side.ensures.asked [] (sym c.new-lemmas.ensures) (fits_if_empty c.args.table.now [] c.requires.empty)) in
+    (moment c.ask_side.new.table (g.O.Sink.written c.ask_side.new.out)) c.ask_side.new.lemmas r)
+    c.in_ok-white.was (c.ask_side.ensures.asked [] (sym c.new-lemmas.ensures) (fits_if_empty c.args.table.now [] c.requires.empty)) in
     asks_white p c.args.nodes c.args.reach (slots_of c.args.front.now) _ _ _ _ c.ask_side.new.lemmas most (omega (arith, c.new-lemmas.ensures))
-        c.in_ok-white.white
-        c.to_move.result c.won_by.result white c.if-white.true c.to_move.ensures (sym c.in_ok-white.ensures.answer ∙ c.if-white.true) c.won_by.ensures
+    c.in_ok-white.white
+    c.to_move.result c.won_by.result white c.if-white.true c.to_move.ensures (sym c.in_ok-white.ensures.answer ∙ c.if-white.true) c.won_by.ensures
 
 pub returns-clause-asked : goal.returns-clause-asked
 returns-clause-asked g c =
@@ -49,15 +49,15 @@ returns-clause-asked g c =
     let before = moment c.args.table.now (g.O.Sink.written c.args.out.now) in
     let held = moment c.ask_side.new.table (g.O.Sink.written c.ask_side.new.out) in
     let white = subst (λ r. AsksSide p White c.args.reach (slots_of c.args.front.now) [] most before held c.ask_side.new.lemmas r)
-        c.in_ok-white.was (c.ask_side.ensures.asked [] (sym c.new-lemmas.ensures) (fits_if_empty c.args.table.now [] c.requires.empty)) in
+    c.in_ok-white.was (c.ask_side.ensures.asked [] (sym c.new-lemmas.ensures) (fits_if_empty c.args.table.now [] c.requires.empty)) in
     let no : AnswersNo p c.args.reach (slots_of c.args.front.now) c.in_ok-white.white.lemma before held c.ask_side.new.lemmas =
     record { most = most; answer = c.in_ok-white.white; is_lemma = refl; is_no = c.if-white.false; asked = white } in
     let same_slots = c.turn_to_black.ensures.slots ∙ c.ask_side.ensures.slots in
     let within : c.ask_side.new.lemmas + c.ask_side.new.budget ≤ c.args.nodes = omega (arith, c.in_ok-white.ensures.few, c.new-lemmas.ensures) in
     subst (λ slots. Asks p c.args.nodes c.args.reach slots (g.O.Sink.written c.args.out.now) (g.O.Sink.written c.ask_black.new.out) c.ask_black.result)
-        same_slots
-        (c.ask_black.ensures.asked c.args.nodes before within
-            (subst (λ slots. AnswersNo p c.args.reach slots c.in_ok-white.white.lemma before held c.ask_side.new.lemmas) (sym same_slots) no))
+    same_slots
+    (c.ask_black.ensures.asked c.args.nodes before within
+    (subst (λ slots. AnswersNo p c.args.reach slots c.in_ok-white.white.lemma before held c.ask_side.new.lemmas) (sym same_slots) no))
 
 pub returns-clause-spent : goal.returns-clause-spent
 returns-clause-spent g c spent =

@@ -9,5 +9,5 @@ pub returns : goal.returns
 returns c =
     let s = c.args.arg2.0 in let t = c.args.arg2.1 in
     made_as (λ x. baseinverse x.0 x.1) c.new.result (s, t) (is_shaped (baseinverse s t) (board_of c.args.p.now)) (fits (baseinverse s t) c.args.p.now)
-        (c.new.ensures.value ∙ ap (λ board. cond (is_shaped (baseinverse s t) board) (Some (s, t)) None) c.size.ensures.value)
-        (baseinverse_site c.args.p.now s t c.requires)
+    (c.new.ensures.value ∙ ap (λ board. cond (is_shaped (baseinverse s t) board) (Some (s, t)) None) c.size.ensures.value)
+    (baseinverse_site c.args.p.now s t c.requires)

@@ -40,5 +40,5 @@ pub returns : goal.returns
 returns c =
     sym (append-nil c.loop-rest.squares.items)
     ∙ ap (λ us. c.loop-rest.squares.items ++ us)
-        (sym (ap squares_of (let none : c.loop-rest.rest ≡ 0 = omega (arith, c.loop-rest-test.false) in none) ∙ no_squares))
+    (sym (ap squares_of (let none : c.loop-rest.rest ≡ 0 = omega (arith, c.loop-rest-test.false) in none) ∙ no_squares))
     ∙ c.loop-rest.invariant.all

@@ -31,4 +31,4 @@ returns c =
     let p = c.args.self.now in
     c.loop-index.invariant.so_far
     ∙ ap (filter (is_playable p)) (columns_all (board_of p) c.loop-index.index
-        (omega (arith, c.loop-index-test.false, c.loop-index.auto.index-end, c.cols-index-end.ensures.value, ap (λ b. b.cols) c.size-size.ensures.value)))
+    (omega (arith, c.loop-index-test.false, c.loop-index.auto.index-end, c.cols-index-end.ensures.value, ap (λ b. b.cols) c.size-size.ensures.value)))

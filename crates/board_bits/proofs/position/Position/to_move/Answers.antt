@@ -15,4 +15,4 @@ pub returns-else-all_men-eq0 : goal.returns-else-all_men-eq0
 returns-else-all_men-eq0 c =
     let counted = man_ones c.args.self.now c.all_men.ensures.board c.all_men.ensures.stacked in
     ap (λ b. cond b White Black) (sym (ne_eqb _ 0
-        (λ even. c.if-all_men-eq0.false (ap (λ n. count_ones n % 2) c.all_men.ensures.value ∙ ap (λ n. n % 2) counted ∙ even))))
+    (λ even. c.if-all_men-eq0.false (ap (λ n. count_ones n % 2) c.all_men.ensures.value ∙ ap (λ n. n % 2) counted ∙ even))))

@@ -14,7 +14,7 @@ returns-then-index-len-clause-found c =
     let board : c.args.self.now.board ≡ a.size = ap (λ (s : AllShown). s.board) (sym c.self.view_is) in
     ap (λ b. Some (position_in b words, claim)) board
     ∙ found_at a.size a.men.items a.claims.items c.args.lemma i words claim told.0 told.1 c.self.invariant.same_length within c.index.ensures
-        c.index-then-index-len.ensures
+    c.index-then-index-len.ensures
     ∙ ap (λ (s : AllShown). lemma_at s.shown c.args.lemma) c.self.view_is
 
 pub returns-then-index-len-clause-words : goal.returns-then-index-len-clause-words
@@ -23,11 +23,11 @@ returns-then-index-len-clause-words c =
     let within : i < length a.men.items = omega (arith, c.if-index-len.true, c.len.ensures) in
     let board : a.size ≡ c.args.self.now.board = ap (λ (s : AllShown). s.board) c.self.view_is in
     subst (λ b. AreWords b words) board
-        (subst (AreWords a.size) (sym c.index.ensures) (All-get_or (AreWords a.size) a.men.items i words within c.self.invariant.are_words))
+    (subst (AreWords a.size) (sym c.index.ensures) (All-get_or (AreWords a.size) a.men.items i words within c.self.invariant.are_words))
 
 pub returns-else-index-len-clause-found : goal.returns-else-index-len-clause-found
 returns-else-index-len-clause-found c =
     let a = c.self.inside in let i = c.in_ok-index.field-0 in let told = c.in_ok-index.ensures in
     let past : length a.men.items ≤ i = omega (arith, c.if-index-len.false, c.len.ensures) in
     none_at a.size a.men.items a.claims.items c.args.lemma i told.0 told.1 c.self.invariant.same_length past
-        ∙ ap (λ (s : AllShown). lemma_at s.shown c.args.lemma) c.self.view_is
+    ∙ ap (λ (s : AllShown). lemma_at s.shown c.args.lemma) c.self.view_is

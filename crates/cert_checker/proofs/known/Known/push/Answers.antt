@@ -15,10 +15,16 @@ invariant_of-self-in_default c =
     let board : board_of p ≡ a.size = c.requires.board ∙ ap (λ (s : AllShown). s.board) (sym c.self.view_is) in
     let own : AreWords (board_of p) words = c.of.ensures.words in
     let count : length c.args.self.now.shown ≡ length claims = ap (λ (s : AllShown). length s.shown) (sym c.self.view_is)
-        ∙ shown_count a.size all claims c.self.invariant.same_length in
+    ∙ shown_count a.size all claims c.self.invariant.same_length in
     record {
-      same_length = omega (arith, ap length words_are, ap length claims_are, length-append all (words ∷ []), length-append claims (c.args.claim ∷ []),
-          c.self.invariant.same_length);
+      same_length = omega (
+        arith,
+        ap length words_are,
+        ap length claims_are,
+        length-append all (words ∷ []),
+        length-append claims (c.args.claim ∷ []),
+        c.self.invariant.same_length,
+      );
       few = omega (arith, ap length claims_are, length-append claims (c.args.claim ∷ []), c.requires.few);
       are_words = subst (All (AreWords a.size)) (sym words_are)
           (All-push (AreWords a.size) all words c.self.invariant.are_words (subst (λ b. AreWords b words) board own));

@@ -9,4 +9,4 @@ returns-clause-board c =
     let a = c.self.inside in
     let within : a.moves < length a.positions = omega (arith, c.self.invariant.within, c.self.invariant.positions) in
     board_kept a.root c.index-self-self.result a.columns a.positions a.moves within (c.self.invariant.reached a.moves (omega arith))
-        ∙ ap (λ (t : Trail). board_of t.root) c.self.view_is
+    ∙ ap (λ (t : Trail). board_of t.root) c.self.view_is

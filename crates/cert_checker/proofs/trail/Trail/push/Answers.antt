@@ -11,7 +11,7 @@ returns-in_default-clause-barred c = λ _.
     let within : a.moves < length a.positions = omega (arith, kept.within, kept.positions) in
     ap (λ (t : Trail). played t.root (t.path ++ c.args.column ∷ [])) (sym c.self.view_is)
     ∙ one_more a.root c.index-self-self.result a.columns a.positions a.moves c.args.column c.after.result within (kept.reached a.moves (omega arith))
-        c.after.ensures
+    c.after.ensures
     ∙ c.in_default.is
 
 pub invariant_of-self : goal.invariant_of-self
@@ -22,7 +22,7 @@ invariant_of-self c =
     let room : a.moves < 100 = omega (arith, c.requires, kept.within, kept.columns, length-take-le a.moves a.columns) in
     let legal : played a.root (take a.moves a.columns ++ c.args.column ∷ []) ≡ Some next =
     one_more a.root c.index-self-self.result a.columns a.positions a.moves c.args.column c.after.result within (kept.reached a.moves (omega arith))
-        c.after.ensures
+    c.after.ensures
     ∙ c.in-Some.is in
     record {
       within = omega arith;

@@ -10,4 +10,4 @@ returns-then-is_common_ground c =
     let p = c.args.p.now in let x = c.args.arg2.0 in let y = c.args.arg2.1 in
     made_as (λ v. highinverse v.0 v.1) c.new.result (x, y) (is_shaped (highinverse x y) (board_of p)) (fits (highinverse x y) p)
     (c.new.ensures.value ∙ ap (λ board. cond (is_shaped (highinverse x y) board) (Some (x, y)) None) c.size.ensures.value)
-        (highinverse_site p x y (sym c.is_common_ground.ensures ∙ c.if-is_common_ground.true))
+    (highinverse_site p x y (sym c.is_common_ground.ensures ∙ c.if-is_common_ground.true))

@@ -18,5 +18,5 @@ pub returns-else-meets : goal.returns-else-meets
 returns-else-meets c =
     let x = c.args.self.now in let set = c.args.set in
     let left = odd_met set c.odd_rows.result c.intersection-odd.result c.x_column.result (span x.0 x.1) c.odd_rows.ensures c.intersection-odd.ensures
-        c.x_column.ensures in
+    c.x_column.ensures in
     c.if-meets.false ∙ ap (λ b. b && list_any (λ (u : Square). is_odd u.1 && has_square set u) (span x.2 x.3)) (sym c.if-meets.false ∙ c.meets.ensures ∙ left)

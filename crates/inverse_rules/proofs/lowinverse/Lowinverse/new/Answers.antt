@@ -10,4 +10,4 @@ invariant_of-result c =
     let left = sym c.is_column.ensures ∙ c.if-is_column.true in
     let right = sym c.is_column-then-is_column.ensures ∙ c.if-is_column-2.true in
     lowinverse_widest x x_top y y_top c.args.size c.is_a_board.ensures (lowinverse_shaped x x_top y y_top c.args.size
-        ∙ and_from _ _ (and_from _ _ ordered left) right)
+    ∙ and_from _ _ (and_from _ _ ordered left) right)

@@ -20,7 +20,7 @@ invariant_of-result c =
     let both = and_parts (is_column_over p first) (is_column_over p second) c.requires in
     let w = lowinverse first.0 first.1 second.0 second.1 in
     let good = lowinverse_site p first.0 first.1 second.0 second.1 both.0 both.1 ∙ and_from _ _ (lt-ltb first.0.0 second.0.0 (omega (arith, c.if-index.true)))
-        (sym c.is_common_ground.ensures ∙ c.if-is_common_ground.true) in
+    (sym c.is_common_ground.ensures ∙ c.if-is_common_ground.true) in
     lowinverse_widest first.0 first.1 second.0 second.1 (board_of p) c.has_a_board.ensures.board (and_from _ _ (fits_on_board w p good) (fits_shape w p good))
 
 pub returns-then-is_common_ground : goal.returns-then-is_common_ground
@@ -28,7 +28,7 @@ returns-then-is_common_ground c =
     let p = c.args.p.now in let first = c.args.arg2.0 in let second = c.args.arg2.1 in
     let both = and_parts (is_column_over p first) (is_column_over p second) c.requires in
     let good = lowinverse_site p first.0 first.1 second.0 second.1 both.0 both.1 ∙ and_from _ _ (lt-ltb first.0.0 second.0.0 (omega (arith, c.if-index.true)))
-        (sym c.is_common_ground.ensures ∙ c.if-is_common_ground.true) in
+    (sym c.is_common_ground.ensures ∙ c.if-is_common_ground.true) in
     sym (ap (λ b. cond {A = Option RuleInstance} b (Some (lowinverse first.0 first.1 second.0 second.1)) None) good)
 
 pub returns-else-index : goal.returns-else-index
@@ -39,7 +39,7 @@ returns-else-index c =
     let none : fits (lowinverse first.0 first.1 second.0 second.1) p ≡ false = elim c.else-index.branch [
       | else-index-via-then-index+else-is_common_ground w ↦
           site ∙ ap (λ b. b && is_grounded p first.0 second.0) (lt-ltb first.0.0 second.0.0 (omega (arith, w.if-index.true))) ∙ sym w.is_common_ground.ensures
-              ∙ w.if-is_common_ground.false
+          ∙ w.if-is_common_ground.false
       | else-index-via-else-index w ↦ site ∙ ap (λ b. b && is_grounded p first.0 second.0) (le-ltb first.0.0 second.0.0 (omega (arith, w.if-index.false)))
     ] in
     sym (ap (λ b. cond {A = Option RuleInstance} b (Some (lowinverse first.0 first.1 second.0 second.1)) None) none)

@@ -12,5 +12,5 @@ returns c =
     set_same _ _ c.intersection.result c.intersection.ensures (λ u.
     ap (λ b. b && has_square c.lowered.result u) (c.zone-zone.ensures.has u)
     ∙ ap (λ b. has_square (zone_of (lowinverse x.0 x.1 x.2 x.3)) u && b)
-        (c.lowered.ensures.has u ∙ ap (λ b. nat_le 1 u.1 && b) (c.zone-zone.ensures.has (above u)))
+    (c.lowered.ensures.has u ∙ ap (λ b. nat_le 1 u.1 && b) (c.zone-zone.ensures.has (above u)))
     ∙ sym (lowinverse_pairs x.0 x.1 x.2 x.3 u c.x-shape.ensures.shaped))

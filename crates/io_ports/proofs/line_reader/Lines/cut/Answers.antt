@@ -20,7 +20,7 @@ returns-then-held-eq0-clause-gives g c =
     let P : List ℕ → Type 0 = λ before. Moves (left c.args.source.now) (left c.gather.new.source) before c.gather.new.ahead in
     let long = ap length c.bytes-held.ensures.bytes in
     Takes-done _ _ _ _ (subst P (c.skip.ensures ∙ ap (λ s. s.ahead) c.self.view_is) c.gather.ensures.moves) c.in-Ok.len
-        (nil_from_length _ (omega (arith, long, c.if-held-eq0.true))) c.in-Ok.ensures.len c.in-Ok.ensures.whole
+    (nil_from_length _ (omega (arith, long, c.if-held-eq0.true))) c.in-Ok.ensures.len c.in-Ok.ensures.whole
 
 pub invariant_of-self-then-len-gt-LONGEST : goal.invariant_of-self-then-len-gt-LONGEST
 invariant_of-self-then-len-gt-LONGEST g c = (
@@ -55,7 +55,7 @@ returns-clause-gives g c =
     let long = ap length c.bytes-held.ensures.bytes in
     let n = c.in-Ok.len in
     Takes-line _ _ _ _ (subst P (c.skip.ensures ∙ ap (λ s. s.ahead) c.self.view_is) c.gather.ensures.moves) n c.min-self-inside.result _ c.in-Ok.ensures.len
-        (omega arith) (omega (arith, long)) c.in-Ok.ensures.whole (ap (ltb n) long)
+    (omega arith) (omega (arith, long)) c.in-Ok.ensures.whole (ap (ltb n) long)
     (c.min-self-inside.ensures ∙ ap (λ m. min m (n + 1)) long)
 
 pub returns-clause-no_feed : goal.returns-clause-no_feed

@@ -21,5 +21,5 @@ invariant_of-self-2 g c =
       c.self-2.invariant.1,
       λ ended. ap (λ (lines : Cutting). lines.ahead) same
           ∙ held_none _ _ c.args.self.now.ahead lines.ahead lines.text got lines.fed c.cut-got.ensures.gives
-              (sym (ap (is_end got) fed) ∙ sym c.is_end-self-inside.ensures ∙ ended),
+          (sym (ap (is_end got) fed) ∙ sym c.is_end-self-inside.ensures ∙ ended),
     )

@@ -9,16 +9,16 @@ invariant_of-self g c = placed c.self.inside.slots.items c.self.inside.free.item
 pub returns-clause-within : goal.returns-clause-within
 returns-clause-within g c =
     rw (c.new.ensures, ← c.self.view_is) (next_within c.self.inside.slots.items c.self.inside.free.items c.self.inside.room c.self.invariant _
-        (omega (arith, c.if-self-eq0.false)) c.index-number.ensures)
+    (omega (arith, c.if-self-eq0.false)) c.index-number.ensures)
 
 pub returns-clause-free : goal.returns-clause-free
 returns-clause-free g c =
     rw (c.new.ensures, ← c.self.view_is) (next_empty c.self.inside.slots.items c.self.inside.free.items c.self.inside.room c.self.invariant _
-        (omega (arith, c.if-self-eq0.false)) c.index-number.ensures)
+    (omega (arith, c.if-self-eq0.false)) c.index-number.ensures)
 
 pub returns-clause-count : goal.returns-clause-count
 returns-clause-count g c =
     let some : 0 < c.self.inside.room = omega (arith, c.if-self-eq0.false) in
     rw (← c.self.view_is) (one_more c.self.inside.slots.items _ c.args.value
-        (next_within c.self.inside.slots.items c.self.inside.free.items c.self.inside.room c.self.invariant _ some c.index-number.ensures)
-        (next_empty c.self.inside.slots.items c.self.inside.free.items c.self.inside.room c.self.invariant _ some c.index-number.ensures))
+    (next_within c.self.inside.slots.items c.self.inside.free.items c.self.inside.room c.self.invariant _ some c.index-number.ensures)
+    (next_empty c.self.inside.slots.items c.self.inside.free.items c.self.inside.room c.self.invariant _ some c.index-number.ensures))

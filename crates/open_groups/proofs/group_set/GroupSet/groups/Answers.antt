@@ -31,8 +31,17 @@ push_along-requires-4 c =
     let first = length-append c.new-groups.result.items (those_along c.args.self.now H) in
     let second = length-append c.push_along.new.groups.items (those_along c.args.self.now V) in
     let third = length-append c.push_along-2.new.groups.items (those_along c.args.self.now U) in
-    omega (arith, fit, ap length c.new-groups.ensures, ap length c.push_along.ensures, first, ap length c.push_along-2.ensures, second,
-        ap length c.push_along-3.ensures, third)
+    omega (
+      arith,
+      fit,
+      ap length c.new-groups.ensures,
+      ap length c.push_along.ensures,
+      first,
+      ap length c.push_along-2.ensures,
+      second,
+      ap length c.push_along-3.ensures,
+      third,
+    )
 
 pub returns : goal.returns
 returns c =
@@ -40,7 +49,7 @@ returns c =
     let whole = by_ways c.self.inside c.self.invariant in
     c.push_along-4.ensures
     ∙ ap (λ gs. gs ++ d) (c.push_along-3.ensures
-        ∙ ap (λ gs. gs ++ u) (c.push_along-2.ensures ∙ ap (λ gs. gs ++ v) (c.push_along.ensures ∙ ap (λ gs. gs ++ h) c.new-groups.ensures)))
+    ∙ ap (λ gs. gs ++ u) (c.push_along-2.ensures ∙ ap (λ gs. gs ++ v) (c.push_along.ensures ∙ ap (λ gs. gs ++ h) c.new-groups.ensures)))
     ∙ append_assoc (h ++ v) u d
     ∙ append_assoc h v (u ++ d)
     ∙ sym (subst (λ (set : GroupsOn). set.groups ≡ those_along set H ++ (those_along set V ++ (those_along set U ++ those_along set D))) c.self.view_is whole)

@@ -31,4 +31,4 @@ returns-else-same_length c =
     c.if-same_length.false
     ∙ sym (has_by_length c.self.inside c.self.invariant c.args.self.now c.args.g c.same_length.result c.group_length.result c.length.result
     c.self.view_is c.same_length.ensures c.group_length.ensures c.length.ensures
-        ∙ ap (λ b. b && is_anchored c.self.inside.anchors c.args.g) c.if-same_length.false)
+    ∙ ap (λ b. b && is_anchored c.self.inside.anchors c.args.g) c.if-same_length.false)

@@ -14,10 +14,10 @@ pub from_anchor-requires : goal.from_anchor-requires
 from_anchor-requires c =
     let inside = c.self.inside in
     let anchors = c.as_slice-anchor-items.ensures.value ∙ c.squares-anchors.ensures
-        ∙ ap (λ n. get_or inside.anchors n c.index-self-place_of.result) c.place_of.ensures
+    ∙ ap (λ n. get_or inside.anchors n c.index-self-place_of.result) c.place_of.ensures
     ∙ at_rank inside.anchors c.args.way c.index-self-place_of.result c.self.told in
     let among = subst (λ (s : Square). Among s c.as_slice-anchor-items.result.now) (sym c.anchor-item.is)
-        (Among-at c.as_slice-anchor-items.result.now c.loop-anchor.anchor-index c.anchor-item.result c.loop-anchor-test.true) in
+    (Among-at c.as_slice-anchor-items.result.now c.loop-anchor.anchor-index c.anchor-item.result c.loop-anchor-test.true) in
     subst (λ len. is_line (widest_with len) c.args.way c.anchor-item.result ≡ true) (sym c.length.ensures)
     (widest_line inside c.self.invariant c.args.way c.anchor-item.result (subst (Among c.anchor-item.result) anchors among))
 
@@ -25,7 +25,7 @@ pub push-requires : goal.push-requires
 push-requires c =
     let inside = c.self.inside in let us = c.as_slice-anchor-items.result.now in let i = c.loop-anchor.anchor-index in
     let anchors = c.as_slice-anchor-items.ensures.value ∙ c.squares-anchors.ensures
-        ∙ ap (λ n. get_or inside.anchors n c.index-self-place_of.result) c.place_of.ensures
+    ∙ ap (λ n. get_or inside.anchors n c.index-self-place_of.result) c.place_of.ensures
     ∙ at_rank inside.anchors c.args.way c.index-self-place_of.result c.self.told in
     let all = ap (λ (set : GroupsOn). length (those_along set c.args.way)) (sym c.self.view_is) ∙ ap length (by_anchors inside c.self.invariant c.args.way) in
     let within : i < length us = c.loop-anchor-test.true in (
@@ -48,7 +48,7 @@ pub returns : goal.returns
 returns c =
     let inside = c.self.inside in
     let anchors = c.as_slice-anchor-items.ensures.value ∙ c.squares-anchors.ensures
-        ∙ ap (λ n. get_or inside.anchors n c.index-self-place_of.result) c.place_of.ensures
+    ∙ ap (λ n. get_or inside.anchors n c.index-self-place_of.result) c.place_of.ensures
     ∙ at_rank inside.anchors c.args.way c.index-self-place_of.result c.self.told in
     c.loop-anchor.invariant
     ∙ ap (λ gs. c.args.groups.now.items ++ gs) (

@@ -23,7 +23,7 @@ each c = each_with c.self.inside c.self.invariant c.args.g (on c) c.index-anchor
     (c.index-anchors-place.is ∙ ap (λ n. get_or c.self.inside.anchors n c.index-anchors-place.result) (place_is c))
     (subst (λ along. IsSetOf (λ u. same_square u c.args.g.anchor || has_square along u) c.with.result) (sym c.index-anchors-place.is)
     (subst (λ anchor. IsSetOf (λ u. same_square u anchor || has_square (get_or c.self.inside.anchors c.place_of-place.result c.index-anchors-place.result) u)
-        c.with.result) c.group_anchor.ensures.value c.with.ensures))
+    c.with.result) c.group_anchor.ensures.value c.with.ensures))
 
 pub invariant_of-result : goal.invariant_of-result
 invariant_of-result c = rw (place_is c.before) (record {
@@ -35,5 +35,5 @@ invariant_of-result c = rw (place_is c.before) (record {
 pub returns : goal.returns
 returns c = rw (← c.self.view_is, place_is c.before)
     (anchored_set c.self.inside.size (set c.self.inside.anchors (rank c.args.g.way) c.with.result) (size_after c.before)
-        (with_group c.self.inside c.self.invariant c.args.g (on c.before))
+    (with_group c.self.inside c.self.invariant c.args.g (on c.before))
     (with_within c.self.inside c.self.invariant c.args.g (on c.before)) (each c.before))

@@ -16,8 +16,8 @@ returns-in-Ok-None-clause-kept c =
 pub returns-in-Ok-None-clause-whole : goal.returns-in-Ok-None-clause-whole
 returns-in-Ok-None-clause-whole c =
     whole_if_none c.args.position.now c.args.question c.args.found c.self.inside.cache.entries c.self.inside.cache.cap c.self.inside.whole
-        c.len-len.ensures.valid.2 (ap (λ k. displaced same_key c.self.inside.cache k c.args.found) (sym c.of-key.ensures) ∙ sym c.in-Ok-None.ensures.old
-        ∙ c.in-Ok-None.field-0-is)
+    c.len-len.ensures.valid.2 (ap (λ k. displaced same_key c.self.inside.cache k c.args.found) (sym c.of-key.ensures) ∙ sym c.in-Ok-None.ensures.old
+    ∙ c.in-Ok-None.field-0-is)
     ∙ ap (λ t. whole_kept c.args.position.now c.args.question t true) c.self.view_is
 
 pub returns-after-self-clause-kept : goal.returns-after-self-clause-kept
@@ -30,8 +30,8 @@ returns-after-self-clause-kept c =
 pub returns-after-self-clause-whole : goal.returns-after-self-clause-whole
 returns-after-self-clause-whole c =
     let told = whole_if_some c.args.position.now c.args.question c.args.found c.self.inside.cache.entries c.self.inside.cache.cap c.self.inside.whole
-        c.len-len.ensures.valid.2 (c.in-Ok-Some.gone, c.in-Ok-Some.field-0-0-1)
-        (ap (λ k. displaced same_key c.self.inside.cache k c.args.found) (sym c.of-key.ensures) ∙ sym c.in-Ok-Some.ensures.old ∙ c.in-Ok-Some.field-0-is) in
+    c.len-len.ensures.valid.2 (c.in-Ok-Some.gone, c.in-Ok-Some.field-0-0-1)
+    (ap (λ k. displaced same_key c.self.inside.cache k c.args.found) (sym c.of-key.ensures) ∙ sym c.in-Ok-Some.ensures.old ∙ c.in-Ok-Some.field-0-is) in
     let told = told ∙ ap (λ t. whole_kept c.args.position.now c.args.question t true) c.self.view_is in
     let same = same_key c.in-Ok-Some.gone (record { position = c.args.position.now; question = c.args.question }) in
     elim c.if-self.branch [

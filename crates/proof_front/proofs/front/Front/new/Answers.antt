@@ -10,7 +10,7 @@ invariant_of-result c =
     let long : length c.in_ok-pool.pool ≡ c.args.slots = ap length c.in_ok-pool.ensures.empty ∙ length-replicate c.args.slots None in
     let few : length c.in_ok-pool.pool ≤ 1000000 = omega (arith, long, c.requires.few) in
     front_begins c.side.result c.args.reach c.args.root.now c.in_ok-pool.pool c.place.new.self c.place.result c.unwrap-root.result c.leaf.result owned few
-        c.unwrap-root.ensures c.leaf.ensures c.place.ensures.within c.place.ensures.free c.place.ensures.placed c.place.ensures.count
+    c.unwrap-root.ensures c.leaf.ensures c.place.ensures.within c.place.ensures.free c.place.ensures.placed c.place.ensures.count
 
 pub returns : goal.returns
 returns c =

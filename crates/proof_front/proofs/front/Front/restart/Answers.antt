@@ -10,8 +10,8 @@ invariant_of-self c =
     let owned = c.free_row.ensures.freed c.self.inside.asked.side c.self.invariant.tree [] c.self.invariant.lies in
     let few : length c.free_row.new.pool ≤ 1000000 = omega (arith, c.free_row.ensures.same, c.self.invariant.few) in
     front_begins c.side-self-inside.result c.self.inside.asked.reach c.args.root.now c.free_row.new.pool c.place.new.self c.place.result
-        c.unwrap-self-inside.result c.leaf.result owned few c.unwrap-self-inside.ensures c.leaf.ensures c.place.ensures.within c.place.ensures.free
-        c.place.ensures.placed c.place.ensures.count
+    c.unwrap-self-inside.result c.leaf.result owned few c.unwrap-self-inside.ensures c.leaf.ensures c.place.ensures.within c.place.ensures.free
+    c.place.ensures.placed c.place.ensures.count
 
 pub returns : goal.returns
 returns c =

@@ -12,7 +12,7 @@ pub returns-then-meets-clause-member : goal.returns-then-meets-clause-member
 returns-then-meets-clause-member c =
     let p = c.self.inside.at in let ws = written_list c.self.inside.list.items in
     let met = sym (black_met p (squares_of c.args.g) c.group_mask.result c.black.result c.group_mask.ensures c.black.ensures) ∙ sym c.meets.ensures
-        ∙ c.if-meets.true in
+    ∙ c.if-meets.true in
     subst (λ plan. None ≡ answering plan.at (members plan) c.args.g) c.self.view_is (ap (λ black. cond black None (first_barring p ws c.args.g)) (sym met))
 
 pub returns-then-meets-clause-none : goal.returns-then-meets-clause-none
@@ -24,10 +24,10 @@ pub returns-clause-member : goal.returns-clause-member
 returns-clause-member c =
     let p = c.self.inside.at in let ws = written_list c.self.inside.list.items in
     let met = sym (black_met p (squares_of c.args.g) c.group_mask.result c.black.result c.group_mask.ensures c.black.ensures) ∙ sym c.meets.ensures
-        ∙ c.if-meets.false in
+    ∙ c.if-meets.false in
     let first = c.first_barring.ensures ∙ ap (λ list. first_barring p (written_list list) c.args.g) c.as_slice.ensures.value in
     subst (λ plan. c.first_barring.result ≡ answering plan.at (members plan) c.args.g) c.self.view_is
-        (first ∙ ap (λ black. cond black None (first_barring p ws c.args.g)) (sym met))
+    (first ∙ ap (λ black. cond black None (first_barring p ws c.args.g)) (sym met))
 
 pub returns-clause-none : goal.returns-clause-none
 returns-clause-none c =

@@ -10,4 +10,4 @@ pub of-requires-clause-plan : goal.of-requires-clause-plan
 of-requires-clause-plan c =
     let ws = written_list c.args.list.now in
     plan_from c.args.p.now ws (c.in_ok-kept.ensures.fault
-        ∙ cover_decides c.args.p.now ws c.in_ok-position_accepted.ensures c.in_ok-members_accepted.ensures.fault)
+    ∙ cover_decides c.args.p.now ws c.in_ok-position_accepted.ensures c.in_ok-members_accepted.ensures.fault)

@@ -16,4 +16,4 @@ returns-then-not-meets c =
     let same : written c.self.inside.instance ≡ w = ap written c.self.view_is in
     sym (barred_out c.requires.0 w (facts_in c.args.kept.now) (has_square c.args.set) both.0 both.1
     (any_in_same (has_square c.args.set) (zone_of w) c.self.inside.squares (λ u. ap (λ v. has_square (zone_of v) u) (sym same)
-        ∙ sym (c.self.invariant.squares.has u)) ∙ sym c.meets.ensures ∙ c.if-not-meets.true))
+    ∙ sym (c.self.invariant.squares.has u)) ∙ sym c.meets.ensures ∙ c.if-not-meets.true))

@@ -11,7 +11,7 @@ pub loop-expansions-preserved : goal.loop-expansions-preserved
 loop-expansions-preserved c =
     let went = c.grow.ensures in
     grew_more c.args.self.now c.loop-expansions.self c.loop-expansions.expansions c.loop-expansions.invariant c.grow.result went.answer c.grow.new.self
-        c.in-Expanded.is c.loop-expansions-test.true (went.front c.in-Expanded.is)
+    c.in-Expanded.is c.loop-expansions-test.true (went.front c.in-Expanded.is)
 
 pub returns-in_default : goal.returns-in_default
 returns-in_default c =
