@@ -75,9 +75,12 @@ def read_moves(text, cols, rows):
 
 
 def diagram_rows(text):
-    """The rows of a diagram from the top, as texts of X, O and `.`, or None where the text is none."""
+    """The rows of a diagram from the top, as texts of X, O and `.`, or None where the text is none. What draw.py writes
+    below a position says nothing more than its men."""
     rows = []
     for line in text.split("\n"):
+        if re.match(r"\s*[0-9]+ by [0-9]+ after ", line):
+            continue
         bare = re.sub(r"^\s*[0-9]{1,2}(?=\s)|[|\s]", "", line)
         if not bare or re.fullmatch(r"[a-jA-J]+|[0-9]+|[-+=]+", bare) and not re.fullmatch(r"[Bb]+", bare):
             continue

@@ -3,10 +3,11 @@
 import os
 import random
 import stat
+import subprocess
 import tempfile
 import unittest
 
-from common import ToolTest, boards, example, heard, program, read, tool
+from common import TOOLS, ToolTest, boards, example, heard, program, read, tool
 import ask
 import mutants
 
@@ -62,9 +63,14 @@ class QuestionTest(ToolTest):
         self.assertEqual({square for square, man in game.men.items() if man == "W"}, {(3, 1), (3, 3), (2, 1)})
         framed = "| . . . . |\r\n| x . . . |\r\n| o . . . |\r\n| x o . . |\r\n+---------+\r\n  1 2 3 4\r\n"
         self.reads(framed, "aaab")
-        # What draw.py writes is read again.
-        drawn = tool("draw.py", "position", "--text", text="board 4 4\nmoves cccdcd\n")[1].split("\n")[:5]
-        self.assertEqual(ask.read_question("\n".join(drawn)).men, boards.Game(4, 4, [2, 2, 2, 3, 2, 3]).men)
+
+    def test_what_draw_writes(self):
+        """What draw.py writes of a position is read again as it stands, whoever has a line in it."""
+        for cols, rows, letters in ((4, 4, "cccdcd"), (7, 6, "-"), (7, 6, "dcdcdcd"), (10, 10, "jjjiiiaaaaaaaaaa")):
+            game = boards.Game(cols, rows, boards.columns_of(letters))
+            drawn = tool("draw.py", "position", "--text", text=game.text())[1]
+            found = ask.read_question(drawn)
+            self.assertEqual((found.cols, found.rows, found.men), (cols, rows, game.men), drawn)
 
     def test_random_diagrams(self):
         """The men of a game in play, and of one that has ended, are those of the order that is found."""
@@ -113,6 +119,14 @@ class SentenceTest(ToolTest):
         # The same with one move more: Black is to move in column a, and every move leads to the line.
         self.says("White wins after dccbbdbbddcca on 4 by 4 against Black, who is to move", "--board", "4x4",
                   "dccbbdbbddcca")
+
+    def test_pipe_from_draw(self):
+        """The pipe of docs/TOOLS.md."""
+        line = "'%s/draw.py' position '%s' --text | '%s/ask.py' --victor '%s'" % (
+            TOOLS, example("usual-board.txt"), TOOLS, program())
+        run = subprocess.run(["bash", "-c", line], stdout=subprocess.PIPE, stderr=subprocess.PIPE, encoding="ascii")
+        self.assertEqual((run.returncode, run.stderr), (0, ""))
+        self.assertRegex(run.stdout, "^White, who is to move, wins after [cd]{6} on 7 by 6 .2 lemmas accepted..\n$")
 
     def test_moves(self):
         self.says("; the best move is d", "--moves", "--nodes", "20000", "dcdcdc")
