@@ -1,9 +1,14 @@
 # `make` builds the program where it isn't built, which takes `rt`. `make try` shows one example in a minute or two, from
-# sources that nothing has proved here. `make install PREFIX=..` puts the program, its manual page and its documents below
-# that folder, and `make uninstall PREFIX=..` takes them away. DESTDIR is put before PREFIX.
+# sources that nothing has proved here. `make install PREFIX=..` puts the program, its manual page, its documents, the
+# examples and the tools below that folder, and `make uninstall PREFIX=..` takes them away. DESTDIR is put before PREFIX.
 PREFIX ?= /usr/local
 to = $(DESTDIR)$(PREFIX)
 docs = share/doc/victor
+# What the documents speak of, but for the sources and what is made.
+texts = README.md CHANGELOG.md CONTRIBUTING.md $(wildcard docs/*.md docs/img/*.png examples/*.* examples/*/*.* \
+    examples/*/*/*.* tools/boards.py tools/proof.html tools/tests/*.py tools/solve/Makefile tools/solve/usual.book \
+    tools/solve/*.h tools/solve/*.cpp)
+tools = $(addprefix tools/,ask.py batch check.py draw.py pictures test)
 
 all:
 	./victor check <examples/usual-board.proof >/dev/null
@@ -13,15 +18,14 @@ try:
 	@echo "victor: nothing is proved of what runs here, which takes a minute; ./victor proves before it runs" >&2
 	@cd crates/victor && rt try -- prove --reach 0 <../../examples/two-squares-left.txt
 
+# The folder of the documents is laid out as the checkout, with a link to the program, so that their commands work there.
 install: all
-	install -d "$(to)/bin" "$(to)/share/man/man1" "$(to)/$(docs)/docs/img" "$(to)/$(docs)/examples/refused"
+	install -d "$(to)/bin" "$(to)/share/man/man1" "$(to)/$(docs)"
 	install -m 755 crates/victor/out/victor "$(to)/bin/victor"
 	install -m 644 victor.1 "$(to)/share/man/man1/victor.1"
-	install -m 644 README.md CHANGELOG.md "$(to)/$(docs)"
-	install -m 644 docs/*.md "$(to)/$(docs)/docs"
-	install -m 644 docs/img/*.png "$(to)/$(docs)/docs/img"
-	install -m 644 examples/*.* "$(to)/$(docs)/examples"
-	install -m 644 examples/refused/* "$(to)/$(docs)/examples/refused"
+	for file in $(texts); do install -D -m 644 "$$file" "$(to)/$(docs)/$$file" || exit 1; done
+	for file in $(tools); do install -D -m 755 "$$file" "$(to)/$(docs)/$$file" || exit 1; done
+	ln -sf ../../../bin/victor "$(to)/$(docs)/victor"
 
 uninstall:
 	rm -f "$(to)/bin/victor" "$(to)/share/man/man1/victor.1"
