@@ -19,6 +19,7 @@ MOST_NODES = 10_000_000
 MOST_REACH = 1_000_000
 MOST_TRIED = 2_000_000
 SIDES = {"W": "White", "B": "Black"}
+MAYBE_SCORE = "%r may be a score and no move: moves as digits stand in one word, or with commas between them"
 
 
 # ---------------------------------------------------------------------------------------------------------------------
@@ -46,8 +47,8 @@ def read_moves(text, cols, rows):
     bare = re.sub(r"[0-9]+\.", " ", text)
     if bare.strip() in ("", "-"):
         return []
-    if re.fullmatch(r"[0-9\s,;]+", bare):
-        columns = [(int(digit) - 1) % 10 for digit in re.findall("[0-9]", bare)]
+    if re.fullmatch(r"[-+0-9\s,;]+", bare):
+        columns = [(int(digit) - 1) % 10 for digit in digits_of(text)]
         for n, column in enumerate(columns, 1):
             if column >= cols:
                 raise Fault("move %d: the board has no column %d (columns count from 1%s)"
@@ -55,6 +56,9 @@ def read_moves(text, cols, rows):
         return columns
     columns = []
     heights = [0] * cols
+    last = re.search(r"(?<![A-Za-z0-9])[-+]?[0-9]+\s*$", bare)
+    if last:
+        raise Fault(MAYBE_SCORE % last.group().strip())
     for found in re.finditer(r"([A-Za-z])([0-9]*)|([0-9]+)|([^\s,;])", bare):
         letter, row, number, other = found.groups()
         if other:
@@ -74,6 +78,19 @@ def read_moves(text, cols, rows):
     return columns
 
 
+def digits_of(text):
+    """The digits of a list of columns: of one word, or of words of a digit each. A score, which some files have behind
+    a list, isn't taken for a move: where there are two words with a space between them, the second may be one."""
+    parts = re.split(r"[0-9]+\.", text)
+    for part in parts:
+        words = re.findall(r"[^\s,;]+", part)
+        is_pair = len(words) == 2 and len(parts) == 1 and not re.search("[,;]", part)
+        for n, word in enumerate(words):
+            if not word.isdigit() or n and (is_pair or len(word) > 1 or len(words[0]) > 1):
+                raise Fault(MAYBE_SCORE % word)
+    return re.findall("[0-9]", "".join(parts))
+
+
 def diagram_rows(text):
     """The rows of a diagram from the top, as texts of X, O and `.`, or None where the text is none. What draw.py writes
     below a position says nothing more than its men."""
@@ -84,6 +101,8 @@ def diagram_rows(text):
         bare = re.sub(r"^\s*[0-9]{1,2}(?=\s)|[|\s]", "", line)
         if not bare or re.fullmatch(r"[a-jA-J]+|[0-9]+|[-+=]+", bare) and not re.fullmatch(r"[Bb]+", bare):
             continue
+        if re.fullmatch(r"[RYry.]*\.[RYry.]*", bare) and bare.strip("."):
+            raise Fault("a diagram has X and O, or W and B: which of R and Y moved first can't be known")
         if not re.fullmatch(r"[XOxoWB.]+", bare):
             return None
         rows.append(bare.upper().replace("W", "X").replace("B", "O"))
@@ -273,7 +292,12 @@ def ask(words):
     """Answers, and gives the status."""
     size = boards.board_size(words.board) if words.board else None
     text = words.position if words.position is not None else boards.read_input(words.file)
-    game = read_question(text, size)
+    try:
+        game = read_question(text, size)
+    except Fault as fault:
+        if words.position is not None and os.path.isfile(words.position):
+            raise Fault("%s is a file, which --file reads, and no position" % words.position) from fault
+        raise
     options = ["--nodes", str(words.nodes), "--reach", str(words.reach)]
     program = boards.program(words.victor)
     verdict, lemmas = prove(program, game, options, words.keep)

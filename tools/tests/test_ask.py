@@ -37,6 +37,16 @@ class QuestionTest(ToolTest):
         self.reads("0", "j", (10, 6))
         self.reads("19", "ai", (10, 10))
 
+    def test_scores(self):
+        """A number behind a list, which may be a score, is never taken for moves."""
+        for text, number in (("44455554221 2", "2"), ("32164625 11", "11"), ("32164625 -1", "-1"), ("4 2", "2"),
+                             ("4,4,3 12", "12"), ("4 -1", "-1"), ("-1", "-1"), ("444,333", "333"),
+                             ("1. 44 2. 43 2", "2"), ("dddccc 2", "2"), ("dddccc -2", "-2"),
+                             ("1. d d 2. d c 11", "11")):
+            self.fails(text, "%r may be a score" % number)
+        for text in ("4,3", "4;3", "1. 43", "1. 4 3", "1.4 2.3", "1.43", "d1 c1", "43", "1 d c"):
+            self.reads(text, "dc")
+
     def test_faults_of_lists(self):
         self.fails("", "there is no position")
         self.fails("48", "move 2: the board has no column 8")
@@ -90,6 +100,7 @@ class QuestionTest(ToolTest):
         self.fails("....\n....\nX...\n....", "a man hangs over the empty square a1")
         self.fails(".....\n....\n.....\n.....", "row 2 of the diagram, from the top, has 4 squares")
         self.fails("....\n....\n....\n....\n....", "no board has 4 columns and 5 rows")
+        self.fails("....\n....\n....\nRY..", "which of R and Y moved first")
         self.fails("....\n....\n....\n....", "has 4 columns and 4 rows", (7, 6))
         # Both have four in a line.
         self.fails("....\n....\nOOOO\nXXXX", "no single last man made")
@@ -162,7 +173,7 @@ class SentenceTest(ToolTest):
         for words, said in (
             (["dcdcdcx"], "'x' is no column"), (["--board", "7", "d"], "no board"), (["--nodes", "0", "d"], "--nodes"),
             (["--reach", "-1", "d"], "--reach"), (["d", "--file", "x"], "given twice"),
-            (["--file", "/no/such"], "No such file"),
+            (["--file", "/no/such"], "No such file"), ([example("usual-board.txt")], "is a file, which --file reads"),
             (["d", "--victor", "/no/such"], "is no program"), (["--nodes", "many", "d"], "--nodes"),
         ):
             self.refuses("ask.py", *words, said=said)

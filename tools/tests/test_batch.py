@@ -252,6 +252,8 @@ class BatchTest(ToolTest):
         self.helps("batch")
         write(self.list, "444\n48\n")
         self.refuses("batch", *self.words(), said="line 2: move 2: the board has no column 8")
+        write(self.list, "444\n44455554221 2\n")
+        self.refuses("batch", *self.words(), said="line 2: '2' stands behind the position")
         write(self.list, "# none\n")
         self.refuses("batch", *self.words(), said="no position")
         write(self.list, "444\n")
