@@ -2,14 +2,21 @@
 use Rattle.std.proofs.Common.{◌≡◌, ℕ, ◌≤◌, true, false, List, [], ◌++◌, length, Option, Some, None, IfSome, refl, sym, ap, ◌∙◌, subst, arith}
 use Rattle.std.specs.Io.KnownBytes.{Consumes, IsAtEnd}
 use Rattle.std.proofs.lemmas.List.{append-nil}
-use Rattle.io_ports.specs.Lines.{HoldsFew, IsUndecided, behind_lines}
+use Rattle.io_ports.specs.Lines.{Cutting, HoldsFew, IsUndecided, behind_lines}
 use Rattle.io_ports.specs.declared.line_reader.LineGot.TheVariants.{Done}
 use Rattle.victor_run.specs.Streams.{TakesLines, WaitsBehind}
-use Rattle.io_ports.specs.Reading.{Pending, Reads, PassesLines}
+use Rattle.io_ports.specs.Reading.{Pending, pending, Reads, PassesLines}
 
 -- nothing was read yet
 abbrev pub fresh : Option (List ℕ) → ℕ → Pending
 fresh left last_read = record { ended = false; ahead = []; left = left; last_read = last_read }
+
+pub from_fresh : (left : Option (List ℕ)) (last_read : ℕ) (lines : Cutting) (last : Pending) (Fact : List ℕ → List ℕ → Type 0)
+    → lines ≡ record { ended = false; ahead = []; text = []; fed = false }
+    → Reads (pending lines left last_read) last Fact → Reads (fresh left last_read) last Fact
+from_fresh left last_read lines last Fact new reads =
+    let P : Cutting → Type 0 = λ lines. Reads (pending lines left last_read) last Fact in
+    subst P new reads
 
 module _ (old : Option (List ℕ)) (begun : ℕ) (last : Pending) (n most : ℕ) (Holds : List ℕ → Type 0)
     (reads : Reads (fresh old begun) last (λ bytes rest. PassesLines n bytes rest × Holds bytes)) where
