@@ -64,6 +64,13 @@ step_none a b out whole before after Fact men reads = record {
   reads = reads;
 }
 
+-- a line that was given is the text that is asked for
+pub line_given : (a b : Pending) (text asked : List ℕ) (fed : Bool) → asked ≡ text → Reads a b (λ bytes rest. Gives bytes rest Line text fed)
+    → Reads a b (λ bytes rest. Gives bytes rest Line asked fed)
+line_given a b text asked fed is gives =
+    let P : List ℕ → Type 0 = λ text. Reads a b (λ bytes rest. Gives bytes rest Line text fed) in
+    subst P (sym is) gives
+
 module _ (a b : Pending) (text : List ℕ) (fed : Bool) (s t : Playing) (at : ℕ) (gives : Reads a b (λ bytes rest. Gives bytes rest Line text fed)) where
   pub next_played : (line : List ℕ)
       → ((more : List (List ℕ)) → play_from (members s.plan) s.stands at (text ∷ more) ≡ behind (line ∷ []) (play_from (members t.plan) t.stands (at + 1) more))

@@ -1,29 +1,22 @@
-use Rattle.std.proofs.Common.{Bool, true, false, Err, List, ℕ, sym, ap, subst, arith}
+use Rattle.std.proofs.Common.{Bool, true, false, Err, List, ℕ, ap, subst, arith}
 use Rattle.std.proofs.lemmas.Result.{err_from_is_err_and}
 use Rattle.device_rules.specs.Devices.{AppendsPrefix}
 use Rattle.game_rules.specs.Position.{empty_count}
-use Rattle.io_ports.specs.Lines.{Gives}
-use Rattle.io_ports.specs.declared.line_reader.LineGot.TheVariants.{Line}
 use Rattle.reply_player.specs.Playing.{Playing}
-use Rattle.io_ports.specs.Reading.{pending, Reads}
 use Rattle.victor_run.specs.PlaySteps.{is_whole}
 use Rattle.victor_run.proofs.PlayRead.{moves_long, moves_none, moves_unread}
-use Rattle.victor_run.proofs.PlayJudged.{step_line, step_none, next_played, next_cut, next_stopped, line_cause, no_move_waits}
+use Rattle.victor_run.proofs.PlayJudged.{line_given, step_line, step_none, next_played, next_cut, next_stopped, line_cause, no_move_waits}
 use Rattle.io_ports.proofs.Reading.{Reads_more}
 use Rattle.victor_run.proofs.play.play_next.Goals as goal
 
 pub returns-in_err-line-in-Line-clause-plays : goal.returns-in_err-line-in-Line-clause-plays
 returns-in_err-line-in-Line-clause-plays g c =
-    let a = pending c.args.lines.now (g.S.Source.left c.args.source.now) (g.S.Source.last_read c.args.source.now) in
-    let b = pending c.next.new.self (g.S.Source.left c.next.new.source) (g.S.Source.last_read c.next.new.source) in
-    let P : List ℕ → Type 0 = λ text. Reads a b (λ bytes rest. Gives bytes rest Line text c.next.new.self.fed) in
+    let gives = line_given _ _ _ c.text.result.now _ c.text.ensures c.in-Line.ensures.gives in
     let same = err_from_is_err_and c.from_residual.result c.from_residual.ensures.1 in
     let stopped = c.in_err-line-in-Line.ensures in
     let stop = c.in_err-line-in-Line.field-0.0 in
-    let men = ap (λ (s : Playing). empty_count s.stands) stopped.men in
-    rw (same.1, same.2) (step_none a b _ (is_whole {X = Bool} (Err stop)) _ _ _ (omega (arith, men))
-    (next_stopped a b c.text.result.now c.next.new.self.fed c.args.session.now c.play_line.new.session c.args.at
-    (subst P (sym c.text.ensures) c.in-Line.ensures.gives) stop stopped.answer stopped.stops))
+    rw (same.1, same.2) (step_none _ _ _ (is_whole {X = Bool} (Err stop)) _ _ _ (omega (arith, ap (λ (s : Playing). empty_count s.stands) stopped.men))
+    (next_stopped _ _ _ _ c.args.session.now c.play_line.new.session c.args.at gives stop stopped.answer stopped.stops))
 
 pub returns-in_err-line-in-Line-clause-waiting : goal.returns-in_err-line-in-Line-clause-waiting
 returns-in_err-line-in-Line-clause-waiting g c =
@@ -37,40 +30,31 @@ returns-in_err-line-in-Line-clause-cause g c =
 
 pub returns-in-Ok-clause-plays : goal.returns-in-Ok-clause-plays
 returns-in-Ok-clause-plays g c =
-    let a = pending c.args.lines.now (g.S.Source.left c.args.source.now) (g.S.Source.last_read c.args.source.now) in
-    let b = pending c.next.new.self (g.S.Source.left c.next.new.source) (g.S.Source.last_read c.next.new.source) in
-    let P : List ℕ → Type 0 = λ text. Reads a b (λ bytes rest. Gives bytes rest Line text c.next.new.self.fed) in
+    let gives = line_given _ _ _ c.text.result.now _ c.text.ensures c.in-Line.ensures.gives in
     let line = c.in_ok-line-in-Line.line.items in
     let Put : List ℕ → Type 0 = λ text. AppendsPrefix true (g.O.Sink.written c.args.out.now) (g.O.Sink.written c.put_line.new.out) text in
     let made = c.in_ok-line-in-Line.ensures in
-    step_line a b _ _ _ _ _ _ line (subst Put c.as_slice.ensures.value c.in-Ok.ensures.written) made.men
-    (next_played a b c.text.result.now c.next.new.self.fed c.args.session.now c.play_line.new.session c.args.at
-    (subst P (sym c.text.ensures) c.in-Line.ensures.gives) line made.answer)
+    step_line _ _ _ _ _ _ _ _ line (subst Put c.as_slice.ensures.value c.in-Ok.ensures.written) made.men
+    (next_played _ _ _ _ c.args.session.now c.play_line.new.session c.args.at gives line made.answer)
 
 pub returns-in-Err-clause-plays : goal.returns-in-Err-clause-plays
 returns-in-Err-clause-plays g c =
-    let a = pending c.args.lines.now (g.S.Source.left c.args.source.now) (g.S.Source.last_read c.args.source.now) in
-    let b = pending c.next.new.self (g.S.Source.left c.next.new.source) (g.S.Source.last_read c.next.new.source) in
-    let P : List ℕ → Type 0 = λ text. Reads a b (λ bytes rest. Gives bytes rest Line text c.next.new.self.fed) in
+    let gives = line_given _ _ _ c.text.result.now _ c.text.ensures c.in-Line.ensures.gives in
     let line = c.in_ok-line-in-Line.line.items in
     let Put : List ℕ → Type 0 = λ text. AppendsPrefix false (g.O.Sink.written c.args.out.now) (g.O.Sink.written c.put_line.new.out) text in
     let made = c.in_ok-line-in-Line.ensures in
-    step_line a b _ _ _ _ _ _ line (subst Put c.as_slice.ensures.value c.in-Err.ensures.written) made.men
-    (next_cut a b c.text.result.now c.next.new.self.fed c.args.session.now c.play_line.new.session c.args.at
-    (subst P (sym c.text.ensures) c.in-Line.ensures.gives) line made.answer)
+    step_line _ _ _ _ _ _ _ _ line (subst Put c.as_slice.ensures.value c.in-Err.ensures.written) made.men
+    (next_cut _ _ _ _ c.args.session.now c.play_line.new.session c.args.at gives line made.answer)
 
 pub returns-in-Long-clause-plays : goal.returns-in-Long-clause-plays
 returns-in-Long-clause-plays g c =
     rw c.no_move.ensures (step_none _ _ _ _ _ _ _ (omega arith)
-    (Reads_more _ _ _ _ (moves_long _ _ c.next.new.self.text c.next.new.self.fed c.args.session.now c.args.at c.in-Long.ensures.gives)
-    (λ bytes rest h. ((omega arith, h.0), h.1))))
+    (Reads_more _ _ _ _ (moves_long _ _ _ _ c.args.session.now c.args.at c.in-Long.ensures.gives) (λ bytes rest h. ((omega arith, h.0), h.1))))
 
 pub returns-in-Done-clause-plays : goal.returns-in-Done-clause-plays
-returns-in-Done-clause-plays g c = step_none _ _ _ _ _ _ _ (omega arith)
-    (moves_none _ _ c.next.new.self.text c.next.new.self.fed c.args.session.now c.args.at c.in-Done.ensures.gives)
+returns-in-Done-clause-plays g c = step_none _ _ _ _ _ _ _ (omega arith) (moves_none _ _ _ _ c.args.session.now c.args.at c.in-Done.ensures.gives)
 
 pub returns-in-Failed-clause-plays : goal.returns-in-Failed-clause-plays
 returns-in-Failed-clause-plays g c =
-    step_none _ _ _ _ _ _ _ (omega arith)
-    (Reads_more _ _ _ _ (moves_unread _ _ c.next.new.self.text c.next.new.self.fed c.args.session.now c.args.at c.in-Failed.ensures.gives)
-    (λ bytes rest h. ((omega arith, h.0), h.1)))
+    step_none _ _ _ _ _ _ _ (omega arith) (Reads_more _ _ _ _
+    (moves_unread _ _ c.next.new.self.text c.next.new.self.fed c.args.session.now c.args.at c.in-Failed.ensures.gives) (λ _ _ h. ((omega arith, h.0), h.1)))
