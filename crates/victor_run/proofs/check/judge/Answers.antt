@@ -30,7 +30,7 @@ returns-in_err-end g c =
     let head = from_fresh _ _ _ _ _ c.new-lines.ensures c.in_ok-read_head.ensures.answer in
     let game = game_known _ _ _ head c.in_ok-root.root c.in_ok-root.ensures.answer in
     let stopped = lines_stop _ _ _ c.in_ok-root.root c.new-checker.result c.add_lines.new.checker c.new-checker.ensures game
-        _ _ _ _ stop (omega (arith, c.in_ok-read_head.ensures.later, c.in_ok-root.ensures.later)) c.in_err-end.ensures.few.0 c.in_err-end.ensures.answer in
+    _ _ _ _ stop (omega (arith, c.in_ok-read_head.ensures.later, c.in_ok-root.ensures.later)) c.in_err-end.ensures.few.0 c.in_err-end.ensures.answer in
     rw (same.1, same.2) (judged_stop _ _ _ (lines_read_until stop) _ _ stop stopped all c.in_err-end.ensures.few.1)
 
 pub returns-in-Ok : goal.returns-in-Ok
@@ -43,7 +43,7 @@ returns-in-Ok g c =
     let game = game_known _ _ _ head c.in_ok-root.root c.in_ok-root.ensures.answer in
     let answer = ap (verdict_answer end (length t.known)) c.in-Ok.ensures.0 ∙ ap (Accepted accepted.verdict) (sym c.in-Ok.ensures.1) in
     let right = lines_known _ _ _ c.in_ok-root.root c.new-checker.result t c.new-checker.ensures game end (omega (arith, few.0))
-        c.in_ok-end.ensures.answer (Accepted accepted.verdict accepted.lemmas) answer in
+    c.in_ok-end.ensures.answer (Accepted accepted.verdict accepted.lemmas) answer in
     judged_right _ _ _ end _ _ accepted right c.in_ok-end.ensures.ended few.1
 
 pub returns : goal.returns
@@ -56,5 +56,5 @@ returns g c =
     let game = game_known _ _ _ head c.in_ok-root.root c.in_ok-root.ensures.answer in
     let answer = ap (verdict_answer end (length t.known)) c.in-Err.ensures.0 ∙ ap (λ r. Refused r.at (why_of r.why)) (sym c.in-Err.ensures.1) in
     let stopped = lines_known _ _ _ c.in_ok-root.root c.new-checker.result t c.new-checker.ensures game end (omega (arith, few.0))
-        c.in_ok-end.ensures.answer (Refused r.at (why_of r.why)) answer in
+    c.in_ok-end.ensures.answer (Refused r.at (why_of r.why)) answer in
     judged_stop _ _ _ end _ _ (stops.Refused r) stopped (omega (arith, ap (λ r. r.at) c.in-Err.ensures.1)) few.1
