@@ -1,12 +1,10 @@
 -- The front, computed at positions whose numbers are known from outside.
 use Rattle.std.proofs.Common.{◌≡◌, ℕ, Bool, true, false, List, [], ◌∷◌, Option, Some, refl}
-use Rattle.std.specs.Option.{option_map}
-use Rattle.game_rules.specs.Position.{empty_position, played}
 use Rattle.game_rules.specs.Squares.{squares_of_board}
 use Rattle.game_rules.specs.Groups.{groups_of}
-use Rattle.game_rules.specs.declared.Length.TheVariants.{Four}
 use Rattle.game_rules.specs.declared.Side.{Side}
 use Rattle.game_rules.specs.declared.Side.TheVariants.{White}
+use Rattle.game_rules.proofs.Samples.{after_moves}
 use Rattle.walk_rules.specs.Walk.{walk_within, walk_from}
 use Rattle.front_rules.specs.Front.{Row, node_count, root_number, asked, is_settled, front_within, front}
 use Rattle.front_rules.specs.declared.Count.{Count}
@@ -28,7 +26,7 @@ seen_of side tree = seen (root_number side true tree) (root_number side false tr
 
 -- the tree on the board of 4 columns and 4 rows, after some moves from its empty board
 abbrev after : {X : Type 0} → (Row → X) → List ℕ → Side → ℕ → ℕ → Option X
-after f moves side k n = option_map (λ p. f (front p side k n)) (played (empty_position (record { cols = 4; rows = 4; len = Four })) moves)
+after f moves side k n = after_moves (λ p. f (front p side k n)) 4 4 moves
 
 -- four squares of the left column are empty, and the third of them wins for White
 left_column : List ℕ

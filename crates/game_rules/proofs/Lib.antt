@@ -1,3 +1,4 @@
+pub mod Samples
 mod Vectors
 pub mod Lists
 pub mod Filtered

@@ -1,3 +1,4 @@
+pub mod Samples
 mod Vectors
 mod ListVectors
 mod RefusalVectors

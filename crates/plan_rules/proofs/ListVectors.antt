@@ -2,12 +2,11 @@
 use Rattle.std.proofs.Common.{◌≡◌, ℕ, List, [], ◌∷◌, map, length, Option, Some, refl}
 use Rattle.std.specs.Option.{option_map}
 use Rattle.game_rules.specs.Board.{Square}
-use Rattle.game_rules.specs.Position.{empty_position, played}
 use Rattle.game_rules.specs.Squares.{squares_of_board}
-use Rattle.game_rules.specs.Groups.{Group, groups_of}
-use Rattle.game_rules.specs.declared.Length.TheVariants.{Four}
-use Rattle.game_rules.specs.declared.Way.{Way}
+use Rattle.game_rules.specs.Groups.{groups_of}
 use Rattle.game_rules.specs.declared.Way.TheVariants.{H, U}
+use Rattle.game_rules.proofs.Samples.{after_moves}
+use Rattle.plan_rules.proofs.Samples.{group_of_four, six_men, few_left}
 use Rattle.plan_rules.specs.Rules.{RuleInstance, claimeven, baseinverse, lowinverse, highinverse, baseclaim, vertical, aftereven, before, specialbefore}
 use Rattle.plan_rules.specs.declared.Kind.{Kind}
 use Rattle.plan_rules.specs.declared.Kind.TheVariants as kinds
@@ -15,16 +14,10 @@ use Rattle.plan_rules.specs.Listing.{listed}
 
 -- what is listed after some moves on a board with lines of four
 abbrev listed_after : ℕ → ℕ → List ℕ → Kind → Option (List RuleInstance)
-listed_after cols rows moves kind = option_map (listed kind) (played (empty_position (record { cols = cols; rows = rows; len = Four })) moves)
+listed_after cols rows moves kind = after_moves (listed kind) cols rows moves
 
 abbrev count_after : ℕ → ℕ → List ℕ → Kind → Option ℕ
 count_after cols rows moves kind = option_map length (listed_after cols rows moves kind)
-
-abbrev line_of_four : Square → Way → Group
-line_of_four anchor way = record { anchor = anchor; way = way; len = Four }
-
-abbrev six_men : List ℕ
-six_men = 3 ∷ 0 ∷ 3 ∷ 3 ∷ 2 ∷ 3 ∷ []
 
 abbrev pairs_of_columns : (Square → Square → RuleInstance) → ℕ → List RuleInstance
 pairs_of_columns rule row = map (λ (two : ℕ × ℕ). rule (two.0, row) (two.1, row)) ((0, 1) ∷ (0, 2) ∷ (0, 3) ∷ (1, 2) ∷ (1, 3) ∷ (2, 3) ∷ [])
@@ -56,7 +49,7 @@ unfolding squares_of_board groups_of
 afterevens_at_first = refl
 
 befores_at_first : listed_after 4 4 [] kinds.Before
-    ≡ Some (before (line_of_four (0, 1) H) ∷ before (line_of_four (0, 2) H) ∷ before (line_of_four (0, 3) H) ∷ [])
+    ≡ Some (before (group_of_four (0, 1) H) ∷ before (group_of_four (0, 2) H) ∷ before (group_of_four (0, 3) H) ∷ [])
 unfolding squares_of_board groups_of
 befores_at_first = refl
 
@@ -93,17 +86,14 @@ verticals_later = refl
 
 -- ---- few squares left on the board of 5 columns and 4 rows
 
-abbrev few_left : Kind → Option (List RuleInstance)
-few_left = listed_after 5 4 (0 ∷ 1 ∷ 1 ∷ 0 ∷ 0 ∷ 1 ∷ 1 ∷ 0 ∷ 3 ∷ 3 ∷ 2 ∷ 4 ∷ 4 ∷ 3 ∷ 4 ∷ 4 ∷ [])
-
-one_aftereven : few_left kinds.Aftereven ≡ Some (aftereven (line_of_four (1, 1) U) ∷ [])
+one_aftereven : listed_after 5 4 few_left kinds.Aftereven ≡ Some (aftereven (group_of_four (1, 1) U) ∷ [])
 unfolding squares_of_board groups_of
 one_aftereven = refl
 
-one_before : few_left kinds.Before ≡ Some (before (line_of_four (1, 1) U) ∷ [])
+one_before : listed_after 5 4 few_left kinds.Before ≡ Some (before (group_of_four (1, 1) U) ∷ [])
 unfolding squares_of_board groups_of
 one_before = refl
 
-one_specialbefore : few_left kinds.Specialbefore ≡ Some (specialbefore (line_of_four (1, 1) U) (3, 4) (2, 2) ∷ [])
+one_specialbefore : listed_after 5 4 few_left kinds.Specialbefore ≡ Some (specialbefore (group_of_four (1, 1) U) (3, 4) (2, 2) ∷ [])
 unfolding squares_of_board groups_of
 one_specialbefore = refl

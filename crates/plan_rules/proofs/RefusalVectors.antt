@@ -1,34 +1,22 @@
 -- Why a list is no plan, and which member answers a line, computed at positions whose answers are known from outside.
 use Rattle.std.proofs.Common.{◌≡◌, ℕ, List, [], ◌∷◌, ◌++◌, Option, Some, None, refl}
-use Rattle.std.specs.Option.{option_map}
-use Rattle.game_rules.specs.Board.{Square}
-use Rattle.game_rules.specs.Position.{empty_position, played}
 use Rattle.game_rules.specs.Squares.{squares_of_board}
 use Rattle.game_rules.specs.Groups.{Group, groups_of}
-use Rattle.game_rules.specs.declared.Length.TheVariants.{Four}
-use Rattle.game_rules.specs.declared.Way.{Way}
 use Rattle.game_rules.specs.declared.Way.TheVariants.{H, V}
+use Rattle.game_rules.proofs.Samples.{after_moves}
+use Rattle.plan_rules.proofs.Samples.{group_of_four, columns_a_b, six_zones, crossed, only_claimevens}
 use Rattle.plan_rules.specs.Rules.{RuleInstance, claimeven, baseinverse, lowinverse, highinverse, aftereven, before}
 use Rattle.plan_rules.specs.Refusal.{PlanFault, not_white_to_move, ended, misfit, clash, uncovered, unsupported, unanswered, plan_refusal, answering}
 
 -- why a list is no plan after some moves on the board of 4 columns and 4 rows
 abbrev refused : List ℕ → List RuleInstance → Option (Option PlanFault)
-refused moves ws = option_map (λ p. plan_refusal p ws) (played (empty_position (record { cols = 4; rows = 4; len = Four })) moves)
-
-abbrev line_of_four : Square → Way → Group
-line_of_four anchor way = record { anchor = anchor; way = way; len = Four }
-
-abbrev columns_a_b : List RuleInstance
-columns_a_b = claimeven (0, 1) ∷ claimeven (0, 3) ∷ claimeven (1, 1) ∷ claimeven (1, 3) ∷ []
-
-abbrev six_zones : List RuleInstance
-six_zones = columns_a_b ++ baseinverse (2, 1) (3, 1) ∷ lowinverse (2, 2) (2, 4) (3, 2) (3, 4) ∷ []
+refused moves ws = after_moves (λ p. plan_refusal p ws) 4 4 moves
 
 no_refusal : refused [] six_zones ≡ Some None
 unfolding squares_of_board groups_of
 no_refusal = refl
 
-supported_before : refused [] (six_zones ++ before (line_of_four (0, 2) H) ∷ []) ≡ Some None
+supported_before : refused [] (six_zones ++ before (group_of_four (0, 2) H) ∷ []) ≡ Some None
 unfolding squares_of_board groups_of
 supported_before = refl
 
@@ -51,8 +39,7 @@ unfolding squares_of_board groups_of
 first_misfit = refl
 
 -- all squares are covered
-crossed_zones : refused [] (baseinverse (0, 1) (2, 1) ∷ baseinverse (1, 1) (3, 1) ∷ lowinverse (0, 2) (0, 4) (1, 2) (1, 4)
-    ∷ lowinverse (2, 2) (2, 4) (3, 2) (3, 4) ∷ []) ≡ Some (Some (clash 1 3))
+crossed_zones : refused [] crossed ≡ Some (Some (clash 1 3))
 unfolding squares_of_board groups_of
 crossed_zones = refl
 
@@ -81,29 +68,28 @@ unfolding squares_of_board groups_of
 without_baseinverse = refl
 
 -- c2 isn't the upper square of a Claimeven
-unsupported_aftereven : refused [] (six_zones ++ aftereven (line_of_four (0, 2) H) ∷ []) ≡ Some (Some (unsupported 7))
+unsupported_aftereven : refused [] (six_zones ++ aftereven (group_of_four (0, 2) H) ∷ []) ≡ Some (Some (unsupported 7))
 unfolding squares_of_board groups_of
 unsupported_aftereven = refl
 
-only_claimevens : refused [] (columns_a_b ++ claimeven (2, 1) ∷ claimeven (2, 3) ∷ claimeven (3, 1) ∷ claimeven (3, 3) ∷ [])
-    ≡ Some (Some (unanswered (line_of_four (0, 1) H)))
+no_baseinverse : refused [] only_claimevens ≡ Some (Some (unanswered (group_of_four (0, 1) H)))
 unfolding squares_of_board groups_of
-only_claimevens = refl
+no_baseinverse = refl
 
 -- ---- the member that answers a line
 
 abbrev answered_by : List ℕ → Group → Option (Option ℕ)
-answered_by moves g = option_map (λ p. answering p six_zones g) (played (empty_position (record { cols = 4; rows = 4; len = Four })) moves)
+answered_by moves g = after_moves (λ p. answering p six_zones g) 4 4 moves
 
-lowest_row : answered_by [] (line_of_four (0, 1) H) ≡ Some (Some 5)
+lowest_row : answered_by [] (group_of_four (0, 1) H) ≡ Some (Some 5)
 lowest_row = refl
 
 -- the third member bars it too
-second_row : answered_by [] (line_of_four (0, 2) H) ≡ Some (Some 1)
+second_row : answered_by [] (group_of_four (0, 2) H) ≡ Some (Some 1)
 second_row = refl
 
-column_c : answered_by [] (line_of_four (2, 1) V) ≡ Some (Some 6)
+column_c : answered_by [] (group_of_four (2, 1) V) ≡ Some (Some 6)
 column_c = refl
 
-has_black_man : answered_by (0 ∷ 1 ∷ []) (line_of_four (0, 1) H) ≡ Some None
+has_black_man : answered_by (0 ∷ 1 ∷ []) (group_of_four (0, 1) H) ≡ Some None
 has_black_man = refl

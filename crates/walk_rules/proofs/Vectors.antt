@@ -8,19 +8,13 @@ use Rattle.game_rules.specs.Groups.{Group, groups_of}
 use Rattle.game_rules.specs.declared.Length.TheVariants.{Four}
 use Rattle.game_rules.specs.declared.Way.{Way}
 use Rattle.game_rules.specs.declared.Way.TheVariants.{H, U, D}
+use Rattle.game_rules.proofs.Samples.{after_moves}
+use Rattle.plan_rules.proofs.Samples.{group_of_four, columns_a_b, six_zones, even_moves, narrow_moves}
 use Rattle.plan_rules.specs.Rules.{RuleInstance, claimeven, baseinverse, lowinverse, highinverse, baseclaim, vertical, aftereven, before, specialbefore}
 use Rattle.walk_rules.specs.Walk.{walk_within, walk_from, walk, Chosen, gave, no_plan, spent, choice_of}
 
--- a group of four squares
-abbrev line_of_four : Square → Way → Group
-line_of_four anchor way = record { anchor = anchor; way = way; len = Four }
-
--- what holds after some moves on a board with lines of four
-abbrev at_moves : {X : Type 0} → (Position → X) → ℕ → ℕ → List ℕ → Option X
-at_moves f cols rows moves = option_map f (played (empty_position (record { cols = cols; rows = rows; len = Four })) moves)
-
 abbrev chosen : ℕ → ℕ → List ℕ → ℕ → Option Chosen
-chosen cols rows moves k = at_moves (λ p. choice_of p k) cols rows moves
+chosen cols rows moves k = after_moves (λ p. choice_of p k) cols rows moves
 
 -- the Claimevens of columns, on some odd rows of each
 abbrev claimevens : List ℕ → List ℕ → List RuleInstance
@@ -29,26 +23,23 @@ claimevens (column ∷ columns) rows = map (λ row. claimeven (column, row)) row
 
 -- ---- the empty board of 4 columns and 4 rows
 
-columns_a_b : List RuleInstance
-columns_a_b = claimevens (0 ∷ 1 ∷ []) (1 ∷ 3 ∷ [])
-
 eight : List RuleInstance
 eight = claimevens (0 ∷ 1 ∷ 2 ∷ 3 ∷ []) (1 ∷ 3 ∷ [])
 
-walk_length : at_moves (λ p. length (walk p)) 4 4 [] ≡ Some 77
+walk_length : after_moves (λ p. length (walk p)) 4 4 [] ≡ Some 77
 unfolding squares_of_board groups_of walk_within walk_from
 walk_length = refl
 
-first_sets : at_moves (λ p. take 11 (walk p)) 4 4 [] ≡ Some (
+first_sets : after_moves (λ p. take 11 (walk p)) 4 4 [] ≡ Some (
     map (λ k. take k eight) (0 ∷ 1 ∷ 2 ∷ 3 ∷ 4 ∷ 5 ∷ 6 ∷ 7 ∷ 8 ∷ [])
     ++ (columns_a_b ++ baseinverse (2, 1) (3, 1) ∷ [])
-    ∷ (columns_a_b ++ baseinverse (2, 1) (3, 1) ∷ lowinverse (2, 2) (2, 4) (3, 2) (3, 4) ∷ [])
+    ∷ six_zones
     ∷ [])
-unfolding squares_of_board groups_of walk_within walk_from columns_a_b eight
+unfolding squares_of_board groups_of walk_within walk_from eight
 first_sets = refl
 
-gives_at_11 : chosen 4 4 [] 11 ≡ Some (gave (columns_a_b ++ baseinverse (2, 1) (3, 1) ∷ lowinverse (2, 2) (2, 4) (3, 2) (3, 4) ∷ []))
-unfolding squares_of_board groups_of walk_within walk_from columns_a_b
+gives_at_11 : chosen 4 4 [] 11 ≡ Some (gave six_zones)
+unfolding squares_of_board groups_of walk_within walk_from
 gives_at_11 = refl
 
 spent_at_10 : chosen 4 4 [] 10 ≡ Some spent
@@ -73,34 +64,34 @@ spent_at_153 = refl
 -- ---- standing instances
 
 -- with a Vertical
-with_vertical : chosen 4 6 (3 ∷ 2 ∷ 2 ∷ 3 ∷ 2 ∷ 3 ∷ []) 11
+with_vertical : chosen 4 6 narrow_moves 11
     ≡ Some (gave (claimevens (0 ∷ 1 ∷ []) (1 ∷ 3 ∷ 5 ∷ []) ++ lowinverse (2, 4) (2, 6) (3, 4) (3, 6) ∷ vertical (2, 4) ∷ []))
 unfolding squares_of_board groups_of walk_within walk_from
 with_vertical = refl
 
-vertical_spent : chosen 4 6 (3 ∷ 2 ∷ 2 ∷ 3 ∷ 2 ∷ 3 ∷ []) 10 ≡ Some spent
+vertical_spent : chosen 4 6 narrow_moves 10 ≡ Some spent
 unfolding squares_of_board groups_of walk_within walk_from
 vertical_spent = refl
 
 -- with an Aftereven
-with_aftereven : chosen 4 4 (2 ∷ 2 ∷ 2 ∷ 3 ∷ 2 ∷ 3 ∷ []) 6 ≡ Some (gave (columns_a_b ++ claimeven (3, 3) ∷ aftereven (line_of_four (0, 2) H) ∷ []))
-unfolding squares_of_board groups_of walk_within walk_from columns_a_b
+with_aftereven : chosen 4 4 even_moves 6 ≡ Some (gave (columns_a_b ++ claimeven (3, 3) ∷ aftereven (group_of_four (0, 2) H) ∷ []))
+unfolding squares_of_board groups_of walk_within walk_from
 with_aftereven = refl
 
-aftereven_spent : chosen 4 4 (2 ∷ 2 ∷ 2 ∷ 3 ∷ 2 ∷ 3 ∷ []) 5 ≡ Some spent
+aftereven_spent : chosen 4 4 even_moves 5 ≡ Some spent
 unfolding squares_of_board groups_of walk_within walk_from
 aftereven_spent = refl
 
 -- with a Vertical and two Befores, in the order of the groups that they answer
 with_befores : chosen 5 6 (0 ∷ 2 ∷ 2 ∷ 2 ∷ 2 ∷ 2 ∷ 2 ∷ 1 ∷ 0 ∷ 1 ∷ 1 ∷ 1 ∷ 1 ∷ 1 ∷ 4 ∷ 3 ∷ 0 ∷ 4 ∷ 3 ∷ 0 ∷ 3 ∷ 4 ∷ []) 100
-    ≡ Some (gave (claimeven (0, 5) ∷ lowinverse (3, 4) (3, 6) (4, 4) (4, 6) ∷ vertical (3, 4) ∷ before (line_of_four (1, 6) D) ∷ before (line_of_four (1, 2) U)
+    ≡ Some (gave (claimeven (0, 5) ∷ lowinverse (3, 4) (3, 6) (4, 4) (4, 6) ∷ vertical (3, 4) ∷ before (group_of_four (1, 6) D) ∷ before (group_of_four (1, 2) U)
     ∷ []))
 unfolding squares_of_board groups_of walk_within walk_from
 with_befores = refl
 
 -- one Aftereven answers two groups, and is listed once
 listed_once : chosen 5 6 (0 ∷ 2 ∷ 2 ∷ 2 ∷ 2 ∷ 2 ∷ 0 ∷ 2 ∷ 0 ∷ 0 ∷ 0 ∷ 0 ∷ 4 ∷ 4 ∷ 1 ∷ 4 ∷ 1 ∷ 4 ∷ 1 ∷ 1 ∷ 4 ∷ 3 ∷ 1 ∷ 3 ∷ 4 ∷ 1 ∷ []) 3
-    ≡ Some (gave (claimeven (3, 3) ∷ claimeven (3, 5) ∷ aftereven (line_of_four (1, 6) D) ∷ []))
+    ≡ Some (gave (claimeven (3, 3) ∷ claimeven (3, 5) ∷ aftereven (group_of_four (1, 6) D) ∷ []))
 unfolding squares_of_board groups_of walk_within walk_from
 listed_once = refl
 
@@ -108,7 +99,7 @@ listed_once = refl
 with_specialbefore : chosen 4 6 (1 ∷ 0 ∷ 2 ∷ 3 ∷ []) 19
     ≡ Some (gave (
     baseinverse (0, 2) (1, 2) ∷ claimevens (0 ∷ 1 ∷ []) (3 ∷ 5 ∷ []) ++ lowinverse (2, 2) (2, 6) (3, 2) (3, 6)
-    ∷ specialbefore (line_of_four (0, 1) U) (0, 2) (1, 2) ∷ []))
+    ∷ specialbefore (group_of_four (0, 1) U) (0, 2) (1, 2) ∷ []))
 unfolding squares_of_board groups_of walk_within walk_from
 with_specialbefore = refl
 
