@@ -82,7 +82,7 @@ module _ (p : Position) (board : is_board (board_of p) ≡ true) (stacked : IsSt
 -- the fields after a move
 module _ (a : Inside) (p : Position) (shown : men_of a ≡ p) (sound : IsSound a) (c n : ℕ) (room : has_room p c ≡ true) (place : n ≡ 11 * c + height p c) where
   fields_is : fields_of p ≡ a
-  fields_is = ap fields_of (sym shown) ∙ sound.told
+  fields_is = ap fields_of (sym shown) ∙ sound.fields_back
 
   board_is : is_board (board_of p) ≡ true
   board_is = ap (λ (b : Inside). is_board b.size) fields_is ∙ sound.board

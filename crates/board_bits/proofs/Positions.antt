@@ -146,7 +146,7 @@ module _ (p : Position) (board : is_board (board_of p) ≡ true) (stacked : IsSt
   sound_fields = record {
     board = board;
     stacked = subst IsStacked (sym read_back) stacked;
-    told = ap fields_of read_back;
+    fields_back = ap fields_of read_back;
   }
 
   -- ---- squares

@@ -13,7 +13,7 @@ module _ (p : Position) (board : is_board (board_of p) ≡ true) (stacked : IsSt
   position_back = ap (position_in (board_of p)) same ∙ read_back p board stacked
 
   pub are_words : AreWords (board_of p) words
-  are_words = record { board_is = ap board_of position_back; told = ap words_of position_back ∙ sym same }
+  are_words = record { board_is = ap board_of position_back; words_back = ap words_of position_back ∙ sym same }
 
 -- on one board the words are the same exactly where the positions are
 pub same_positions : (b : Board) (v w : Words) → AreWords b v → AreWords b w → same_words v w ≡ same_position (position_in b v) (position_in b w)
@@ -23,5 +23,5 @@ same_positions b v w of_v of_w = agree _ _
     let one : v ≡ w = ap (λ n. (n, v.1)) (eqb-true v.0 w.0 both.0) ∙ ap (λ n. (w.0, n)) (eqb-true v.1 w.1 both.1) in
     (same_position_Decides (position_in b v) (position_in b w)).1 (ap (position_in b) one))
     (λ h.
-    let one : v ≡ w = sym of_v.told ∙ ap words_of ((same_position_Decides (position_in b v) (position_in b w)).0 h) ∙ of_w.told in
+    let one : v ≡ w = sym of_v.words_back ∙ ap words_of ((same_position_Decides (position_in b v) (position_in b w)).0 h) ∙ of_w.words_back in
     and_from _ _ (eq-eqb v.0 w.0 (ap (λ (u : Words). u.0) one)) (eq-eqb v.1 w.1 (ap (λ (u : Words). u.1) one)))

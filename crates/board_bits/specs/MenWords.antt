@@ -39,7 +39,7 @@ position_in board words = record { rows = board.rows; len = board.len; columns =
 -- the words are those of the position on this board that is read from them
 pub record AreWords (board : Board) (words : Words) : Type 0 where
   pub board_is : board_of (position_in board words) ≡ board
-  pub told : words_of (position_in board words) ≡ words
+  pub words_back : words_of (position_in board words) ≡ words
 
 abbrev pub same_words : Words → Words → Bool
 same_words a b = (a.0 == b.0) && (a.1 == b.1)

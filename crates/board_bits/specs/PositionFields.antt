@@ -16,4 +16,4 @@ fields_of p = record { size = board_of p; white = side_word p White; black = sid
 pub record IsSound (a : Inside) : Type 0 where
   pub board : is_board a.size ≡ true
   pub stacked : IsStacked (men_of a)
-  pub told : fields_of (men_of a) ≡ a
+  pub fields_back : fields_of (men_of a) ≡ a

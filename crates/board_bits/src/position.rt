@@ -48,7 +48,7 @@ impl Model for Position {
 
     ghost inverse = { fields_of };
 
-    ghost inverse_ok = { λ a sound. sound.told };
+    ghost inverse_ok = { λ a sound. sound.fields_back };
 }
 
 impl Position {

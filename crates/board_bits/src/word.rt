@@ -15,11 +15,11 @@ pub(crate) struct Word {
 
 impl Model for Word {
     ghost use Rattle.std.specs.Prelude.{ℕ};
-    ghost use Rattle.board_bits.specs.Halves.{number_of, halves_of, AreHalves, halves_told};
+    ghost use Rattle.board_bits.specs.Halves.{halves_number, halves_of, AreHalves, halves_told};
 
     ghost Value = { ℕ };
 
-    ghost view = { number_of };
+    ghost view = { halves_number };
 
     ghost invariant = { AreHalves };
 

@@ -8,7 +8,7 @@ abbrev pub trail_of : Inside → Trail
 trail_of a = record { root = a.root; path = take a.moves a.columns }
 
 -- each position kept is the root after so many moves of the path
-pub record IsKept (a : Inside) : Type 0 where
+pub record IsTrail (a : Inside) : Type 0 where
   pub within : a.moves ≤ 100
   pub columns : length a.columns ≡ 100
   pub positions : length a.positions ≡ 101

@@ -74,7 +74,7 @@ impl Checker {
         ensures cause { IfErr result (λ stop. StopsAt at stop (line_refusal self.old (viewed line.now)) (viewed line.now)) }
     {
         if self.verdict.is_some() {
-            return Err(refused(at, Why::BadLine));
+            return Err(refusal_at(at, Why::BadLine));
         }
         match line {
             LineView::Lemma(lemma) => self.add_lemma(at, lemma),
@@ -90,7 +90,7 @@ impl Checker {
         ensures cause { IfErr result (λ stop. StopsAt at stop (line_refusal self.old (ALemma (lemma_viewed lemma.now))) (ALemma (lemma_viewed lemma.now))) }
     {
         if let Err(why) = check_lemma(&mut self.trail, &self.known, lemma) {
-            return Err(refused(at, why));
+            return Err(refusal_at(at, why));
         }
         let reached = self.trail.last();
         self.known
@@ -105,7 +105,7 @@ impl Checker {
         ensures cause { IfErr result (λ stop. StopsAt at stop (line_refusal self.old (AVerdict verdict)) (AVerdict verdict)) }
     {
         if !verdict_stands(&self.known, self.trail.root(), verdict) {
-            return Err(refused(at, Why::BadVerdict));
+            return Err(refusal_at(at, Why::BadVerdict));
         }
         self.verdict = Some(verdict);
         Ok(())
@@ -149,7 +149,7 @@ fn check_lemma(trail: &mut Trail, known: &Known, lemma: &LemmaView<'_>) -> Resul
     check_reason(known, trail.last(), lemma.claim, &lemma.reason)
 }
 
-fn refused(at: u64, why: Why) -> AddStop
+fn refusal_at(at: u64, why: Why) -> AddStop
     ensures { result ≡ Refused (record { at = at; why = why }) }
 {
     AddStop::Refused(Refusal { at, why })

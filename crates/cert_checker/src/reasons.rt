@@ -3,10 +3,10 @@ ghost use Rattle.std.specs.Prelude.{◌≡◌, ◌≤◌, map, length};
 ghost use Rattle.game_rules.specs.Position.{board_of, open_columns};
 ghost use Rattle.proof_text.specs.Lemma.{ByOne, ByAll};
 ghost use Rattle.proof_text.specs.Checked.{end_refusal, cites_refusal, move_refusal, list_refusal, reason_refusal, verdict_stands};
-ghost use Rattle.plan_text.specs.PlanLine.{most_members};
 ghost use Rattle.rule_compat.specs.Written.{written_list};
 ghost use Rattle.cert_format.specs.Shape.{cite_of, reason_viewed};
 ghost use Rattle.cert_checker.specs.Checking.{columns_of, Finds};
+ghost use Rattle.plan_rules.specs.declared.TheConstants.{MOST_MEMBERS};
 
 use crate::claims::goes_by_one;
 use crate::known::{Known, check_cited, is_shown};
@@ -69,7 +69,7 @@ fn check_all(known: &Known, reached: &Reached, claim: Claim, cites: &[Cite]) -> 
 
 /// Tests that the claim is that White doesn't win, and that the instances are a plan at the position.
 fn check_plan(reached: &Reached, claim: Claim, members: &[Instance]) -> Result<(), Why>
-    requires { length members.now ≤ most_members }
+    requires { length members.now ≤ MOST_MEMBERS }
     ensures { Finds result (list_refusal reached.now claim (written_list members.now)) }
 {
     if claim != Claim::WhiteFails {

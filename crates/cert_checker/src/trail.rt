@@ -79,11 +79,11 @@ impl Model for Trail {
 
     ghost Value = { Trail };
 
-    ghost use Rattle.cert_checker.specs.TrailFields.{trail_of, IsKept};
+    ghost use Rattle.cert_checker.specs.TrailFields.{trail_of, IsTrail};
 
     ghost view = { trail_of };
 
-    ghost invariant = { IsKept };
+    ghost invariant = { IsTrail };
 }
 
 impl Trail {
@@ -121,7 +121,7 @@ impl Trail {
         ensures legal { result ≡ true → self.new.path ≡ path.now }
         ensures barred { result ≡ false → played self.old.root path.now ≡ None }
     {
-        let shared = self.shared(path);
+        let shared = self.moves_shared_with(path);
         self.back_to(shared);
         for index in shared..path.len() {
             if !self.push(path[index]) {
@@ -132,7 +132,7 @@ impl Trail {
     }
 
     /// How many of the first moves of the paths are the same.
-    fn shared(&self, path: &[Column]) -> usize
+    fn moves_shared_with(&self, path: &[Column]) -> usize
         ensures kept { result ≤ length self.now.path }
         ensures within { result ≤ length path.now }
         ensures same { take result self.now.path ≡ take result path.now }

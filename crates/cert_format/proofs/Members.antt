@@ -16,25 +16,26 @@ use Rattle.game_rules.specs.Board.{Board, Square, is_board, on_board}
 use Rattle.game_rules.specs.Groups.{Group, squares_of, lies_on}
 use Rattle.game_rules.specs.Squares.{has_square}
 use Rattle.game_rules.proofs.Squares.{agree}
-use Rattle.plan_rules.specs.Rules.{RuleInstance, lowinverse, baseclaim, specialbefore, is_shaped, has_shape, line_of}
+use Rattle.plan_rules.specs.Rules.{RuleInstance, lowinverse, baseclaim, specialbefore, is_shaped, has_shape, black_group_of}
 use Rattle.plan_rules.specs.declared.Kind.{Kind}
 use Rattle.plan_rules.specs.declared.Kind.TheVariants as kinds
 use Rattle.plan_text.specs.Words.{words_of}
 use Rattle.plan_text.specs.Items.{instance_text, is_named, group_of, two_columns, three_squares, group_and_squares, of_rule, if_named}
 use Rattle.plan_text.proofs.Items.{group_read}
-use Rattle.plan_text.specs.PlanLine.{most_members, plan_text, instances_of, members_of}
+use Rattle.plan_text.specs.PlanLine.{plan_text, instances_of, members_of}
 use Rattle.plan_text.proofs.Spaced.{spaced_behind}
 use Rattle.proof_text.specs.Spelling.{as_line}
 use Rattle.cert_format.specs.Items.{members_text}
 use Rattle.cert_format.proofs.Words.{words_some}
+use Rattle.plan_rules.specs.declared.TheConstants.{MOST_MEMBERS}
 
 -- ---- instances of a rule
 
 -- An instance is one of the board exactly where it has the shape, if with the shape goes that its line lies there.
 pub named_by_shape : (board : Board) (w : RuleInstance) → is_board board ≡ true
-    → (is_shaped w board ≡ true → option_map_or (lies_on board) (line_of w) true ≡ true) → is_named board w ≡ is_shaped w board
+    → (is_shaped w board ≡ true → option_map_or (lies_on board) (black_group_of w) true ≡ true) → is_named board w ≡ is_shaped w board
 named_by_shape board w is lies = agree (is_named board w) (is_shaped w board)
-    (λ h. (and_parts (is_board board) (is_shaped w board) (and_parts _ (option_map_or (lies_on board) (line_of w) true) h).0).1)
+    (λ h. (and_parts (is_board board) (is_shaped w board) (and_parts _ (option_map_or (lies_on board) (black_group_of w) true) h).0).1)
     (λ h. and_from _ _ (and_from _ _ is h) (lies h))
 
 -- What a rule's call makes of the parts that were read, where the call goes by the shape.
@@ -89,24 +90,24 @@ module _ (board : Board) (rule : Kind) (bytes : List ℕ) (is : is_board board �
 
   -- a rule of a group alone has no shape to fail
   pub group_made : (make : Group → RuleInstance) (g : Group) → of_rule board rule bytes ≡ option_map make (group_of board bytes) → group_of board bytes ≡ Some g
-      → is_shaped (make g) board ≡ true → line_of (make g) ≡ Some g → Some (make g) ≡ Read
+      → is_shaped (make g) board ≡ true → black_group_of (make g) ≡ Some g → Some (make g) ≡ Read
   group_made make g read found shaped line =
-      let lies : option_map_or (lies_on board) (line_of (make g)) true ≡ true = ap (λ line. option_map_or (lies_on board) line true) line
+      let lies : option_map_or (lies_on board) (black_group_of (make g)) true ≡ true = ap (λ line. option_map_or (lies_on board) line true) line
       ∙ (group_read board bytes g found).1 in
       let named : is_named board (make g) ≡ true = and_from _ _ (and_from _ _ is shaped) lies in
       sym (ap (option_and_then (if_named board)) (read ∙ ap (option_map make) found) ∙ rw named refl)
 
 -- ---- instances in a row
 
-pub members_too_many : (board : Board) (words : List (List ℕ)) → most_members < length words → members_of board words ≡ None
+pub members_too_many : (board : Board) (words : List (List ℕ)) → MOST_MEMBERS < length words → members_of board words ≡ None
 members_too_many board words many =
-    let long : nat_le (length words) most_members ≡ false = lt-leb (length words) most_members many in
+    let long : nat_le (length words) MOST_MEMBERS ≡ false = lt-leb (length words) MOST_MEMBERS many in
     ap (λ b. cond b (instances_of board words) None) (ap (λ b. nat_le 1 (length words) && b) long ∙ and-false (nat_le 1 (length words)))
 
-pub members_are : (board : Board) (bytes : List ℕ) (ws : List RuleInstance) → length (words_of bytes) ≤ most_members
+pub members_are : (board : Board) (bytes : List ℕ) (ws : List RuleInstance) → length (words_of bytes) ≤ MOST_MEMBERS
     → instances_of board (words_of bytes) ≡ Some ws → members_of board (words_of bytes) ≡ Some ws
 members_are board bytes ws few h =
-    ap (λ b. cond b (instances_of board (words_of bytes)) None) (and_from _ _ (le-leb 1 _ (words_some bytes)) (le-leb _ most_members few)) ∙ h
+    ap (λ b. cond b (instances_of board (words_of bytes)) None) (and_from _ _ (le-leb 1 _ (words_some bytes)) (le-leb _ MOST_MEMBERS few)) ∙ h
 
 -- Pieces that are put one after another, each the text of an element: where one isn't put whole, a prefix of them all
 -- stands; and where it is, one more stands.

@@ -5,11 +5,11 @@ ghost use Rattle.plan_rules.specs.Rules.{RuleInstance};
 ghost use Rattle.proof_text.specs.Lemma.{Cite as PlainCite};
 ghost use Rattle.cert_format.specs.Shape.{reason_by, reason_of, reason_viewed, lemma_of, lemma_viewed};
 
-use crate::plan_line::MOST_MEMBERS;
 use arrayvec::ArrayVec;
 use board_bits::Column;
 use proof_text::{Claim, Verdict};
 use rule_compat::Instance;
+use plan_rules::MOST_MEMBERS;
 
 /// The first line of each proof, which names the format.
 pub const FIRST_LINE: &[u8] = b"victor 1";

@@ -5,10 +5,11 @@ ghost use Rattle.device_rules.specs.Devices.{HasCause, AppendsPrefix};
 ghost use Rattle.proof_text.specs.Spelling.{as_line};
 ghost use Rattle.plan_text.specs.Words.{words_of};
 ghost use Rattle.plan_text.specs.PlanLine as plans;
-ghost use Rattle.plan_text.specs.PlanLine.{plan_text, most_members};
+ghost use Rattle.plan_text.specs.PlanLine.{plan_text};
 ghost use Rattle.plan_text.specs.Items.{instance_text};
 ghost use Rattle.rule_compat.specs.Written.{written, written_list};
 ghost use Rattle.cert_format.specs.Items.{members_text};
+ghost use Rattle.plan_rules.specs.declared.TheConstants.{MOST_MEMBERS};
 
 use crate::instance_text::{instance_of, push_instance};
 use crate::lines::LineFault;
@@ -17,9 +18,7 @@ use arrayvec::ArrayVec;
 use board_bits::Size;
 use io_ports::{Failed, Sink, put_all};
 use rule_compat::Instance;
-
-/// No line has more instances.
-pub(crate) const MOST_MEMBERS: usize = 300;
+use plan_rules::MOST_MEMBERS;
 
 /// Room for the text of an instance with the space before it.
 const MEMBER_ROOM: usize = 19;
@@ -61,7 +60,7 @@ pub(crate) fn members_of(
 /// board. On `Failed`, which comes only where the sink's count of faults rose, a prefix was written.
 pub fn print_plan<O: Sink>(list: &[Instance], out: &mut O) -> Result<(), Failed>
     requires some { 1 ≤ length list.now }
-    requires few { length list.now ≤ most_members }
+    requires few { length list.now ≤ MOST_MEMBERS }
     ensures written { AppendsPrefix (is_ok result) (O.written out.old) (O.written out.new) (as_line (plan_text (written_list list.now))) }
     ensures cause { HasCause (O.faults out.old) (O.faults out.new) result }
 {

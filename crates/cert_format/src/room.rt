@@ -9,12 +9,12 @@ use crate::lines::{
     Cite, LONGEST_PATH, Lemma, LemmaView, LineFault, LineView, MOST_CITES, Reason, ReasonKind,
     ReasonView,
 };
-use crate::plan_line::MOST_MEMBERS;
 use crate::reading::read_into;
 use arrayvec::ArrayVec;
 use board_bits::{Column, Size};
 use proof_text::{Claim, Verdict};
 use rule_compat::Instance;
+use plan_rules::MOST_MEMBERS;
 
 /// Room for one line.
 #[derive(Drop)]

@@ -8,7 +8,7 @@ use Rattle.std.proofs.lemmas.List.{get_or-replicate, length-replicate, get_or_pa
 use Rattle.std.proofs.lemmas.List.Elements.{All-replicate}
 use Rattle.std.proofs.lemmas.List.Folds.{sum_by-replicate}
 use Rattle.game_rules.specs.Board.{Board, Square, below, on_board, step_of, line_at, line_length, is_line, ways}
-use Rattle.game_rules.specs.Position.{Position, board_of, empty_position, other, men_in, height, man_in, man_at, has_man, is_man, man_count, side_to_move}
+use Rattle.game_rules.specs.Position.{Position, board_of, empty_position, other, men_in, height, man_in, man_at, has_man, is_man, man_count, same_side, side_to_move}
 use Rattle.game_rules.specs.Position.{has_room, after_move, has_line_at, has_line_in_column, has_line_along, has_line, is_full, end_of, is_legal, played}
 use Rattle.game_rules.specs.Position.{IsStacked}
 use Rattle.game_rules.specs.Laws.{HasLine, IsFilled, DropsMan}
@@ -23,6 +23,10 @@ use Rattle.game_rules.specs.declared.End.{End}
 use Rattle.game_rules.specs.declared.End.TheVariants as ends
 use Rattle.game_rules.specs.declared.Way.{Way}
 use Rattle.game_rules.specs.declared.Way.TheVariants.{H, V, U, D}
+use Rattle.game_rules.specs.contracts.SidePartialEq.TheImpl as side_eq
+use Rattle.game_rules.specs.contracts.EndPartialEq.TheImpl as end_eq
+use Rattle.game_rules.specs.Value.{same_end}
+use Rattle.std.proofs.lemmas.Option.{same_Some}
 
 pub disjoint : (p : Position) (s : Square) → has_man p White s ≡ true → has_man p Black s ≡ true → ⊥
 disjoint p s white black = one (man_at p s) white black
@@ -204,10 +208,7 @@ none_for_other p column h =
 -- A property of the empty position that legal moves keep holds along each list of legal moves.
 module _ (P : Position → Type 0) (keeps : (p : Position) (column : ℕ) → P p → is_legal p column ≡ true → P (after_move p column)) where
   pub kept_along : (columns : List ℕ) (p q : Position) → P p → played p columns ≡ Some q → P q
-  kept_along [] p q h e = subst P (some_same e) h
-    where
-      some_same : Some p ≡ Some q → p ≡ q
-      some_same e = cc
+  kept_along [] p q h e = subst P (same_Some p q e) h
   kept_along (column ∷ columns) p q h e = elim (chosen (is_legal p column) (played (after_move p column) columns) None (Some q) e) [
     | inl legal ↦ kept_along columns (after_move p column) q (keeps p column h legal.0) legal.1
     | inr not_legal ↦ absurd (cc not_legal.1)
@@ -391,3 +392,24 @@ same_by_squares p q board same =
     (λ c _. same_men (men_in p c) (men_in q c) (λ r. same_man (man_at p (c, r)) (man_at q (c, r)) (λ side. same side (c, r)))) in
     ap (λ n. record p { rows = n }) rows ∙ ap (λ (b : Board). record q { len = b.len; columns = p.columns }) board
     ∙ ap (λ men. record q { columns = men }) columns
+
+-- ---- equality in code
+
+-- sides are equal in code as in the definitions
+pub side_same : (a b : Side) → side_eq.eq-value.it a b ≡ same_side a b
+side_same White White = refl
+side_same White Black = refl
+side_same Black White = refl
+side_same Black Black = refl
+
+-- and so are ends
+pub end_same : (a b : End) → end_eq.eq-value.it a b ≡ same_end a b
+end_same ends.White ends.White = refl
+end_same ends.White ends.Black = refl
+end_same ends.White ends.Draw = refl
+end_same ends.Black ends.White = refl
+end_same ends.Black ends.Black = refl
+end_same ends.Black ends.Draw = refl
+end_same ends.Draw ends.White = refl
+end_same ends.Draw ends.Black = refl
+end_same ends.Draw ends.Draw = refl

@@ -22,6 +22,7 @@ use Rattle.game_rules.specs.declared.Length.TheVariants.{Four, Five}
 use Rattle.game_rules.specs.declared.Side.{Side}
 use Rattle.game_rules.specs.declared.Way.{Way}
 use Rattle.game_rules.specs.declared.Way.TheVariants.{H, V, U, D}
+use Rattle.game_rules.specs.declared.TheConstants.{MOST_GROUPS}
 
 -- ---- membership
 
@@ -149,12 +150,12 @@ on_each_size test h b is =
     (Among-flat_map (with_cols b.len) all_cols b.cols b (cols_among b.cols both.0)
     (Among-map (λ rows. record { cols = b.cols; rows = rows; len = b.len }) all_rows b.rows (rows_among b.rows both.1)))
 
--- no board has more than 238 groups
-pub groups_fit : (b : Board) → is_board b ≡ true → length (groups_of b) ≤ 238
+-- no board has more groups
+pub groups_fit : (b : Board) → is_board b ≡ true → length (groups_of b) ≤ MOST_GROUPS
 unfolding groups_of squares_of_board
-groups_fit b h = leb-true (length (groups_of b)) 238 (on_each_size (λ b. nat_le (length (groups_of b)) 238) few b h)
+groups_fit b h = leb-true (length (groups_of b)) MOST_GROUPS (on_each_size (λ b. nat_le (length (groups_of b)) MOST_GROUPS) few b h)
   where
-    few : (len : Length) → passes_at_sizes (λ b. nat_le (length (groups_of b)) 238) len ≡ true
+    few : (len : Length) → passes_at_sizes (λ b. nat_le (length (groups_of b)) MOST_GROUPS) len ≡ true
     few Four = refl
     few Five = refl
 

@@ -1,6 +1,6 @@
 -- How the readers of a game text go: what is read at each step, how much of the text it takes, and that what follows
 -- decides nothing.
-use Rattle.std.proofs.Common.{◌≡◌, ℕ, suc, ◌+◌, ◌-◌, ◌<◌, ◌≤◌, Bool, true, false, ◌&&◌, ◌==◌, cond, List, [], ◌∷◌, ◌++◌, length, take, drop, take_while, Option}
+use Rattle.std.proofs.Common.{◌≡◌, ℕ, suc, ◌+◌, ◌-◌, ◌<◌, ◌≤◌, Bool, true, false, ◌==◌, cond, List, [], ◌∷◌, ◌++◌, length, take, drop, take_while, Option}
 use Rattle.std.proofs.Common.{Some, None, is_some, is_none, Result, Ok, Err, refl, sym, ap, ◌∙◌, subst, nat_le, nat_lt, eqb, inl, inr, arith}
 use Rattle.std.proofs.lemmas.Bool.{cases_Bool, cases_lt, and_parts, and_from, lt-ltb, leb-true, le-leb, eqb-true, eq-eqb, ne_eqb}
 use Rattle.std.proofs.lemmas.List.{length-append, drop-append-le, take-append-le, take-append-drop}

@@ -1,7 +1,7 @@
 -- The text of a game on a board with lines of four, this project's own: the line `board COLS ROWS`, and the line
 -- `moves` with a letter for each move, or `-` for none. The last line feed may be missing. Reading goes from the left
 -- and gives the position, or the first fault.
-use Rattle.std.specs.Prelude.{ℕ, ◌+◌, ◌-◌, Bool, ◌&&◌, ◌||◌, ◌==◌, nat_le, if◌then◌else◌, List, [], ◌∷◌, length, drop, take_while, Option, Some, None, is_some, Result, Ok, Err, codes}
+use Rattle.std.specs.Prelude.{ℕ, ◌-◌, Bool, ◌&&◌, ◌||◌, ◌==◌, nat_le, if◌then◌else◌, List, [], ◌∷◌, length, drop, take_while, Option, Some, None, is_some, Result, Ok, Err, codes}
 use Rattle.game_rules.specs.Board.{Board}
 use Rattle.game_rules.specs.Letters.{column_named}
 use Rattle.game_rules.specs.Position.{Position, empty_position, has_room, after_move, end_of}

@@ -7,6 +7,7 @@ ghost use Rattle.game_rules.specs.Position.{Position, board_of, has_man, man_at,
 ghost use Rattle.game_rules.specs.Squares.{has_square, squares_of_board, Precedes as SquarePrecedes, widest, squares_where, IsSetOf, is_empty, is_playable};
 ghost use Rattle.game_rules.specs.Groups.{Group, squares_of, lies_on, has_group, groups_of, Precedes};
 ghost use Rattle.game_rules.specs.declared.Side.{Side};
+ghost use Rattle.game_rules.specs.declared.TheConstants.{MOST_GROUPS};
 
 /// The squares of a board are exactly those on it, each once, in square order.
 pub fn squares_stand_in_square_order()
@@ -31,14 +32,14 @@ pub fn a_playable_square_is_empty_over_filled_ones()
         → (is_playable p u ≡ true) ↔ ((is_empty p u ≡ true) × ((row : ℕ) → 1 ≤ row → row < u.1 → man_at p (u.0, row) ≢ None)) }
 {}
 
-/// The groups of a board are exactly its lines, each once, in group order, and at most 238. Two groups with the same
+/// The groups of a board are exactly its lines, each once, in group order, and at most `MOST_GROUPS`. Two groups with the same
 /// squares are one group, so each line stands there once as a set of squares too.
 pub fn groups_are_the_lines_of_the_board()
     ensures lines { (board : Board) (g : Group) → has_group (groups_of board) g ≡ lies_on board g }
     ensures order { (board : Board) → AllPairs Precedes (groups_of board) }
     ensures determined { (board : Board) (g h : Group) → lies_on board g ≡ true → lies_on board h ≡ true
         → ((u : Square) → has_square (squares_of g) u ≡ has_square (squares_of h) u) → g ≡ h }
-    ensures most { (board : Board) → is_board board ≡ true → length (groups_of board) ≤ 238 }
+    ensures most { (board : Board) → is_board board ≡ true → length (groups_of board) ≤ MOST_GROUPS }
 {}
 
 /// A side has a line exactly where it has a man on every square of some group.

@@ -16,6 +16,9 @@ pub mod board_laws;
 pub mod laws;
 pub mod text_laws;
 
+/// No board has more groups, of either length.
+pub const MOST_GROUPS: usize = 238;
+
 /// One of the two players. White moves first.
 #[derive(Clone, Copy, PartialEq, Eq)]
 pub enum Side {

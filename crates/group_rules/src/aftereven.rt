@@ -10,9 +10,7 @@ use board_bits::{Mask, Position, Side, Square};
 use open_groups::{GroupId, free_for, group_mask};
 use rule_law::{Kept, Kind, Listed, Rule, Taker, list_fitting};
 use std::marker::Model;
-
-/// No board has more groups.
-const MOST_AFTEREVENS: usize = 238;
+use game_rules::MOST_GROUPS;
 
 /// A line of Black's whose empty squares are all upper squares of Claimevens. The rule is a part of this project's own
 /// profile "after Allis".
@@ -65,7 +63,7 @@ impl Aftereven {
 
 impl Rule for Aftereven {
     ghost use Rattle.std.specs.Prelude.{Some};
-    ghost use Rattle.plan_rules.specs.Rules.{aftereven, kind_of, zone_of, line_of, fits, reply_to, barred, is_supported, upper_of, pair_of, twin_of};
+    ghost use Rattle.plan_rules.specs.Rules.{aftereven, kind_of, zone_of, black_group_of, fits, reply_to, barred, is_supported, upper_of, pair_of, twin_of};
     ghost use Rattle.plan_rules.specs.Calm.{is_calm};
     ghost use Rattle.plan_rules.proofs.Aftereven.{aftereven_laws};
 
@@ -89,7 +87,7 @@ impl Rule for Aftereven {
 
     ghost calm = { λ g. is_calm (aftereven g) };
 
-    ghost line = { λ g. line_of (aftereven g) };
+    ghost line = { λ g. black_group_of (aftereven g) };
 
     fn kind(&self) -> Kind {
         Kind::Aftereven
@@ -163,7 +161,7 @@ impl Listed for Aftereven {
 }
 
 /// All Afterevens that fit at the position, in group order.
-pub fn list_aftereven(p: &Position) -> ArrayVec<Aftereven, MOST_AFTEREVENS>
+pub fn list_aftereven(p: &Position) -> ArrayVec<Aftereven, MOST_GROUPS>
     ensures { map aftereven result.items ≡ listed kinds.Aftereven p.now }
 {
     p.has_a_board();

@@ -10,9 +10,7 @@ use board_bits::{Mask, Position, Side, Square};
 use open_groups::{GroupId, free_for, group_mask};
 use rule_law::{Kept, Kind, Listed, Rule, Taker, list_fitting};
 use std::marker::Model;
-
-/// No board has more groups.
-const MOST_BEFORES: usize = 238;
+use game_rules::MOST_GROUPS;
 
 /// A line of Black's whose empty squares lie below the top row, and are upper squares of Claimevens or such that White
 /// never owns them with the square above. The rule is a part of this project's own
@@ -66,7 +64,7 @@ impl Before {
 
 impl Rule for Before {
     ghost use Rattle.std.specs.Prelude.{Some};
-    ghost use Rattle.plan_rules.specs.Rules.{before, kind_of, zone_of, line_of, fits, reply_to, barred, is_supported, upper_of, pair_of, twin_of};
+    ghost use Rattle.plan_rules.specs.Rules.{before, kind_of, zone_of, black_group_of, fits, reply_to, barred, is_supported, upper_of, pair_of, twin_of};
     ghost use Rattle.plan_rules.specs.Calm.{is_calm};
     ghost use Rattle.plan_rules.proofs.Before.{before_laws};
 
@@ -90,7 +88,7 @@ impl Rule for Before {
 
     ghost calm = { λ g. is_calm (before g) };
 
-    ghost line = { λ g. line_of (before g) };
+    ghost line = { λ g. black_group_of (before g) };
 
     fn kind(&self) -> Kind {
         Kind::Before
@@ -164,7 +162,7 @@ impl Listed for Before {
 }
 
 /// All Befores that fit at the position, in group order.
-pub fn list_before(p: &Position) -> ArrayVec<Before, MOST_BEFORES>
+pub fn list_before(p: &Position) -> ArrayVec<Before, MOST_GROUPS>
     ensures { map before result.items ≡ listed kinds.Before p.now }
 {
     p.has_a_board();

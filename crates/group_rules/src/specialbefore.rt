@@ -105,7 +105,7 @@ impl Specialbefore {
 
 impl Rule for Specialbefore {
     ghost use Rattle.std.specs.Prelude.{Some};
-    ghost use Rattle.plan_rules.specs.Rules.{specialbefore, kind_of, zone_of, line_of, fits, reply_to, barred, is_supported, upper_of, pair_of, twin_of};
+    ghost use Rattle.plan_rules.specs.Rules.{specialbefore, kind_of, zone_of, black_group_of, fits, reply_to, barred, is_supported, upper_of, pair_of, twin_of};
     ghost use Rattle.plan_rules.specs.Calm.{is_calm};
     ghost use Rattle.plan_rules.proofs.Specialbefore.{specialbefore_laws};
 
@@ -129,7 +129,7 @@ impl Rule for Specialbefore {
 
     ghost calm = { λ x. is_calm (specialbefore x.0 x.1 x.2) };
 
-    ghost line = { λ x. line_of (specialbefore x.0 x.1 x.2) };
+    ghost line = { λ x. black_group_of (specialbefore x.0 x.1 x.2) };
 
     fn kind(&self) -> Kind {
         Kind::Specialbefore

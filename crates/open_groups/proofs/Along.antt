@@ -6,6 +6,7 @@ use Rattle.game_rules.specs.Groups.{Group, group_on, groups_along, groups_of}
 use Rattle.game_rules.proofs.Groups.{groups_fit}
 use Rattle.game_rules.specs.declared.Way.{Way}
 use Rattle.game_rules.specs.declared.Way.TheVariants.{H, V, U, D}
+use Rattle.game_rules.specs.declared.TheConstants.{MOST_GROUPS}
 
 -- the groups with their anchors in a list of squares
 abbrev pub anchored_in : Board → Way → List Square → List Group
@@ -16,7 +17,7 @@ unfolding groups_of
 groups_by_way b = ap (λ gs. groups_along b H ++ (groups_along b V ++ (groups_along b U ++ gs))) (append-nil (groups_along b D))
 
 pub ways_fit : (b : Board) → is_board b ≡ true
-    → length (groups_along b H) + (length (groups_along b V) + (length (groups_along b U) + length (groups_along b D))) ≤ 238
+    → length (groups_along b H) + (length (groups_along b V) + (length (groups_along b U) + length (groups_along b D))) ≤ MOST_GROUPS
 ways_fit b h =
     omega (
       arith,

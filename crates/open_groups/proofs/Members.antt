@@ -16,6 +16,7 @@ use Rattle.open_groups.specs.GroupBits.{those_along}
 use Rattle.open_groups.specs.declared.group_set.GroupSet.TheInside.{Inside}
 use Rattle.open_groups.proofs.Along.{groups_by_way}
 use Rattle.open_groups.proofs.Anchors.{old_along, anchored_on}
+use Rattle.game_rules.specs.declared.TheConstants.{MOST_GROUPS}
 
 module _ (a : Inside) (sound : IsSound a) where
   abbrev kept : Way → List Group
@@ -58,7 +59,7 @@ module _ (a : Inside) (sound : IsSound a) where
       ∙ ap (λ gs. kept H ++ (kept V ++ (kept U ++ gs))) (along D)
 
   -- no set has more groups than a board
-  pub kept_fit : length (kept H) + (length (kept V) + (length (kept U) + length (kept D))) ≤ 238
+  pub kept_fit : length (kept H) + (length (kept V) + (length (kept U) + length (kept D))) ≤ MOST_GROUPS
   unfolding groups_anchored groups_where
   kept_fit =
       let most = groups_fit a.size sound.board in

@@ -4,14 +4,12 @@ ghost use Rattle.game_rules.specs.Board.{is_line, same_length};
 ghost use Rattle.game_rules.specs.Squares.{has_square, squares_of_board, widest_with, IsSetOf};
 ghost use Rattle.game_rules.specs.Groups.{squares_of, lies_on, group_on, groups_along, groups_of};
 ghost use Rattle.arrayvec.specs.ArrayVec.{array_vec_len};
+ghost use Rattle.game_rules.specs.declared.TheConstants.{MOST_GROUPS};
 
 use arrayvec::ArrayVec;
 use board_bits::{Length, MOST_IN_LINE, Mask, Size, Square};
-use game_rules::Way;
+use game_rules::{MOST_GROUPS, Way};
 use std::marker::Model;
-
-/// No board has more groups, of either length.
-pub(crate) const MOST_GROUPS: usize = 238;
 
 /// A group of squares in a line, by its anchor, its direction and its length.
 #[derive(Clone, Copy, Debug, PartialEq, Eq)]
@@ -96,7 +94,7 @@ pub fn groups(size: Size) -> ArrayVec<GroupId, MOST_GROUPS>
 /// Puts the groups of one direction behind the others, given all squares of the board.
 fn push_along(size: Size, way: Way, squares: &[Square], groups: &mut ArrayVec<GroupId, MOST_GROUPS>)
     requires squares { squares.now ≡ squares_of_board size }
-    requires room { array_vec_len groups.old + length (groups_along size way) ≤ 238 }
+    requires room { array_vec_len groups.old + length (groups_along size way) ≤ MOST_GROUPS }
     ensures { groups.new.items ≡ groups.old.items ++ groups_along size way }
 {
     for anchor in squares {

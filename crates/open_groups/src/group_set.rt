@@ -7,12 +7,13 @@ ghost use Rattle.game_rules.specs.Position.{board_of};
 ghost use Rattle.open_groups.specs.GroupBits.{group_bits, those_along};
 ghost use Rattle.arrayvec.specs.ArrayVec.{array_vec_len};
 ghost use Rattle.game_rules.specs.Groups.{lies_on, rank, same_group, has_group, is_free_for, IsGroupSetOf};
+ghost use Rattle.game_rules.specs.declared.TheConstants.{MOST_GROUPS};
 
-use crate::group::{MOST_GROUPS, same_length};
+use crate::group::same_length;
 use crate::{GroupId, group_anchor, group_length, group_way, groups};
 use arrayvec::ArrayVec;
 use board_bits::{Length, Mask, Position, Side, Size};
-use game_rules::Way;
+use game_rules::{MOST_GROUPS, Way};
 use std::marker::Model;
 
 /// How many bits a word has.
@@ -60,7 +61,7 @@ impl GroupSet {
     pub fn has(&self, g: GroupId) -> bool
         ensures { result ≡ has_group self.now.groups g }
     {
-        let anchors = self.anchors[place_of(group_way(g))];
+        let anchors = self.anchors[rank_of(group_way(g))];
         same_length(group_length(g), self.size.length()) && anchors.has(group_anchor(g))
     }
 
@@ -80,10 +81,10 @@ impl GroupSet {
 
     /// Puts the set's groups of one direction behind the others.
     fn push_along(&self, way: Way, groups: &mut ArrayVec<GroupId, MOST_GROUPS>)
-        requires { array_vec_len groups.old + length (those_along self.now way) ≤ 238 }
+        requires { array_vec_len groups.old + length (those_along self.now way) ≤ MOST_GROUPS }
         ensures { groups.new.items ≡ groups.old.items ++ those_along self.now way }
     {
-        let anchors = self.anchors[place_of(way)].squares();
+        let anchors = self.anchors[rank_of(way)].squares();
         for anchor in anchors.as_slice() {
             groups.push(GroupId::from_anchor(*anchor, way, self.size.length()));
         }
@@ -94,7 +95,7 @@ impl GroupSet {
         requires { lies_on self.now.board g ≡ true }
         ensures { IsGroupSetOf self.now.board (λ h. same_group h g || has_group self.now.groups h) result }
     {
-        let place = place_of(group_way(g));
+        let place = rank_of(group_way(g));
         let mut anchors = self.anchors;
         let along = anchors[place];
         anchors[place] = along.with(group_anchor(g));
@@ -136,7 +137,7 @@ impl GroupSet {
 }
 
 /// Where the anchors of a direction are kept.
-fn place_of(way: Way) -> usize
+fn rank_of(way: Way) -> usize
     ensures { result ≡ rank way }
 {
     match way {

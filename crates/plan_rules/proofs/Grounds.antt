@@ -22,6 +22,7 @@ use Rattle.plan_rules.proofs.Squares.{has_append, has_left, has_right, column_gi
 use Rattle.plan_rules.proofs.Turns.{playable_parts, playable_empty, playable_on_board, filled_height, empty_height, filled_under, height_stays}
 use Rattle.plan_rules.proofs.Columns.{none_on, men_on_append}
 use Rattle.plan_rules.proofs.Table.{RestsOn, together_sym, floor_owner}
+use Rattle.std.proofs.lemmas.Option.{same_Some}
 
 pub fits_shape : (w : RuleInstance) (p : Position) → fits w p ≡ true → has_shape w (board_of p) ≡ true
 fits_shape w p h = (and_parts (list_all (on_board (board_of p)) (zone_of w)) (has_shape w (board_of p))
@@ -153,12 +154,9 @@ module _ (p q : Position) (ws : List RuleInstance) (plan : IsPlan p ws)
         let on = on_board_parts (board_of p) (under x).0 (under x).1 (playable_on_board p (under x) floor) in
         floor_owner x y x w v moving none (over v) two.has_x (omega (arith, on.1)) (members_together j i v w (λ same. not_own same on.1) member_v member) owned
       where
-        some_same : Some v ≡ Some w → v ≡ w
-        some_same e = cc
-
         not_own : j ≡ i → 1 ≤ x.1 - 1 → ⊥
         not_own same low =
-            let own : v ≡ w = some_same (sym member_v ∙ subst (λ k. IsMember ws k w) (sym same) member) in
+            let own : v ≡ w = same_Some v w (sym member_v ∙ subst (λ k. IsMember ws k w) (sym same) member) in
             elim (two.each (under x) (subst (λ w. has_square (zone_of w) (under x) ≡ true) own owned)) [
               | inl at_x ↦ omega (arith, at_x.1)
               | inr at_y ↦ two.apart at_y.0

@@ -101,31 +101,31 @@ refusal_says p ws fault h = by_side (same_side White (side_to_move p)) refl (end
 -- ---- from the condition to the fault
 
 -- what White's turn, a game that goes on, and the five searches make of it
-abbrev told : Option ℕ → Option (ℕ × ℕ) → Option Square → Option ℕ → Option Group → Option PlanFault
-told i two u j g =
+abbrev first_fault : Option ℕ → Option (ℕ × ℕ) → Option Square → Option ℕ → Option Group → Option PlanFault
+first_fault i two u j g =
     option_or (option_or (option_map misfit i) (option_map (λ (two : ℕ × ℕ). clash two.0 two.1) two))
     (option_or (option_map uncovered u) (option_or (option_map unsupported j) (option_map unanswered g)))
 
-told_if : (white : Bool) (end : Option End) (later : Option PlanFault) → white ≡ true → end ≡ None
+first_fault_if : (white : Bool) (end : Option End) (later : Option PlanFault) → white ≡ true → end ≡ None
     → (if not white then Some not_white_to_move else (if is_some end then Some ended else later)) ≡ later
-told_if white end later side over = rw (side, over) refl
+first_fault_if white end later side over = rw (side, over) refl
 
-told_clash : (i : Option ℕ) (two : Option (ℕ × ℕ)) (u : Option Square) (j : Option ℕ) (g : Option Group) (first second : ℕ) → i ≡ None
-    → two ≡ Some (first, second) → told i two u j g ≡ Some (clash first second)
-told_clash i two u j g first second none found = ap (λ i. told i two u j g) none ∙ ap (λ two. told None two u j g) found
+first_fault_clash : (i : Option ℕ) (two : Option (ℕ × ℕ)) (u : Option Square) (j : Option ℕ) (g : Option Group) (first second : ℕ) → i ≡ None
+    → two ≡ Some (first, second) → first_fault i two u j g ≡ Some (clash first second)
+first_fault_clash i two u j g first second none found = ap (λ i. first_fault i two u j g) none ∙ ap (λ two. first_fault None two u j g) found
 
-told_cover : (i : Option ℕ) (two : Option (ℕ × ℕ)) (u : Option Square) (j : Option ℕ) (g : Option Group) → i ≡ None → two ≡ None
-    → told i two u j g ≡ told None None u j g
-told_cover i two u j g fit stand = ap (λ i. told i two u j g) fit ∙ ap (λ two. told None two u j g) stand
+first_fault_cover : (i : Option ℕ) (two : Option (ℕ × ℕ)) (u : Option Square) (j : Option ℕ) (g : Option Group) → i ≡ None → two ≡ None
+    → first_fault i two u j g ≡ first_fault None None u j g
+first_fault_cover i two u j g fit stand = ap (λ i. first_fault i two u j g) fit ∙ ap (λ two. first_fault None two u j g) stand
 
 told_going : (p : Position) (ws : List RuleInstance) → IsGoing p → plan_refusal p ws ≡ option_or (members_refusal p ws) (cover_refusal p ws)
-told_going p ws going = told_if (same_side White (side_to_move p)) (end_of p) (option_or (members_refusal p ws) (cover_refusal p ws))
+told_going p ws going = first_fault_if (same_side White (side_to_move p)) (end_of p) (option_or (members_refusal p ws) (cover_refusal p ws))
     (ap (same_side White) going.white) going.going
 
 told_together : (p : Position) (ws : List RuleInstance) → IsGoing p → StandTogether p ws → plan_refusal p ws ≡ cover_refusal p ws
 told_together p ws going members =
     told_going p ws going
-    ∙ told_cover (position_from (λ w. not (fits w p)) 1 ws) (first_two_from together 1 ws)
+    ∙ first_fault_cover (position_from (λ w. not (fits w p)) 1 ws) (first_two_from together 1 ws)
     (find (is_uncovered p ws) (squares_of_board (board_of p))) (position_from (λ w. not (is_supported w (facts_of p ws))) 1 ws)
     (find (is_unanswered p ws) (groups_of (board_of p)))
     (none_is _ (no_place (λ w. fits w p) 1 ws ∙ members.fitting)) (none_is _ (no_two together 1 ws ∙ members.standing))
@@ -161,7 +161,7 @@ says_refusal p ws (misfit i) is =
     (cover_refusal p ws)) (place_from (λ w. not (fits w p)) 1 ws i is.1)
 says_refusal p ws (clash i j) is =
     told_going p ws is.0
-    ∙ told_clash (position_from (λ w. not (fits w p)) 1 ws) (first_two_from together 1 ws)
+    ∙ first_fault_clash (position_from (λ w. not (fits w p)) 1 ws) (first_two_from together 1 ws)
     (find (is_uncovered p ws) (squares_of_board (board_of p))) (position_from (λ w. not (is_supported w (facts_of p ws))) 1 ws)
     (find (is_unanswered p ws) (groups_of (board_of p))) i j
     (place_none (λ w. not (fits w p)) 1 ws (λ k w member. not_from_true (fits w p) (is.1 k w member))) (two_from together 1 ws i j is.2)

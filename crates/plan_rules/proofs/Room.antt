@@ -26,6 +26,7 @@ use Rattle.plan_rules.proofs.Grounds.{fits_shape, fits_more}
 use Rattle.plan_rules.proofs.Fitting.{fitting_parts}
 use Rattle.game_rules.proofs.Narrowed.{on_widest}
 use Rattle.plan_rules.proofs.Sums.{where_passes, sum_filter, sum_map, sum_flat, sum_each, sum_ones, sum_nothing, sum_swap, by_columns, board_more}
+use Rattle.game_rules.specs.declared.TheConstants.{MOST_GROUPS}
 
 -- what fits is at most the sum of numbers of which each is 1 at least where an instance fits
 fit_sum : {X : Type 0} (written : X → RuleInstance) (f : X → ℕ) (p : Position) (xs : List X) → ((x : X) → fits (written x) p ≡ true → 1 ≤ f x)
@@ -306,17 +307,17 @@ lowinverses_fit p h =
 
 -- ---- groups
 
-all_groups : (written : Group → RuleInstance) (p : Position) → is_board (board_of p) ≡ true → length (fitting written p (groups_of (board_of p))) ≤ 238
+all_groups : (written : Group → RuleInstance) (p : Position) → is_board (board_of p) ≡ true → length (fitting written p (groups_of (board_of p))) ≤ MOST_GROUPS
 all_groups written p h =
     let most = groups_fit (board_of p) h in
     let all = map written (groups_of (board_of p)) in
     let fewer = count_by-le-length (λ w. fits w p) all in
     omega (arith, most, fewer, length-filter (λ w. fits w p) all, length-map (groups_of (board_of p)) written)
 
-afterevens_fit : (p : Position) → is_board (board_of p) ≡ true → length (listed kinds.Aftereven p) ≤ 238
+afterevens_fit : (p : Position) → is_board (board_of p) ≡ true → length (listed kinds.Aftereven p) ≤ MOST_GROUPS
 afterevens_fit p h = all_groups aftereven p h
 
-befores_fit : (p : Position) → is_board (board_of p) ≡ true → length (listed kinds.Before p) ≤ 238
+befores_fit : (p : Position) → is_board (board_of p) ≡ true → length (listed kinds.Before p) ≤ MOST_GROUPS
 befores_fit p h = all_groups before p h
 
 -- ---- a square lies in few groups

@@ -24,7 +24,7 @@ use Rattle.game_rules.proofs.Ends.{on_board_from, has_line_gives, has_line_from,
 use Rattle.game_rules.proofs.Ends.{other_kept, disjoint, white_end}
 use Rattle.game_rules.proofs.Squares.{has_gives, has_from, same_square_is}
 use Rattle.plan_rules.specs.Squares.{above}
-use Rattle.plan_rules.specs.Rules.{RuleInstance, zone_of, line_of, reply_to, upper_of, pair_of, twin_of, as_list, facts_of, barred}
+use Rattle.plan_rules.specs.Rules.{RuleInstance, zone_of, black_group_of, reply_to, upper_of, pair_of, twin_of, as_list, facts_of, barred}
 use Rattle.plan_rules.specs.Calm.{is_calm}
 use Rattle.plan_rules.specs.Laws.{IsLineOf, Answers, AreTrue, Owns, IsHeld}
 use Rattle.plan_rules.specs.Plan.{empty_part, IsMember, IsPlan, plan_reply, after_turn, after_turns, duel, is_playable_list, is_nil, IsKept, IsAnswered, IsTurn}
@@ -201,7 +201,7 @@ module _ (laws : (w : RuleInstance) → Lawful w) (p : Position) (ws : List Rule
 
       -- the member that bars the line's empty squares
       barring : (g : Group) → Owns White (after_move q s.0) (has_square (squares_of g)) → (i : ℕ) (w : RuleInstance) → IsMember ws i w
-          → barred w (facts_of p ws) (empty_part p g) ≡ true → (line : Option Group) → line_of w ≡ line → ⊥
+          → barred w (facts_of p ws) (empty_part p g) ≡ true → (line : Option Group) → black_group_of w ≡ line → ⊥
       barring g owns i w member is_barred None line =
           subst (λ line. IsHeld line (after_move (after_move q s.0) answer.to.0)) line
           ((laws w).bars p (after_move (after_move q s.0) answer.to.0) (facts_of p ws) (empty_part p g) (plan.fitting i w member) (λ u. refl)
@@ -222,7 +222,7 @@ module _ (laws : (w : RuleInstance) → Lawful w) (p : Position) (ws : List Rule
       against g lies owns =
           let some = plan.answered g (subst (λ board. lies_on board g ≡ true) (sym board_now) lies)
           (λ u in_line. false_from_ne_true _ (λ black. disjoint (after_move q s.0) u (owns u in_line) (stay_now u black))) in
-          barring g owns some.place some.member some.is_member some.has_it (line_of some.member) refl
+          barring g owns some.place some.member some.is_member some.has_it (black_group_of some.member) refl
 
   -- ---- the turn as a whole
 

@@ -12,7 +12,7 @@ use Rattle.game_rules.proofs.Lists.{Among, all_gives, all_from}
 use Rattle.game_rules.proofs.Squares.{same_square_is, has_gives, has_from}
 use Rattle.plan_rules.specs.Squares.{above, under}
 use Rattle.plan_rules.specs.Rules.{RuleInstance, claimeven, baseinverse, lowinverse, highinverse, baseclaim, vertical, aftereven, before, specialbefore}
-use Rattle.plan_rules.specs.Rules.{zone_of, line_of, owns_no_zone, no_shared_square, no_shared_column, is_over, rests_on, stands_over, together}
+use Rattle.plan_rules.specs.Rules.{zone_of, black_group_of, owns_no_zone, no_shared_square, no_shared_column, is_over, rests_on, stands_over, together}
 use Rattle.plan_rules.specs.Calm.{is_calm}
 
 pub zoneless_owns_none : (w : RuleInstance) → owns_no_zone w ≡ true → (u : Square) → has_square (zone_of w) u ≡ true → ⊥
@@ -27,7 +27,7 @@ zoneless_owns_none (before g) standing u owned = cc
 zoneless_owns_none (specialbefore g f e0) standing u owned = cc
 
 -- a rule with a line of Black's is always calm
-pub always_calm : (w : RuleInstance) (g : Group) → line_of w ≡ Some g → (q : Position) → is_calm w q ≡ true
+pub always_calm : (w : RuleInstance) (g : Group) → black_group_of w ≡ Some g → (q : Position) → is_calm w q ≡ true
 always_calm (claimeven x) g line q = absurd (cc line)
 always_calm (baseinverse s t) g line q = absurd (cc line)
 always_calm (lowinverse x x_top y y_top) g line q = absurd (cc line)

@@ -12,6 +12,7 @@ use Rattle.plan_rules.specs.Squares.{under, is_even}
 use Rattle.plan_rules.specs.Rules.{RuleInstance, claimeven, baseinverse, lowinverse, highinverse, baseclaim, vertical, aftereven, before, specialbefore, is_low_column, fits}
 use Rattle.plan_rules.specs.declared.Kind.{Kind}
 use Rattle.plan_rules.specs.declared.Kind.TheVariants as kinds
+use Rattle.game_rules.specs.declared.TheConstants.{MOST_GROUPS}
 
 -- ---- what instances are written with
 
@@ -76,8 +77,8 @@ most_listed kinds.Lowinverse = 720
 most_listed kinds.Highinverse = 45
 most_listed kinds.Baseclaim = 720
 most_listed kinds.Vertical = 50
-most_listed kinds.Aftereven = 238
-most_listed kinds.Before = 238
+most_listed kinds.Aftereven = MOST_GROUPS
+most_listed kinds.Before = MOST_GROUPS
 most_listed kinds.Specialbefore = 1800
 
 -- ---- whether a list has an instance

@@ -55,11 +55,11 @@ zone_of (baseclaim a b e) = a ∷ b ∷ e ∷ above b ∷ []
 zone_of w = []
 
 -- the line of Black's that a rule rests on
-abbrev pub line_of : RuleInstance → Option Group
-line_of (aftereven g) = Some g
-line_of (before g) = Some g
-line_of (specialbefore g f e0) = Some g
-line_of w = None
+abbrev pub black_group_of : RuleInstance → Option Group
+black_group_of (aftereven g) = Some g
+black_group_of (before g) = Some g
+black_group_of (specialbefore g f e0) = Some g
+black_group_of w = None
 
 -- ---- shape and fit
 

@@ -10,7 +10,7 @@ ghost use Rattle.game_rules.specs.Squares.{has_square, is_empty};
 ghost use Rattle.game_rules.specs.declared.Side.TheVariants as sides;
 ghost use Rattle.game_rules.specs.declared.End.TheVariants as ends;
 ghost use Rattle.plan_rules.specs.Squares.{column_up, is_even, is_odd, men_on};
-ghost use Rattle.plan_rules.specs.Rules.{RuleInstance, kind_of, zone_of, line_of, has_shape, fits, reply_to, has_no_answer, upper_of, pair_of, twin_of, barred, is_supported, together};
+ghost use Rattle.plan_rules.specs.Rules.{RuleInstance, kind_of, zone_of, black_group_of, has_shape, fits, reply_to, has_no_answer, upper_of, pair_of, twin_of, barred, is_supported, together};
 ghost use Rattle.plan_rules.specs.Calm.{is_paired, is_capped, is_shifted, is_calm};
 ghost use Rattle.plan_rules.specs.Columns.{IsPairedColumn, IsCappedColumn, IsShiftedColumn};
 ghost use Rattle.plan_rules.specs.Causes.{names_twins, names_no_reply};
@@ -19,7 +19,7 @@ ghost use Rattle.plan_rules.specs.Plan.{is_plan, IsMember, IsPlan, IsKept, IsAns
 
 /// An instance that fits is calm, and the line that it rests on is a line of the position's board.
 pub fn an_instance_that_fits_is_calm()
-    ensures { (w : RuleInstance) → StartLaw (fits w) (is_calm w) (line_of w) }
+    ensures { (w : RuleInstance) → StartLaw (fits w) (is_calm w) (black_group_of w) }
 {}
 
 /// Whether an instance is calm depends on the squares of its zone alone, so men elsewhere never change it.
@@ -52,7 +52,7 @@ pub fn the_kind_and_the_zone_say_what_is_missing()
 /// true of the men, and Black's men are still there. Then White owns no barred set whole; for a rule with a line of
 /// Black's, where White owns one, the line is all Black's.
 pub fn white_owns_no_barred_set()
-    ensures { (w : RuleInstance) → BarLaw (fits w) (is_supported w) (is_calm w) (barred w) (line_of w) }
+    ensures { (w : RuleInstance) → BarLaw (fits w) (is_supported w) (is_calm w) (barred w) (black_group_of w) }
 {}
 
 /// An instance that fitted and is calm makes true what it promises to others: no upper square is White's, no square of

@@ -12,6 +12,9 @@ pub mod laws;
 pub mod lists;
 pub mod plan_laws;
 
+/// No list of members is longer: neither that of a plan nor that of a text.
+pub const MOST_MEMBERS: usize = 300;
+
 /// The nine rules. The first five are zone rules, which own squares; the last four are standing rules, which own none
 /// and rest on the zone rules of the same plan.
 #[derive(Clone, Copy, Debug, PartialEq, Eq)]

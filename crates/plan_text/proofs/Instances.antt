@@ -18,7 +18,7 @@ use Rattle.game_rules.proofs.Squares.{has_gives}
 use Rattle.game_rules.proofs.Ends.{on_board_parts}
 use Rattle.game_rules.proofs.Groups.{board_most, anchor_on, lies_parts, squares_on}
 use Rattle.plan_rules.specs.Rules.{RuleInstance, claimeven, baseinverse, lowinverse, highinverse, baseclaim, vertical, aftereven, before, specialbefore}
-use Rattle.plan_rules.specs.Rules.{kind_of, zone_of, is_shaped, has_shape, line_of, is_low_column}
+use Rattle.plan_rules.specs.Rules.{kind_of, zone_of, is_shaped, has_shape, black_group_of, is_low_column}
 use Rattle.plan_rules.specs.Squares.{above, is_even}
 use Rattle.plan_rules.specs.declared.Kind.{Kind}
 use Rattle.plan_rules.specs.declared.Kind.TheVariants as kinds
@@ -54,9 +54,9 @@ module _ (board : Board) where
   Stands (specialbefore g f e0) = Lies g × On f × On e0
 
   named_parts : (w : RuleInstance) → is_named board w ≡ true → (is_board board ≡ true) × (is_shaped w board ≡ true)
-      × (option_map_or (lies_on board) (line_of w) true ≡ true)
+      × (option_map_or (lies_on board) (black_group_of w) true ≡ true)
   named_parts w h =
-      let line = and_parts (is_board board && is_shaped w board) (option_map_or (lies_on board) (line_of w) true) h in
+      let line = and_parts (is_board board && is_shaped w board) (option_map_or (lies_on board) (black_group_of w) true) h in
       let shape = and_parts (is_board board) (is_shaped w board) line.0 in
       (shape.0, shape.1, line.1)
 

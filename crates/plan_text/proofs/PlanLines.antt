@@ -9,15 +9,16 @@ use Rattle.std.proofs.lemmas.List.{length-map, length-append}
 use Rattle.game_rules.specs.Board.{Board, is_board}
 use Rattle.game_rules.specs.Groups.{Group, lies_on}
 use Rattle.game_rules.specs.Position.{Position, board_of}
-use Rattle.plan_rules.specs.Rules.{RuleInstance, fits, is_shaped, fits_besides, line_of}
+use Rattle.plan_rules.specs.Rules.{RuleInstance, fits, is_shaped, fits_besides, black_group_of}
 use Rattle.plan_rules.specs.Laws.{IsLineOf}
 use Rattle.plan_rules.proofs.AllRules.{lawful}
 use Rattle.plan_text.specs.Words.{◌>>=◌, spaced, words_of}
 use Rattle.plan_text.specs.Items.{instance_text, is_named, instance_of}
-use Rattle.plan_text.specs.PlanLine.{most_members, plan_words, plan_text, PlanFits, IsPlanLine, instances_of, members_of, plan_of_words, read_plan}
+use Rattle.plan_text.specs.PlanLine.{plan_words, plan_text, PlanFits, IsPlanLine, instances_of, members_of, plan_of_words, read_plan}
 use Rattle.plan_text.proofs.Spaced.{bind_some, chosen_some, is_text, IsPlain, plain_text, words_of_spaced, spaced_words, spaced_bytes, spaced_behind}
 use Rattle.plan_text.proofs.Items.{instance_read}
 use Rattle.plan_text.proofs.Instances.{instance_plain, instance_short, instance_spelled}
+use Rattle.plan_rules.specs.declared.TheConstants.{MOST_MEMBERS}
 
 -- each is an instance of the board
 abbrev AreNamed : Board → List RuleInstance → Type 0
@@ -45,21 +46,21 @@ instances_spelled board (w ∷ ws) h =
 pub members_read : (board : Board) (words : List (List ℕ)) (ws : List RuleInstance) → members_of board words ≡ Some ws
     → (words ≡ map instance_text ws) × PlanFits board ws
 members_read board words ws h =
-    let found = chosen_some (nat_le 1 (length words) && nat_le (length words) most_members) (instances_of board words) ws h in
-    let size = and_parts (nat_le 1 (length words)) (nat_le (length words) most_members) found.0 in
+    let found = chosen_some (nat_le 1 (length words) && nat_le (length words) MOST_MEMBERS) (instances_of board words) ws h in
+    let size = and_parts (nat_le 1 (length words)) (nat_le (length words) MOST_MEMBERS) found.0 in
     let read = instances_read board words ws found.1 in
     let count : length words ≡ length ws = ap length read.0 ∙ length-map ws instance_text in
     let some : 1 ≤ length words = leb-true 1 (length words) size.0 in
-    let few : length words ≤ most_members = leb-true (length words) most_members size.1 in
+    let few : length words ≤ MOST_MEMBERS = leb-true (length words) MOST_MEMBERS size.1 in
     (read.0, (omega arith, omega arith, read.1))
 
 -- what fits a line is read from its spelling
 pub members_spelled : (board : Board) (ws : List RuleInstance) → PlanFits board ws → members_of board (map instance_text ws) ≡ Some ws
 members_spelled board ws h =
     let size : length (map instance_text ws) ≡ length ws = length-map ws instance_text in
-    found (and_from _ _ (le-leb 1 (length (map instance_text ws)) (omega arith)) (le-leb (length (map instance_text ws)) most_members (omega arith)))
+    found (and_from _ _ (le-leb 1 (length (map instance_text ws)) (omega arith)) (le-leb (length (map instance_text ws)) MOST_MEMBERS (omega arith)))
   where
-    found : (nat_le 1 (length (map instance_text ws)) && nat_le (length (map instance_text ws)) most_members) ≡ true
+    found : (nat_le 1 (length (map instance_text ws)) && nat_le (length (map instance_text ws)) MOST_MEMBERS) ≡ true
         → members_of board (map instance_text ws) ≡ Some ws
     found e = rw e (instances_spelled board ws h.2)
 
@@ -86,7 +87,7 @@ members_length board ws h = each ws h.2
 pub fitting_named : (p : Position) (w : RuleInstance) → is_board (board_of p) ≡ true → fits w p ≡ true → is_named (board_of p) w ≡ true
 fitting_named p w board h =
     let shape = and_parts (is_shaped w (board_of p)) _ (and_parts _ (fits_besides w p) h).0 in
-    and_from _ _ (and_from _ _ board shape.0) (on_line (line_of w) ((lawful w).starts p h).line_on_board)
+    and_from _ _ (and_from _ _ board shape.0) (on_line (black_group_of w) ((lawful w).starts p h).line_on_board)
   where
     on_line : (line : Option Group) → IsLineOf line p → option_map_or (lies_on (board_of p)) line true ≡ true
     on_line None lies = refl

@@ -9,7 +9,7 @@ use Rattle.game_rules.specs.Letters.{is_letter, column_of}
 use Rattle.game_rules.specs.Number.{number_between}
 use Rattle.game_rules.specs.declared.Way.{Way}
 use Rattle.game_rules.specs.declared.Way.TheVariants.{H, V, U, D}
-use Rattle.plan_rules.specs.Rules.{RuleInstance, claimeven, baseinverse, lowinverse, highinverse, baseclaim, vertical, aftereven, before, specialbefore, kind_of, is_shaped, line_of}
+use Rattle.plan_rules.specs.Rules.{RuleInstance, claimeven, baseinverse, lowinverse, highinverse, baseclaim, vertical, aftereven, before, specialbefore, kind_of, is_shaped, black_group_of}
 use Rattle.plan_rules.specs.declared.Kind.{Kind}
 use Rattle.plan_rules.specs.declared.Kind.TheVariants as kinds
 use Rattle.plan_text.specs.Words.{◌>>=◌, split_once}
@@ -69,7 +69,7 @@ instance_text w = marked (rule_letters (kind_of w)) (codes ":") (parts_text w)
 
 -- The instance is one of the board: its squares and its line stand there, and it has the shape that its rule asks for.
 abbrev pub is_named : Board → RuleInstance → Bool
-is_named board w = is_board board && is_shaped w board && option_map_or (lies_on board) (line_of w) true
+is_named board w = is_board board && is_shaped w board && option_map_or (lies_on board) (black_group_of w) true
 
 -- ---- reading
 

@@ -5,10 +5,7 @@ use Rattle.game_rules.specs.Board.{Board}
 use Rattle.plan_rules.specs.Rules.{RuleInstance}
 use Rattle.plan_text.specs.Words.{◌>>=◌, spaced, words_of}
 use Rattle.plan_text.specs.Items.{instance_text, is_named, instance_of}
-
--- no line has more instances
-abbrev pub most_members : ℕ
-most_members = 300
+use Rattle.plan_rules.specs.declared.TheConstants.{MOST_MEMBERS}
 
 abbrev pub plan_words : List RuleInstance → List (List ℕ)
 plan_words ws = codes "plan" ∷ map instance_text ws
@@ -17,9 +14,9 @@ plan_words ws = codes "plan" ∷ map instance_text ws
 abbrev pub plan_text : List RuleInstance → List ℕ
 plan_text ws = spaced (plan_words ws)
 
--- the instances can stand in a line: there are 1 to 300, and each is one of the board
+-- the instances can stand in a line: there are 1 to `MOST_MEMBERS`, and each is one of the board
 abbrev pub PlanFits : Board → List RuleInstance → Type 0
-PlanFits board ws = (1 ≤ length ws) × (length ws ≤ most_members) × AllByRecursion (λ w. is_named board w ≡ true) ws
+PlanFits board ws = (1 ≤ length ws) × (length ws ≤ MOST_MEMBERS) × AllByRecursion (λ w. is_named board w ≡ true) ws
 
 -- the bytes are the line of these instances
 abbrev pub IsPlanLine : Board → List ℕ → List RuleInstance → Type 0
@@ -36,7 +33,7 @@ instances_of board (word ∷ words) = do
 
 -- the words behind `plan`
 abbrev pub members_of : Board → List (List ℕ) → Option (List RuleInstance)
-members_of board words = if nat_le 1 (length words) && nat_le (length words) most_members then instances_of board words else None
+members_of board words = if nat_le 1 (length words) && nat_le (length words) MOST_MEMBERS then instances_of board words else None
 
 abbrev pub plan_of_words : Board → List (List ℕ) → Option (List RuleInstance)
 plan_of_words board [] = None

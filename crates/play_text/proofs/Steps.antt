@@ -127,9 +127,9 @@ told_at : (bytes : List ℕ) (ws : List RuleInstance) (q : Position) (at : ℕ) 
 told_at bytes ws q at moves lines answered tells = ends_so (λ end. end ≢ NoReply → IsTold bytes lines end) (λ fault answered. tells) (λ answered. tells)
     (λ answered. answered refl) ws q at moves answered
 
-pub told : (bytes : List ℕ) → IsTold bytes (play_of bytes).lines (play_of bytes).end
+pub play_is_told : (bytes : List ℕ) → IsTold bytes (play_of bytes).lines (play_of bytes).end
 unfolding play_of
-told bytes = of_game (game_at (game_of (pieces bytes))) (behind_game (pieces bytes)) refl refl
+play_is_told bytes = of_game (game_at (game_of (pieces bytes))) (behind_game (pieces bytes)) refl refl
   where
     Told : Played → Type 0
     Told played = IsTold bytes played.lines played.end

@@ -67,7 +67,7 @@ record IsPlayed (ws : List RuleInstance) (q : Position) (move line : List ℕ) (
   reply : Square
   is_reply : plan_reply ws (after_move q column) (column, height q column + 1) ≡ Some reply
   turn : after_turn ws q column ≡ Some next
-  told : line ≡ turn_text q column reply
+  is_text : line ≡ turn_text q column reply
 
 -- the first lines of White's are turns one after another, with these columns
 abbrev AreTurns : List RuleInstance → Position → List (List ℕ) → List (List ℕ) → List ℕ → Type 0
@@ -118,7 +118,7 @@ played_in_turns p ws is before q at (move ∷ moves) reached =
               is_reply = answered.is_reply;
               turn =
                   turn_made ws q column answered;
-              told = refl;
+              is_text = refl;
             },
             behind.turns,
           );
@@ -159,21 +159,21 @@ turns_named ws q (move ∷ moves) (line ∷ lines) (first ∷ columns) (next, on
     at
 
 -- the turn at a place: its position stands at twice the place in the duel
-record IsTold (ws : List RuleInstance) (q : Position) (columns : List ℕ) (i : ℕ) (line : List ℕ) : Type 0 where
+record IsTurnTold (ws : List RuleInstance) (q : Position) (columns : List ℕ) (i : ℕ) (line : List ℕ) : Type 0 where
   column : ℕ
   is_column : slice_get columns i ≡ Some column
   now : Position
   is_now : slice_get (duel ws q columns) (2 * i) ≡ Some now
   reply : Square
   is_reply : plan_reply ws (after_move now column) (column, height now column + 1) ≡ Some reply
-  told : line ≡ turn_text now column reply
+  is_text : line ≡ turn_text now column reply
 
 duel_opens : (ws : List RuleInstance) (q next : Position) (column : ℕ) (columns : List ℕ) → is_legal q column ≡ true → after_turn ws q column ≡ Some next
     → duel ws q (column ∷ columns) ≡ q ∷ after_move q column ∷ duel ws next columns
 duel_opens ws q next column columns legal turn = rw (legal, turn) refl
 
 turns_told : (ws : List RuleInstance) (q : Position) (moves lines : List (List ℕ)) (columns : List ℕ) → AreTurns ws q moves lines columns
-    → (i : ℕ) (line : List ℕ) → slice_get lines i ≡ Some line → IsTold ws q columns i line
+    → (i : ℕ) (line : List ℕ) → slice_get lines i ≡ Some line → IsTurnTold ws q columns i line
 turns_told ws q moves [] columns turns i line at = absurd (cc at)
 turns_told ws q [] (first ∷ lines) columns turns i line at = absurd turns
 turns_told ws q (move ∷ moves) (first ∷ lines) [] turns i line at = absurd turns
@@ -184,7 +184,7 @@ turns_told ws q (move ∷ moves) (first ∷ lines) (column ∷ columns) (next, o
   is_now = ap (λ positions. slice_get positions 0) (duel_opens ws q next column columns one.legal one.turn);
   reply = one.reply;
   is_reply = one.is_reply;
-  told = sym (same_Some first line at) ∙ one.told;
+  is_text = sym (same_Some first line at) ∙ one.is_text;
 }
 turns_told ws q (move ∷ moves) (first ∷ lines) (column ∷ columns) (next, one, later) (suc i) line at =
     let told = turns_told ws next moves lines columns later i line at in
@@ -196,7 +196,7 @@ turns_told ws q (move ∷ moves) (first ∷ lines) (column ∷ columns) (next, o
           ∙ ap (slice_get (q ∷ after_move q column ∷ duel ws next columns)) (let place : 2 * suc i ≡ suc (suc (2 * i)) = omega arith in place) ∙ told.is_now;
       reply = told.reply;
       is_reply = told.is_reply;
-      told = told.told;
+      is_text = told.is_text;
     }
 
 -- what is played by a plan tells a duel
@@ -219,7 +219,7 @@ tells_duel p ws at moves is =
       goes.answered,
     )
   where
-    turn_told : (p : Position) (ws : List RuleInstance) (columns : List ℕ) (i : ℕ) (line : List ℕ) (told : IsTold ws p columns i line)
+    turn_told : (p : Position) (ws : List RuleInstance) (columns : List ℕ) (i : ℕ) (line : List ℕ) (told : IsTurnTold ws p columns i line)
         → IsTurn p ws (duel ws p columns) i told.column → TellsTurn p ws columns i line
     turn_told p ws columns i line told turn =
         let now : turn.now ≡ told.now = same_Some turn.now told.now (sym turn.is_now ∙ told.is_now) in
@@ -229,7 +229,7 @@ tells_duel p ws at moves is =
           column = told.column;
           is_column = told.is_column;
           turn = turn;
-          told = told.told ∙ ap (λ q. turn_text q told.column told.reply) (sym now)
+          is_text = told.is_text ∙ ap (λ q. turn_text q told.column told.reply) (sym now)
               ∙ ap (turn_text turn.now told.column) (same_Some told.reply turn.answered.reply (sym told.is_reply ∙ here));
         }
 

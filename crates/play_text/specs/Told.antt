@@ -15,7 +15,7 @@ pub record TellsTurn (p : Position) (ws : List RuleInstance) (columns : List ℕ
   pub column : ℕ
   pub is_column : slice_get columns i ≡ Some column
   pub turn : IsTurn p ws (duel ws p columns) i column
-  pub told : line ≡ turn_text turn.now column turn.answered.reply
+  pub is_text : line ≡ turn_text turn.now column turn.answered.reply
 
 -- Each of these columns is legal at its turn and is named by one of White's lines, in their order; there is a line for each
 -- of its turns; and White has no line in any position of the duel.

@@ -11,6 +11,7 @@ use Rattle.position_table.specs.declared.table.Found.{Found}
 use Rattle.position_table.specs.Keys.{Key, same_key, same_key_Decides, same_key_equiv}
 use Rattle.position_table.specs.Table.{Entries, used, entries_kept}
 use Rattle.position_table.proofs.Kept.{lookup_of_entry}
+use Rattle.std.proofs.lemmas.Option.{same_Some, none-some}
 
 module _ {K X : Type 0} where
   -- an entry that goes takes no other key's
@@ -70,7 +71,7 @@ module _ (p : Position) (q : Question) (f : Found) (t : Entries) (absent : looku
   lookup_kept_from other g h = elim (cases_Bool (same_key other own)) [
     | inl same ↦ inr (
       (same_key_Decides other own).0 same,
-      sym (some_same (sym (ap (λ b. cond b (Some f) (lookup (same_key other) (take (t.room - 1) t.entries))) same) ∙ front)),
+      sym (same_Some _ _ (sym (ap (λ b. cond b (Some f) (lookup (same_key other) (take (t.room - 1) t.entries))) same) ∙ front)),
     )
     | inr apart ↦ inl (lookup_take (same_key other) (t.room - 1) t.entries g
         (sym (ap (λ b. cond b (Some f) (lookup (same_key other) (take (t.room - 1) t.entries))) apart) ∙ front))
@@ -79,20 +80,14 @@ module _ (p : Position) (q : Question) (f : Found) (t : Entries) (absent : looku
       front : lookup (same_key other) ((own, f) ∷ take (t.room - 1) t.entries) ≡ Some g
       front = sym (ap (lookup (same_key other)) in_front) ∙ h
 
-      some_same : {X : Type 0} {x y : X} → Some x ≡ Some y → x ≡ y
-      some_same e = cc
-
   -- where there was room, all others are still there
   pub lookup_kept_stays : length t.entries < t.room → (other : Key) → lookup (same_key other) (entries_kept p q f t) ≡ None
       → lookup (same_key other) t.entries ≡ None
   lookup_kept_stays room other h = elim (cases_Bool (same_key other own)) [
-    | inl same ↦ absurd (some_none (sym (ap (λ b. cond b (Some f) (lookup (same_key other) (take (t.room - 1) t.entries))) same) ∙ front))
+    | inl same ↦ absurd (none-some f (sym front ∙ ap (λ b. cond b (Some f) (lookup (same_key other) (take (t.room - 1) t.entries))) same))
     | inr apart ↦ ap (lookup (same_key other)) (sym (take_whole (t.room - 1) t.entries (omega (arith, room))))
         ∙ sym (ap (λ b. cond b (Some f) (lookup (same_key other) (take (t.room - 1) t.entries))) apart) ∙ front
   ]
     where
       front : lookup (same_key other) ((own, f) ∷ take (t.room - 1) t.entries) ≡ None
       front = sym (ap (lookup (same_key other)) in_front) ∙ h
-
-      some_none : {X : Type 0} {x : X} → Some x ≡ None → ⊥
-      some_none e = cc

@@ -12,6 +12,7 @@ use Rattle.lru.proofs.CallerLemmas.{Contains-lookup_entry}
 use Rattle.position_table.specs.declared.table.Found.{Found}
 use Rattle.position_table.specs.Keys.{Key, same_key, same_key_Decides, same_key_equiv, is_for}
 use Rattle.position_table.specs.Table.{entries_kept, whole_kept}
+use Rattle.std.proofs.lemmas.Option.{same_Some, none-some}
 
 module _ {K X : Type 0} (test : K → Bool) where
   pub lookup_of_entry : (es : List (K × X)) → lookup test es ≡ option_map (λ e. e.1) (lookup_entry test es)
@@ -50,12 +51,6 @@ not_below a b h = by (nat_lt a b) refl
     by true told = absurd (omega (arith, h, ltb-true a b told))
     by false told = refl
 
-some_same : {X : Type 0} {x y : X} → Some x ≡ Some y → x ≡ y
-some_same e = cc
-
-none≢some : {X : Type 0} {x : X} → None ≡ Some x → ⊥
-none≢some e = cc
-
 module _ (p : Position) (q : Question) (f : Found) (es : List (Key × Found)) (n : ℕ) (w : Bool) where
   abbrev key : Key
   key = record { position = p; question = q }
@@ -81,7 +76,7 @@ module _ (p : Position) (q : Question) (f : Found) (es : List (Key × Found)) (n
             let past : length es ≤ n - 1 = past_if_none (is_for p q) es (n - 1)
             (sym (ap (λ o. option_map_or (λ old. Some (key, old)) o (slice_get es (n - 1))) none) ∙ h) in
             rw (none, lt-ltb (length es) n (omega (arith, past, some))) (sym (and-true w))
-        by (Some old) there = absurd (none≢some (sym h ∙ ap (λ o. option_map_or (λ old. Some (key, old)) o (slice_get es (n - 1))) there))
+        by (Some old) there = absurd (none-some _ (sym h ∙ ap (λ o. option_map_or (λ old. Some (key, old)) o (slice_get es (n - 1))) there))
 
     -- the pair that came out is the old one for this key, or the last
     pub whole_if_some : (gone : Key × Found) → displaced same_key (lru_cache es n) key f ≡ Some gone
@@ -98,5 +93,5 @@ module _ (p : Position) (q : Question) (f : Found) (es : List (Key × Found)) (n
               absent_at (is_for p q) es (n - 1) gone none at,
             ) refl
         by (Some old) there =
-            let at : (key, old) ≡ gone = some_same (sym (ap (λ o. option_map_or (λ old. Some (key, old)) o (slice_get es (n - 1))) there) ∙ h) in
+            let at : (key, old) ≡ gone = same_Some _ _ (sym (ap (λ o. option_map_or (λ old. Some (key, old)) o (slice_get es (n - 1))) there) ∙ h) in
             rw (there, ← at, same_key_equiv.refl key) refl

@@ -33,13 +33,13 @@ is_for p q key = same_key (record { position = p; question = q }) key
 
 -- ---- what a cache asks of its keys
 
-abbrev pub number_of : Question → ℕ
-number_of WhiteWins = 0
-number_of BlackWins = 1
+abbrev pub question_number : Question → ℕ
+question_number WhiteWins = 0
+question_number BlackWins = 1
 
 -- what the hash of a key is made from
 abbrev pub hashed : Key → fed.HashWrites
-hashed key = fed.u128 (side_word key.position White) ++ (fed.u128 (side_word key.position Black) ++ fed.u8 (number_of key.question))
+hashed key = fed.u128 (side_word key.position White) ++ (fed.u128 (side_word key.position Black) ++ fed.u8 (question_number key.question))
 
 pub same_question_is : (a b : Question) → same_question a b ≡ true → a ≡ b
 same_question_is WhiteWins WhiteWins h = refl

@@ -29,7 +29,7 @@ use Rattle.proof_text.specs.declared.Verdict.{Verdict}
 use Rattle.proof_text.specs.declared.Verdict.TheVariants.{Win, Loss, Draw, Unknown}
 use Rattle.plan_text.specs.Words.{spaced}
 use Rattle.plan_text.specs.Items.{instance_text, is_named}
-use Rattle.plan_text.specs.PlanLine.{most_members, PlanFits}
+use Rattle.plan_text.specs.PlanLine.{PlanFits}
 use Rattle.game_rules.proofs.Squares.{playable_is}
 use Rattle.plan_rules.specs.Rules.{RuleInstance}
 use Rattle.plan_rules.specs.Plan.{IsMember, is_plan}
@@ -37,6 +37,7 @@ use Rattle.plan_rules.proofs.Strategy.{room_playable}
 use Rattle.plan_rules.proofs.Plans.{plan_gives}
 use Rattle.std.proofs.lemmas.List.Concat.{flat_map-cons}
 use Rattle.plan_text.proofs.PlanLines.{members_length, fitting_named}
+use Rattle.plan_rules.specs.declared.TheConstants.{MOST_MEMBERS}
 
 -- ---- paths
 
@@ -104,7 +105,7 @@ narrow_board board h =
     leb-true board.cols 10 wide.1
 
 -- the members of a plan have texts, and there is one at least, since some square is empty
-pub plan_fits : (p : Position) (ws : List RuleInstance) → is_board (board_of p) ≡ true → length ws ≤ most_members → is_plan p ws ≡ true
+pub plan_fits : (p : Position) (ws : List RuleInstance) → is_board (board_of p) ≡ true → length ws ≤ MOST_MEMBERS → is_plan p ws ≡ true
     → PlanFits (board_of p) ws
 plan_fits p ws board short h =
     let plan = plan_gives p ws h in
@@ -122,7 +123,7 @@ plan_fits p ws board short h =
     named (w ∷ ws) each = (each zero w refl, named ws (λ i v member. each (suc i) v member))
 
 reason_fits : (known : List Shown) (p : Position) (claim : Claim) (reason : Reason) → is_board (board_of p) ≡ true → length known ≤ greatest_number
-    → length (members_in reason) ≤ most_members
+    → length (members_in reason) ≤ MOST_MEMBERS
     → HasReason known p claim reason → ReasonFits (board_of p) reason
 reason_fits known p claim ByEnd board few short h = tt
 reason_fits known p claim (ByPlan ws) board few short h = plan_fits p ws board short h.plan

@@ -9,7 +9,7 @@ use Rattle.std.proofs.lemmas.List.{length-map}
 use Rattle.std.specs.Bool.{if◌then◌else◌}
 use Rattle.std.proofs.lemmas.Bool.{and_parts, and_from, leb-true, le-leb, eqb-true, ne_eqb}
 use Rattle.game_rules.specs.Grammar.{letter_of, move_list}
-use Rattle.game_rules.proofs.Lists.{chosen}
+use Rattle.game_rules.proofs.Lists.{chosen, cons_same}
 use Rattle.game_rules.proofs.Numbers as numbers
 use Rattle.game_rules.proofs.Numbers.{number_gives}
 use Rattle.game_rules.specs.Board.{Board}
@@ -49,9 +49,6 @@ letters_read cols (byte ∷ word) h =
     let first = letter_read cols byte both.0 in
     let rest = letters_read cols word both.1 in
     (cons_same byte (letter_of (column_of byte)) word (map letter_of (map column_of word)) first.0 rest.0, (first.1, rest.1))
-  where
-    cons_same : (a b : ℕ) (xs ys : List ℕ) → a ≡ b → xs ≡ ys → a ∷ xs ≡ b ∷ ys
-    cons_same a b xs ys e f = cc
 
 pub path_read : (cols : ℕ) (word path : List ℕ) → path_of cols word ≡ Some path → (word ≡ move_list path) × (length path ≤ longest_path)
     × AllByRecursion (λ column. column < cols) path
@@ -96,9 +93,6 @@ path_spelled cols (column ∷ columns) short within =
         let first = letter_spelled cols column within.0 in
         let rest = letters_spelled path within.1 in
         (and_from _ _ first.0 rest.0, cons_same (column_of (letter_of column)) column _ path first.1 rest.1)
-      where
-        cons_same : (a b : ℕ) (xs ys : List ℕ) → a ≡ b → xs ≡ ys → a ∷ xs ≡ b ∷ ys
-        cons_same a b xs ys e f = cc
 
     found : (word path : List ℕ) → (nat_le 1 (length word) && nat_le (length word) longest_path && list_all (is_letter cols) word) ≡ true
         → map column_of word ≡ path
@@ -188,9 +182,6 @@ cites_read cols (word ∷ words) cites h =
     let same : first.0 ∷ rest.0 ≡ cites = cc (rest.2) in
     subst (λ cites. (word ∷ words ≡ map cite_word cites) × AllByRecursion (CiteFits cols) cites) same
     (cons_same word (cite_word first.0) words (map cite_word rest.0) one.0 more.0, (one.1, more.1))
-  where
-    cons_same : (a b : List ℕ) (xs ys : List (List ℕ)) → a ≡ b → xs ≡ ys → a ∷ xs ≡ b ∷ ys
-    cons_same a b xs ys e f = cc
 
 pub cites_spelled : (cols : ℕ) (cites : List Cite) → AllByRecursion (CiteFits cols) cites → cites_of cols (map cite_word cites) ≡ Some cites
 cites_spelled cols [] h = refl

@@ -30,16 +30,16 @@ remark_entries None = []
 remark_entries (Some bytes) = RemarkEntry bytes ∷ []
 
 -- the entries of remarks and lemmas
-abbrev entries_of : Option (List ℕ) → List Lemma → Option (List ℕ) → List Lemma → List Entry
-entries_of white_remark white black_remark black = remark_entries white_remark
+abbrev written_entries : Option (List ℕ) → List Lemma → Option (List ℕ) → List Lemma → List Entry
+written_entries white_remark white black_remark black = remark_entries white_remark
     ++ (map LemmaEntry white ++ (remark_entries black_remark ++ map LemmaEntry black))
 
-lemmas_append : (entries more : List Entry) → lemmas_among (entries ++ more) ≡ lemmas_among entries ++ lemmas_among more
+pub lemmas_append : (entries more : List Entry) → lemmas_among (entries ++ more) ≡ lemmas_among entries ++ lemmas_among more
 lemmas_append [] more = refl
 lemmas_append (LemmaEntry l ∷ entries) more = ap (λ ls. l ∷ ls) (lemmas_append entries more)
 lemmas_append (RemarkEntry bytes ∷ entries) more = lemmas_append entries more
 
-lemmas_map : (ls : List Lemma) → lemmas_among (map LemmaEntry ls) ≡ ls
+pub lemmas_map : (ls : List Lemma) → lemmas_among (map LemmaEntry ls) ≡ ls
 lemmas_map [] = refl
 lemmas_map (l ∷ ls) = ap (λ ls. l ∷ ls) (lemmas_map ls)
 
@@ -47,15 +47,15 @@ lemmas_remark : (remark : Option (List ℕ)) (more : List Entry) → lemmas_amon
 lemmas_remark None more = refl
 lemmas_remark (Some bytes) more = refl
 
-lines_append : (entries more : List Entry) → entry_lines (entries ++ more) ≡ entry_lines entries ++ entry_lines more
-lines_append entries more = flat_map-append (λ entry. as_line (entry_text entry)) entries more
+pub entries_append : (entries more : List Entry) → entry_lines (entries ++ more) ≡ entry_lines entries ++ entry_lines more
+entries_append entries more = flat_map-append (λ entry. as_line (entry_text entry)) entries more
 
-lines_map : (ls : List Lemma) → entry_lines (map LemmaEntry ls) ≡ lines_of ls
-lines_map ls = flat_map-map (λ entry. as_line (entry_text entry)) LemmaEntry ls
+pub entries_map : (ls : List Lemma) → entry_lines (map LemmaEntry ls) ≡ lines_of ls
+entries_map ls = flat_map-map (λ entry. as_line (entry_text entry)) LemmaEntry ls
 
-lines_remark : (remark : Option (List ℕ)) (more : List Entry) → entry_lines (remark_entries remark ++ more) ≡ remark_line remark ++ entry_lines more
-lines_remark None more = refl
-lines_remark (Some bytes) more = flat_map-cons (λ entry. as_line (entry_text entry)) (RemarkEntry bytes) more
+entries_remark : (remark : Option (List ℕ)) (more : List Entry) → entry_lines (remark_entries remark ++ more) ≡ remark_line remark ++ entry_lines more
+entries_remark None more = refl
+entries_remark (Some bytes) more = flat_map-cons (λ entry. as_line (entry_text entry)) (RemarkEntry bytes) more
 
 -- what holds of remarks and of lemmas
 all_remark : (P : Entry → Type 0) (remark : Option (List ℕ)) (more : List Entry) → ((bytes : List ℕ) → is_remark bytes ≡ true → P (RemarkEntry bytes))
@@ -74,7 +74,7 @@ few_remarks (Some bytes) = omega arith
 -- ---- the entries of what is written
 
 lemmas_of : (white_remark : Option (List ℕ)) (white : List Lemma) (black_remark : Option (List ℕ)) (black : List Lemma)
-    → lemmas_among (entries_of white_remark white black_remark black) ≡ white ++ black
+    → lemmas_among (written_entries white_remark white black_remark black) ≡ white ++ black
 lemmas_of white_remark white black_remark black =
     lemmas_remark white_remark (map LemmaEntry white ++ (remark_entries black_remark ++ map LemmaEntry black))
     ∙ lemmas_append (map LemmaEntry white) (remark_entries black_remark ++ map LemmaEntry black)
@@ -83,19 +83,19 @@ lemmas_of white_remark white black_remark black =
 
 -- their lines, and what follows them
 text_of : (white_remark : Option (List ℕ)) (white : List Lemma) (black_remark : Option (List ℕ)) (black : List Lemma) (last : List ℕ)
-    → entry_lines (entries_of white_remark white black_remark black) ++ last ≡ remark_line white_remark
+    → entry_lines (written_entries white_remark white black_remark black) ++ last ≡ remark_line white_remark
     ++ (lines_of white ++ (remark_line black_remark ++ (lines_of black ++ last)))
 text_of white_remark white black_remark black last =
-    ap (λ text. text ++ last) (lines_remark white_remark (map LemmaEntry white ++ (remark_entries black_remark ++ map LemmaEntry black))
-    ∙ ap (λ text. remark_line white_remark ++ text) (lines_append (map LemmaEntry white) (remark_entries black_remark ++ map LemmaEntry black)
-    ∙ ap (λ text. text ++ entry_lines (remark_entries black_remark ++ map LemmaEntry black)) (lines_map white)
-    ∙ ap (λ text. lines_of white ++ text) (lines_remark black_remark (map LemmaEntry black) ∙ ap (λ text. remark_line black_remark ++ text) (lines_map black))))
+    ap (λ text. text ++ last) (entries_remark white_remark (map LemmaEntry white ++ (remark_entries black_remark ++ map LemmaEntry black))
+    ∙ ap (λ text. remark_line white_remark ++ text) (entries_append (map LemmaEntry white) (remark_entries black_remark ++ map LemmaEntry black)
+    ∙ ap (λ text. text ++ entry_lines (remark_entries black_remark ++ map LemmaEntry black)) (entries_map white)
+    ∙ ap (λ text. lines_of white ++ text) (entries_remark black_remark (map LemmaEntry black) ∙ ap (λ text. remark_line black_remark ++ text) (entries_map black))))
     ∙ append_assoc (remark_line white_remark) (lines_of white ++ (remark_line black_remark ++ lines_of black)) last
     ∙ ap (λ text. remark_line white_remark ++ text) (append_assoc (lines_of white) (remark_line black_remark ++ lines_of black) last
     ∙ ap (λ text. lines_of white ++ text) (append_assoc (remark_line black_remark) (lines_of black) last))
 
 size_of : (white_remark : Option (List ℕ)) (white : List Lemma) (black_remark : Option (List ℕ)) (black : List Lemma)
-    → length (entries_of white_remark white black_remark black) ≤ length white + length black + 2
+    → length (written_entries white_remark white black_remark black) ≤ length white + length black + 2
 size_of white_remark white black_remark black =
     omega (
       arith,
@@ -111,7 +111,7 @@ size_of white_remark white black_remark black =
 -- what holds of each remark and each lemma holds of each entry
 each_entry : (P : Entry → Type 0) (white_remark : Option (List ℕ)) (white : List Lemma) (black_remark : Option (List ℕ)) (black : List Lemma)
     → ((bytes : List ℕ) → is_remark bytes ≡ true → P (RemarkEntry bytes)) → IsRemarkLine white_remark → IsRemarkLine black_remark
-    → AllByRecursion (λ l. P (LemmaEntry l)) (white ++ black) → AllByRecursion P (entries_of white_remark white black_remark black)
+    → AllByRecursion (λ l. P (LemmaEntry l)) (white ++ black) → AllByRecursion P (written_entries white_remark white black_remark black)
 each_entry P white_remark white black_remark black each one two ls =
     all_remark P white_remark (map LemmaEntry white ++ (remark_entries black_remark ++ map LemmaEntry black)) each one
     (all_append P (map LemmaEntry white) (remark_entries black_remark ++ map LemmaEntry black)
@@ -137,14 +137,14 @@ proof_right board columns root text v proof has_board has_moves few =
     in
     let fits : AllByRecursion (Fits board) ls = subst (λ board. AllByRecursion (Fits board) ls) same
     (right_all_fit root [] ls proof.after root_board (omega arith) short right) in
-    let among : lemmas_among (entries_of w.white_remark w.white w.black_remark w.black) ≡ ls = lemmas_of w.white_remark w.white w.black_remark w.black in
-    let sizes : length (entries_of w.white_remark w.white w.black_remark w.black) ≤ length w.white + length w.black + 2 =
+    let among : lemmas_among (written_entries w.white_remark w.white w.black_remark w.black) ≡ ls = lemmas_of w.white_remark w.white w.black_remark w.black in
+    let sizes : length (written_entries w.white_remark w.white w.black_remark w.black) ≤ length w.white + length w.black + 2 =
     size_of w.white_remark w.white w.black_remark w.black in
     record {
       board = board;
       columns = columns;
       root = root;
-      entries = entries_of w.white_remark w.white w.black_remark w.black;
+      entries = written_entries w.white_remark w.white w.black_remark w.black;
       after = proof.after;
       ended = true;
       has_board = has_board;

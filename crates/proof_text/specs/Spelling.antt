@@ -5,12 +5,13 @@ use Rattle.game_rules.specs.Board.{Board}
 use Rattle.game_rules.specs.Grammar.{letter_of, move_list}
 use Rattle.plan_rules.specs.Rules.{RuleInstance}
 pub use Rattle.plan_text.specs.Words.{spaced}
-use Rattle.plan_text.specs.PlanLine.{most_members, plan_words, PlanFits}
+use Rattle.plan_text.specs.PlanLine.{plan_words, PlanFits}
 use Rattle.proof_text.specs.Lemma.{Cite, Reason, ByEnd, ByOne, ByAll, ByPlan, Lemma, Line, ALemma, ARemark, AVerdict}
 use Rattle.proof_text.specs.declared.Claim.{Claim}
 use Rattle.proof_text.specs.declared.Claim.TheVariants.{WhiteWins, WhiteFails, BlackWins, BlackFails}
 use Rattle.proof_text.specs.declared.Verdict.{Verdict}
 use Rattle.proof_text.specs.declared.Verdict.TheVariants.{Win, Loss, Draw, Unknown}
+use Rattle.plan_rules.specs.declared.TheConstants.{MOST_MEMBERS}
 
 abbrev pub claim_word : Claim → List ℕ
 claim_word WhiteWins = codes "W+"
@@ -107,7 +108,7 @@ members_in reason = []
 
 -- the lemma's plan has no more instances than a line can have
 abbrev pub IsShort : Lemma → Type 0
-IsShort l = length (members_in l.reason) ≤ most_members
+IsShort l = length (members_in l.reason) ≤ MOST_MEMBERS
 
 abbrev pub VerdictFits : Verdict → Type 0
 VerdictFits (Win n) = IsNumber n

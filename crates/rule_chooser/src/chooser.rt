@@ -3,15 +3,16 @@
 ghost use Rattle.std.specs.Prelude.{◌≡◌, ◌≤◌, true, [], length};
 ghost use Rattle.walk_rules.specs.Walk.{gave, is_given, choice_of};
 ghost use Rattle.rule_compat.specs.Written.{written_list};
-ghost use Rattle.rule_chooser.specs.declared.full.TheConstants.{MOST_MEMBERS};
+ghost use Rattle.plan_rules.specs.declared.TheConstants.{MOST_MEMBERS};
 ghost use Rattle.rule_chooser.specs.Shown.{shown, IsOf};
 ghost use Rattle.rule_chooser.specs.Walked.{choice_shown};
 
-use crate::full::{MOST_MEMBERS, add_answers};
+use crate::full::add_answers;
 use crate::ground::Ground;
 use crate::visit::{MOST_ZONES, WalkOutcome, walk};
 use arrayvec::ArrayVec;
 use board_bits::Position;
+use plan_rules::MOST_MEMBERS;
 use rule_compat::{Instance, Plan, Zone};
 use std::marker::Model;
 

@@ -10,7 +10,7 @@ ghost use Rattle.rule_law.specs.KeptFacts.{facts_in};
 ghost use Rattle.rule_compat.specs.Written.{written, written_list};
 ghost use Rattle.walk_rules.specs.Walk.{is_left, answer_to, with_one, given};
 ghost use Rattle.walk_rules.specs.Steps.{is_zone_set};
-ghost use Rattle.rule_chooser.specs.declared.full.TheConstants.{MOST_MEMBERS};
+ghost use Rattle.plan_rules.specs.declared.TheConstants.{MOST_MEMBERS};
 ghost use Rattle.rule_chooser.specs.declared.visit.TheConstants.{MOST_ZONES};
 ghost use Rattle.rule_chooser.specs.Ground.{IsGround};
 ghost use Rattle.rule_chooser.specs.Standing.{first_standing, some_bars, is_answered_by};
@@ -19,11 +19,9 @@ use crate::ground::Ground;
 use crate::standing::first_answer;
 use arrayvec::ArrayVec;
 use board_bits::{Mask, Position};
+use plan_rules::MOST_MEMBERS;
 use rule_compat::{Instance, Zone, facts_kept};
 use rule_law::{Kept, Rule};
-
-/// The most members of a list that is given, and more.
-pub(crate) const MOST_MEMBERS: usize = 300;
 
 /// Whether each group that the set leaves has an answer. The set's instances are put into the list, in place of what it had.
 pub(crate) fn is_answered(

@@ -2,10 +2,11 @@
 ghost use Rattle.rule_chooser.specs.Ground.{IsGround};
 
 use crate::groups::{OpenGroup, list_groups};
-use crate::table::{GroupTable, MOST_GROUPS};
+use crate::table::GroupTable;
 use crate::zones::Zones;
 use arrayvec::ArrayVec;
 use board_bits::{Mask, Position, Size};
+use game_rules::MOST_GROUPS;
 
 /// The zones that fit, the groups that each side can still fill, and the playable squares.
 #[derive(Drop)]

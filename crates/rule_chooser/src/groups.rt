@@ -2,12 +2,13 @@
 ghost use Rattle.std.specs.Prelude.{◌≡◌, ◌<◌, ◌++◌, length, map};
 ghost use Rattle.game_rules.specs.Position.{board_of};
 ghost use Rattle.game_rules.specs.declared.Side.TheVariants as sides;
-ghost use Rattle.rule_chooser.specs.declared.table.TheConstants.{MOST_GROUPS};
+ghost use Rattle.game_rules.specs.declared.TheConstants.{MOST_GROUPS};
 ghost use Rattle.rule_chooser.specs.OpenGroups.{open_group_at, groups_for, open_part};
 
-use crate::table::{BoardGroup, GroupTable, MOST_GROUPS};
+use crate::table::{BoardGroup, GroupTable};
 use arrayvec::ArrayVec;
 use board_bits::{Mask, Position};
+use game_rules::MOST_GROUPS;
 use open_groups::GroupId;
 
 /// A group that a side can still fill, and its squares that are empty.

@@ -3,15 +3,13 @@
 ghost use Rattle.std.specs.Prelude.{◌≡◌, ◌≤◌, length};
 ghost use Rattle.game_rules.specs.Squares.{has_square, IsSetOf};
 ghost use Rattle.game_rules.specs.Groups.{squares_of, groups_of};
-ghost use Rattle.rule_chooser.specs.declared.table.TheConstants.{MOST_GROUPS};
+ghost use Rattle.game_rules.specs.declared.TheConstants.{MOST_GROUPS};
 
 use arrayvec::ArrayVec;
 use board_bits::{Mask, Size};
+use game_rules::MOST_GROUPS;
 use open_groups::{GroupId, group_mask, groups};
 use std::marker::Model;
-
-/// No board has more groups.
-pub(crate) const MOST_GROUPS: usize = 238;
 
 /// A group of a board, with the set of its squares.
 #[derive(Drop)]

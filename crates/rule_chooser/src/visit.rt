@@ -11,10 +11,11 @@ ghost use Rattle.rule_chooser.specs.Walked.{LeavesOpen, OpensAt, goes_on, chosen
 ghost use Rattle.rule_chooser.specs.declared.visit.TheConstants.{MOST_ZONES};
 ghost use Rattle.rule_chooser.specs.declared.visit.WalkOutcome.TheVariants as outcomes;
 
-use crate::full::{MOST_MEMBERS, is_answered};
+use crate::full::is_answered;
 use crate::ground::Ground;
 use arrayvec::ArrayVec;
 use board_bits::{Mask, Position, Side, Square};
+use plan_rules::MOST_MEMBERS;
 use rule_compat::{Instance, Zone};
 
 /// The most zones of a set.

@@ -10,6 +10,7 @@ ghost use Rattle.plan_rules.specs.Refusal.{members_refusal, cover_refusal, plan_
 ghost use Rattle.rule_law.specs.KeptFacts.{facts_in};
 ghost use Rattle.rule_compat.specs.Written.{written, written_list};
 ghost use Rattle.rule_compat.specs.Faults.{position_refusal, refusal_of};
+ghost use Rattle.plan_rules.specs.declared.TheConstants.{MOST_MEMBERS};
 
 use crate::facts::facts_kept;
 use crate::lines::first_unanswered;
@@ -28,7 +29,7 @@ impl Plan {
     /// told; a group without a Black man is barred by no member, and the first in group order is told. Members are
     /// counted from 1. Neither a plan nor a refusal takes memory.
     pub fn check(p: &Position, list: &[Instance]) -> Result<Plan, PlanFault>
-        requires { length list.now ≤ 300 }
+        requires { length list.now ≤ MOST_MEMBERS }
         ensures fault { refusal_of result ≡ plan_refusal p.now (written_list list.now) }
         ensures plan { IfOk result (λ plan. plan ≡ record { at = p.now; list = list.now }) }
     {
@@ -60,7 +61,7 @@ fn members_accepted(
     list: &[Instance],
     zones: &mut ArrayVec<PlacedZone, MOST_ZONES>,
 ) -> Result<(), PlanFault>
-    requires few { length list.now ≤ 300 }
+    requires few { length list.now ≤ MOST_MEMBERS }
     requires none { zones.old.items ≡ [] }
     ensures fault { refusal_of result ≡ members_refusal p.now (written_list list.now) }
     ensures zones { IfOk result (λ _. zones.new.items ≡ zones_from (λ x. owns_zone (written x)) 1 list.now) }
@@ -77,7 +78,7 @@ fn members_accepted(
 /// What such members keep, where each empty square has a zone, each member is supported, and each group without a Black
 /// man is barred.
 fn cover_accepted(p: &Position, list: &[Instance], zones: &[PlacedZone]) -> Result<Kept, PlanFault>
-    requires few { length list.now ≤ 300 }
+    requires few { length list.now ≤ MOST_MEMBERS }
     requires members { StandTogether p.now (written_list list.now) }
     requires zones { zones.now ≡ zones_from (λ x. owns_zone (written x)) 1 list.now }
     ensures fault { refusal_of result ≡ cover_refusal p.now (written_list list.now) }
@@ -101,7 +102,7 @@ fn first_uncovered(p: &Position, zones: &[PlacedZone]) -> Option<Square>
     ensures { result ≡ find (λ u. is_empty p.now u && not (list_any (λ zone. has_square (zone_of (written zone.1)) u) zones.now)) (squares_of_board (board_of p.now)) }
 {
     p.has_a_board();
-    let uncovered = p.empties().without(owned(zones));
+    let uncovered = p.empties().without(owned_squares(zones));
     match uncovered.squares().as_slice() {
         [first, ..] => Some(*first),
         [] => None,
@@ -109,7 +110,7 @@ fn first_uncovered(p: &Position, zones: &[PlacedZone]) -> Option<Square>
 }
 
 /// The squares of all the zones.
-fn owned(zones: &[PlacedZone]) -> Mask
+fn owned_squares(zones: &[PlacedZone]) -> Mask
     ensures { IsSetOf (λ u. list_any (λ zone. has_square (zone_of (written zone.1)) u) zones.now) result }
 {
     let mut owned = Mask::empty();
@@ -121,7 +122,7 @@ fn owned(zones: &[PlacedZone]) -> Mask
 
 /// The first member without support, counted from 1.
 fn first_unsupported(list: &[Instance], kept: &Kept) -> Option<u32>
-    requires { length list.now ≤ 300 }
+    requires { length list.now ≤ MOST_MEMBERS }
     ensures { result ≡ position_from (λ w. not (is_supported w (facts_in kept.now))) 1 (written_list list.now) }
 {
     for (index, instance) in list.iter().enumerate() {

@@ -75,7 +75,7 @@ macro_rules! of_each {
 }
 
 impl Rule for Instance {
-    ghost use Rattle.plan_rules.specs.Rules.{kind_of, zone_of, line_of, fits, reply_to, barred, is_supported, upper_of, pair_of, twin_of};
+    ghost use Rattle.plan_rules.specs.Rules.{kind_of, zone_of, black_group_of, fits, reply_to, barred, is_supported, upper_of, pair_of, twin_of};
     ghost use Rattle.plan_rules.specs.Calm.{is_calm};
     ghost use Rattle.plan_rules.proofs.AllRules.{lawful};
     ghost use Rattle.rule_compat.specs.Written.{written};
@@ -100,7 +100,7 @@ impl Rule for Instance {
 
     ghost calm = { λ x. is_calm (written x) };
 
-    ghost line = { λ x. line_of (written x) };
+    ghost line = { λ x. black_group_of (written x) };
 
     fn kind(&self) -> Kind {
         of_each!(self, rule => rule.kind())

@@ -7,6 +7,7 @@ ghost use Rattle.plan_rules.specs.Rules.{facts_of};
 ghost use Rattle.plan_rules.specs.Refusal.{first_barring, is_unanswered};
 ghost use Rattle.rule_law.specs.KeptFacts.{facts_in};
 ghost use Rattle.rule_compat.specs.Written.{written_list};
+ghost use Rattle.plan_rules.specs.declared.TheConstants.{MOST_MEMBERS};
 
 use crate::Instance;
 use board_bits::{Position, Side};
@@ -15,7 +16,7 @@ use rule_law::{Kept, Rule};
 
 /// The first group, in group order, without a man of Black's that no member bars.
 pub(crate) fn first_unanswered(p: &Position, list: &[Instance], kept: &Kept) -> Option<GroupId>
-    requires few { length list.now ≤ 300 }
+    requires few { length list.now ≤ MOST_MEMBERS }
     requires kept { facts_in kept.now ≡ facts_of p.now (written_list list.now) }
     ensures { result ≡ find (is_unanswered p.now (written_list list.now)) (groups_of (board_of p.now)) }
 {
@@ -30,7 +31,7 @@ pub(crate) fn first_unanswered(p: &Position, list: &[Instance], kept: &Kept) -> 
 
 /// The first member, counted from 1, that bars the empty squares of a line.
 pub(crate) fn first_barring(p: &Position, list: &[Instance], kept: &Kept, g: GroupId) -> Option<u32>
-    requires few { length list.now ≤ 300 }
+    requires few { length list.now ≤ MOST_MEMBERS }
     requires kept { facts_in kept.now ≡ facts_of p.now (written_list list.now) }
     ensures { result ≡ first_barring p.now (written_list list.now) g }
 {

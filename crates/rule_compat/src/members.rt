@@ -6,6 +6,7 @@ ghost use Rattle.std.specs.Option.{option_map};
 ghost use Rattle.plan_rules.specs.Rules.{fits, together};
 ghost use Rattle.plan_rules.specs.Zones.{first_two_from, lesser_two, owns_zone, zones_from};
 ghost use Rattle.rule_compat.specs.Written.{written, written_list};
+ghost use Rattle.plan_rules.specs.declared.TheConstants.{MOST_MEMBERS};
 
 use crate::Instance;
 use crate::placed::{PlacedZone, first_clash};
@@ -18,7 +19,7 @@ pub(crate) const MOST_ZONES: usize = 50;
 
 /// The first member that doesn't fit, counted from 1.
 pub(crate) fn first_misfit(p: &Position, list: &[Instance]) -> Option<u32>
-    requires { length list.now ≤ 300 }
+    requires { length list.now ≤ MOST_MEMBERS }
     ensures { result ≡ position_from (λ w. not (fits w p.now)) 1 (written_list list.now) }
 {
     for (index, instance) in list.iter().enumerate() {
@@ -36,7 +37,7 @@ pub(crate) fn gather(
     list: &[Instance],
     zones: &mut ArrayVec<PlacedZone, MOST_ZONES>,
 ) -> Option<(u32, u32)>
-    requires few { length list.now ≤ 300 }
+    requires few { length list.now ≤ MOST_MEMBERS }
     requires fitting { list_all (λ w. fits w p.now) (written_list list.now) ≡ true }
     requires none { zones.old.items ≡ [] }
     ensures two { result ≡ first_two_from (λ x y. together (written x) (written y)) 1 list.now }
@@ -58,7 +59,7 @@ pub(crate) fn gather(
 /// The least two members that may not stand together, from the first two that were found, by the second one. Only
 /// members before the first one of these can make less, so their zones are enough.
 fn least_two(list: &[Instance], zones: &[PlacedZone], first: u32, second: u32) -> (u32, u32)
-    requires few { length list.now ≤ 300 }
+    requires few { length list.now ≤ MOST_MEMBERS }
     requires within { second ≤ length list.now }
     requires order { first < second }
     requires zones { zones.now ≡ zones_from (λ x. owns_zone (written x)) 1 (take (second - 1) list.now) }

@@ -14,6 +14,7 @@ ghost use Rattle.plan_rules.specs.Refusal.{answering};
 ghost use Rattle.rule_law.specs.KeptFacts.{facts_in};
 ghost use Rattle.rule_compat.specs.Written.{written, written_list};
 ghost use Rattle.rule_compat.specs.Planned.{members, IsReached, HasMoved};
+ghost use Rattle.plan_rules.specs.declared.TheConstants.{MOST_MEMBERS};
 
 use crate::Instance;
 use crate::lines::first_barring;
@@ -24,9 +25,7 @@ use board_bits::{Position, Square};
 use open_groups::{GroupId, group_mask};
 use rule_law::Kept;
 use std::marker::Model;
-
-/// The most members that a plan can have.
-pub(crate) const MOST_MEMBERS: usize = 300;
+use plan_rules::MOST_MEMBERS;
 
 /// A plan of Black's at a position. Every value of the type is one: it is only made of a list that passed each test.
 #[derive(Drop)]
@@ -56,7 +55,7 @@ impl Plan {
         zones: ArrayVec<PlacedZone, MOST_ZONES>,
         kept: Kept,
     ) -> Plan
-        requires few { length list.now ≤ 300 }
+        requires few { length list.now ≤ MOST_MEMBERS }
         requires plan { is_plan p.now (written_list list.now) ≡ true }
         requires zones { zones.items ≡ zones_from (λ x. owns_zone (written x)) 1 list.now }
         requires kept { facts_in kept ≡ facts_of p.now (written_list list.now) }
@@ -81,10 +80,10 @@ impl Plan {
         &self.at
     }
 
-    /// The members, in the order in which they were given; at most 300.
+    /// The members, in the order in which they were given; at most `MOST_MEMBERS`.
     pub fn list(&self) -> &[Instance]
         ensures value { result.now ≡ self.now.list }
-        ensures few { length self.now.list ≤ 300 }
+        ensures few { length self.now.list ≤ MOST_MEMBERS }
     {
         self.list.as_slice()
     }

@@ -4,10 +4,11 @@ use Rattle.game_rules.specs.declared.Way.TheVariants.{H, V, U, D}
 use Rattle.open_groups.specs.GroupBits.{those_along}
 use Rattle.open_groups.proofs.Members.{by_ways, kept_fit}
 use Rattle.open_groups.proofs.group_set.GroupSet.groups.Goals as goal
+use Rattle.game_rules.specs.declared.TheConstants.{MOST_GROUPS}
 
 -- the groups of all directions have room
 abbrev AllFit : GroupsOn → Type 0
-AllFit set = length (those_along set H) + (length (those_along set V) + (length (those_along set U) + length (those_along set D))) ≤ 238
+AllFit set = length (those_along set H) + (length (those_along set V) + (length (those_along set U) + length (those_along set D))) ≤ MOST_GROUPS
 
 pub push_along-requires : goal.push_along-requires
 push_along-requires c = omega (arith, subst AllFit c.self.view_is (kept_fit c.self.inside c.self.invariant), ap length c.new-groups.ensures)

@@ -20,8 +20,8 @@ pub returns-then-same_length : goal.returns-then-same_length
 returns-then-same_length c =
     let anchors = c.self.inside.anchors in
     c.has.ensures
-    ∙ ap (λ n. has_square (get_or anchors n c.index-self-place_of.result) c.group_anchor.result) (c.place_of.ensures ∙ ap rank c.group_way.ensures)
-    ∙ ap (λ us. has_square us c.group_anchor.result) (at_rank anchors c.args.g.way c.index-self-place_of.result c.self.told)
+    ∙ ap (λ n. has_square (get_or anchors n c.index-self-rank_of.result) c.group_anchor.result) (c.rank_of.ensures ∙ ap rank c.group_way.ensures)
+    ∙ ap (λ us. has_square us c.group_anchor.result) (at_rank anchors c.args.g.way c.index-self-rank_of.result c.self.told)
     ∙ ap (has_square (get_or anchors (rank c.args.g.way) [])) c.group_anchor.ensures.value
     ∙ sym (has_by_length c.self.inside c.self.invariant c.args.self.now c.args.g c.same_length.result c.group_length.result c.length.result
     c.self.view_is c.same_length.ensures c.group_length.ensures c.length.ensures ∙ ap (λ b. b && is_anchored anchors c.args.g) c.if-same_length.true)

@@ -14,8 +14,8 @@ pub from_anchor-requires : goal.from_anchor-requires
 from_anchor-requires c =
     let inside = c.self.inside in
     let anchors = c.as_slice-anchor-items.ensures.value ∙ c.squares-anchors.ensures
-    ∙ ap (λ n. get_or inside.anchors n c.index-self-place_of.result) c.place_of.ensures
-    ∙ at_rank inside.anchors c.args.way c.index-self-place_of.result c.self.told in
+    ∙ ap (λ n. get_or inside.anchors n c.index-self-rank_of.result) c.rank_of.ensures
+    ∙ at_rank inside.anchors c.args.way c.index-self-rank_of.result c.self.told in
     let among = subst (λ (s : Square). Among s c.as_slice-anchor-items.result.now) (sym c.anchor-item.is)
     (Among-at c.as_slice-anchor-items.result.now c.loop-anchor.anchor-index c.anchor-item.result c.loop-anchor-test.true) in
     subst (λ len. is_line (widest_with len) c.args.way c.anchor-item.result ≡ true) (sym c.length.ensures)
@@ -25,8 +25,8 @@ pub push-requires : goal.push-requires
 push-requires c =
     let inside = c.self.inside in let us = c.as_slice-anchor-items.result.now in let i = c.loop-anchor.anchor-index in
     let anchors = c.as_slice-anchor-items.ensures.value ∙ c.squares-anchors.ensures
-    ∙ ap (λ n. get_or inside.anchors n c.index-self-place_of.result) c.place_of.ensures
-    ∙ at_rank inside.anchors c.args.way c.index-self-place_of.result c.self.told in
+    ∙ ap (λ n. get_or inside.anchors n c.index-self-rank_of.result) c.rank_of.ensures
+    ∙ at_rank inside.anchors c.args.way c.index-self-rank_of.result c.self.told in
     let all = ap (λ (set : GroupsOn). length (those_along set c.args.way)) (sym c.self.view_is) ∙ ap length (by_anchors inside c.self.invariant c.args.way) in
     let within : i < length us = c.loop-anchor-test.true in (
       lit< tt,
@@ -48,8 +48,8 @@ pub returns : goal.returns
 returns c =
     let inside = c.self.inside in
     let anchors = c.as_slice-anchor-items.ensures.value ∙ c.squares-anchors.ensures
-    ∙ ap (λ n. get_or inside.anchors n c.index-self-place_of.result) c.place_of.ensures
-    ∙ at_rank inside.anchors c.args.way c.index-self-place_of.result c.self.told in
+    ∙ ap (λ n. get_or inside.anchors n c.index-self-rank_of.result) c.rank_of.ensures
+    ∙ at_rank inside.anchors c.args.way c.index-self-rank_of.result c.self.told in
     c.loop-anchor.invariant
     ∙ ap (λ gs. c.args.groups.now.items ++ gs) (
     ap (map (group_on inside.size c.args.way)) (take_all c.loop-anchor.anchor-index c.as_slice-anchor-items.result.now c.loop-anchor-test.false ∙ anchors)

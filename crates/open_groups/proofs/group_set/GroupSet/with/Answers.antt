@@ -7,8 +7,8 @@ use Rattle.open_groups.proofs.Anchors.{anchored_set, determined_anchors, size_de
 use Rattle.open_groups.proofs.group_set.GroupSet.with.Goals as goal
 use Rattle.open_groups.proofs.group_set.GroupSet.with.Goals.{After-index-anchors-place-2}
 
-place_is : (c : After-index-anchors-place-2) → c.place_of-place.result ≡ rank c.args.g.way
-place_is c = c.place_of-place.ensures ∙ ap rank c.group_way.ensures
+place_is : (c : After-index-anchors-place-2) → c.rank_of-place.result ≡ rank c.args.g.way
+place_is c = c.rank_of-place.ensures ∙ ap rank c.group_way.ensures
 
 on : (c : After-index-anchors-place-2) → lies_on c.self.inside.size c.args.g ≡ true
 on c = subst (λ (s : GroupsOn). lies_on s.board c.args.g ≡ true) (sym c.self.view_is) c.requires
@@ -22,7 +22,7 @@ each : (c : After-index-anchors-place-2) → (way : Way)
 each c = each_with c.self.inside c.self.invariant c.args.g (on c) c.index-anchors-place.result c.with.result
     (c.index-anchors-place.is ∙ ap (λ n. get_or c.self.inside.anchors n c.index-anchors-place.result) (place_is c))
     (subst (λ along. IsSetOf (λ u. same_square u c.args.g.anchor || has_square along u) c.with.result) (sym c.index-anchors-place.is)
-    (subst (λ anchor. IsSetOf (λ u. same_square u anchor || has_square (get_or c.self.inside.anchors c.place_of-place.result c.index-anchors-place.result) u)
+    (subst (λ anchor. IsSetOf (λ u. same_square u anchor || has_square (get_or c.self.inside.anchors c.rank_of-place.result c.index-anchors-place.result) u)
     c.with.result) c.group_anchor.ensures.value c.with.ensures))
 
 pub invariant_of-result : goal.invariant_of-result

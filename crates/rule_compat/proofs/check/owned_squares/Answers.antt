@@ -1,5 +1,5 @@
 use Rattle.rule_compat.proofs.Checked.{zone_joins, zones_joined}
-use Rattle.rule_compat.proofs.check.owned.Goals as goal
+use Rattle.rule_compat.proofs.check.owned_squares.Goals as goal
 
 pub loop-zone-preserved : goal.loop-zone-preserved
 loop-zone-preserved c =
