@@ -8,12 +8,9 @@ use Rattle.std.proofs.lemmas.List.FromFn.{map-range_with_len_more}
 use Rattle.std.proofs.lemmas.Bool.{cases_Bool}
 use Rattle.game_rules.specs.Board.{below}
 use Rattle.game_rules.specs.Position.{Position, has_room, end_of, open_columns}
-use Rattle.game_rules.proofs.Lists.{Among-at, Among-filter_gives}
+use Rattle.game_rules.proofs.Lists.{Among-at, Among-filter_gives, below_more}
 use Rattle.game_rules.proofs.Values.{goes_on_room}
-use Rattle.drill_games.specs.Games.{chosen}
-
-pub below_more : (n : ℕ) → below (n + 1) ≡ below n ++ n ∷ []
-below_more n = sym (map-id (below (n + 1))) ∙ map-range_with_len_more (λ k. k) 0 n n (omega arith) ∙ ap (λ ks. ks ++ n ∷ []) (map-id (below n))
+use Rattle.drill_games.specs.Games.{chosen_column}
 
 -- what passes of one number more
 filter_below_more : (test : ℕ → Bool) (n : ℕ) → filter test (below (n + 1)) ≡ filter test (below n) ++ cond (test n) (n ∷ []) []
@@ -37,8 +34,8 @@ some_passes test (x ∷ xs) h = elim (cases_Bool (test x)) [
 pub open_some : (p : Position) → end_of p ≡ None → 0 < length (open_columns p)
 open_some p going = some_passes (has_room p) (below (length p.columns)) (goes_on_room p going)
 
-pub chosen_room : (p : Position) (x : ℕ) → end_of p ≡ None → has_room p (chosen p x) ≡ true
+pub chosen_room : (p : Position) (x : ℕ) → end_of p ≡ None → has_room p (chosen_column p x) ≡ true
 chosen_room p x going =
     let some : 0 < length (open_columns p) = open_some p going in
     let within : x % length (open_columns p) < length (open_columns p) = omega arith in
-    (Among-filter_gives (has_room p) (below (length p.columns)) (chosen p x) (Among-at (open_columns p) (x % length (open_columns p)) 0 within)).1
+    (Among-filter_gives (has_room p) (below (length p.columns)) (chosen_column p x) (Among-at (open_columns p) (x % length (open_columns p)) 0 within)).1

@@ -4,20 +4,20 @@ use Rattle.std.specs.List.{AllByRecursion}
 use Rattle.game_rules.specs.Board.{Board}
 use Rattle.game_rules.specs.Position.{Position, end_of, after_move, empty_position}
 use Rattle.game_rules.specs.declared.End.{End}
-use Rattle.drill_games.specs.Games.{next_state, chosen, game_from, games_from, Leads}
+use Rattle.drill_games.specs.Games.{next_state, chosen_column, game_from, games_from, Leads}
 use Rattle.drill_games.proofs.Columns.{chosen_room}
 
 leads : (n : ℕ) (p : Position) (x : ℕ) → Leads n p (game_from n p x).0
 unfolding game_from
 leads zero p x = record { columns = []; along = refl; few = omega arith; ended = λ never. absurd (omega (arith, never)) }
-leads (suc n) p x = by_end (end_of p) refl (leads n (after_move p (chosen p (next_state x))) (next_state x))
+leads (suc n) p x = by_end (end_of p) refl (leads n (after_move p (chosen_column p (next_state x))) (next_state x))
   where
     by_end : (end : Option End) → end_of p ≡ end
-        → Leads n (after_move p (chosen p (next_state x))) (game_from n (after_move p (chosen p (next_state x))) (next_state x)).0
+        → Leads n (after_move p (chosen_column p (next_state x))) (game_from n (after_move p (chosen_column p (next_state x))) (next_state x)).0
         → Leads (suc n) p (game_from (suc n) p x).0
     by_end (Some end) ended later = rw ended (record { columns = []; along = refl; few = omega arith; ended = λ fewer none. cc (ended, none) })
     by_end None going later = rw going (record {
-      columns = chosen p (next_state x) ∷ later.columns;
+      columns = chosen_column p (next_state x) ∷ later.columns;
       along = rw (going, chosen_room p (next_state x) going) later.along;
       few = omega (arith, later.few);
       ended = λ fewer. later.ended (omega (arith, fewer));

@@ -3,7 +3,7 @@ use Rattle.std.proofs.Common.{◌≡◌, ℕ, zero, suc, ◌%◌, List, [], ◌�
 use Rattle.game_rules.specs.Board.{Board}
 use Rattle.game_rules.specs.Position.{Position, empty_position, played, open_columns, after_move}
 use Rattle.game_rules.specs.declared.Length.TheVariants.{Four}
-use Rattle.drill_games.specs.Games.{next_state, chosen, game_from}
+use Rattle.drill_games.specs.Games.{next_state, chosen_column, game_from}
 
 -- the next states
 states : ℕ → ℕ → List ℕ
@@ -21,8 +21,8 @@ four_by_four = record { cols = 4; rows = 4; len = Four }
 -- of each move: the place that the state chooses, how many columns are open, and the column
 choices : ℕ → Position → ℕ → List (ℕ × ℕ × ℕ)
 choices zero p x = []
-choices (suc n) p x = (next_state x % length (open_columns p), length (open_columns p), chosen p (next_state x))
-    ∷ choices n (after_move p (chosen p (next_state x))) (next_state x)
+choices (suc n) p x = (next_state x % length (open_columns p), length (open_columns p), chosen_column p (next_state x))
+    ∷ choices n (after_move p (chosen_column p (next_state x))) (next_state x)
 
 twelve_choices : choices 12 (empty_position four_by_four) 1 ≡
     (3, 4, 3) ∷ (2, 4, 2) ∷ (2, 4, 2) ∷ (1, 4, 1) ∷ (1, 4, 1) ∷ (3, 4, 3) ∷ (1, 4, 1) ∷ (1, 4, 1) ∷ (2, 3, 3) ∷ (2, 3, 3) ∷ (1, 2, 2) ∷ (1, 2, 2) ∷ []

@@ -9,18 +9,18 @@ abbrev pub next_state : ℕ → ℕ
 next_state x = (48271 * x) % 2147483647
 
 -- the column that a state chooses: with m columns open, the one at the place x modulo m, counted from 0 at the left
-abbrev pub chosen : Position → ℕ → ℕ
-chosen p x = slice_index (open_columns p) (x % length (open_columns p))
+abbrev pub chosen_column : Position → ℕ → ℕ
+chosen_column p x = slice_index (open_columns p) (x % length (open_columns p))
 
 -- The position after one move more, and the state that chose it: the state changes before each move, and a game that has
 -- ended takes no more.
 abbrev pub next_move : Position → ℕ → Option (Position × ℕ)
-next_move p x = if is_some (end_of p) then None else Some (after_move p (chosen p (next_state x)), next_state x)
+next_move p x = if is_some (end_of p) then None else Some (after_move p (chosen_column p (next_state x)), next_state x)
 
 -- the position after at most n moves more, and the state then
 unfoldable pub game_from : ℕ → Position → ℕ → Position × ℕ
 game_from zero p x = (p, x)
-game_from (suc n) p x = if is_some (end_of p) then (p, x) else game_from n (after_move p (chosen p (next_state x))) (next_state x)
+game_from (suc n) p x = if is_some (end_of p) then (p, x) else game_from n (after_move p (chosen_column p (next_state x))) (next_state x)
 
 -- so many games of at most so many moves each, one after the other: each goes on from the state that the last one left
 unfoldable pub games_from : ℕ → Board → ℕ → ℕ → List Position

@@ -3,7 +3,7 @@ ghost use Rattle.std.specs.Prelude.{◌≡◌, ℕ, suc, ◌+◌, ◌*◌, ◌%�
 ghost use Rattle.std.specs.List.{AllByRecursion};
 ghost use Rattle.game_rules.specs.Board.{Board};
 ghost use Rattle.game_rules.specs.Position.{empty_position, end_of, has_room, open_columns};
-ghost use Rattle.drill_games.specs.Games.{next_state, chosen, next_move, game_from, games_from, Leads};
+ghost use Rattle.drill_games.specs.Games.{next_state, chosen_column, next_move, game_from, games_from, Leads};
 
 use arrayvec::ArrayVec;
 use board_bits::{Column, MOST_COLS, Position, Size};
@@ -61,7 +61,7 @@ fn next_move(position: &Position, state: u32) -> Option<(Position, u32)>
         return None;
     }
     let next = next_state(state);
-    Some((position.after(chosen(position, next)), next))
+    Some((position.after(chosen_column(position, next)), next))
 }
 
 /// The state after this one.
@@ -72,9 +72,9 @@ fn next_state(state: u32) -> u32
 }
 
 /// The column that the state chooses, where the game goes on.
-fn chosen(position: &Position, state: u32) -> Column
+fn chosen_column(position: &Position, state: u32) -> Column
     requires { end_of position.now ≡ None }
-    ensures value { result ≡ chosen position.now state }
+    ensures value { result ≡ chosen_column position.now state }
     ensures room { has_room position.now result ≡ true }
 {
     let columns = open_columns(position);

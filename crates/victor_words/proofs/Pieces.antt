@@ -13,7 +13,7 @@ use Rattle.plan_text.specs.Words.{split_once}
 use Rattle.plan_text.proofs.Spaced.{bind_some, map_some, all_each, is_text, IsDigits, digits_decimal, split_once_gives}
 use Rattle.text_words.proofs.Cuts.{uncut}
 use Rattle.victor_words.specs.Words.{command_word, name_word, words_of}
-use Rattle.victor_words.specs.Reading.{command_named, option_named, number_of, joined, apart, apart_or_own, piece_from, first_piece, IsSmall, AreWordsOf}
+use Rattle.victor_words.specs.Reading.{command_named, option_named, word_number, joined_piece, apart_piece, apart_or_own, piece_from, first_piece, IsSmall, AreWordsOf}
 use Rattle.victor_words.specs.declared.form.Command.{Command}
 use Rattle.victor_words.specs.declared.form.Command.TheVariants as commands
 use Rattle.victor_words.specs.declared.piece.Name.{Name}
@@ -65,7 +65,7 @@ unmarked n small = uncut 61 (decimal n)
     (all_each (λ byte. (48 ≤ byte) × (byte ≤ 57)) (λ byte. (byte == 61) ≡ false) (decimal n)
     (λ byte digit. ne_eqb byte 61 (λ (e : byte ≡ 61). omega (arith, digit.1))) (digits_decimal n small))
 
-number_read : (n : ℕ) → n ≤ 4294967295 → number_of (decimal n) ≡ Some n
+number_read : (n : ℕ) → n ≤ 4294967295 → word_number (decimal n) ≡ Some n
 number_read n small = number_spelled 0 4294967295 n (decimal n) (omega arith) small (omega arith) refl
 
 -- ---- the first piece
@@ -92,10 +92,10 @@ pub record StartsWith (words : List (List ℕ)) (piece : Piece) : Type 0 where
   pub small : IsSmall piece
 
 first_joined : (word : List ℕ) (words : List (List ℕ)) (parts : List ℕ × List ℕ) (piece : Piece) → word ≡ parts.0 ++ 61 ∷ parts.1
-    → joined parts.0 parts.1 ≡ Some piece → StartsWith (word ∷ words) piece
+    → joined_piece parts.0 parts.1 ≡ Some piece → StartsWith (word ∷ words) piece
 first_joined word words parts piece whole h =
     let name = bind_some (option_named parts.0) _ piece h in
-    let number = map_some (Joined name.0) (number_of parts.1) piece name.2 in
+    let number = map_some (Joined name.0) (word_number parts.1) piece name.2 in
     let gives = number_gives 0 4294967295 parts.1 number.0 number.1 in
     subst (StartsWith (word ∷ words)) number.2 (record {
       rest = words;
@@ -104,11 +104,11 @@ first_joined word words parts piece whole h =
       small = gives.1;
     })
 
-first_apart : (name : Name) (word : List ℕ) (words : List (List ℕ)) (piece : Piece) → word ≡ name_word name → apart name words ≡ Some piece
+first_apart : (name : Name) (word : List ℕ) (words : List (List ℕ)) (piece : Piece) → word ≡ name_word name → apart_piece name words ≡ Some piece
     → StartsWith (word ∷ words) piece
 first_apart name word [] piece named h = cc
 first_apart name word (value ∷ words) piece named h =
-    let number = map_some (Apart name) (number_of value) piece h in
+    let number = map_some (Apart name) (word_number value) piece h in
     let gives = number_gives 0 4294967295 value number.0 number.1 in
     subst (StartsWith (word ∷ value ∷ words)) number.2 (record {
       rest = words;
@@ -116,9 +116,9 @@ first_apart name word (value ∷ words) piece named h =
       small = gives.1;
     })
 
-first_own : (word : List ℕ) (words : List (List ℕ)) (piece : Piece) → option_map Own (number_of word) ≡ Some piece → StartsWith (word ∷ words) piece
+first_own : (word : List ℕ) (words : List (List ℕ)) (piece : Piece) → option_map Own (word_number word) ≡ Some piece → StartsWith (word ∷ words) piece
 first_own word words piece h =
-    let number = map_some Own (number_of word) piece h in
+    let number = map_some Own (word_number word) piece h in
     let gives = number_gives 0 4294967295 word number.0 number.1 in
     subst (StartsWith (word ∷ words)) number.2 (record { rest = words; whole = ap (λ first. first ∷ words) gives.2; small = gives.1 })
 

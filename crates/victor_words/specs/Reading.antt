@@ -26,22 +26,22 @@ command_named word = if bytes_eq word (codes "prove") then Some commands.Prove e
 abbrev pub option_named : List ℕ → Option Name
 option_named word = if bytes_eq word (codes "--nodes") then Some Nodes else (if bytes_eq word (codes "--reach") then Some Reach else (if bytes_eq word (codes "--front") then Some Front else (if bytes_eq word (codes "--table") then Some Table else None)))
 
-abbrev pub number_of : List ℕ → Option ℕ
-number_of word = number_between 0 4294967295 word
+abbrev pub word_number : List ℕ → Option ℕ
+word_number word = number_between 0 4294967295 word
 
-abbrev pub joined : List ℕ → List ℕ → Option Piece
-joined name value = option_named name >>= λ name. option_map (Joined name) (number_of value)
+abbrev pub joined_piece : List ℕ → List ℕ → Option Piece
+joined_piece name value = option_named name >>= λ name. option_map (Joined name) (word_number value)
 
-abbrev pub apart : Name → List (List ℕ) → Option Piece
-apart name [] = None
-apart name (value ∷ words) = option_map (Apart name) (number_of value)
+abbrev pub apart_piece : Name → List (List ℕ) → Option Piece
+apart_piece name [] = None
+apart_piece name (value ∷ words) = option_map (Apart name) (word_number value)
 
 abbrev pub apart_or_own : Option Name → List ℕ → List (List ℕ) → Option Piece
-apart_or_own (Some name) word words = apart name words
-apart_or_own None word words = option_map Own (number_of word)
+apart_or_own (Some name) word words = apart_piece name words
+apart_or_own None word words = option_map Own (word_number word)
 
 abbrev pub piece_from : Option (List ℕ × List ℕ) → List ℕ → List (List ℕ) → Option Piece
-piece_from (Some parts) word words = joined parts.0 parts.1
+piece_from (Some parts) word words = joined_piece parts.0 parts.1
 piece_from None word words = apart_or_own (option_named word) word words
 
 abbrev pub first_piece : List (List ℕ) → Option Piece

@@ -49,13 +49,13 @@ impl Found {
         ensures { MatchOption result (IsTooMany self piece) (AddsPiece self piece) }
     {
         match piece {
-            Piece::Apart(name, number) | Piece::Joined(name, number) => self.given(name, number),
-            Piece::Own(number) => self.own(number),
+            Piece::Apart(name, number) | Piece::Joined(name, number) => self.with_option(name, number),
+            Piece::Own(number) => self.with_number(number),
         }
     }
 
     /// What was found with a number for an option; None exactly where the option was given before.
-    fn given(self, name: Name, number: u32) -> Option<Found>
+    fn with_option(self, name: Name, number: u32) -> Option<Found>
         ensures { MatchOption result (IsTooMany self (Apart name number)) (AddsPiece self (Apart name number)) }
     {
         match (name, self.nodes, self.reach, self.front, self.table) {
@@ -80,7 +80,7 @@ impl Found {
     }
 
     /// What was found with a number alone; None exactly where five stood alone before.
-    fn own(mut self, number: u32) -> Option<Found>
+    fn with_number(mut self, number: u32) -> Option<Found>
         ensures { MatchOption result (IsTooMany self (Own number)) (AddsPiece self (Own number)) }
     {
         if self.numbers.is_full() {

@@ -2,7 +2,7 @@
 ghost use Rattle.std.specs.Prelude.{◌≡◌, ◌+◌, map, string_bytes, codes, length};
 ghost use Rattle.std.specs.Str.{bytes_eq};
 ghost use Rattle.victor_words.specs.Words.{words_of};
-ghost use Rattle.victor_words.specs.Reading.{option_named, number_of, joined, apart, first_piece};
+ghost use Rattle.victor_words.specs.Reading.{option_named, word_number, joined_piece, apart_piece, first_piece};
 
 use text_words::{number_between, split_once};
 
@@ -58,11 +58,11 @@ impl Piece {
             return None;
         };
         if let Some((name, number)) = split_once(word.as_bytes(), b'=') {
-            return joined(name, number);
+            return joined_piece(name, number);
         }
         match Name::named(word.as_bytes()) {
-            Some(name) => apart(name, rest),
-            None => Some(Piece::Own(number_of(word.as_bytes())?)),
+            Some(name) => apart_piece(name, rest),
+            None => Some(Piece::Own(word_number(word.as_bytes())?)),
         }
     }
 
@@ -78,25 +78,25 @@ impl Piece {
 }
 
 /// The option with its number that stand on both sides of an `=`.
-fn joined(name: &[u8], number: &[u8]) -> Option<Piece>
-    ensures { result ≡ joined name.now number.now }
+fn joined_piece(name: &[u8], number: &[u8]) -> Option<Piece>
+    ensures { result ≡ joined_piece name.now number.now }
 {
-    Some(Piece::Joined(Name::named(name)?, number_of(number)?))
+    Some(Piece::Joined(Name::named(name)?, word_number(number)?))
 }
 
 /// The option with the number that is the first of the words behind it.
-fn apart(name: Name, words: &[String]) -> Option<Piece>
-    ensures { result ≡ apart name (map string_bytes words.now) }
+fn apart_piece(name: Name, words: &[String]) -> Option<Piece>
+    ensures { result ≡ apart_piece name (map string_bytes words.now) }
 {
     let [number, ..] = words else {
         return None;
     };
-    Some(Piece::Apart(name, number_of(number.as_bytes())?))
+    Some(Piece::Apart(name, word_number(number.as_bytes())?))
 }
 
 /// The number that the word is, in decimal with no sign and no leading zero.
-fn number_of(word: &[u8]) -> Option<u32>
-    ensures { result ≡ number_of word.now }
+fn word_number(word: &[u8]) -> Option<u32>
+    ensures { result ≡ word_number word.now }
 {
     number_between(0, u32::MAX, word)
 }

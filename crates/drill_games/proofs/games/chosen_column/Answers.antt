@@ -1,7 +1,7 @@
 use Rattle.std.proofs.Common.{◌≡◌, ◌%◌, length, get_or, true, sym, ap, ◌∙◌, subst, arith}
 use Rattle.game_rules.specs.Position.{has_room}
 use Rattle.drill_games.proofs.Columns.{open_some, chosen_room}
-use Rattle.drill_games.proofs.games.chosen.Goals as goal
+use Rattle.drill_games.proofs.games.chosen_column.Goals as goal
 
 pub column_at-requires : goal.column_at-requires
 column_at-requires c = omega (arith, open_some c.args.position.now c.requires, ap length c.open_columns-columns.ensures, ap length c.as_slice.ensures.value)
