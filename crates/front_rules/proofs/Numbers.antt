@@ -7,12 +7,12 @@ use mathlib.Core.Bool.{true≢false}
 use Rattle.game_rules.specs.Position.{Position}
 use Rattle.game_rules.specs.declared.Side.{Side}
 use Rattle.front_rules.specs.Counts.{plus, least, is_zero, is_infinite, finite_part}
-use Rattle.front_rules.specs.Front.{Row, nothing, leaf, inner, node_count, leaf_number, joined, takes_least, is_own, number_of, node_number, verdict_on}
+use Rattle.front_rules.specs.Front.{Row, nothing, leaf, inner, node_count, leaf_number, joined, takes_least, is_own, row_number, node_number, verdict_on}
 use Rattle.front_rules.specs.Front.{node_as, collapsed}
 use Rattle.front_rules.specs.declared.Count.{Count}
 use Rattle.front_rules.specs.declared.Count.TheVariants.{Finite, Infinite}
-use Rattle.front_rules.specs.declared.Verdict.{Verdict}
-use Rattle.front_rules.specs.declared.Verdict.TheVariants.{Unsettled, Yes, No}
+use Rattle.front_rules.specs.declared.LeafVerdict.{LeafVerdict}
+use Rattle.front_rules.specs.declared.LeafVerdict.TheVariants.{Unsettled, Yes, No}
 
 -- ---- one number
 
@@ -65,7 +65,7 @@ part_joined false Infinite b = omega arith
 
 -- ---- the numbers of rows
 
-dual_leaf : (proof : Bool) (v : Verdict) → is_zero (leaf_number proof v) ≡ is_infinite (leaf_number (not proof) v)
+dual_leaf : (proof : Bool) (v : LeafVerdict) → is_zero (leaf_number proof v) ≡ is_infinite (leaf_number (not proof) v)
 dual_leaf true Unsettled = refl
 dual_leaf true Yes = refl
 dual_leaf true No = refl
@@ -82,16 +82,16 @@ module _ (side : Side) where
   turned true p = refl
   turned false p = not_not (is_own side p)
 
-  pub row_dual : (row : Row) (proof smallest : Bool) → is_zero (number_of side proof smallest row) ≡ is_infinite (number_of side (not proof) (not smallest) row)
+  pub row_dual : (row : Row) (proof smallest : Bool) → is_zero (row_number side proof smallest row) ≡ is_infinite (row_number side (not proof) (not smallest) row)
   row_dual nothing proof true = refl
   row_dual nothing proof false = refl
   row_dual (leaf p v rest) proof smallest = dual_joined smallest _ _ _ _ (dual_leaf proof v) (row_dual rest proof smallest)
   row_dual (inner p kids rest) proof smallest =
       dual_joined smallest _ _ _ _ (row_dual kids proof (takes_least side proof p)
-      ∙ ap (λ w. is_infinite (number_of side (not proof) w kids)) (sym (turned proof p))) (row_dual rest proof smallest)
+      ∙ ap (λ w. is_infinite (row_number side (not proof) w kids)) (sym (turned proof p))) (row_dual rest proof smallest)
 
   pub node_dual : (p : Position) (kids : Row) (proof : Bool) → is_zero (node_number side proof p kids) ≡ is_infinite (node_number side (not proof) p kids)
-  node_dual p kids proof = row_dual kids proof (takes_least side proof p) ∙ ap (λ w. is_infinite (number_of side (not proof) w kids)) (sym (turned proof p))
+  node_dual p kids proof = row_dual kids proof (takes_least side proof p) ∙ ap (λ w. is_infinite (row_number side (not proof) w kids)) (sym (turned proof p))
 
   -- ---- a settled node as a leaf
 
@@ -106,19 +106,19 @@ module _ (side : Side) where
   settled_no p kids false h = sym (zero_is _ h)
 
   -- a node that becomes a leaf where it is settled, and else gets children with the same numbers, keeps its numbers
-  pub as_number : (p : Position) (kids new rest : Row) → ((proof smallest : Bool) → number_of side proof smallest new ≡ number_of side proof smallest kids)
-      → (proof smallest : Bool) → number_of side proof smallest (node_as (verdict_on side p kids) p new rest)
-      ≡ joined smallest (node_number side proof p kids) (number_of side proof smallest rest)
+  pub as_number : (p : Position) (kids new rest : Row) → ((proof smallest : Bool) → row_number side proof smallest new ≡ row_number side proof smallest kids)
+      → (proof smallest : Bool) → row_number side proof smallest (node_as (verdict_on side p kids) p new rest)
+      ≡ joined smallest (node_number side proof p kids) (row_number side proof smallest rest)
   as_number p kids new rest same proof smallest =
       elim (cases_Bool (is_zero (node_number side true p kids))) [
-        | inl won ↦ rw won (ap (λ n. joined smallest n (number_of side proof smallest rest)) (settled_yes p kids proof won))
+        | inl won ↦ rw won (ap (λ n. joined smallest n (row_number side proof smallest rest)) (settled_yes p kids proof won))
         | inr first ↦ elim (cases_Bool (is_zero (node_number side false p kids))) [
-          | inl lost ↦ rw (first, lost) (ap (λ n. joined smallest n (number_of side proof smallest rest)) (settled_no p kids proof lost))
-          | inr second ↦ rw (first, second) (ap (λ n. joined smallest n (number_of side proof smallest rest)) (same proof (takes_least side proof p)))
+          | inl lost ↦ rw (first, lost) (ap (λ n. joined smallest n (row_number side proof smallest rest)) (settled_no p kids proof lost))
+          | inr second ↦ rw (first, second) (ap (λ n. joined smallest n (row_number side proof smallest rest)) (same proof (takes_least side proof p)))
         ]
       ]
 
-  pub collapsed_number : (row : Row) (proof smallest : Bool) → number_of side proof smallest (collapsed side row) ≡ number_of side proof smallest row
+  pub collapsed_number : (row : Row) (proof smallest : Bool) → row_number side proof smallest (collapsed side row) ≡ row_number side proof smallest row
   collapsed_number nothing proof smallest = refl
   collapsed_number (leaf p v rest) proof smallest = ap (joined smallest (leaf_number proof v)) (collapsed_number rest proof smallest)
   collapsed_number (inner p kids rest) proof smallest =
@@ -127,7 +127,7 @@ module _ (side : Side) where
 
   -- ---- how great a finite number is
 
-  pub part_leaf : (proof : Bool) (v : Verdict) → finite_part (leaf_number proof v) ≤ 1
+  pub part_leaf : (proof : Bool) (v : LeafVerdict) → finite_part (leaf_number proof v) ≤ 1
   part_leaf true Unsettled = omega arith
   part_leaf true Yes = omega arith
   part_leaf true No = omega arith
@@ -135,15 +135,15 @@ module _ (side : Side) where
   part_leaf false Yes = omega arith
   part_leaf false No = omega arith
 
-  pub number_bound : (row : Row) (proof smallest : Bool) → finite_part (number_of side proof smallest row) ≤ node_count row
+  pub number_bound : (row : Row) (proof smallest : Bool) → finite_part (row_number side proof smallest row) ≤ node_count row
   number_bound nothing proof true = omega arith
   number_bound nothing proof false = omega arith
   number_bound (leaf p v rest) proof smallest =
-      omega (arith, part_joined smallest (leaf_number proof v) (number_of side proof smallest rest), part_leaf proof v, number_bound rest proof smallest)
+      omega (arith, part_joined smallest (leaf_number proof v) (row_number side proof smallest rest), part_leaf proof v, number_bound rest proof smallest)
   number_bound (inner p kids rest) proof smallest =
       omega (
         arith,
-        part_joined smallest (node_number side proof p kids) (number_of side proof smallest rest),
+        part_joined smallest (node_number side proof p kids) (row_number side proof smallest rest),
         number_bound kids proof (takes_least side proof p),
         number_bound rest proof smallest,
       )

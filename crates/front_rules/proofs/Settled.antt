@@ -16,14 +16,14 @@ use Rattle.game_rules.proofs.Costs.{wins_step}
 use Rattle.game_rules.proofs.Lists.{all_any, any_same}
 use Rattle.walk_rules.proofs.Choices.{solved_not_won}
 use Rattle.front_rules.specs.Counts.{plus, least, same_count, is_zero, is_infinite}
-use Rattle.front_rules.specs.Front.{Row, nothing, leaf, inner, moves_out, leaf_number, joined, is_own, takes_least, number_of, node_number, root_number}
-use Rattle.front_rules.specs.Front.{verdict_of, verdict_on, node_as, collapsed, end_verdict, verdict_at, leaves, expanded, front_within, is_settled, planned}
+use Rattle.front_rules.specs.Front.{Row, nothing, leaf, inner, moves_out, leaf_number, joined, is_own, takes_least, row_number, node_number, root_number}
+use Rattle.front_rules.specs.Front.{verdict_by_numbers, verdict_on, node_as, collapsed, end_verdict, verdict_at, leaves, expanded, front_within, is_settled, planned}
 use Rattle.front_rules.specs.Front.{front, IsGrowing}
 use Rattle.front_rules.proofs.Numbers.{zero_least, zero_plus, row_dual, node_dual}
 use Rattle.front_rules.specs.declared.Count.{Count}
 use Rattle.front_rules.specs.declared.Count.TheVariants.{Finite, Infinite}
-use Rattle.front_rules.specs.declared.Verdict.{Verdict}
-use Rattle.front_rules.specs.declared.Verdict.TheVariants.{Unsettled, Yes, No}
+use Rattle.front_rules.specs.declared.LeafVerdict.{LeafVerdict}
+use Rattle.front_rules.specs.declared.LeafVerdict.TheVariants.{Unsettled, Yes, No}
 
 -- ---- rows
 
@@ -33,7 +33,7 @@ positions nothing = []
 positions (leaf p v rest) = p ∷ positions rest
 positions (inner p kids rest) = p ∷ positions rest
 
-positions_as : (v : Verdict) (p : Position) (kids rest : Row) → positions (node_as v p kids rest) ≡ p ∷ positions rest
+positions_as : (v : LeafVerdict) (p : Position) (kids rest : Row) → positions (node_as v p kids rest) ≡ p ∷ positions rest
 positions_as Unsettled p kids rest = refl
 positions_as Yes p kids rest = refl
 positions_as No p kids rest = refl
@@ -44,7 +44,7 @@ not_not false = refl
 
 module _ (side : Side) where
   -- what a leaf tells of its position
-  abbrev IsTold : Position → Verdict → Type 0
+  abbrev IsTold : Position → LeafVerdict → Type 0
   IsTold p Unsettled = end_of p ≡ None
   IsTold p Yes = wins side p ≡ true
   IsTold p No = wins side p ≡ false
@@ -65,7 +65,7 @@ module _ (side : Side) where
 
   -- ---- a node and its moves
 
-  leaf_tells : (proof : Bool) (p : Position) (v : Verdict) → IsTold p v → is_zero (leaf_number proof v) ≡ true → answers proof p ≡ true
+  leaf_tells : (proof : Bool) (p : Position) (v : LeafVerdict) → IsTold p v → is_zero (leaf_number proof v) ≡ true → answers proof p ≡ true
   leaf_tells true p Unsettled told none = absurd (true≢false (sym none))
   leaf_tells false p Unsettled told none = absurd (true≢false (sym none))
   leaf_tells true p Yes told none = told
@@ -109,19 +109,19 @@ module _ (side : Side) where
   -- ---- what a number that is 0 tells
 
   first_tells : (proof smallest : Bool) (p : Position) (rest : Row) (n : Count) → (is_zero n ≡ true → answers proof p ≡ true)
-      → (is_zero (number_of side proof smallest rest) ≡ true → answered proof smallest (positions rest) ≡ true)
-      → is_zero (joined smallest n (number_of side proof smallest rest)) ≡ true → answered proof smallest (p ∷ positions rest) ≡ true
+      → (is_zero (row_number side proof smallest rest) ≡ true → answered proof smallest (positions rest) ≡ true)
+      → is_zero (joined smallest n (row_number side proof smallest rest)) ≡ true → answered proof smallest (p ∷ positions rest) ≡ true
   first_tells proof true p rest n here later none =
-      let some : (is_zero n || is_zero (number_of side proof true rest)) ≡ true = sym (zero_least n (number_of side proof true rest)) ∙ none in
-      elim (or_cases (is_zero n) (is_zero (number_of side proof true rest)) some) [
+      let some : (is_zero n || is_zero (row_number side proof true rest)) ≡ true = sym (zero_least n (row_number side proof true rest)) ∙ none in
+      elim (or_cases (is_zero n) (is_zero (row_number side proof true rest)) some) [
         | inl first ↦ rw (here first) refl
         | inr others ↦ or_right (answers proof p) (list_any (answers proof) (positions rest)) (later others)
       ]
   first_tells proof false p rest n here later none =
-      let both = and_parts (is_zero n) (is_zero (number_of side proof false rest)) (sym (zero_plus n (number_of side proof false rest)) ∙ none) in
+      let both = and_parts (is_zero n) (is_zero (row_number side proof false rest)) (sym (zero_plus n (row_number side proof false rest)) ∙ none) in
       rw (here both.0) (later both.1)
 
-  row_tells : (row : Row) → IsTrue row → (proof smallest : Bool) → is_zero (number_of side proof smallest row) ≡ true
+  row_tells : (row : Row) → IsTrue row → (proof smallest : Bool) → is_zero (row_number side proof smallest row) ≡ true
       → answered proof smallest (positions row) ≡ true
   row_tells nothing h proof true none = absurd (true≢false (sym none))
   row_tells nothing h proof false none = refl
@@ -144,7 +144,7 @@ module _ (side : Side) where
   positions_collapsed (inner p kids rest) =
       positions_as (verdict_on side p kids) p (collapsed side kids) (collapsed side rest) ∙ ap (λ ps. p ∷ ps) (positions_collapsed rest)
 
-  yes_zero : (a b : Count) → verdict_of a b ≡ Yes → is_zero a ≡ true
+  yes_zero : (a b : Count) → verdict_by_numbers a b ≡ Yes → is_zero a ≡ true
   yes_zero a b h = elim (cases_Bool (is_zero a)) [
     | inl won ↦ won
     | inr first ↦ elim (cases_Bool (is_zero b)) [
@@ -153,7 +153,7 @@ module _ (side : Side) where
     ]
   ]
 
-  no_zero : (a b : Count) → verdict_of a b ≡ No → is_zero b ≡ true
+  no_zero : (a b : Count) → verdict_by_numbers a b ≡ No → is_zero b ≡ true
   no_zero a b h = elim (cases_Bool (is_zero a)) [
     | inl won ↦ cc (rw won at h)
     | inr first ↦ elim (cases_Bool (is_zero b)) [
@@ -171,7 +171,7 @@ module _ (side : Side) where
   true_collapsed (leaf p v rest) h = (h.0, true_collapsed rest h.1)
   true_collapsed (inner p kids rest) h = by_verdict (verdict_on side p kids) refl (true_collapsed kids h.2) (true_collapsed rest h.3)
     where
-      by_verdict : (v : Verdict) → verdict_on side p kids ≡ v → IsTrue (collapsed side kids) → IsTrue (collapsed side rest)
+      by_verdict : (v : LeafVerdict) → verdict_on side p kids ≡ v → IsTrue (collapsed side kids) → IsTrue (collapsed side rest)
           → IsTrue (node_as v p (collapsed side kids) (collapsed side rest))
       by_verdict Unsettled e below after = (h.0, positions_collapsed kids ∙ h.1, below, after)
       by_verdict Yes e below after = (node_tells p kids h.0 h.1 h.2 true (yes_zero (node_number side true p kids) (node_number side false p kids) e), after)
@@ -191,7 +191,7 @@ module _ (side : Side) where
   open_same Infinite (Finite n) h o = absurd (true≢false (sym h))
   open_same Infinite Infinite h o = o
 
-  open_unsettled : (proof : Bool) (v : Verdict) → IsOpen (leaf_number proof v) → v ≡ Unsettled
+  open_unsettled : (proof : Bool) (v : LeafVerdict) → IsOpen (leaf_number proof v) → v ≡ Unsettled
   open_unsettled proof Unsettled o = refl
   open_unsettled true Yes o = absurd (true≢false o.0)
   open_unsettled false Yes o = absurd (true≢false o.1)
@@ -204,12 +204,12 @@ module _ (side : Side) where
   open_both p kids true false o = (node_dual side p kids false ∙ o.1, sym (node_dual side p kids true) ∙ o.0)
   open_both p kids false true o = (node_dual side p kids true ∙ o.1, sym (node_dual side p kids false) ∙ o.0)
 
-  open_below : (p : Position) (kids : Row) (proof : Bool) → IsOpen (node_number side proof p kids) → IsOpen (number_of side (is_own side p) true kids)
+  open_below : (p : Position) (kids : Row) (proof : Bool) → IsOpen (node_number side proof p kids) → IsOpen (row_number side (is_own side p) true kids)
   open_below p kids proof o = by_turn (is_own side p) refl
     where
-      by_turn : (own : Bool) → is_own side p ≡ own → IsOpen (number_of side own true kids)
-      by_turn true e = subst (λ w. IsOpen (number_of side true w kids)) e (open_both p kids proof true o)
-      by_turn false e = subst (λ w. IsOpen (number_of side false (not w) kids)) e (open_both p kids proof false o)
+      by_turn : (own : Bool) → is_own side p ≡ own → IsOpen (row_number side own true kids)
+      by_turn true e = subst (λ w. IsOpen (row_number side true w kids)) e (open_both p kids proof true o)
+      by_turn false e = subst (λ w. IsOpen (row_number side false (not w) kids)) e (open_both p kids proof false o)
 
   module _ (closed : Side → Position → Bool) (sound : (q : Position) → closed side q ≡ true → wins side q ≡ false) where
     positions_leaves : (ps : List Position) → positions (leaves side closed ps) ≡ ps
@@ -259,7 +259,7 @@ module _ (side : Side) where
     ]
     true_expanded proof n (inner p kids rest) o h = elim (cases_Bool (same_count (node_number side proof p kids) n)) [
       | inl found ↦
-          let deeper = number_of side (is_own side p) true kids in
+          let deeper = row_number side (is_own side p) true kids in
           rw found (
             h.0,
             positions_expanded (is_own side p) deeper kids ∙ h.1,
@@ -273,7 +273,7 @@ module _ (side : Side) where
 
     -- of one node the least number is the sum
     one_node : (p : Position) (tree : Row) → positions tree ≡ p ∷ [] → (proof : Bool)
-        → is_infinite (number_of side proof true tree) ≡ is_infinite (number_of side proof false tree)
+        → is_infinite (row_number side proof true tree) ≡ is_infinite (row_number side proof false tree)
     one_node p nothing e proof = cc
     one_node p (leaf q v nothing) e proof = alone (leaf_number proof v)
       where

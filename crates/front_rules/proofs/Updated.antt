@@ -4,13 +4,13 @@ use Rattle.std.proofs.lemmas.Bool.{cases_Bool}
 use Rattle.game_rules.specs.Position.{Position}
 use Rattle.game_rules.specs.declared.Side.{Side}
 use Rattle.front_rules.specs.Counts.{same_count}
-use Rattle.front_rules.specs.Front.{Row, nothing, leaf, inner, moves_out, leaf_number, is_own, takes_least, number_of, node_number, root_number, verdict_of}
+use Rattle.front_rules.specs.Front.{Row, nothing, leaf, inner, moves_out, leaf_number, is_own, takes_least, row_number, node_number, root_number, verdict_by_numbers}
 use Rattle.front_rules.specs.Front.{verdict_on, node_as, collapsed, leaves, expanded, grown, front_within}
 use Rattle.front_rules.specs.Path.{IsClean, updated}
 use Rattle.front_rules.proofs.Numbers.{collapsed_number}
 use Rattle.front_rules.specs.declared.Count.{Count}
-use Rattle.front_rules.specs.declared.Verdict.{Verdict}
-use Rattle.front_rules.specs.declared.Verdict.TheVariants.{Unsettled, Yes, No}
+use Rattle.front_rules.specs.declared.LeafVerdict.{LeafVerdict}
+use Rattle.front_rules.specs.declared.LeafVerdict.TheVariants.{Unsettled, Yes, No}
 
 module _ (side : Side) where
   -- a tree without a settled inner node stays
@@ -19,7 +19,7 @@ module _ (side : Side) where
   clean_stays (leaf p v rest) h = ap (leaf p v) (clean_stays rest h)
   clean_stays (inner p kids rest) h = rw (h.0, clean_stays kids h.1, clean_stays rest h.2) refl
 
-  pub clean_as : (v : Verdict) (p : Position) (kids rest : Row) → verdict_on side p kids ≡ v → IsClean side kids → IsClean side rest
+  pub clean_as : (v : LeafVerdict) (p : Position) (kids rest : Row) → verdict_on side p kids ≡ v → IsClean side kids → IsClean side rest
       → IsClean side (node_as v p kids rest)
   clean_as Unsettled p kids rest e k r = (e, k, r)
   clean_as Yes p kids rest e k r = r
@@ -39,8 +39,8 @@ module _ (side : Side) where
           | inr past ↦ rw past (ap (leaf p v) (updated_is proof n rest h))
         ]
     updated_is proof n (inner p kids rest) h =
-        let below = updated_is (is_own side p) (number_of side (is_own side p) true kids) kids h.1 in
-        let new = expanded side closed (is_own side p) (number_of side (is_own side p) true kids) kids in
+        let below = updated_is (is_own side p) (row_number side (is_own side p) true kids) kids h.1 in
+        let new = expanded side closed (is_own side p) (row_number side (is_own side p) true kids) kids in
         elim (cases_Bool (same_count (node_number side proof p kids) n)) [
           | inl found ↦ rw (found, clean_stays rest h.2) (ap (λ v. node_as v p (collapsed side new) rest) (verdict_collapsed p new)
               ∙ ap (λ k. node_as (verdict_on side p k) p k rest) below)
@@ -49,8 +49,8 @@ module _ (side : Side) where
       where
         verdict_collapsed : (p : Position) (kids : Row) → verdict_on side p kids ≡ verdict_on side p (collapsed side kids)
         verdict_collapsed p kids =
-            ap (λ n. verdict_of n (node_number side false p kids)) (sym (collapsed_number side kids true (takes_least side true p)))
-            ∙ ap (verdict_of (node_number side true p (collapsed side kids))) (sym (collapsed_number side kids false (takes_least side false p)))
+            ap (λ n. verdict_by_numbers n (node_number side false p kids)) (sym (collapsed_number side kids true (takes_least side true p)))
+            ∙ ap (verdict_by_numbers (node_number side true p (collapsed side kids))) (sym (collapsed_number side kids false (takes_least side false p)))
 
     pub updated_clean : (proof : Bool) (n : Count) (row : Row) → IsClean side row → IsClean side (updated side closed proof n row)
     updated_clean proof n nothing h = tt
@@ -61,7 +61,7 @@ module _ (side : Side) where
         ]
     updated_clean proof n (inner p kids rest) h =
         elim (cases_Bool (same_count (node_number side proof p kids) n)) [
-          | inl found ↦ rw found (clean_as _ p _ rest refl (updated_clean (is_own side p) (number_of side (is_own side p) true kids) kids h.1) h.2)
+          | inl found ↦ rw found (clean_as _ p _ rest refl (updated_clean (is_own side p) (row_number side (is_own side p) true kids) kids h.1) h.2)
           | inr past ↦ rw past (h.0, h.1, updated_clean proof n rest h.2)
         ]
 

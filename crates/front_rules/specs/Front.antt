@@ -11,15 +11,15 @@ use Rattle.walk_rules.specs.Walk.{solved}
 use Rattle.front_rules.specs.Counts.{plus, least, same_count, is_zero}
 use Rattle.front_rules.specs.declared.Count.{Count}
 use Rattle.front_rules.specs.declared.Count.TheVariants.{Finite, Infinite}
-use Rattle.front_rules.specs.declared.Verdict.{Verdict}
-use Rattle.front_rules.specs.declared.Verdict.TheVariants.{Unsettled, Yes, No}
+use Rattle.front_rules.specs.declared.LeafVerdict.{LeafVerdict}
+use Rattle.front_rules.specs.declared.LeafVerdict.TheVariants.{Unsettled, Yes, No}
 
 -- ---- the tree
 
 -- Nodes side by side, from the left: each is a leaf, or an inner node with its children. A tree is a row of one node.
 pub data Row : Type 0 where
   nothing : Row
-  leaf : Position → Verdict → Row → Row
+  leaf : Position → LeafVerdict → Row → Row
   inner : Position → Row → Row → Row
 
 -- how many nodes there are, with those below them
@@ -37,7 +37,7 @@ moves_out p = map (after_move p) (filter (is_legal p) (centre_out (length p.colu
 -- Which of a node's two numbers is meant is told by a Bool: true for the proof number, false for the disproof number.
 
 -- a leaf has (0, infinite) where the side wins, (infinite, 0) where it doesn't, and (1, 1) where it isn't settled
-abbrev pub leaf_number : Bool → Verdict → Count
+abbrev pub leaf_number : Bool → LeafVerdict → Count
 leaf_number proof Unsettled = Finite 1
 leaf_number true Yes = Finite 0
 leaf_number false Yes = Infinite
@@ -55,11 +55,11 @@ of_none true = Infinite
 of_none false = Finite 0
 
 -- what two numbers settle
-abbrev pub verdict_of : Count → Count → Verdict
-verdict_of proof disproof = if is_zero proof then Yes else (if is_zero disproof then No else Unsettled)
+abbrev pub verdict_by_numbers : Count → Count → LeafVerdict
+verdict_by_numbers proof disproof = if is_zero proof then Yes else (if is_zero disproof then No else Unsettled)
 
 -- the node, as a leaf without a subtree where it is settled
-abbrev pub node_as : Verdict → Position → Row → Row → Row
+abbrev pub node_as : LeafVerdict → Position → Row → Row → Row
 node_as Unsettled p kids rest = inner p kids rest
 node_as Yes p kids rest = leaf p Yes rest
 node_as No p kids rest = leaf p No rest
@@ -76,24 +76,24 @@ module _ (side : Side) where
   takes_least false p = not (is_own p)
 
   -- the least of the numbers of the nodes in a row, or their sum
-  abbrev pub number_of : (proof smallest : Bool) → Row → Count
-  number_of proof smallest nothing = of_none smallest
-  number_of proof smallest (leaf p v rest) = joined smallest (leaf_number proof v) (number_of proof smallest rest)
-  number_of proof smallest (inner p kids rest) = joined smallest (number_of proof (takes_least proof p) kids) (number_of proof smallest rest)
+  abbrev pub row_number : (proof smallest : Bool) → Row → Count
+  row_number proof smallest nothing = of_none smallest
+  row_number proof smallest (leaf p v rest) = joined smallest (leaf_number proof v) (row_number proof smallest rest)
+  row_number proof smallest (inner p kids rest) = joined smallest (row_number proof (takes_least proof p) kids) (row_number proof smallest rest)
 
   -- a number of an inner node, by its children
   abbrev pub node_number : Bool → Position → Row → Count
-  node_number proof p kids = number_of proof (takes_least proof p) kids
+  node_number proof p kids = row_number proof (takes_least proof p) kids
 
   -- a number of a tree's root
   abbrev pub root_number : Bool → Row → Count
-  root_number proof tree = number_of proof true tree
+  root_number proof tree = row_number proof true tree
 
   -- ---- what becomes of a tree
 
   -- how an inner node stands
-  abbrev pub verdict_on : Position → Row → Verdict
-  verdict_on p kids = verdict_of (node_number true p kids) (node_number false p kids)
+  abbrev pub verdict_on : Position → Row → LeafVerdict
+  verdict_on p kids = verdict_by_numbers (node_number true p kids) (node_number false p kids)
 
   -- each inner node with a number 0 becomes a settled leaf
   abbrev pub collapsed : Row → Row
@@ -104,11 +104,11 @@ module _ (side : Side) where
   -- The set `closed` has the positions at which the question is answered without a move, with no.
   module _ (closed : Side → Position → Bool) where
     -- how a position stands that no move was looked at from
-    abbrev pub end_verdict : Option End → Bool → Verdict
+    abbrev pub end_verdict : Option End → Bool → LeafVerdict
     end_verdict (Some end) known = if same_end (win_of side) end then Yes else No
     end_verdict None known = if known then No else Unsettled
 
-    abbrev pub verdict_at : Position → Verdict
+    abbrev pub verdict_at : Position → LeafVerdict
     verdict_at p = end_verdict (end_of p) (closed side p)
 
     -- a leaf for each position
@@ -125,7 +125,7 @@ module _ (side : Side) where
         if same_count (leaf_number proof v) n then inner p (leaves (moves_out p)) rest else leaf p v (expanded proof n rest)
     expanded proof n (inner p kids rest) =
         if same_count (node_number proof p kids) n
-        then inner p (expanded (is_own p) (number_of (is_own p) true kids) kids) rest
+        then inner p (expanded (is_own p) (row_number (is_own p) true kids) kids) rest
         else inner p kids (expanded proof n rest)
 
     -- the tree after its most-proving leaf was expanded
@@ -143,7 +143,7 @@ module _ (side : Side) where
   asked_in proof n (leaf p v rest) = if same_count (leaf_number proof v) n then length (moves_out p) else asked_in proof n rest
   asked_in proof n (inner p kids rest) =
       if same_count (node_number proof p kids) n
-      then asked_in (is_own p) (number_of (is_own p) true kids) kids
+      then asked_in (is_own p) (row_number (is_own p) true kids) kids
       else asked_in proof n rest
 
   abbrev pub asked : Row → ℕ

@@ -3,9 +3,9 @@ use Rattle.std.specs.Prelude.{◌≡◌, Bool, true, if◌then◌else◌, ⊤}
 use Rattle.game_rules.specs.Position.{Position}
 use Rattle.game_rules.specs.declared.Side.{Side}
 use Rattle.front_rules.specs.Counts.{same_count}
-use Rattle.front_rules.specs.Front.{Row, nothing, leaf, inner, moves_out, leaf_number, is_own, number_of, node_number, verdict_on, node_as, leaves}
+use Rattle.front_rules.specs.Front.{Row, nothing, leaf, inner, moves_out, leaf_number, is_own, row_number, node_number, verdict_on, node_as, leaves}
 use Rattle.front_rules.specs.declared.Count.{Count}
-use Rattle.front_rules.specs.declared.Verdict.TheVariants.{Unsettled}
+use Rattle.front_rules.specs.declared.LeafVerdict.TheVariants.{Unsettled}
 
 module _ (side : Side) where
   -- no inner node is settled
@@ -25,8 +25,8 @@ module _ (side : Side) where
     updated proof n (inner p kids rest) =
         if same_count (node_number side proof p kids) n
         then node_as
-        (verdict_on side p (updated (is_own side p) (number_of side (is_own side p) true kids) kids))
+        (verdict_on side p (updated (is_own side p) (row_number side (is_own side p) true kids) kids))
         p
-        (updated (is_own side p) (number_of side (is_own side p) true kids) kids)
+        (updated (is_own side p) (row_number side (is_own side p) true kids) kids)
         rest
         else inner p kids (updated proof n rest)

@@ -4,7 +4,7 @@ ghost use Rattle.game_rules.specs.Position.{Position};
 ghost use Rattle.game_rules.specs.Value.{wins};
 ghost use Rattle.game_rules.specs.declared.Side.{Side};
 ghost use Rattle.front_rules.specs.Counts.{is_zero, is_infinite, finite_part};
-ghost use Rattle.front_rules.specs.Front.{Row, inner, node_count, number_of, node_number, root_number, grown, front_within, is_settled, front, IsGrowing};
+ghost use Rattle.front_rules.specs.Front.{Row, inner, node_count, row_number, node_number, root_number, grown, front_within, is_settled, front, IsGrowing};
 ghost use Rattle.front_rules.specs.Path.{IsClean, updated};
 
 /// One expansion changes the nodes on one path alone: where no inner node was settled, the tree whose numbers are computed
@@ -20,17 +20,17 @@ pub fn numbers_change_along_one_path()
 /// may end early there.
 pub fn a_path_ends_where_no_number_changed()
     ensures { (side : Side) (p : Position) (kids new rest : Row) → ((proof : Bool) → node_number side proof p new ≡ node_number side proof p kids)
-        → (proof smallest : Bool) → number_of side proof smallest (inner p new rest) ≡ number_of side proof smallest (inner p kids rest) }
+        → (proof smallest : Bool) → row_number side proof smallest (inner p new rest) ≡ row_number side proof smallest (inner p kids rest) }
 {}
 
 /// One of a tree's numbers is 0 exactly where the other is infinite.
 pub fn one_number_is_zero_where_the_other_is_infinite()
-    ensures { (side : Side) (tree : Row) (proof : Bool) → is_zero (number_of side proof true tree) ≡ is_infinite (number_of side (not proof) false tree) }
+    ensures { (side : Side) (tree : Row) (proof : Bool) → is_zero (row_number side proof true tree) ≡ is_infinite (row_number side (not proof) false tree) }
 {}
 
 /// No finite number is greater than the number of nodes.
 pub fn a_finite_number_is_at_most_the_number_of_nodes()
-    ensures { (side : Side) (row : Row) (proof smallest : Bool) → finite_part (number_of side proof smallest row) ≤ node_count row }
+    ensures { (side : Side) (row : Row) (proof smallest : Bool) → finite_part (row_number side proof smallest row) ≤ node_count row }
 {}
 
 /// A root that is settled tells the answer, where it wasn't settled before an expansion: with a proof number 0 the side

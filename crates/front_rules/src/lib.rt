@@ -9,7 +9,7 @@
 
 ghost use Rattle.std.specs.Prelude.{◌≡◌, ◌+◌, ◌<◌, ◌^◌};
 ghost use Rattle.front_rules.specs.Counts.{plus, least, same_count, is_zero, finite_part};
-ghost use Rattle.front_rules.specs.Front.{leaf_number, verdict_of};
+ghost use Rattle.front_rules.specs.Front.{leaf_number, verdict_by_numbers};
 
 pub mod laws;
 
@@ -70,23 +70,23 @@ impl Count {
 
 /// How a leaf of the front stands: it isn't settled, or the side wins there, or it doesn't.
 #[derive(Clone, Copy)]
-pub enum Verdict {
+pub enum LeafVerdict {
     Unsettled,
     Yes,
     No,
 }
 
-impl Verdict {
+impl LeafVerdict {
     /// What a node's proof number and disproof number settle.
-    pub fn of(proof: Count, disproof: Count) -> Verdict
-        ensures { result ≡ verdict_of proof disproof }
+    pub fn of(proof: Count, disproof: Count) -> LeafVerdict
+        ensures { result ≡ verdict_by_numbers proof disproof }
     {
         if proof.is_zero() {
-            Verdict::Yes
+            LeafVerdict::Yes
         } else if disproof.is_zero() {
-            Verdict::No
+            LeafVerdict::No
         } else {
-            Verdict::Unsettled
+            LeafVerdict::Unsettled
         }
     }
 
@@ -95,9 +95,9 @@ impl Verdict {
         ensures { result ≡ leaf_number proof self }
     {
         match (self, proof) {
-            (Verdict::Unsettled, _) => Count::Finite(1),
-            (Verdict::Yes, true) | (Verdict::No, false) => Count::Finite(0),
-            (Verdict::Yes, false) | (Verdict::No, true) => Count::Infinite,
+            (LeafVerdict::Unsettled, _) => Count::Finite(1),
+            (LeafVerdict::Yes, true) | (LeafVerdict::No, false) => Count::Finite(0),
+            (LeafVerdict::Yes, false) | (LeafVerdict::No, true) => Count::Infinite,
         }
     }
 }

@@ -4,13 +4,13 @@ use Rattle.std.proofs.lemmas.Bool.{cases_Bool}
 use Rattle.game_rules.specs.Position.{Position}
 use Rattle.game_rules.specs.declared.Side.{Side}
 use Rattle.front_rules.specs.Counts.{is_zero, is_infinite, same_count}
-use Rattle.front_rules.specs.Front.{Row, leaf_number, joined, takes_least, is_own, number_of, node_number, verdict_on, node_as, leaves, moves_out, asked_in}
+use Rattle.front_rules.specs.Front.{Row, leaf_number, joined, takes_least, is_own, row_number, node_number, verdict_on, node_as, leaves, moves_out, asked_in}
 use Rattle.front_rules.specs.Path.{IsClean, updated}
 use Rattle.front_rules.proofs.Numbers.{node_dual, as_number}
 use Rattle.front_rules.proofs.Updated.{clean_leaves}
 use Rattle.front_rules.specs.declared.Count.{Count}
-use Rattle.front_rules.specs.declared.Verdict.{Verdict}
-use Rattle.front_rules.specs.declared.Verdict.TheVariants.{Unsettled, Yes, No}
+use Rattle.front_rules.specs.declared.LeafVerdict.{LeafVerdict}
+use Rattle.front_rules.specs.declared.LeafVerdict.TheVariants.{Unsettled, Yes, No}
 use Rattle.proof_front.specs.Cells.{Cell, Owns}
 use Rattle.proof_front.specs.Numbers.{number_in, leaf_numbers, node_numbers}
 use Rattle.proof_front.specs.Rows.{Placed, inner_at, row_of, first_of, cells_of, AreGoing, Lies}
@@ -21,7 +21,7 @@ use Rattle.proof_front.proofs.Renewing.{count_same}
 use Rattle.proof_front.proofs.Skipping.{in_leaf, in_node}
 use Rattle.proof_front.proofs.Descending.{neither_zero, as_placed, as_row, as_lies, LeafFirst, InnerFirst}
 
-open_leaf : (proof : Bool) (v : Verdict) → is_zero (leaf_number proof v) ≡ false → is_infinite (leaf_number proof v) ≡ false → v ≡ Unsettled
+open_leaf : (proof : Bool) (v : LeafVerdict) → is_zero (leaf_number proof v) ≡ false → is_infinite (leaf_number proof v) ≡ false → v ≡ Unsettled
 open_leaf proof Unsettled z i = refl
 open_leaf true Yes z i = cc
 open_leaf false Yes z i = cc
@@ -67,15 +67,15 @@ module _ (side : Side) {slots : List (Option Node)} {at : ℕ} {node : Node} (ro
           }
 
       pub leaf_numbers_same : node.numbers ≡ node_numbers side node.position (leaves side closed (moves_out node.position)) → (b smallest : Bool)
-          → number_of side b smallest (updated side closed proof n (row_of row)) ≡ number_of side b smallest (row_of row)
+          → row_number side b smallest (updated side closed proof n (row_of row)) ≡ row_number side b smallest (row_of row)
       leaf_numbers_same same b smallest =
           let p = node.position in
           let kids = leaves side closed (moves_out p) in
           let number : node_number side b p kids ≡ leaf_number b l.verdict = sym (in_node side b p kids)
           ∙ (sym (ap (number_in b) same) ∙ (ap (λ m. number_in b m.numbers) l.node_is ∙ in_leaf side b l.verdict)) in
-          ap (number_of side b smallest) (updated_leaf kids refl)
+          ap (row_number side b smallest) (updated_leaf kids refl)
           ∙ (as_number side p kids kids (row_of l.rest) (λ c w. refl) b smallest
-          ∙ (ap (λ m. joined smallest m (number_of side b smallest (row_of l.rest))) number ∙ sym (ap (number_of side b smallest) l.row_is)))
+          ∙ (ap (λ m. joined smallest m (row_number side b smallest (row_of l.rest))) number ∙ sym (ap (row_number side b smallest) l.row_is)))
 
   -- ---- an inner node
 
@@ -94,11 +94,11 @@ module _ (side : Side) {slots : List (Option Node)} {at : ℕ} {node : Node} (ro
       own_number : number_in own node.numbers ≡ node_number side own node.position (row_of i.kids)
       own_number = ap (λ m. number_in own m.numbers) i.node_is ∙ in_node side own node.position (row_of i.kids)
 
-      least_here : number_of side own true (row_of i.kids) ≡ number_in own node.numbers
-      least_here = sym (own_number ∙ ap (λ b. number_of side own b (row_of i.kids)) (ap (λ b. takes_least side b node.position) to_move ∙ taken node.position))
+      least_here : row_number side own true (row_of i.kids) ≡ number_in own node.numbers
+      least_here = sym (own_number ∙ ap (λ b. row_number side own b (row_of i.kids)) (ap (λ b. takes_least side b node.position) to_move ∙ taken node.position))
 
-      least_there : number_of side (is_own side node.position) true (row_of i.kids) ≡ number_in own node.numbers
-      least_there = ap (λ b. number_of side b true (row_of i.kids)) (sym to_move) ∙ least_here
+      least_there : row_number side (is_own side node.position) true (row_of i.kids) ≡ number_in own node.numbers
+      least_there = ap (λ b. row_number side b true (row_of i.kids)) (sym to_move) ∙ least_here
 
       pub asked_inner : asked_in side proof n (row_of row) ≡ asked_in side own (number_in own node.numbers) (row_of i.kids)
       asked_inner = ap (asked_in side proof n) i.row_is ∙ (rw (found_inner, ← to_move, least_here) refl)
@@ -172,21 +172,21 @@ module _ (side : Side) {slots : List (Option Node)} {at : ℕ} {node : Node} (ro
 
           -- where the node keeps its numbers, so does the row
           pub inner_numbers_same : (kids : Row) → kids ≡ updated side closed own (number_in own node.numbers) (row_of i.kids)
-              → node.numbers ≡ node_numbers side node.position kids → (b smallest : Bool) → number_of side b smallest (updated side closed proof n (row_of row))
-              ≡ number_of side b smallest (row_of row)
+              → node.numbers ≡ node_numbers side node.position kids → (b smallest : Bool) → row_number side b smallest (updated side closed proof n (row_of row))
+              ≡ row_number side b smallest (row_of row)
           inner_numbers_same kids e same b smallest =
               let p = node.position in
               let number : node_number side b p kids ≡ node_number side b p (row_of i.kids) = sym (in_node side b p kids)
               ∙ (sym (ap (number_in b) same) ∙ (ap (λ m. number_in b m.numbers) i.node_is ∙ in_node side b p (row_of i.kids))) in
-              ap (number_of side b smallest) (updated_inner kids e)
+              ap (row_number side b smallest) (updated_inner kids e)
               ∙ (as_number side p kids kids (row_of i.rest) (λ c w. refl) b smallest
-              ∙ (ap (λ m. joined smallest m (number_of side b smallest (row_of i.rest))) number ∙ sym (ap (number_of side b smallest) i.row_is)))
+              ∙ (ap (λ m. joined smallest m (row_number side b smallest (row_of i.rest))) number ∙ sym (ap (row_number side b smallest) i.row_is)))
 
           module _ (kids : Placed) (e : row_of kids ≡ updated side closed own (number_in own node.numbers) (row_of i.kids)) (same : (b smallest : Bool)
-              → number_of side b smallest (updated side closed own (number_in own node.numbers) (row_of i.kids)) ≡ number_of side b smallest (row_of i.kids))
+              → row_number side b smallest (updated side closed own (number_in own node.numbers) (row_of i.kids)) ≡ row_number side b smallest (row_of i.kids))
             where
               kept_number : (b : Bool) → node_number side b node.position (row_of kids) ≡ node_number side b node.position (row_of i.kids)
-              kept_number b = ap (number_of side b (takes_least side b node.position)) e ∙ same b (takes_least side b node.position)
+              kept_number b = ap (row_number side b (takes_least side b node.position)) e ∙ same b (takes_least side b node.position)
 
               pub kept_numbers : node.numbers ≡ node_numbers side node.position (row_of kids)
               kept_numbers = ap (λ m. m.numbers) i.node_is ∙ (rw (kept_number true, kept_number false) refl)

@@ -6,13 +6,13 @@ use Rattle.std.proofs.lemmas.Option.{none-some}
 use Rattle.game_rules.specs.Position.{Position, end_of}
 use Rattle.game_rules.specs.declared.Side.{Side}
 use Rattle.front_rules.specs.Counts.{is_zero}
-use Rattle.front_rules.specs.Front.{Row, leaf, inner, node_number, verdict_of, verdict_on, node_as}
+use Rattle.front_rules.specs.Front.{Row, leaf, inner, node_number, verdict_by_numbers, verdict_on, node_as}
 use Rattle.front_rules.specs.Path.{IsClean}
 use Rattle.front_rules.proofs.Numbers.{settled_yes, settled_no}
 use Rattle.front_rules.proofs.Updated.{clean_as}
 use Rattle.front_rules.specs.declared.Count.{Count}
-use Rattle.front_rules.specs.declared.Verdict.{Verdict}
-use Rattle.front_rules.specs.declared.Verdict.TheVariants.{Unsettled, Yes, No}
+use Rattle.front_rules.specs.declared.LeafVerdict.{LeafVerdict}
+use Rattle.front_rules.specs.declared.LeafVerdict.TheVariants.{Unsettled, Yes, No}
 use Rattle.node_pool.specs.Slots.{held}
 use Rattle.proof_front.specs.Cells.{Cell, Owns}
 use Rattle.proof_front.specs.Numbers.{leaf_numbers, node_numbers}
@@ -27,7 +27,7 @@ use Rattle.proof_front.proofs.Skipping.{leaf_cell, inner_cell}
 
 -- ---- what two numbers settle
 
-pub yes_zero : (a b : Count) → verdict_of a b ≡ Yes → is_zero a ≡ true
+pub yes_zero : (a b : Count) → verdict_by_numbers a b ≡ Yes → is_zero a ≡ true
 yes_zero a b h =
     elim (cases_Bool (is_zero a)) [
       | inl zero ↦ zero
@@ -38,7 +38,7 @@ yes_zero a b h =
     other true e = cc
     other false e = cc
 
-pub no_zero : (a b : Count) → verdict_of a b ≡ No → is_zero b ≡ true
+pub no_zero : (a b : Count) → verdict_by_numbers a b ≡ No → is_zero b ≡ true
 no_zero a b h =
     elim (cases_Bool (is_zero a)) [
       | inl zero ↦ absurd (other (sym (ap (λ t. if t then Yes else (if is_zero b then No else Unsettled)) zero) ∙ h))
@@ -55,7 +55,7 @@ no_zero a b h =
     neither : Unsettled ≡ No → ⊥
     neither e = cc
 
-pub neither_zero : (a b : Count) → verdict_of a b ≡ Unsettled → (is_zero a ≡ false) × (is_zero b ≡ false)
+pub neither_zero : (a b : Count) → verdict_by_numbers a b ≡ Unsettled → (is_zero a ≡ false) × (is_zero b ≡ false)
 neither_zero a b h = (first (is_zero a) h, second (is_zero a) (is_zero b) h)
   where
     first : (t : Bool) → (if t then Yes else (if is_zero b then No else Unsettled)) ≡ Unsettled → t ≡ false
@@ -80,17 +80,17 @@ module _ (side : Side) where
 
   -- ---- a node with new children, as a leaf where it is settled
 
-  abbrev pub as_placed : Verdict → ℕ → Position → Placed → Placed → Placed
+  abbrev pub as_placed : LeafVerdict → ℕ → Position → Placed → Placed → Placed
   as_placed Unsettled at p kids rest = inner_at at p kids rest
   as_placed Yes at p kids rest = leaf_at at p Yes rest
   as_placed No at p kids rest = leaf_at at p No rest
 
-  pub as_row : (v : Verdict) (at : ℕ) (p : Position) (kids rest : Placed) → row_of (as_placed v at p kids rest) ≡ node_as v p (row_of kids) (row_of rest)
+  pub as_row : (v : LeafVerdict) (at : ℕ) (p : Position) (kids rest : Placed) → row_of (as_placed v at p kids rest) ≡ node_as v p (row_of kids) (row_of rest)
   as_row Unsettled at p kids rest = refl
   as_row Yes at p kids rest = refl
   as_row No at p kids rest = refl
 
-  as_first : (v : Verdict) (at : ℕ) (p : Position) (kids rest : Placed) → first_of (as_placed v at p kids rest) ≡ Some at
+  as_first : (v : LeafVerdict) (at : ℕ) (p : Position) (kids rest : Placed) → first_of (as_placed v at p kids rest) ≡ Some at
   as_first Unsettled at p kids rest = refl
   as_first Yes at p kids rest = refl
   as_first No at p kids rest = refl
@@ -103,7 +103,7 @@ module _ (side : Side) where
     abbrev again : Node
     again = record { position = p; first = f; next = first_of rest; numbers = node_numbers side p (row_of kids) }
 
-    as_cells : {new : List (Option Node)} (v : Verdict) → verdict_on side p (row_of kids) ≡ v
+    as_cells : {new : List (Option Node)} (v : LeafVerdict) → verdict_on side p (row_of kids) ≡ v
         → Owns new (kept_below v at again (first_of kids) (cells_of side kids) ++ (cells_of side rest ++ others))
         → Owns new (cells_of side (as_placed v at p kids rest) ++ others)
     as_cells {new} Unsettled h owns =
@@ -133,7 +133,7 @@ module _ (side : Side) where
 
   -- a leaf
   pub record LeafFirst (slots : List (Option Node)) (at : ℕ) (node : Node) (row : Placed) (others : List (Cell Node)) : Type 0 where
-    pub verdict : Verdict
+    pub verdict : LeafVerdict
     pub rest : Placed
     pub row_is : row_of row ≡ leaf node.position verdict (row_of rest)
     pub node_is : node ≡ record { position = node.position; first = None; next = first_of rest; numbers = leaf_numbers verdict }

@@ -2,7 +2,7 @@
 use Rattle.std.proofs.Common.{◌≡◌, ◌≢◌, ◌↔◌, ℕ, ◌<◌, Bool, true, false, List, ◌∷◌, ◌++◌, Option, Some, None, refl, sym, ap, subst, ◌∙◌, arith}
 use Rattle.game_rules.specs.declared.Side.{Side}
 use Rattle.front_rules.specs.Counts.{same_count}
-use Rattle.front_rules.specs.Front.{node_count, number_of, is_own, planned, asked_in}
+use Rattle.front_rules.specs.Front.{node_count, row_number, is_own, planned, asked_in}
 use Rattle.front_rules.specs.Path.{updated}
 use Rattle.front_rules.specs.declared.Count.{Count}
 use Rattle.node_pool.specs.Slots.{held, free_slots}
@@ -157,11 +157,11 @@ module _ {side : Side} {old : List (Option Node)} {at : ℕ} {node : Node} (here
 
           -- it has the same, so the path ends here
           same_below : went ≡ steps.Same → (b smallest : Bool)
-              → number_of side b smallest (updated side (planned reach) own (number_in own node.numbers) (row_of inside.kids))
-              ≡ number_of side b smallest (row_of inside.kids)
+              → row_number side b smallest (updated side (planned reach) own (number_in own node.numbers) (row_of inside.kids))
+              ≡ row_number side b smallest (row_of inside.kids)
           same_below same =
-              subst (λ m. (b smallest : Bool) → number_of side b smallest (updated side (planned reach) own m (row_of inside.kids))
-              ≡ number_of side b smallest (row_of inside.kids)) least_below (did.numbers same)
+              subst (λ m. (b smallest : Bool) → row_number side b smallest (updated side (planned reach) own m (row_of inside.kids))
+              ≡ row_number side b smallest (row_of inside.kids)) least_below (did.numbers same)
 
           pub same_grown : went ≢ steps.Changed → IsGrown side reach old mid at proof least row others went
           same_grown kept =

@@ -6,15 +6,15 @@ use Rattle.game_rules.specs.Value.{win_of, same_end}
 use Rattle.game_rules.specs.declared.End.{End}
 use Rattle.game_rules.specs.declared.Side.{Side}
 use Rattle.front_rules.specs.Counts.{same_count}
-use Rattle.front_rules.specs.Front.{Row, nothing, leaf, inner, moves_out, leaf_number, is_own, number_of, node_number, node_as, end_verdict, leaves}
+use Rattle.front_rules.specs.Front.{Row, nothing, leaf, inner, moves_out, leaf_number, is_own, row_number, node_number, node_as, end_verdict, leaves}
 use Rattle.front_rules.specs.Path.{updated}
 use Rattle.front_rules.specs.declared.Count.{Count}
-use Rattle.front_rules.specs.declared.Verdict.{Verdict}
-use Rattle.front_rules.specs.declared.Verdict.TheVariants.{Unsettled, Yes, No}
+use Rattle.front_rules.specs.declared.LeafVerdict.{LeafVerdict}
+use Rattle.front_rules.specs.declared.LeafVerdict.TheVariants.{Unsettled, Yes, No}
 use Rattle.proof_front.specs.Rows.{AreGoing}
 
 module _ (side : Side) where
-  pub going_as : (v : Verdict) (p : Position) (kids rest : Row) → AreGoing kids → AreGoing rest → AreGoing (node_as v p kids rest)
+  pub going_as : (v : LeafVerdict) (p : Position) (kids rest : Row) → AreGoing kids → AreGoing rest → AreGoing (node_as v p kids rest)
   going_as Unsettled p kids rest k r = (k, r)
   going_as Yes p kids rest k r = (λ e. cc, r)
   going_as No p kids rest k r = (λ e. cc, r)
@@ -46,6 +46,6 @@ module _ (side : Side) where
         ]
     going_updated proof n (inner p kids rest) h =
         elim (cases_Bool (same_count (node_number side proof p kids) n)) [
-          | inl found ↦ rw found (going_as _ p _ rest (going_updated (is_own side p) (number_of side (is_own side p) true kids) kids h.0) h.1)
+          | inl found ↦ rw found (going_as _ p _ rest (going_updated (is_own side p) (row_number side (is_own side p) true kids) kids h.0) h.1)
           | inr past ↦ rw past (h.0, going_updated proof n rest h.1)
         ]

@@ -5,9 +5,9 @@ use Rattle.std.proofs.Common.{refl, sym, ap, subst, ◌∙◌, arith}
 use Rattle.game_rules.specs.Position.{Position}
 use Rattle.game_rules.specs.declared.Side.{Side}
 use Rattle.front_rules.specs.Counts.{finite_part}
-use Rattle.front_rules.specs.Front.{leaf, inner, node_count, joined, takes_least, number_of}
+use Rattle.front_rules.specs.Front.{leaf, inner, node_count, joined, takes_least, row_number}
 use Rattle.front_rules.proofs.Numbers.{number_bound, part_leaf}
-use Rattle.front_rules.specs.declared.Verdict.{Verdict}
+use Rattle.front_rules.specs.declared.LeafVerdict.{LeafVerdict}
 use Rattle.node_pool.specs.Slots.{held, IsLive}
 use Rattle.proof_front.specs.Cells.{Cell}
 use Rattle.proof_front.specs.Numbers.{number_in, leaf_numbers, node_numbers}
@@ -36,12 +36,12 @@ module _ (side : Side) where
     pub below : Lies side slots node.first (kids_of row) ((i, node) ∷ (cells_of side (rest_of row) ++ others))
     pub beside : Lies side slots node.next (rest_of row) ((i, node) ∷ (cells_of side (kids_of row) ++ others))
     pub number : (proof smallest : Bool)
-        → number_of side proof smallest (row_of row) ≡ joined smallest (number_in proof node.numbers) (number_of side proof smallest (row_of (rest_of row)))
+        → row_number side proof smallest (row_of row) ≡ joined smallest (number_in proof node.numbers) (row_number side proof smallest (row_of (rest_of row)))
     pub count : node_count (row_of row) ≡ 1 + (node_count (row_of (kids_of row)) + node_count (row_of (rest_of row)))
     pub part : (proof : Bool) → finite_part (number_in proof node.numbers) ≤ 1 + node_count (row_of (kids_of row))
 
   module _ {slots : List (Option Node)} where
-    opened_leaf : (i : ℕ) (p : Position) (v : Verdict) (rest : Placed) (others : List (Cell Node)) → Lies side slots (Some i) (leaf_at i p v rest) others
+    opened_leaf : (i : ℕ) (p : Position) (v : LeafVerdict) (rest : Placed) (others : List (Cell Node)) → Lies side slots (Some i) (leaf_at i p v rest) others
         → Opened slots i (record { position = p; first = None; next = first_of rest; numbers = leaf_numbers v }) (leaf_at i p v rest) others
     opened_leaf i p v rest others lies =
         record {
@@ -53,8 +53,8 @@ module _ (side : Side) where
           part = part;
         }
       where
-        number : (proof smallest : Bool) → number_of side proof smallest (leaf p v (row_of rest))
-            ≡ joined smallest (number_in proof (leaf_numbers v)) (number_of side proof smallest (row_of rest))
+        number : (proof smallest : Bool) → row_number side proof smallest (leaf p v (row_of rest))
+            ≡ joined smallest (number_in proof (leaf_numbers v)) (row_number side proof smallest (row_of rest))
         number true smallest = refl
         number false smallest = refl
 
@@ -87,8 +87,8 @@ module _ (side : Side) where
           part = part;
         }
       where
-        number : (proof smallest : Bool) → number_of side proof smallest (inner p (row_of kids) (row_of rest))
-            ≡ joined smallest (number_in proof (node_numbers side p (row_of kids))) (number_of side proof smallest (row_of rest))
+        number : (proof smallest : Bool) → row_number side proof smallest (inner p (row_of kids) (row_of rest))
+            ≡ joined smallest (number_in proof (node_numbers side p (row_of kids))) (row_number side proof smallest (row_of rest))
         number true smallest = refl
         number false smallest = refl
 

@@ -2,7 +2,7 @@
 use Rattle.std.proofs.Common.{◌≡◌, ℕ, ◌+◌, ◌<◌, ◌≤◌, ◌^◌, Bool, true, false, not, List, [], ◌∷◌, ◌++◌, length, Option, Some, refl, sym, ap, subst, ◌∙◌, arith}
 use Rattle.game_rules.specs.declared.Side.{Side}
 use Rattle.front_rules.specs.Counts.{finite_part}
-use Rattle.front_rules.specs.Front.{node_count, joined, number_of}
+use Rattle.front_rules.specs.Front.{node_count, joined, row_number}
 use Rattle.front_rules.specs.declared.Count.{Count}
 use Rattle.front_rules.proofs.Numbers.{number_bound}
 use Rattle.node_pool.specs.Slots.{held}
@@ -34,7 +34,7 @@ module _ (side : Side) {slots : List (Option Node)} {at : Option ℕ} {i : ℕ} 
     fewer_beside = omega (arith, ap node_count (reads_at side node.next (rest_of row) _ o.beside), ap node_count (reads_at side at row others lies), o.count)
 
     -- the sum of a number of the node and one of the row beside it
-    pub small : (proof smallest : Bool) (b : Count) → length slots ≤ 1000000 → b ≡ number_of side proof smallest (row_of (rest_of row))
+    pub small : (proof smallest : Bool) (b : Count) → length slots ≤ 1000000 → b ≡ row_number side proof smallest (row_of (rest_of row))
         → finite_part (number_in proof node.numbers) + finite_part b < 2 ^ 32
     small proof smallest b few e =
         omega (
@@ -52,8 +52,8 @@ module _ (side : Side) {slots : List (Option Node)} {at : Option ℕ} {i : ℕ} 
         → q ≡ joined (not own) node.numbers.disproof b.disproof
         → record { proof = p; disproof = q } ≡ row_numbers side own (row_of row)
     numbers_more own b p q e f g =
-        let proof : p ≡ number_of side true own (row_of row) = f ∙ (ap (λ n. joined own node.numbers.proof n.proof) e ∙ sym (o.number true own)) in
-        let disproof : q ≡ number_of side false (not own) (row_of row) = g
+        let proof : p ≡ row_number side true own (row_of row) = f ∙ (ap (λ n. joined own node.numbers.proof n.proof) e ∙ sym (o.number true own)) in
+        let disproof : q ≡ row_number side false (not own) (row_of row) = g
         ∙ (ap (λ n. joined (not own) node.numbers.disproof n.disproof) e ∙ sym (o.number false (not own))) in
         rw (proof, disproof) refl
 

@@ -6,18 +6,18 @@ use Rattle.std.proofs.lemmas.List.{length-append}
 use Rattle.std.proofs.lemmas.List.Sums.{count_by-le-length}
 use Rattle.game_rules.specs.Position.{Position}
 use Rattle.game_rules.specs.declared.Side.{Side}
-use Rattle.front_rules.specs.Front.{Row, nothing, inner, node_count, leaf_number, is_own, of_none, verdict_of, verdict_on}
+use Rattle.front_rules.specs.Front.{Row, nothing, inner, node_count, leaf_number, is_own, of_none, verdict_by_numbers, verdict_on}
 use Rattle.front_rules.specs.Path.{IsClean}
 use Rattle.front_rules.specs.declared.Count.{Count}
-use Rattle.front_rules.specs.declared.Verdict.{Verdict}
-use Rattle.front_rules.specs.declared.Verdict.TheVariants.{Unsettled, Yes, No}
+use Rattle.front_rules.specs.declared.LeafVerdict.{LeafVerdict}
+use Rattle.front_rules.specs.declared.LeafVerdict.TheVariants.{Unsettled, Yes, No}
 use Rattle.proof_front.specs.Cells.{Cell, Owns}
 use Rattle.proof_front.specs.Numbers.{leaf_numbers, node_numbers}
 use Rattle.proof_front.specs.Rows.{Placed, end, leaf_at, inner_at, row_of, first_of, cells_of, Lies, row_beside, row_within, row_at}
 use Rattle.proof_front.specs.declared.node.Node.{Node}
 use Rattle.proof_front.proofs.Cells.{first_to_front, second_to_front, mine}
 
-leaf_verdict : (v : Verdict) → verdict_of (leaf_number true v) (leaf_number false v) ≡ v
+leaf_verdict : (v : LeafVerdict) → verdict_by_numbers (leaf_number true v) (leaf_number false v) ≡ v
 leaf_verdict Unsettled = refl
 leaf_verdict Yes = refl
 leaf_verdict No = refl
@@ -27,8 +27,8 @@ module _ (side : Side) where
   pub childless : (p : Position) → verdict_on side p nothing ≡ Unsettled → ⊥
   childless p h =
       elim (cases_Bool (is_own side p)) [
-        | inl own ↦ settled_no (subst (λ b. verdict_of (of b) (of (not b)) ≡ Unsettled) own h)
-        | inr other ↦ settled_yes (subst (λ b. verdict_of (of b) (of (not b)) ≡ Unsettled) other h)
+        | inl own ↦ settled_no (subst (λ b. verdict_by_numbers (of b) (of (not b)) ≡ Unsettled) own h)
+        | inr other ↦ settled_yes (subst (λ b. verdict_by_numbers (of b) (of (not b)) ≡ Unsettled) other h)
       ]
     where
       of : Bool → Count

@@ -6,11 +6,11 @@ use Rattle.game_rules.specs.declared.Side.{Side}
 use Rattle.game_rules.specs.declared.Side.TheVariants.{White, Black}
 use Rattle.game_rules.specs.contracts.SidePartialEq.TheImpl.{eq-value}
 use Rattle.front_rules.specs.Counts.{same_count}
-use Rattle.front_rules.specs.Front.{is_own, verdict_of, verdict_on}
+use Rattle.front_rules.specs.Front.{is_own, verdict_by_numbers, verdict_on}
 use Rattle.front_rules.specs.declared.Count.{Count}
 use Rattle.front_rules.specs.declared.Count.TheVariants.{Finite, Infinite}
-use Rattle.front_rules.specs.declared.Verdict.{Verdict}
-use Rattle.front_rules.specs.declared.Verdict.TheVariants.{Unsettled, Yes, No}
+use Rattle.front_rules.specs.declared.LeafVerdict.{LeafVerdict}
+use Rattle.front_rules.specs.declared.LeafVerdict.TheVariants.{Unsettled, Yes, No}
 use Rattle.node_pool.specs.Slots.{held, IsLive, live_slots}
 use Rattle.proof_front.specs.Cells.{Cell, Owns}
 use Rattle.proof_front.specs.Numbers.{row_numbers, node_numbers, same_numbers}
@@ -22,6 +22,7 @@ use Rattle.proof_front.specs.declared.node.Node.{Node}
 use Rattle.proof_front.specs.declared.node.Numbers.{Numbers}
 use Rattle.proof_front.proofs.Cells.{exchanged, mine, changed_to}
 use Rattle.proof_front.proofs.Opening.{same_some}
+use Rattle.game_rules.proofs.Ends.{side_same}
 
 pub count_same : (a b : Count) → same_count a b ≡ true → a ≡ b
 count_same (Finite m) (Finite n) h = ap Finite (grind arith)
@@ -51,7 +52,7 @@ module _ (side : Side) {slots : List (Option Node)} {at : ℕ} {first : Option �
   read_is read here = same_some (sym here ∙ mine at node (cells_of side kids ++ others) b.owns)
 
   -- what became of the slots, where a node that stands so keeps its children or gives them up
-  pub record Kept (v : Verdict) (mid : List (Option Node)) (kept : Option ℕ) : Type 0 where
+  pub record Kept (v : LeafVerdict) (mid : List (Option Node)) (kept : Option ℕ) : Type 0 where
     pub same : v ≡ Unsettled → (mid ≡ slots) × (kept ≡ first)
     pub none : v ≢ Unsettled → kept ≡ None
     pub freed : v ≢ Unsettled → (side : Side) (row : Placed) (o : List (Cell Node)) → Lies side slots first row o → Owns mid o
@@ -60,15 +61,15 @@ module _ (side : Side) {slots : List (Option Node)} {at : ℕ} {first : Option �
     unsettled_owns : Kept Unsettled mid kept → Owns mid ((at, node) ∷ (cells_of side kids ++ others))
     unsettled_owns k = subst (λ s. Owns s ((at, node) ∷ (cells_of side kids ++ others))) (sym (k.same refl).0) b.owns
 
-    settled_owns : {v : Verdict} → Kept v mid kept → v ≢ Unsettled → Owns mid ((at, node) ∷ others)
+    settled_owns : {v : LeafVerdict} → Kept v mid kept → v ≢ Unsettled → Owns mid ((at, node) ∷ others)
     settled_owns k apart = k.freed apart side kids ((at, node) ∷ others) kids_lie
 
-    pub still_live : (v : Verdict) → Kept v mid kept → IsLive mid at
+    pub still_live : (v : LeafVerdict) → Kept v mid kept → IsLive mid at
     still_live Unsettled k = ap is_some (mine at node (cells_of side kids ++ others) (unsettled_owns k))
     still_live Yes k = ap is_some (mine at node others (settled_owns k (λ e. cc)))
     still_live No k = ap is_some (mine at node others (settled_owns k (λ e. cc)))
 
-    put_back : (v : Verdict) → Kept v mid kept → v ≡ verdict_on side node.position (row_of kids)
+    put_back : (v : LeafVerdict) → Kept v mid kept → v ≡ verdict_on side node.position (row_of kids)
         → live_slots (set mid at (Some (put_as side node kids kept))) ≡ live_slots mid
         → Owns (set mid at (Some (put_as side node kids kept))) (renewed side at node kids ++ others)
     put_back Unsettled k e count =
@@ -83,8 +84,8 @@ module _ (side : Side) {slots : List (Option Node)} {at : ℕ} {first : Option �
         (subst (λ f. live_slots (set mid at (Some (put_as side node kids f))) ≡ live_slots mid) (k.none (λ e. cc)) count)))
 
   -- the node was put back with the numbers that its children have
-  renewed_owns : (read : Node) (n : Numbers) (v : Verdict) (kept : Option ℕ) (mid new : List (Option Node)) → held slots at ≡ Some read
-      → n ≡ node_numbers side node.position (row_of kids) → v ≡ verdict_of n.proof n.disproof → Kept v mid kept
+  renewed_owns : (read : Node) (n : Numbers) (v : LeafVerdict) (kept : Option ℕ) (mid new : List (Option Node)) → held slots at ≡ Some read
+      → n ≡ node_numbers side node.position (row_of kids) → v ≡ verdict_by_numbers n.proof n.disproof → Kept v mid kept
       → new ≡ set mid at (Some (record { position = read.position; first = kept; next = read.next; numbers = n })) → live_slots new ≡ live_slots mid
       → Owns new (renewed side at node kids ++ others)
   renewed_owns read n v kept mid new here e f k put count =
@@ -92,7 +93,7 @@ module _ (side : Side) {slots : List (Option Node)} {at : ℕ} {first : Option �
       in
       let is : new ≡ set mid at (Some (put_as side node kids kept)) = put ∙ ap (λ m. set mid at (Some m)) made in
       subst (λ s. Owns s (renewed side at node kids ++ others)) (sym is)
-      (put_back v k (f ∙ ap (λ n. verdict_of n.proof n.disproof) e) (sym (ap live_slots is) ∙ count))
+      (put_back v k (f ∙ ap (λ n. verdict_by_numbers n.proof n.disproof) e) (sym (ap live_slots is) ∙ count))
 
   -- the numbers of the children, as a node's
   numbers_are : (read : Node) (own : Bool) (n : Numbers) → held slots at ≡ Some read → own ≡ is_own side read.position → n ≡ row_numbers side own (row_of kids)
@@ -106,22 +107,15 @@ module _ (side : Side) {slots : List (Option Node)} {at : ℕ} {first : Option �
   before_is read n here e alike = sym (ap (λ m. m.numbers) (read_is read here)) ∙ (sym (numbers_same n read.numbers alike) ∙ e)
 
   -- the node after it was looked at again
-  pub renewed_again : {read : Node} {own : Bool} {n : Numbers} {v : Verdict} {kept : Option ℕ} {mid new : List (Option Node)} {step : Step}
+  pub renewed_again : {read : Node} {own : Bool} {n : Numbers} {v : LeafVerdict} {kept : Option ℕ} {mid new : List (Option Node)} {step : Step}
       → held slots at ≡ Some read → own ≡ is_own side read.position
-      → n ≡ row_numbers side own (row_of kids) → v ≡ verdict_of n.proof n.disproof → Kept v mid kept
+      → n ≡ row_numbers side own (row_of kids) → v ≡ verdict_by_numbers n.proof n.disproof → Kept v mid kept
       → new ≡ set mid at (Some (record { position = read.position; first = kept; next = read.next; numbers = n })) → live_slots new ≡ live_slots mid
       → (step ≡ steps.Same → same_numbers n read.numbers ≡ true)
       → IsRenewed side new at node kids others step
   renewed_again {read} {own} {n} {v} {kept} {mid} {new} here moves e f k put count alike =
       let numbers = numbers_are read own n here moves e in
       record { owns = renewed_owns read n v kept mid new here numbers f k put count; numbers = λ same. before_is read n here numbers (alike same) }
-
--- the comparison of sides in the code is the one in the definitions
-pub side_same : (a b : Side) → eq-value.it a b ≡ same_side a b
-side_same White White = refl
-side_same White Black = refl
-side_same Black White = refl
-side_same Black Black = refl
 
 -- whether the side that is asked about is to move, as the code tests it
 pub own_is : (side : Side) {turn : Side} {own : Bool} (p : Position) → own ≡ eq-value.it side turn → turn ≡ side_to_move p → own ≡ is_own side p

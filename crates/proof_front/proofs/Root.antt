@@ -6,15 +6,15 @@ use Rattle.std.proofs.lemmas.List.{length-append, get_or-replicate, get_or_past,
 use Rattle.game_rules.specs.Position.{Position}
 use Rattle.game_rules.specs.declared.Side.{Side}
 use Rattle.front_rules.specs.Counts.{least, same_count, is_zero, is_infinite}
-use Rattle.front_rules.specs.Front.{Row, nothing, leaf, inner, node_count, leaf_number, joined, number_of, node_number, root_number, verdict_of, node_as}
+use Rattle.front_rules.specs.Front.{Row, nothing, leaf, inner, node_count, leaf_number, joined, row_number, node_number, root_number, verdict_by_numbers, node_as}
 use Rattle.front_rules.specs.Front.{verdict_at, leaves, moves_out, grown, asked, asked_in, is_settled, planned, front_within, front}
 use Rattle.front_rules.specs.Path.{updated}
 use Rattle.front_rules.proofs.Numbers.{row_dual}
 use Rattle.front_rules.proofs.Updated.{grown_is}
 use Rattle.front_rules.specs.declared.Count.{Count}
 use Rattle.front_rules.specs.declared.Count.TheVariants.{Finite, Infinite}
-use Rattle.front_rules.specs.declared.Verdict.{Verdict}
-use Rattle.front_rules.specs.declared.Verdict.TheVariants.{Unsettled, Yes, No}
+use Rattle.front_rules.specs.declared.LeafVerdict.{LeafVerdict}
+use Rattle.front_rules.specs.declared.LeafVerdict.TheVariants.{Unsettled, Yes, No}
 use Rattle.node_pool.specs.Slots.{held, IsLive, live_slots, free_slots}
 use Rattle.proof_front.specs.Cells.{Owns, listed}
 use Rattle.proof_front.specs.Numbers.{number_in, leaf_numbers}
@@ -33,7 +33,7 @@ use Rattle.proof_front.specs.declared.front.Grown.TheVariants.{Settled, Full, Ex
 use Rattle.proof_front.specs.declared.growing.Step.{Step}
 use Rattle.proof_front.specs.declared.growing.Step.TheVariants as steps
 
-alone_joined : (smallest : Bool) (side : Side) (proof : Bool) (a : Count) → joined smallest a (number_of side proof smallest nothing) ≡ a
+alone_joined : (smallest : Bool) (side : Side) (proof : Bool) (a : Count) → joined smallest a (row_number side proof smallest nothing) ≡ a
 alone_joined true side proof (Finite m) = refl
 alone_joined true side proof Infinite = refl
 alone_joined false side proof (Finite m) = ap Finite (omega arith)
@@ -44,7 +44,7 @@ rest_beside end = refl
 rest_beside (leaf_at i p v rest) = refl
 rest_beside (inner_at i p kids rest) = refl
 
-beside_as : (v : Verdict) (p : Position) (kids rest : Row) → beside (node_as v p kids rest) ≡ rest
+beside_as : (v : LeafVerdict) (p : Position) (kids rest : Row) → beside (node_as v p kids rest) ≡ rest
 beside_as Unsettled p kids rest = refl
 beside_as Yes p kids rest = refl
 beside_as No p kids rest = refl
@@ -54,14 +54,14 @@ updated_alone : (side : Side) (closed : Side → Position → Bool) (tree : Row)
     → beside (updated side closed true (root_number side true tree) tree) ≡ nothing
 updated_alone side closed nothing h = refl
 updated_alone side closed (leaf p v rest) h =
-    let number : root_number side true (leaf p v rest) ≡ leaf_number true v = ap (λ r. least (leaf_number true v) (number_of side true true r)) h
+    let number : root_number side true (leaf p v rest) ≡ leaf_number true v = ap (λ r. least (leaf_number true v) (row_number side true true r)) h
     ∙ alone_joined true side true (leaf_number true v) in
     let found : same_count (leaf_number true v) (root_number side true (leaf p v rest)) ≡ true = ap (same_count (leaf_number true v)) number
     ∙ same_itself (leaf_number true v) in
     rw found (beside_as _ p (leaves side closed (moves_out p)) rest ∙ h)
 updated_alone side closed (inner p kids rest) h =
     let number : root_number side true (inner p kids rest) ≡ node_number side true p kids =
-    ap (λ r. least (node_number side true p kids) (number_of side true true r)) h ∙ alone_joined true side true (node_number side true p kids) in
+    ap (λ r. least (node_number side true p kids) (row_number side true true r)) h ∙ alone_joined true side true (node_number side true p kids) in
     let found : same_count (node_number side true p kids) (root_number side true (inner p kids rest))
     ≡ true = ap (same_count (node_number side true p kids)) number ∙ same_itself (node_number side true p kids) in
     rw found (beside_as _ p _ rest ∙ h)
@@ -80,16 +80,16 @@ module _ {side : Side} {slots : List (Option Node)} {root : ℕ} (f : IsFront si
   root_live = first_held side root f.tree [] f.lies
 
   module _ (node : Node) (here : held slots root ≡ Some node) where
-    number_of_tree : (proof smallest : Bool) → number_of side proof smallest (row_of f.tree) ≡ number_in proof node.numbers
+    number_of_tree : (proof smallest : Bool) → row_number side proof smallest (row_of f.tree) ≡ number_in proof node.numbers
     number_of_tree proof smallest =
         let o = opened side root node f.tree [] f.lies here in
-        o.number proof smallest ∙ (ap (λ r. joined smallest (number_in proof node.numbers) (number_of side proof smallest r)) (rest_beside f.tree ∙ f.alone)
+        o.number proof smallest ∙ (ap (λ r. joined smallest (number_in proof node.numbers) (row_number side proof smallest r)) (rest_beside f.tree ∙ f.alone)
         ∙ alone_joined smallest side proof (number_in proof node.numbers))
 
     pub number_is : (proof : Bool) → root_number side proof (row_at slots (Some root)) ≡ number_in proof node.numbers
     number_is proof = ap (root_number side proof) tree_is ∙ number_of_tree proof true
 
-    pub asked_root : verdict_of node.numbers.proof node.numbers.disproof ≡ Unsettled → IsAsked side slots root true node.numbers.proof
+    pub asked_root : verdict_by_numbers node.numbers.proof node.numbers.disproof ≡ Unsettled → IsAsked side slots root true node.numbers.proof
     asked_root open_root =
         let zeros = neither_zero node.numbers.proof node.numbers.disproof open_root in
         record {
@@ -123,25 +123,25 @@ module _ {side : Side} {slots : List (Option Node)} {root : ℕ} (f : IsFront si
 
 -- ---- what the root's numbers settle
 
-is_yes : Verdict → Bool
+is_yes : LeafVerdict → Bool
 is_yes Unsettled = false
 is_yes Yes = true
 is_yes No = false
 
-is_no : Verdict → Bool
+is_no : LeafVerdict → Bool
 is_no Unsettled = false
 is_no Yes = false
 is_no No = true
 
 -- what a call of `grow` answers, by how the root stands and by what an expansion did
-abbrev pub answer_of : Verdict → Step → Grown
+abbrev pub answer_of : LeafVerdict → Step → Grown
 answer_of Yes step = Settled true
 answer_of No step = Settled false
 answer_of Unsettled steps.Full = Full
 answer_of Unsettled steps.Same = Expanded
 answer_of Unsettled steps.Changed = Expanded
 
-no_first : (a b : Count) → verdict_of a b ≡ No → is_zero a ≡ false
+no_first : (a b : Count) → verdict_by_numbers a b ≡ No → is_zero a ≡ false
 no_first a b h = look (is_zero a) h
   where
     look : (t : Bool) → (if t then Yes else (if is_zero b then No else Unsettled)) ≡ No → t ≡ false
@@ -157,12 +157,12 @@ module _ {side : Side} {slots : List (Option Node)} {root : ℕ} (f : IsFront si
       look (Finite m) e = cc
       look Infinite e = refl
 
-  module _ (v : Verdict) (is : v ≡ verdict_of node.numbers.proof node.numbers.disproof) where
+  module _ (v : LeafVerdict) (is : v ≡ verdict_by_numbers node.numbers.proof node.numbers.disproof) where
     proof_zero : is_zero (root_number side true (row_at slots (Some root))) ≡ is_yes v
     unfolding is_yes
     proof_zero = ap is_zero (number_is f node here true) ∙ look v is
       where
-        look : (v : Verdict) → v ≡ verdict_of node.numbers.proof node.numbers.disproof → is_zero node.numbers.proof ≡ is_yes v
+        look : (v : LeafVerdict) → v ≡ verdict_by_numbers node.numbers.proof node.numbers.disproof → is_zero node.numbers.proof ≡ is_yes v
         look Unsettled e = (neither_zero node.numbers.proof node.numbers.disproof (sym e)).0
         look Yes e = yes_zero node.numbers.proof node.numbers.disproof (sym e)
         look No e = no_first node.numbers.proof node.numbers.disproof (sym e)
@@ -171,7 +171,7 @@ module _ {side : Side} {slots : List (Option Node)} {root : ℕ} (f : IsFront si
     unfolding is_no
     disproof_zero = ap is_zero (number_is f node here false) ∙ look v is
       where
-        look : (v : Verdict) → v ≡ verdict_of node.numbers.proof node.numbers.disproof → is_zero node.numbers.disproof ≡ is_no v
+        look : (v : LeafVerdict) → v ≡ verdict_by_numbers node.numbers.proof node.numbers.disproof → is_zero node.numbers.disproof ≡ is_no v
         look Unsettled e = (neither_zero node.numbers.proof node.numbers.disproof (sym e)).1
         look Yes e = zero_infinite (yes_zero node.numbers.proof node.numbers.disproof (sym e))
         look No e = no_zero node.numbers.proof node.numbers.disproof (sym e)
@@ -181,7 +181,7 @@ module _ {side : Side} {slots : List (Option Node)} {root : ℕ} (f : IsFront si
       unfolding is_yes
       says_yes = rw (answers, proof_zero) (look v step)
         where
-          look : (v : Verdict) (step : Step) → (answer_of v step ≡ Settled true) ↔ (is_yes v ≡ true)
+          look : (v : LeafVerdict) (step : Step) → (answer_of v step ≡ Settled true) ↔ (is_yes v ≡ true)
           look Yes step = (λ e. refl, λ e. refl)
           look No step = (λ e. cc, λ e. cc)
           look Unsettled steps.Full = (λ e. cc, λ e. cc)
@@ -192,7 +192,7 @@ module _ {side : Side} {slots : List (Option Node)} {root : ℕ} (f : IsFront si
       unfolding is_no
       says_no = rw (answers, disproof_zero) (look v step)
         where
-          look : (v : Verdict) (step : Step) → (answer_of v step ≡ Settled false) ↔ (is_no v ≡ true)
+          look : (v : LeafVerdict) (step : Step) → (answer_of v step ≡ Settled false) ↔ (is_no v ≡ true)
           look Yes step = (λ e. cc, λ e. cc)
           look No step = (λ e. refl, λ e. refl)
           look Unsettled steps.Full = (λ e. cc, λ e. cc)
@@ -215,7 +215,7 @@ module _ {side : Side} {slots : List (Option Node)} {root : ℕ} (f : IsFront si
                     ltb-true (free_slots slots) _ (sym (rw (asked_is, free_is) refl) ∙ full),
               )
 
-          look : (v : Verdict) (step : Step)
+          look : (v : LeafVerdict) (step : Step)
               → (v ≡ Unsettled → (step ≡ steps.Full) ↔ (free_slots slots < asked_in side true node.numbers.proof (row_of f.tree))) → (answer_of v step ≡ Full)
               ↔ (((is_yes v || is_no v) ≡ false) × (is_full side (length slots) (row_at slots (Some root)) ≡ true))
           look Yes step room = (λ e. cc, λ h. absurd (settled h.0))

@@ -6,11 +6,11 @@ use Rattle.std.proofs.lemmas.Option.{none-some}
 use Rattle.game_rules.specs.Position.{Position}
 use Rattle.game_rules.specs.declared.Side.{Side}
 use Rattle.front_rules.specs.Counts.{least, same_count, is_infinite}
-use Rattle.front_rules.specs.Front.{Row, leaf, inner, leaf_number, joined, number_of, node_number, asked_in}
+use Rattle.front_rules.specs.Front.{Row, leaf, inner, leaf_number, joined, row_number, node_number, asked_in}
 use Rattle.front_rules.specs.Path.{updated}
 use Rattle.front_rules.specs.declared.Count.{Count}
 use Rattle.front_rules.specs.declared.Count.TheVariants.{Finite, Infinite}
-use Rattle.front_rules.specs.declared.Verdict.{Verdict}
+use Rattle.front_rules.specs.declared.LeafVerdict.{LeafVerdict}
 use Rattle.node_pool.specs.Slots.{held}
 use Rattle.proof_front.specs.Cells.{Cell, Owns}
 use Rattle.proof_front.specs.Numbers.{number_in, leaf_numbers, node_numbers}
@@ -54,7 +54,7 @@ module _ (side : Side) where
   with_rest (leaf_at i p v rest) new = leaf_at i p v new
   with_rest (inner_at i p kids rest) new = inner_at i p kids new
 
-  pub in_leaf : (proof : Bool) (v : Verdict) → number_in proof (leaf_numbers v) ≡ leaf_number proof v
+  pub in_leaf : (proof : Bool) (v : LeafVerdict) → number_in proof (leaf_numbers v) ≡ leaf_number proof v
   in_leaf true v = refl
   in_leaf false v = refl
 
@@ -64,7 +64,7 @@ module _ (side : Side) where
 
   module _ {slots : List (Option Node)} {i : ℕ} {node : Node} (here : held slots i ≡ Some node) where
     -- the node in the slot of a row's first node
-    pub leaf_cell : (j : ℕ) (p : Position) (v : Verdict) (rest : Placed) (others : List (Cell Node)) → Lies side slots (Some i) (leaf_at j p v rest) others
+    pub leaf_cell : (j : ℕ) (p : Position) (v : LeafVerdict) (rest : Placed) (others : List (Cell Node)) → Lies side slots (Some i) (leaf_at j p v rest) others
         → record { position = p; first = None; next = first_of rest; numbers = leaf_numbers v } ≡ node
     leaf_cell j p v rest others lies = same_some (sym (mine j _ (cells_of side rest ++ others) lies.owns) ∙ (ap (held slots) (same_some lies.first) ∙ here))
 
@@ -138,14 +138,14 @@ module _ (side : Side) where
             skip (leaf_at j p v rest) h e = rw h (ap (leaf p v) e)
             skip (inner_at j p kids rest) h e = rw h (ap (inner p (row_of kids)) e)
 
-        pub numbers_skipped : ((b smallest : Bool) → number_of side b smallest (updated side closed proof n (row_of (rest_of row)))
-            ≡ number_of side b smallest (row_of (rest_of row)))
-            → (b smallest : Bool) → number_of side b smallest (updated side closed proof n (row_of row)) ≡ number_of side b smallest (row_of row)
+        pub numbers_skipped : ((b smallest : Bool) → row_number side b smallest (updated side closed proof n (row_of (rest_of row)))
+            ≡ row_number side b smallest (row_of (rest_of row)))
+            → (b smallest : Bool) → row_number side b smallest (updated side closed proof n (row_of row)) ≡ row_number side b smallest (row_of row)
         numbers_skipped same b smallest = skip row other_first (same b smallest)
           where
             skip : (row : Placed) → same_count (first_number proof row) n ≡ false
-                → number_of side b smallest (updated side closed proof n (row_of (rest_of row))) ≡ number_of side b smallest (row_of (rest_of row))
-                → number_of side b smallest (updated side closed proof n (row_of row)) ≡ number_of side b smallest (row_of row)
+                → row_number side b smallest (updated side closed proof n (row_of (rest_of row))) ≡ row_number side b smallest (row_of (rest_of row))
+                → row_number side b smallest (updated side closed proof n (row_of row)) ≡ row_number side b smallest (row_of row)
             skip end h e = refl
             skip (leaf_at j p v rest) h e = rw h (ap (joined smallest (leaf_number b v)) e)
             skip (inner_at j p kids rest) h e = rw h (ap (joined smallest (node_number side b p (row_of kids))) e)
@@ -153,14 +153,14 @@ module _ (side : Side) where
   -- the row beside is asked
   module _ {slots : List (Option Node)} {at : ℕ} {node : Node} {proof : Bool} {n : Count} (g : IsAsked side slots at proof n)
       (o : Opened side slots at node g.row g.others) (apart : same_count (number_in proof node.numbers) n ≡ false) where
-    number_beside : number_of side proof true (row_of (rest_of g.row)) ≡ n
-    number_beside = least_other (number_in proof node.numbers) (number_of side proof true (row_of (rest_of g.row))) n (sym (o.number proof true) ∙ g.number)
+    number_beside : row_number side proof true (row_of (rest_of g.row)) ≡ n
+    number_beside = least_other (number_in proof node.numbers) (row_number side proof true (row_of (rest_of g.row))) n (sym (o.number proof true) ∙ g.number)
         apart
 
     pub some_beside : node.next ≡ None → ⊥
     some_beside none = infinite (rest_of g.row) (o.beside.first ∙ none) (number_beside)
       where
-        infinite : (row : Placed) → first_of row ≡ None → number_of side proof true (row_of row) ≡ n → ⊥
+        infinite : (row : Placed) → first_of row ≡ None → row_number side proof true (row_of row) ≡ n → ⊥
         infinite end e h = both (ap is_infinite h ∙ g.finite)
           where
             both : true ≡ false → ⊥

@@ -2,10 +2,10 @@
 use Rattle.std.specs.Prelude.{◌≡◌, ℕ, zero, suc, List, [], ◌∷◌, ◌++◌, length, Option, Some, None, ⊤}
 use Rattle.game_rules.specs.Position.{Position, end_of}
 use Rattle.game_rules.specs.declared.Side.{Side}
-use Rattle.front_rules.specs.Front.{Row, nothing, leaf, inner, verdict_of}
+use Rattle.front_rules.specs.Front.{Row, nothing, leaf, inner, verdict_by_numbers}
 use Rattle.front_rules.specs.Path.{IsClean}
-use Rattle.front_rules.specs.declared.Verdict.{Verdict}
-use Rattle.front_rules.specs.declared.Verdict.TheVariants.{Unsettled}
+use Rattle.front_rules.specs.declared.LeafVerdict.{LeafVerdict}
+use Rattle.front_rules.specs.declared.LeafVerdict.TheVariants.{Unsettled}
 use Rattle.node_pool.specs.Slots.{held}
 use Rattle.proof_front.specs.Cells.{Cell, Owns}
 use Rattle.proof_front.specs.Numbers.{leaf_numbers, node_numbers}
@@ -16,7 +16,7 @@ use Rattle.proof_front.specs.declared.node.Node.{Node}
 -- a row in which each node has its slot
 pub data Placed : Type 0 where
   end : Placed
-  leaf_at : ℕ → Position → Verdict → Placed → Placed
+  leaf_at : ℕ → Position → LeafVerdict → Placed → Placed
   inner_at : ℕ → Position → Placed → Placed → Placed
 
 abbrev pub row_of : Placed → Row
@@ -60,7 +60,7 @@ pub record IsRowAt (side : Side) (slots : List (Option Node)) (at : Option ℕ) 
 -- ---- reading a row
 
 abbrev pub row_beside : Node → Option ℕ → (below beside : Row) → Row
-row_beside node None below beside = leaf node.position (verdict_of node.numbers.proof node.numbers.disproof) beside
+row_beside node None below beside = leaf node.position (verdict_by_numbers node.numbers.proof node.numbers.disproof) beside
 row_beside node (Some i) below beside = inner node.position below beside
 
 abbrev pub row_held : (Option ℕ → Row) → Option Node → Row

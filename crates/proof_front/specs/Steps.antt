@@ -4,11 +4,11 @@ use Rattle.std.specs.Prelude.{◌≡◌, ◌≢◌, ◌↔◌, ℕ, ◌<◌, fal
 use Rattle.game_rules.specs.Position.{Position, has_room, after_move, end_of}
 use Rattle.game_rules.specs.declared.Side.{Side}
 use Rattle.front_rules.specs.Counts.{is_zero, is_infinite}
-use Rattle.front_rules.specs.Front.{Row, number_of, verdict_on, leaves, moves_out, planned, asked_in}
+use Rattle.front_rules.specs.Front.{Row, row_number, verdict_on, leaves, moves_out, planned, asked_in}
 use Rattle.front_rules.specs.Path.{IsClean, updated}
 use Rattle.front_rules.specs.declared.Count.{Count}
-use Rattle.front_rules.specs.declared.Verdict.{Verdict}
-use Rattle.front_rules.specs.declared.Verdict.TheVariants.{Unsettled, Yes, No}
+use Rattle.front_rules.specs.declared.LeafVerdict.{LeafVerdict}
+use Rattle.front_rules.specs.declared.LeafVerdict.TheVariants.{Unsettled, Yes, No}
 use Rattle.node_pool.specs.Slots.{free_slots}
 use Rattle.proof_front.specs.Numbers.{node_numbers}
 use Rattle.proof_front.specs.Cells.{Cell, Owns}
@@ -22,7 +22,7 @@ pub record IsAsked (side : Side) (slots : List (Option Node)) (at : ℕ) (proof 
   pub row : Placed
   pub others : List (Cell Node)
   pub lies : Lies side slots (Some at) row others
-  pub number : number_of side proof true (row_of row) ≡ least
+  pub number : row_number side proof true (row_of row) ≡ least
   pub unsettled : is_zero least ≡ false
   pub finite : is_infinite least ≡ false
 
@@ -41,7 +41,7 @@ pub record IsBelow (side : Side) (slots : List (Option Node)) (at : ℕ) (first 
   pub lies : LiesBelow side slots at first node kids others
 
 -- the cells of a node whose numbers were looked at again, and of its children, which it has no more where it is settled
-abbrev pub kept_below : Verdict → ℕ → Node → (kids : Option ℕ) → List (Cell Node) → List (Cell Node)
+abbrev pub kept_below : LeafVerdict → ℕ → Node → (kids : Option ℕ) → List (Cell Node) → List (Cell Node)
 kept_below Unsettled at node first cells = (at, record node { first = first }) ∷ cells
 kept_below Yes at node first cells = (at, record node { first = None }) ∷ []
 kept_below No at node first cells = (at, record node { first = None }) ∷ []
@@ -93,4 +93,4 @@ pub record IsGrown (side : Side) (reach : ℕ) (old new : List (Option Node)) (a
   pub full : step ≡ steps.Full ↔ (free_slots old < asked_in side proof least (row_of row))
   pub grown : step ≢ steps.Full → Grew side new at (updated side (planned reach) proof least (row_of row)) others
   pub numbers : step ≡ steps.Same
-      → (b smallest : Bool) → number_of side b smallest (updated side (planned reach) proof least (row_of row)) ≡ number_of side b smallest (row_of row)
+      → (b smallest : Bool) → row_number side b smallest (updated side (planned reach) proof least (row_of row)) ≡ row_number side b smallest (row_of row)

@@ -12,7 +12,7 @@ use crate::judging::Asked;
 use crate::node::Node;
 use crate::rows::free_row;
 use board_bits::{Position, Question};
-use front_rules::{Count, Verdict};
+use front_rules::{Count, LeafVerdict};
 use node_pool::{Pool, Slot};
 use rule_chooser::Chooser;
 use std::alloc::{AllocError, Global};
@@ -95,9 +95,9 @@ impl Front {
     {
         let numbers = self.pool.get(self.root).numbers;
         match numbers.verdict() {
-            Verdict::Yes => Grown::Settled(true),
-            Verdict::No => Grown::Settled(false),
-            Verdict::Unsettled => {
+            LeafVerdict::Yes => Grown::Settled(true),
+            LeafVerdict::No => Grown::Settled(false),
+            LeafVerdict::Unsettled => {
                 match grow_in(
                     &mut self.pool,
                     &self.asked,

@@ -8,14 +8,14 @@ ghost use Rattle.proof_front.specs.Cells.{Cell, Owns};
 ghost use Rattle.proof_front.specs.Rows.{Placed, Lies, IsRowAt};
 ghost use Rattle.proof_front.specs.Steps.{LiesBelow, IsBelow, IsRenewed, IsGoingLeaf, IsExpanded, IsAsked, IsGrown};
 ghost use Rattle.proof_front.specs.declared.node.Node.{Node as Held};
-ghost use Rattle.front_rules.specs.declared.Verdict.TheVariants as verdicts;
+ghost use Rattle.front_rules.specs.declared.LeafVerdict.TheVariants as verdicts;
 ghost use Rattle.proof_front.specs.declared.growing.Step.TheVariants as steps;
 
 use crate::judging::Asked;
 use crate::node::Node;
 use crate::rows::{free_row, numbers_of, place_leaves};
 use board_bits::{Column, MOST_COLS, Position, Side, centre_out};
-use front_rules::{Count, Verdict};
+use front_rules::{Count, LeafVerdict};
 use node_pool::{Pool, Slot};
 use rule_chooser::Chooser;
 
@@ -137,7 +137,7 @@ fn renew(pool: &mut Pool<Node>, side: Side, at: Slot, first: Option<Slot>) -> St
 }
 
 /// The first child that a node keeps which stands so: none where it is settled, and the slots of all below it are free then.
-fn kept_below(pool: &mut Pool<Node>, verdict: Verdict, first: Option<Slot>) -> Option<Slot>
+fn kept_below(pool: &mut Pool<Node>, verdict: LeafVerdict, first: Option<Slot>) -> Option<Slot>
     requires row { (side : Side) × IsRowAt side pool.old first }
     ensures kept { verdict ≡ verdicts.Unsettled → (pool.new ≡ pool.old) × (result ≡ first) }
     ensures none { verdict ≢ verdicts.Unsettled → result ≡ None }
@@ -145,8 +145,8 @@ fn kept_below(pool: &mut Pool<Node>, verdict: Verdict, first: Option<Slot>) -> O
     ensures same { length pool.new ≡ length pool.old }
 {
     match verdict {
-        Verdict::Unsettled => first,
-        Verdict::Yes | Verdict::No => {
+        LeafVerdict::Unsettled => first,
+        LeafVerdict::Yes | LeafVerdict::No => {
             free_row(pool, first);
             None
         }

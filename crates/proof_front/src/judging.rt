@@ -5,7 +5,7 @@ ghost use Rattle.proof_front.specs.Numbers.{leaf_numbers};
 
 use crate::node::{Node, Numbers};
 use board_bits::{Position, Side};
-use front_rules::Verdict;
+use front_rules::LeafVerdict;
 use node_pool::Slot;
 use rule_chooser::Chooser;
 
@@ -29,14 +29,14 @@ impl Asked {
         }
     }
 
-    fn verdict(&self, position: &Position, chooser: &mut Chooser) -> Verdict
+    fn verdict(&self, position: &Position, chooser: &mut Chooser) -> LeafVerdict
         ensures { result ≡ verdict_at self.now.side (planned self.now.reach) position.now }
     {
         match position.ended() {
-            Some(end) if end == self.side.win() => Verdict::Yes,
-            Some(_) => Verdict::No,
-            None if self.is_planned(position, chooser) => Verdict::No,
-            None => Verdict::Unsettled,
+            Some(end) if end == self.side.win() => LeafVerdict::Yes,
+            Some(_) => LeafVerdict::No,
+            None if self.is_planned(position, chooser) => LeafVerdict::No,
+            None => LeafVerdict::Unsettled,
         }
     }
 

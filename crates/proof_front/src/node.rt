@@ -1,10 +1,10 @@
 //! A node of the tree, as it lies in a slot of the pool.
 ghost use Rattle.std.specs.Prelude.{◌≡◌};
-ghost use Rattle.front_rules.specs.Front.{leaf_number, verdict_of};
+ghost use Rattle.front_rules.specs.Front.{leaf_number, verdict_by_numbers};
 ghost use Rattle.proof_front.specs.Numbers.{number_in, leaf_numbers, same_numbers};
 
 use board_bits::Position;
-use front_rules::{Count, Verdict};
+use front_rules::{Count, LeafVerdict};
 use node_pool::Slot;
 
 /// A node's two numbers.
@@ -16,7 +16,7 @@ pub(crate) struct Numbers {
 
 impl Numbers {
     /// The numbers of a leaf that stands so.
-    pub fn of_leaf(verdict: Verdict) -> Numbers
+    pub fn of_leaf(verdict: LeafVerdict) -> Numbers
         ensures { result ≡ leaf_numbers verdict }
     {
         Numbers {
@@ -40,10 +40,10 @@ impl Numbers {
     }
 
     /// What the numbers settle.
-    pub fn verdict(&self) -> Verdict
-        ensures { result ≡ verdict_of self.now.proof self.now.disproof }
+    pub fn verdict(&self) -> LeafVerdict
+        ensures { result ≡ verdict_by_numbers self.now.proof self.now.disproof }
     {
-        Verdict::of(self.proof, self.disproof)
+        LeafVerdict::of(self.proof, self.disproof)
     }
 }
 

@@ -1,6 +1,6 @@
 use Rattle.std.proofs.Common.{◌≡◌, true, false, [], refl, sym, ap, subst, ◌∙◌, inl, inr}
 use Rattle.front_rules.specs.Front.{planned, grown}
-use Rattle.front_rules.specs.declared.Verdict.TheVariants.{Unsettled, Yes, No}
+use Rattle.front_rules.specs.declared.LeafVerdict.TheVariants.{Unsettled, Yes, No}
 use Rattle.proof_front.specs.Fronts.{tree_of, slot_count, IsAnswer}
 use Rattle.proof_front.specs.declared.front.Grown.TheVariants as grows
 use Rattle.proof_front.specs.declared.growing.Step.TheVariants as steps
@@ -12,10 +12,7 @@ answers : (c : goal.Joined-grow_in) → c.match-grow_in.result ≡ answer_of Uns
 answers c =
     elim c.match-grow_in.branch [
       | in-Full w ↦ w.result-is ∙ ap (answer_of Unsettled) (sym w.in-Full.is)
-      | in-Same w ↦ elim w.in-Same.is [
-        | inl same ↦ w.result-is ∙ ap (answer_of Unsettled) (sym same)
-        | inr changed ↦ w.result-is ∙ ap (answer_of Unsettled) (sym changed)
-      ]
+      | in-Same w ↦ w.result-is ∙ elim w.in-Same.is [ inl same ↦ ap (answer_of Unsettled) (sym same) | inr other ↦ ap (answer_of Unsettled) (sym other) ]
     ]
 
 pub grow_in-requires-clause-row : goal.grow_in-requires-clause-row
