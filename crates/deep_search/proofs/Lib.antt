@@ -6,3 +6,4 @@ pub mod Below
 pub mod Cut
 pub mod Proving
 pub mod Lists
+pub mod Searching

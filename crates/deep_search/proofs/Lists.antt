@@ -1,28 +1,21 @@
 -- The lemmas of a search behind a list of lemmas and remarks.
-use Rattle.std.proofs.Common.{◌≡◌, ℕ, map, List, [], ◌∷◌, ◌++◌, Option, Some, None, Result, IfSome, refl, sym, ap, ◌∙◌, subst, append_assoc}
-use Rattle.std.proofs.lemmas.List.Concat.{flat_map-append}
+use Rattle.std.proofs.Common.{◌≡◌, ℕ, map, List, [], ◌++◌, Option, Some, None, Result, IfSome, sym, ap, ◌∙◌, subst, append_assoc}
 use Rattle.std.specs.Io.KnownBytes.{Appends}
 use Rattle.game_rules.specs.Position.{Position}
 use Rattle.game_rules.specs.declared.Question.{Question}
 use Rattle.proof_text.specs.Lemma.{Lemma}
 use Rattle.proof_text.specs.Right.{Shown, AreRight}
-use Rattle.proof_text.specs.Texts.{Entry, LemmaEntry, RemarkEntry, entry_text, entry_lines, lemmas_among}
-use Rattle.proof_text.specs.Spelling.{as_line, lemma_line, lines_of}
+use Rattle.proof_text.specs.Texts.{Entry, LemmaEntry, entry_lines, lemmas_among}
+use Rattle.proof_text.specs.Spelling.{lines_of}
 use Rattle.proof_text.proofs.Append.{AreRight_append}
 use Rattle.deep_search.specs.Search.{Moment, AppendsLemmas, Solves}
 use Rattle.deep_search.specs.Lists.{EndsIn, FitsMoment, Continues}
 use Rattle.deep_search.specs.declared.solving.Answer.{Answer}
 use Rattle.deep_search.specs.declared.solving.SearchStop.{SearchStop}
-
-entries_of : (ls : List Lemma) → entry_lines (map LemmaEntry ls) ≡ lines_of ls
-entries_of [] = refl
-entries_of (l ∷ ls) = ap (λ bytes. lemma_line l ++ bytes) (entries_of ls)
+use Rattle.proof_text.proofs.Written.{lemmas_append, lemmas_map, entries_append, entries_map}
 
 lemmas_behind : (list : List Entry) (ls : List Lemma) → lemmas_among (list ++ map LemmaEntry ls) ≡ lemmas_among list ++ ls
-lemmas_behind [] [] = refl
-lemmas_behind [] (l ∷ ls) = ap (λ ls. l ∷ ls) (lemmas_behind [] ls)
-lemmas_behind (LemmaEntry l ∷ list) ls = ap (λ ls. l ∷ ls) (lemmas_behind list ls)
-lemmas_behind (RemarkEntry bytes ∷ list) ls = lemmas_behind list ls
+lemmas_behind list ls = lemmas_append list (map LemmaEntry ls) ∙ ap (λ more. lemmas_among list ++ more) (lemmas_map ls)
 
 -- bytes that end in the text of the list, and the lines of lemmas behind them
 ends_behind : (list : List Entry) (ls : List Lemma) (old new : Option (List ℕ)) → Appends old new (lines_of ls) → EndsIn list old
@@ -32,8 +25,8 @@ ends_behind list ls (Some was) None stands ends = tt
 ends_behind list ls (Some was) (Some bytes) stands ends = (
   ends.0,
   stands ∙ ap (λ xs. xs ++ lines_of ls) ends.1 ∙ append_assoc ends.0 (entry_lines list) (lines_of ls)
-      ∙ ap (λ xs. ends.0 ++ (entry_lines list ++ xs)) (sym (entries_of ls))
-      ∙ ap (λ xs. ends.0 ++ xs) (sym (flat_map-append (λ entry. as_line (entry_text entry)) list (map LemmaEntry ls))),
+      ∙ ap (λ xs. ends.0 ++ (entry_lines list ++ xs)) (sym (entries_map ls))
+      ∙ ap (λ xs. ends.0 ++ xs) (sym (entries_append list (map LemmaEntry ls))),
 )
 
 pub continues : (root p : Position) (question : Question) (reach : ℕ) (list : List Entry) (shown : List Shown) (old new : Moment) (before count : ℕ)

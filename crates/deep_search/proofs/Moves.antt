@@ -8,12 +8,11 @@ use Rattle.game_rules.specs.Position.{Position, has_room, after_move, same_side,
 use Rattle.game_rules.specs.Value.{wins, win_of, same_end}
 use Rattle.game_rules.specs.Cost.{centre_out, decides, moved_out, count_until, count}
 use Rattle.game_rules.specs.declared.Side.{Side}
-use Rattle.game_rules.specs.declared.Side.TheVariants.{White, Black}
 use Rattle.game_rules.specs.declared.End.{End}
-use Rattle.game_rules.specs.declared.End.TheVariants as ends
 use Rattle.game_rules.specs.contracts.SidePartialEq.TheImpl.{eq-value}
 use Rattle.game_rules.specs.contracts.EndPartialEq.TheImpl as end_eq
 use Rattle.game_rules.proofs.Costs.{wins_step, count_step}
+use Rattle.game_rules.proofs.Ends.{side_same, end_same}
 
 -- the positions after the moves into the columns from place i on
 abbrev pub moves_left : Position → List ℕ → ℕ → List Position
@@ -27,25 +26,6 @@ moves_left_none : (p : Position) (order : List ℕ) (i : ℕ) → length order �
 moves_left_none p order i all = ap (λ xs. map (after_move p) (filter (has_room p) xs)) (drop_all i order all)
 
 -- ---- what one move tells
-
--- sides are equal as the definitions say
-side_same : (a b : Side) → eq-value.it a b ≡ same_side a b
-side_same White White = refl
-side_same White Black = refl
-side_same Black White = refl
-side_same Black Black = refl
-
--- and so are ends
-end_same : (a b : End) → end_eq.eq-value.it a b ≡ same_end a b
-end_same ends.White ends.White = refl
-end_same ends.White ends.Black = refl
-end_same ends.White ends.Draw = refl
-end_same ends.Black ends.White = refl
-end_same ends.Black ends.Black = refl
-end_same ends.Black ends.Draw = refl
-end_same ends.Draw ends.White = refl
-end_same ends.Draw ends.Black = refl
-end_same ends.Draw ends.Draw = refl
 
 pub end_told : (told : Bool) (asked side : Side) (won end : End) → told ≡ end_eq.eq-value.it won end → won ≡ win_of asked → asked ≡ side
     → told ≡ same_end (win_of side) end
@@ -141,12 +121,18 @@ tried_full closed side p order before budget i c low at full tried =
       spent = omega (arith, ap (count_until (decides side p) (count closed side)) same, tried.spent);
     }
 
-module _ (closed : Side → Position → Bool) (side : Side) (p : Position) (going : end_of p ≡ None) (unsolved : closed side p ≡ false) (order : List ℕ)
-    (before budget i : ℕ) (tried : Tried closed side p order before budget i) where
-  whole : count closed side p ≡ 1 + count_until (decides side p) (count closed side) (moved_out p)
-  whole = count_step closed side p going unsolved
+-- A side is asked about at a position where the game goes on and that isn't closed; `own` says whether it is to move.
+pub record IsAsked (closed : Side → Position → Bool) (side : Side) (p : Position) (own : Bool) : Type 0 where
+  pub going : end_of p ≡ None
+  pub open_here : closed side p ≡ false
+  pub is_own : own ≡ same_side side (side_to_move p)
 
-  module _ (c : ℕ) (next : IsNext p order i c) where
+module _ {closed : Side → Position → Bool} {side : Side} {p : Position} {own : Bool} {order : List ℕ} {before budget i : ℕ} (a : IsAsked closed side p own)
+    (tried : Tried closed side p order before budget i) where
+  whole : count closed side p ≡ 1 + count_until (decides side p) (count closed side) (moved_out p)
+  whole = count_step closed side p a.going a.open_here
+
+  module _ {c : ℕ} (next : IsNext p order i c) where
     step : moves_left p order i ≡ after_move p c ∷ moves_left p order (i + 1)
     step = subst (λ c. has_room p c ≡ true → moves_left p order i ≡ after_move p c ∷ moves_left p order (i + 1)) next.at
         (moves_left_room p order i 0 next.low) next.room
@@ -161,28 +147,28 @@ module _ (closed : Side → Position → Bool) (side : Side) (p : Position) (goi
       cost_least (decides side p) (count closed side) (after_move p c) (moves_left p order (i + 1)),
     )
 
-    module _ (own : Bool) (is_own : own ≡ same_side side (side_to_move p)) (won : Bool) (answer : won ≡ wins side (after_move p c)) where
+    module _ {won : Bool} (answer : won ≡ wins side (after_move p c)) where
       -- the move decides
       pub own_wins : won ≡ own → own ≡ wins side p
       own_wins same =
-          some_decides side p own is_own going
-          (sym tried.answer ∙ ap (list_any (decides side p)) step ∙ rw (decides_yes side p own is_own (after_move p c) won answer same) refl)
+          some_decides side p own a.is_own a.going
+          (sym tried.answer ∙ ap (list_any (decides side p)) step ∙ rw (decides_yes side p own a.is_own (after_move p c) won answer same) refl)
 
-      pub left_decided : won ≡ own → (after : ℕ) → budget ≤ after + count closed side (after_move p c) → before ≤ after + count closed side p
-      left_decided same after fell = omega (
+      pub left_decided : (after : ℕ) → won ≡ own → budget ≤ after + count closed side (after_move p c) → before ≤ after + count closed side p
+      left_decided after same fell = omega (
         arith,
         whole,
         tried.spent,
         ap (count_until (decides side p) (count closed side)) step,
         until_first (decides side p) (count closed side) (after_move p c) (moves_left p order (i + 1))
-            (decides_yes side p own is_own (after_move p c) won answer same),
+            (decides_yes side p own a.is_own (after_move p c) won answer same),
         fell,
       )
 
       -- it doesn't
-      pub tried_more : (won ≡ own → ⊥) → (after : ℕ) → budget ≤ after + count closed side (after_move p c) → Tried closed side p order before after (i + 1)
-      tried_more apart after fell =
-          let no' : decides side p (after_move p c) ≡ false = decides_no side p own is_own (after_move p c) won answer apart in
+      pub tried_more : (after : ℕ) → (won ≡ own → ⊥) → budget ≤ after + count closed side (after_move p c) → Tried closed side p order before after (i + 1)
+      tried_more after apart fell =
+          let no' : decides side p (after_move p c) ≡ false = decides_no side p own a.is_own (after_move p c) won answer apart in
           record {
             answer = any_after (decides side p) (after_move p c) (moves_left p order i) (moves_left p order (i + 1)) (list_any (decides side p) (moved_out p))
                 step no' tried.answer;
@@ -197,8 +183,8 @@ module _ (closed : Side → Position → Bool) (side : Side) (p : Position) (goi
 
   -- no move is left
   module _ (none : length order ≤ i) where
-    pub other_wins : (own : Bool) → own ≡ same_side side (side_to_move p) → not own ≡ wins side p
-    other_wins own is_own = none_decides side p own is_own going (sym tried.answer ∙ ap (list_any (decides side p)) (moves_left_none p order i none))
+    pub other_wins : not own ≡ wins side p
+    other_wins = none_decides side p own a.is_own a.going (sym tried.answer ∙ ap (list_any (decides side p)) (moves_left_none p order i none))
 
     pub left_tried : before ≤ budget + count closed side p
     left_tried = omega (arith, whole, tried.spent, ap (count_until (decides side p) (count closed side)) (moves_left_none p order i none))

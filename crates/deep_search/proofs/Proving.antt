@@ -5,16 +5,15 @@ use Rattle.std.proofs.Common.{length-append}
 use Rattle.std.specs.List.{AllByRecursion}
 use Rattle.std.proofs.KnownBytes.{Appends-nil}
 use Rattle.std.proofs.lemmas.Bool.{cases_eq, both_ways}
-use Rattle.std.proofs.lemmas.List.{get_or-set_same, get_or-set_other, map-id, map-append, length_push, take_at}
+use Rattle.std.proofs.lemmas.List.{get_or-set_same, get_or-set_other, map-append, length_push, take_at}
 use Rattle.std.proofs.lemmas.List.Elements.{filter-append}
-use Rattle.std.proofs.lemmas.List.FromFn.{map-range_with_len_more}
 use Rattle.device_rules.specs.Devices.{AppendsPrefix}
 use Rattle.game_rules.specs.Board.{below}
 use Rattle.game_rules.specs.Position.{Position, has_room, after_move, empty_count, played, is_legal, end_of, same_side, side_to_move, open_columns}
 use Rattle.game_rules.specs.Value.{same_end, win_of}
 use Rattle.game_rules.specs.Cost.{centre_out}
 use Rattle.game_rules.specs.declared.End.{End}
-use Rattle.game_rules.proofs.Lists.{chosen, Among, Among-filter_gives, Among-below_gives}
+use Rattle.game_rules.proofs.Lists.{chosen, Among, Among-filter_gives, Among-below_gives, below_more}
 use Rattle.game_rules.proofs.Costs.{Among-centre_out}
 use Rattle.game_rules.proofs.Moves.{empty_count_moved}
 use Rattle.game_rules.specs.Questions.{side_asked}
@@ -30,7 +29,7 @@ use Rattle.proof_text.proofs.Append.{Shows_more, Shows_last, AreRight_append}
 use Rattle.deep_search.specs.Planned.{plan_in, plan_for, IsPlanned}
 use Rattle.position_table.specs.Table.{Entries}
 use Rattle.position_table.specs.declared.table.Found.{Found}
-use Rattle.deep_search.specs.Tables.{held, FitsTable, HasSame, StaysWhole, IsKept}
+use Rattle.deep_search.specs.Tables.{held, FitsTable, HasSame, StaysWhole, KeepsEntry}
 use Rattle.deep_search.specs.Search.{is_whole, uncounted, cites_from, Moment, moment, AppendsLemmas, IsNew, Wrote, AreBelow, limit_of, Solves}
 use Rattle.deep_search.proofs.Tables.{fits_same, fits_kept, fits_more, stays_same, stays_then}
 use Rattle.deep_search.proofs.News.{new_nothing, new_then}
@@ -40,7 +39,8 @@ use Rattle.deep_search.proofs.Below.{below_raised, below_both, limit_least, limi
 use Rattle.deep_search.specs.declared.solving.Answer.{Answer}
 use Rattle.deep_search.specs.declared.solving.SearchStop.{SearchStop}
 use Rattle.deep_search.specs.declared.solving.SearchStop.TheVariants.{Spent, WriteFault}
-use Rattle.plan_text.specs.PlanLine.{most_members}
+use Rattle.plan_rules.specs.declared.TheConstants.{MOST_MEMBERS}
+use Rattle.std.proofs.lemmas.Option.{none-some, same_Some}
 
 -- ---- the lemma of a position, and what stands before it
 
@@ -60,11 +60,8 @@ IsDetermined won count result = IfOk result (λ answer. (answer.lemma ≡ count 
 
 -- what the table is after a lemma: it has it, or the lemma was cut and the table is as before
 abbrev pub IsAfter : Position → Question → Bool → ℕ → Entries → Entries → Result Answer SearchStop → Type 0
-IsAfter p question won count before after (Ok answer) = IsKept p question (record { lemma = count + 1; answer = won }) before after
+IsAfter p question won count before after (Ok answer) = KeepsEntry p question (record { lemma = count + 1; answer = won }) before after
 IsAfter p question won count before after (Err stop) = (is_whole (Err stop) ≡ false) × (after ≡ before)
-
-some_none : {X : Type 0} {x : X} → Some x ≡ None → ⊥
-some_none e = cc
 
 fits_after : (p : Position) (question : Question) (won : Bool) (count : ℕ) (before after : Entries) (known : List Shown) (result : Result Answer SearchStop)
     → length known ≡ count → FitsTable before known → IsAfter p question won count before after result
@@ -87,7 +84,7 @@ new_after : (p : Position) (question : Question) (won : Bool) (count : ℕ) (bef
 new_after p question won count before after (Ok answer) absent kept = record {
   fresh = λ now. (absent, tt);
   once = λ now. (tt, tt);
-  kept = λ whole now. ((λ gone. some_none (sym (kept.there now) ∙ gone)), tt);
+  kept = λ whole now. ((λ gone. none-some _ (sym gone ∙ kept.there now)), tt);
 }
 new_after p question won count before after (Err stop) absent (cut, same) = record {
   fresh = λ now. (absent, tt);
@@ -103,16 +100,16 @@ limit_after p question won count before after (Err Spent) (cut, same) = absurd (
 limit_after p question won count before after (Err WriteFault) (cut, same) = omega arith
 
 -- a lemma that is right behind what is known
-pub told : (root p : Position) (question : Question) (reach : ℕ) (won : Bool) (said : Claim) (known : List Shown) (path : List ℕ) (reason : Reason)
+pub right_lemma : (root p : Position) (question : Question) (reach : ℕ) (won : Bool) (said : Claim) (known : List Shown) (path : List ℕ) (reason : Reason)
     (old new : Moment) (count counted : ℕ) (result : Result Answer SearchStop)
     → said ≡ claim_for (side_asked question) won → played root path ≡ Some p → length known ≡ count → FitsTable old.table known
     → held old.table p question ≡ None
     → HasReason known p (claim_for (side_asked question) won) reason → plan_in reason ≡ plan_for reach (side_asked question) p
-    → length (members_in reason) ≤ most_members
+    → length (members_in reason) ≤ MOST_MEMBERS
     → AppendsPrefix (is_whole result) old.bytes new.bytes (lemma_line (record { number = count + 1; path = path; claim = said; reason = reason }))
     → counted + uncounted result ≡ count + 1 → IsDetermined won count result
     → IsAfter p question won count old.table new.table result → Solves root p question reach known old new counted result
-told root p question reach won said known path reason old new count counted result is_said along many fits absent right planned short stands number answer
+right_lemma root p question reach won said known path reason old new count counted result is_said along many fits absent right planned short stands number answer
     after = record {
       wrote = record {
         more = lemma_next count path (side_asked question) won reason ∷ [];
@@ -172,6 +169,15 @@ solves_found root p question reach known bytes before after count f same fits th
   named = subst (λ all. Shows all f.lemma p (claim_for (side_asked question) f.answer)) (sym (append-nil known)) (fits p question f there);
 }
 
+-- a search that takes nothing from the budget writes nothing
+pub solves_spent : {root : Position} {question : Question} {reach : ℕ} {known : List Shown} {bytes : Option (List ℕ)} {table : Entries} {count : ℕ} (p : Position)
+    → length known ≡ count → FitsTable table known → Solves root p question reach known (moment table bytes) (moment table bytes) count (Err Spent)
+solves_spent {root} {question} {reach} {known} {bytes} {table} {count} p many fits = record {
+  wrote = wrote_nothing root question reach known bytes table table (count + 0) (same_itself table) fits (omega (arith, many));
+  below = tt;
+  named = tt;
+}
+
 -- what was written after a look-up was written after the moment before it
 pub solves_entered : (root p : Position) (question : Question) (reach : ℕ) (known : List Shown) (old mid new : Moment) (count : ℕ)
     (result : Result Answer SearchStop)
@@ -194,12 +200,6 @@ solves_entered root p question reach known old mid new count result same bytes r
   below = rest.below;
   named = rest.named;
 }
-
--- what solves one position solves the same one
-pub solves_there : (root p q : Position) (question : Question) (reach : ℕ) (known : List Shown) (old new : Moment) (count : ℕ)
-    (result : Result Answer SearchStop) → p ≡ q
-    → Solves root p question reach known old new count result → Solves root q question reach known old new count result
-solves_there root p q question reach known old new count result same solves = subst (λ p. Solves root p question reach known old new count result) same solves
 
 -- what stands after some lemmas, and more behind them
 module _ (root : Position) (question : Question) (reach : ℕ) (known : List Shown) (old mid new : Moment) (middle : ℕ)
@@ -365,10 +365,10 @@ module _ (p : Position) (side : Side) (own : Bool) (going : end_of p ≡ None) (
       all_cited [] each = tt
       all_cited (c ∷ columns) each = (each c (inl refl), all_cited columns (λ d among. each d (inr among)))
 
-pub place_of : (x : ℕ) (xs : List ℕ) → Among x xs → (k : ℕ) × (k < length xs) × (get_or xs k 0 ≡ x)
-place_of x [] among = absurd among
-place_of x (y ∷ ys) (inl same) = (0, omega arith, same)
-place_of x (y ∷ ys) (inr later) = let rest = place_of x ys later in (suc rest.0, omega arith, rest.2)
+pub place_among : (x : ℕ) (xs : List ℕ) → Among x xs → (k : ℕ) × (k < length xs) × (get_or xs k 0 ≡ x)
+place_among x [] among = absurd among
+place_among x (y ∷ ys) (inl same) = (0, omega arith, same)
+place_among x (y ∷ ys) (inr later) = let rest = place_among x ys later in (suc rest.0, omega arith, rest.2)
 
 -- after all moves, each playable column has its lemma
 pub all_moves : (root p : Position) (question : Question) (reach : ℕ) (own : Bool) (known : List Shown) (old mid : Moment) (count : ℕ) (numbers order : List ℕ)
@@ -377,14 +377,11 @@ pub all_moves : (root p : Position) (question : Question) (reach : ℕ) (own : B
     → (c : ℕ) → Among c (open_columns p) → Shows (known ++ so_far.wrote.shown) (get_or numbers c 0) (after_move p c) (claim_for (side_asked question) (not own))
 all_moves root p question reach own known old mid count numbers order i so_far all is_order c among =
     let open' = Among-filter_gives (has_room p) (below (length p.columns)) c among in
-    let place = place_of c order (subst (Among c) (sym is_order) (Among-centre_out (length p.columns) c (Among-below_gives (length p.columns) c open'.0))) in
+    let place = place_among c order (subst (Among c) (sym is_order) (Among-centre_out (length p.columns) c (Among-below_gives (length p.columns) c open'.0))) in
     let low : place.0 < length order = place.1 in
     so_far.moves place.0 c (omega arith) place.2 open'.1
 
 -- ---- the columns that are cited
-
-below_more : (n : ℕ) → below (n + 1) ≡ below n ++ n ∷ []
-below_more n = sym (map-id (below (n + 1))) ∙ map-range_with_len_more (λ k. k) 0 n n (omega arith) ∙ ap (λ ks. ks ++ n ∷ []) (map-id (below n))
 
 pub cites_room : (p : Position) (numbers : List ℕ) (i : ℕ) → has_room p i ≡ true
     → cites_from numbers (filter (has_room p) (below (i + 1))) ≡ cites_from numbers (filter (has_room p) (below i))
@@ -416,11 +413,8 @@ on_ok (Err e) P h = tt
 pub played_more : (root : Position) (path : List ℕ) (p : Position) (c : ℕ) → played root path ≡ Some p → end_of p ≡ None → has_room p c ≡ true
     → played root (path ++ c ∷ []) ≡ Some (after_move p c)
 played_more root [] p c along going room =
-    let same : root ≡ p = some_same along in
+    let same : root ≡ p = same_Some root p along in
     ap (λ q. played q (c ∷ [])) same ∙ rw (going, room) refl
-  where
-    some_same : Some root ≡ Some p → root ≡ p
-    some_same e = cc
 played_more root (d ∷ path) p c along going room = elim (chosen (is_legal root d) (played (after_move root d) path) None (Some p) along) [
   | inl legal ↦ rw legal.0 (played_more (after_move root d) path p c legal.1 going room)
   | inr not_legal ↦ absurd (cc not_legal.1)
@@ -428,27 +422,27 @@ played_more root (d ∷ path) p c along going room = elim (chosen (is_legal root
 
 -- ---- the position's own lemma, behind those of its moves
 
-module _ (root p : Position) (question : Question) (reach : ℕ) (own : Bool) (known : List Shown) (old mid : Moment) (count : ℕ) (numbers order : List ℕ) (i : ℕ)
+module _ {root p : Position} {question : Question} {reach : ℕ} {own : Bool} {known : List Shown} {old mid : Moment} {count : ℕ} {numbers order : List ℕ} {i : ℕ}
     (so_far : SoFar root p question reach own known old mid count numbers order i) (going : end_of p ≡ None)
     (is_own : own ≡ same_side (side_asked question) (side_to_move p)) where
   -- the search after a move stopped
-  pub stopped_by_move : (new : Moment) (counted c : ℕ) (stop : SearchStop) (child result : Result Answer SearchStop) → has_room p c ≡ true → child ≡ Err stop
+  pub stopped_by_move : (c : ℕ) {new : Moment} {counted : ℕ} {stop : SearchStop} {child result : Result Answer SearchStop} → has_room p c ≡ true → child ≡ Err stop
       → result ≡ Err stop
       → Solves root (after_move p c) question reach (known ++ so_far.wrote.shown) mid new counted child
       → Solves root p question reach known old new counted result
-  stopped_by_move new counted c stop child result room was is_stop solves =
+  stopped_by_move c {new} {counted} {stop} room was is_stop solves =
       rw is_stop (then_stopped root question reach known old mid new count so_far.wrote p (after_move p c) counted stop (empty_count_moved p c room)
       so_far.below
       (subst (λ r. Solves root (after_move p c) question reach (known ++ so_far.wrote.shown) mid new counted r) was solves))
 
-  pub closed_by_one : (next new : Moment) (counted last c : ℕ) (found : Answer) (child result : Result Answer SearchStop) → child ≡ Ok found
+  pub closed_by_one : (c : ℕ) {next new : Moment} {counted last : ℕ} {found : Answer} {child result : Result Answer SearchStop} → child ≡ Ok found
       → has_room p c ≡ true
       → found.yes ≡ own → Solves root (after_move p c) question reach (known ++ so_far.wrote.shown) mid next counted child
       → ((also : List Shown) → length also ≡ counted → FitsTable next.table also
       → HasReason also p (claim_for (side_asked question) own) (ByOne (record { column = c; lemma = found.lemma }))
       → Solves root p question reach also next new last result)
       → Solves root p question reach known old new last result
-  closed_by_one next new counted last c found child result was room same solves tell =
+  closed_by_one c {next} {new} {counted} {last} {found} {child} {result} was room same solves tell =
       let fewer : empty_count (after_move p c) + 1 ≡ empty_count p = empty_count_moved p c room in
       let all = then_solves root question reach known old mid next count so_far.wrote (after_move p c) counted (Ok found)
       (below_raised (empty_count p) (empty_count (after_move p c) + 1) so_far.wrote.shown (omega (arith, fewer)) so_far.below)
@@ -461,12 +455,12 @@ module _ (root p : Position) (question : Question) (reach : ℕ) (own : Bool) (k
       (below_raised (empty_count (after_move p c) + 1) (limit_of p result) all.wrote.shown (omega (arith, fewer, limit_least p result)) all.below)
       (tell also many all.wrote.fits (one_reason p (side_asked question) own going is_own also c found.lemma room shown))
 
-  pub closed_by_all : (new : Moment) (last : ℕ) (result : Result Answer SearchStop) → length order ≤ i → order ≡ centre_out (length p.columns)
+  pub closed_by_all : {new : Moment} {last : ℕ} {result : Result Answer SearchStop} → length order ≤ i → order ≡ centre_out (length p.columns)
       → ((also : List Shown) → length also ≡ count → FitsTable mid.table also
       → HasReason also p (claim_for (side_asked question) (not own)) (ByAll (cites_from numbers (open_columns p)))
       → Solves root p question reach also mid new last result)
       → Solves root p question reach known old new last result
-  closed_by_all new last result all is_order tell =
+  closed_by_all {new} {last} {result} all is_order tell =
       let also = known ++ so_far.wrote.shown in
       then_solves root question reach known old mid new count so_far.wrote p last result
       (below_raised (empty_count p) (limit_of p result) so_far.wrote.shown (limit_least p result) so_far.below)

@@ -14,7 +14,8 @@ use Rattle.position_table.proofs.Held.{lookup_used, lookup_kept, lookup_kept_fro
 use Rattle.proof_text.specs.Lemma.{claim_for}
 use Rattle.proof_text.specs.Right.{Shown, Shows}
 use Rattle.proof_text.proofs.Append.{Shows_more, Shows_last}
-use Rattle.deep_search.specs.Tables.{held, IsTrueEntry, IsTrueTable, FitsTable, OnlyBelow, HasSame, StaysWhole, IsKept}
+use Rattle.deep_search.specs.Tables.{held, IsTrueEntry, IsTrueTable, FitsTable, OnlyBelow, HasSame, StaysWhole, KeepsEntry}
+use Rattle.std.proofs.lemmas.Option.{none-some}
 
 -- ---- look-ups
 
@@ -37,12 +38,9 @@ found_held t p question found is = is
 both_true : (a b : Bool) → (a && b) ≡ true → (a ≡ true) × (b ≡ true)
 both_true a b h = and_parts a b h
 
-some_none : {X : Type 0} {x : X} → Some x ≡ None → ⊥
-some_none e = cc
-
 kept_here : (p : Position) (question : Question) (f : Found) (before after : Entries) → held before p question ≡ None
     → after.entries ≡ entries_kept p question f before
-    → after.whole ≡ whole_kept p question before true → IsKept p question f before after
+    → after.whole ≡ whole_kept p question before true → KeepsEntry p question f before after
 unfolding held
 kept_here p question f before after absent entries whole = record {
   nothing_else = λ q s g there. elim
@@ -65,7 +63,7 @@ kept_here p question f before after absent entries whole = record {
         ltb-true (length before.entries) before.room (sym (ap (λ o. is_some o || nat_lt (length before.entries) before.room) absent) ∙ both.1)
 
 kept_not : (p : Position) (question : Question) (f : Found) (before after : Entries) → after.entries ≡ before.entries
-    → after.whole ≡ whole_kept p question before false → IsKept p question f before after
+    → after.whole ≡ whole_kept p question before false → KeepsEntry p question f before after
 unfolding held
 kept_not p question f before after entries whole = record {
   nothing_else = λ q s g there. inl (sym (ap (lookup (is_for q s)) entries) ∙ there);
@@ -85,7 +83,7 @@ kept_not p question f before after entries whole = record {
 -- the entry was kept, or there was no memory for it
 pub kept_or_not : {A E : Type 0} (p : Position) (question : Question) (f : Found) (before after : Entries) (result : Result A E) → held before p question ≡ None
     → OnOk result (after.entries ≡ entries_kept p question f before)
-    → OnErr result (after.entries ≡ before.entries) → after.whole ≡ whole_kept p question before (is_ok result) → IsKept p question f before after
+    → OnErr result (after.entries ≡ before.entries) → after.whole ≡ whole_kept p question before (is_ok result) → KeepsEntry p question f before after
 kept_or_not p question f before after (Ok x) absent kept same whole = kept_here p question f before after absent kept whole
 kept_or_not p question f before after (Err e) absent kept same whole = kept_not p question f before after same whole
 
@@ -94,11 +92,11 @@ kept_or_not p question f before after (Err e) absent kept same whole = kept_not 
 -- a table without entries may be rested on
 pub true_if_empty : (t : Entries) (count : ℕ) → t.entries ≡ [] → IsTrueTable t count
 unfolding held
-true_if_empty t count empty p question f there = absurd (some_none (sym there ∙ ap (lookup (is_for p question)) empty))
+true_if_empty t count empty p question f there = absurd (none-some f (sym (ap (lookup (is_for p question)) empty) ∙ there))
 
 pub fits_if_empty : (t : Entries) (known : List Shown) → t.entries ≡ [] → FitsTable t known
 unfolding held
-fits_if_empty t known empty p question f there = absurd (some_none (sym there ∙ ap (lookup (is_for p question)) empty))
+fits_if_empty t known empty p question f there = absurd (none-some f (sym (ap (lookup (is_for p question)) empty) ∙ there))
 
 module _ (before after : Entries) (same : HasSame before after) where
   pub true_same : (count : ℕ) → IsTrueTable before count → IsTrueTable after count
@@ -120,7 +118,7 @@ pub true_more : (t : Entries) (count more : ℕ) → count ≤ more → IsTrueTa
 true_more t count more low entries p question f there = let is = entries p question f there in
     record { answer = is.answer; first = is.first; last = omega (arith, is.last, low) }
 
-pub true_kept : (p : Position) (question : Question) (f : Found) (before after : Entries) (count : ℕ) → IsKept p question f before after
+pub true_kept : (p : Position) (question : Question) (f : Found) (before after : Entries) (count : ℕ) → KeepsEntry p question f before after
     → IsTrueTable before count → f.answer ≡ wins (side_asked question) p → f.lemma ≡ count + 1 → IsTrueTable after (count + 1)
 true_kept p question f before after count kept entries answer number q s g there = elim (kept.nothing_else q s g there) [
   | inl was ↦ true_more before count (count + 1) (omega arith) entries q s g was
@@ -129,7 +127,7 @@ true_kept p question f before after count kept entries answer number q s g there
       (subst (λ q. IsTrueEntry (count + 1) q question f) (sym own.0) (record { answer = answer; first = omega (arith, number); last = omega (arith, number) })))
 ]
 
-pub fits_kept : (p : Position) (question : Question) (f : Found) (before after : Entries) (known : List Shown) → IsKept p question f before after
+pub fits_kept : (p : Position) (question : Question) (f : Found) (before after : Entries) (known : List Shown) → KeepsEntry p question f before after
     → FitsTable before known → f.lemma ≡ length known + 1
     → FitsTable after (known ++ (p, claim_for (side_asked question) f.answer) ∷ [])
 fits_kept p question f before after known kept fits number q s g there = elim (kept.nothing_else q s g there) [
@@ -146,7 +144,7 @@ fits_kept p question f before after known kept fits number q s g there = elim (k
 pub fits_more : (t : Entries) (known more : List Shown) → FitsTable t known → FitsTable t (known ++ more)
 fits_more t known more fits p question f there = Shows_more known more f.lemma p (claim_for (side_asked question) f.answer) (fits p question f there)
 
-pub below_kept : (p : Position) (question : Question) (f : Found) (before after : Entries) → IsKept p question f before after
+pub below_kept : (p : Position) (question : Question) (f : Found) (before after : Entries) → KeepsEntry p question f before after
     → OnlyBelow (empty_count p + 1) before after
 below_kept p question f before after kept q s g there = elim (kept.nothing_else q s g there) [
   | inl was ↦ inl was
@@ -171,7 +169,7 @@ still_absent p question before after below absent = by (held after p question) r
     by : (o : Option Found) → held after p question ≡ o → o ≡ None
     by None h = refl
     by (Some f) h = elim (below p question f h) [
-      | inl was ↦ absurd (some_none (sym was ∙ absent))
+      | inl was ↦ absurd (none-some f (sym absent ∙ was))
       | inr low ↦ absurd (omega (arith, low))
     ]
 

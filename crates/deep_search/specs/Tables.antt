@@ -43,7 +43,7 @@ pub record StaysWhole (before after : Entries) : Type 0 where
   pub there : after.whole ≡ true → (p : Position) (question : Question) → held after p question ≡ None → held before p question ≡ None
 
 -- The entry was kept, or was refused memory: nothing else is new, and a table that is whole has it.
-pub record IsKept (p : Position) (question : Question) (f : Found) (before after : Entries) : Type 0 where
+pub record KeepsEntry (p : Position) (question : Question) (f : Found) (before after : Entries) : Type 0 where
   pub nothing_else : (q : Position) (s : Question) (g : Found) → held after q s ≡ Some g → (held before q s ≡ Some g) ⊎ ((q ≡ p) × (s ≡ question) × (g ≡ f))
   pub stays : StaysWhole before after
   pub there : after.whole ≡ true → held after p question ≡ Some f

@@ -6,7 +6,6 @@ ghost use Rattle.game_rules.specs.Position.{Position as Men, played, empty_count
 ghost use Rattle.game_rules.specs.Questions.{side_asked};
 ghost use Rattle.game_rules.specs.Value.{wins};
 ghost use Rattle.game_rules.specs.Cost.{centre_out, count};
-ghost use Rattle.plan_text.specs.PlanLine.{most_members};
 ghost use Rattle.proof_text.specs.Lemma.{claim_for};
 ghost use Rattle.proof_text.specs.Spelling.{greatest_number, longest_path, members_in};
 ghost use Rattle.proof_text.specs.Right.{Shown, HasReason};
@@ -16,8 +15,9 @@ ghost use Rattle.deep_search.specs.Planned.{solved_within, plan_for, plan_in};
 ghost use Rattle.proof_text.specs.Texts.{Entry};
 ghost use Rattle.deep_search.specs.Lists.{EndsIn, FitsMoment, Continues};
 ghost use Rattle.deep_search.specs.Search.{uncounted, stand, Searched, moment, Solves, StaysOpen, cites_from};
-ghost use Rattle.deep_search.specs.Tables.{held, IsTrueTable, FitsTable, OnlyBelow, HasSame, IsKept};
+ghost use Rattle.deep_search.specs.Tables.{held, IsTrueTable, FitsTable, OnlyBelow, HasSame, KeepsEntry};
 ghost use Rattle.deep_search.specs.declared.solving.SearchStop.TheVariants as stops;
+ghost use Rattle.plan_rules.specs.declared.TheConstants.{MOST_MEMBERS};
 
 use arrayvec::ArrayVec;
 use board_bits::{Column, MOST_COLS, MOST_SQUARES, Position, Question, Side, centre_out};
@@ -295,7 +295,7 @@ fn look_up(table: &mut Table, position: &Position, question: Question) -> Option
 #[tactic(auto, using(crate::proofs::Tables::kept_or_not))]
 fn keep(table: &mut Table, position: &Position, question: Question, found: Found)
     requires absent { held table.old position.now question ≡ None }
-    ensures { IsKept position.now question found table.old table.new }
+    ensures { KeepsEntry position.now question found table.old table.new }
 {
     let _memory = table.keep(position, question, found);
 }
@@ -330,7 +330,7 @@ fn put_lemma<O: Sink>(
     requires entries { IsTrueTable table.old lemmas.old }
     requires room { lemmas.old < greatest_number }
     requires deep { length path.now ≤ longest_path }
-    requires short { length (members_in (reason_viewed reason.now)) ≤ most_members }
+    requires short { length (members_in (reason_viewed reason.now)) ≤ MOST_MEMBERS }
     ensures answer { IfOk result (λ answer. answer.yes ≡ wins (side_asked aim.now.question) position.now) }
     ensures unspent { result ≡ Err stops.Spent → ⊥ }
     ensures searched { Searched (stand 1 lemmas.old (O.faults out.old)) (stand 0 lemmas.new (O.faults out.new)) result }

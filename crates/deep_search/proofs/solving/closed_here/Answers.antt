@@ -1,4 +1,4 @@
-use Rattle.std.proofs.Common.{◌≡◌, Some, sym, ap, ◌∙◌, refl}
+use Rattle.std.proofs.Common.{Some, sym, ap, ◌∙◌, refl}
 use Rattle.game_rules.specs.Questions.{side_asked}
 use Rattle.game_rules.specs.Value.{win_of, same_end}
 use Rattle.game_rules.proofs.Values.{value_at_end}

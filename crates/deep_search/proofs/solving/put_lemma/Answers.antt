@@ -1,9 +1,9 @@
 use Rattle.std.proofs.Common.{refl, sym, ap, ◌∙◌, subst, arith}
 use Rattle.proof_text.specs.Lemma.{claim_for}
 use Rattle.cert_format.specs.Shape.{reason_viewed}
-use Rattle.deep_search.specs.Tables.{IsTrueTable, IsKept}
+use Rattle.deep_search.specs.Tables.{IsTrueTable, KeepsEntry}
 use Rattle.deep_search.proofs.Tables.{true_kept, below_kept}
-use Rattle.deep_search.proofs.Proving.{told}
+use Rattle.deep_search.proofs.Proving.{right_lemma}
 use Rattle.deep_search.proofs.solving.put_lemma.Goals as goal
 
 pub returns-in-Ok-clause-entries : goal.returns-in-Ok-clause-entries
@@ -17,16 +17,16 @@ returns-in-Ok-clause-below g c = below_kept c.args.position.now c.args.aim.now.q
 
 pub returns-in-Ok-clause-wrote : goal.returns-in-Ok-clause-wrote
 returns-in-Ok-clause-wrote g c root known along many fits right =
-    told root c.args.position.now c.args.aim.now.question c.args.aim.now.reach c.args.yes c.of.result known c.args.path.now (reason_viewed c.args.reason.now) _
+    right_lemma root c.args.position.now c.args.aim.now.question c.args.aim.now.reach c.args.yes c.of.result known c.args.path.now (reason_viewed c.args.reason.now) _
     _ c.args.lemmas.now c.put_view.new.self _ (c.of.ensures ∙ ap (λ side. claim_for side c.args.yes) c.side.ensures) along many fits c.requires.absent right
     c.requires.planned
     c.requires.short c.in-Ok.ensures.written (omega (arith, c.in-Ok.ensures.counted)) (c.in-Ok.ensures.number, refl)
-    (subst (λ n. IsKept c.args.position.now c.args.aim.now.question (record { lemma = n; answer = c.args.yes }) c.args.table.now c.keep.new.table)
+    (subst (λ n. KeepsEntry c.args.position.now c.args.aim.now.question (record { lemma = n; answer = c.args.yes }) c.args.table.now c.keep.new.table)
     c.in-Ok.ensures.number c.keep.ensures)
 
 pub returns-in-Err-clause-wrote : goal.returns-in-Err-clause-wrote
 returns-in-Err-clause-wrote g c root known along many fits right =
-    told root c.args.position.now c.args.aim.now.question c.args.aim.now.reach c.args.yes c.of.result known c.args.path.now (reason_viewed c.args.reason.now) _
+    right_lemma root c.args.position.now c.args.aim.now.question c.args.aim.now.reach c.args.yes c.of.result known c.args.path.now (reason_viewed c.args.reason.now) _
     _ c.args.lemmas.now c.put_view.new.self _ (c.of.ensures ∙ ap (λ side. claim_for side c.args.yes) c.side.ensures) along many fits c.requires.absent right
     c.requires.planned
     c.requires.short c.in-Err.ensures.written (omega (arith, c.in-Err.ensures.kept)) tt (refl, refl)
