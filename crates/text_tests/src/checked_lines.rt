@@ -49,8 +49,23 @@ fn checked(alloc: Global, lines: &[&str]) -> Result<Result<Accepted, Refusal>, F
     Ok(checker.finish(at))
 }
 
+/// With its line at each index replaced by the text, the proof is refused there for that reason.
+fn refuse(alloc: Global, rows: &[(usize, &str, u64, Why)]) -> Result<(), Fail> {
+    for (index, text, at, why) in rows {
+        let mut lines = PROOF;
+        if let Some(line) = lines.get_mut(*index) {
+            *line = *text;
+        }
+        let refusal = Refusal { at: *at, why: *why };
+        if checked(alloc, &lines)? != Err(refusal) {
+            return Err((*text).into());
+        }
+    }
+    Ok(())
+}
+
 #[test]
-fn right_lines_are_accepted_and_others_refused_by_their_names(rt: HostRuntime) -> Result<(), Fail> {
+fn right_lines_are_accepted(rt: HostRuntime) -> Result<(), Fail> {
     let accepted = Accepted {
         verdict: Verdict::Draw(8, 16),
         lemmas: 16,
@@ -62,6 +77,11 @@ fn right_lines_are_accepted_and_others_refused_by_their_names(rt: HostRuntime) -
     };
     let remarked = ["# one", PROOF[0], "# two", "value unknown"];
     assert_eq!(rt; checked(rt.alloc(), &remarked)?, Ok(accepted));
+    Ok(())
+}
+
+#[test]
+fn wrong_lemmas_are_refused_by_their_names(rt: HostRuntime) -> Result<(), Fail> {
     let rows = [
         (0, "1 aaaa W- end", 4, Why::BadPath),
         (0, "2 aabb W- end", 4, Why::BadLine),
@@ -78,36 +98,32 @@ fn right_lines_are_accepted_and_others_refused_by_their_names(rt: HostRuntime) -
         (7, "8 - W- all b:7 a:4", 11, Why::MissingMove),
         (7, "8 - W- all a:4 b:7 c:7", 11, Why::MissingMove),
         (8, "9 aabb B- one b 1", 12, Why::WrongPosition),
+    ];
+    refuse(rt.alloc(), &rows)
+}
+
+#[test]
+fn wrong_verdicts_are_refused_by_their_names(rt: HostRuntime) -> Result<(), Fail> {
+    let rows = [
         (16, "value draw 16 8", 20, Why::BadVerdict),
         (16, "value draw 3 16", 20, Why::BadVerdict),
         (16, "value win 8", 20, Why::BadVerdict),
         (16, "# no verdict", 21, Why::EndedEarly),
         (3, "value unknown", 8, Why::BadLine),
-        (
-            0,
-            "1 - W- plan CE:a1",
-            4,
-            Why::BadPlan(PlanFault::Misfit(1)),
-        ),
-        (0, "1 - B- plan CE:b3", 4, Why::WrongClaim),
-        (0, "1 aabb W- plan CE:b3", 4, Why::BadPlan(PlanFault::Ended)),
-        (
-            1,
-            "2 a W- plan CE:b3",
-            5,
-            Why::BadPlan(PlanFault::NotWhiteToMove),
-        ),
     ];
-    for (index, text, at, why) in rows {
-        let mut lines = PROOF;
-        if let Some(line) = lines.get_mut(index) {
-            *line = text;
-        }
-        assert_eq!(rt;
-            checked(rt.alloc(), &lines)?,
-            Err(Refusal { at, why }),
-            "{text}"
-        );
-    }
-    Ok(())
+    refuse(rt.alloc(), &rows)
+}
+
+#[test]
+fn wrong_plans_are_refused_with_their_faults(rt: HostRuntime) -> Result<(), Fail> {
+    let misfit = Why::BadPlan(PlanFault::Misfit(1));
+    let ended = Why::BadPlan(PlanFault::Ended);
+    let not_white = Why::BadPlan(PlanFault::NotWhiteToMove);
+    let rows = [
+        (0, "1 - W- plan CE:a1", 4, misfit),
+        (0, "1 - B- plan CE:b3", 4, Why::WrongClaim),
+        (0, "1 aabb W- plan CE:b3", 4, ended),
+        (1, "2 a W- plan CE:b3", 5, not_white),
+    ];
+    refuse(rt.alloc(), &rows)
 }
