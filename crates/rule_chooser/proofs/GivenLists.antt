@@ -21,6 +21,7 @@ use Rattle.rule_chooser.specs.declared.groups.OpenGroup.{OpenGroup}
 use Rattle.rule_chooser.specs.OpenGroups.{open_group_at, groups_for}
 use Rattle.rule_chooser.specs.Standing.{first_standing, some_bars}
 use Rattle.rule_chooser.proofs.GroupAnswers.{bars_is, answer_is}
+use Rattle.rule_chooser.proofs.SpecialGroups.{group_is}
 
 -- a group with its own squares, at its place in the list of the groups
 pub group_at : (p : Position) (gs : List Group) (groups : List OpenGroup) (i : ℕ) (group : OpenGroup) → groups ≡ map (open_group_at p) gs → i < length groups
@@ -98,3 +99,19 @@ group_free p groups i group is =
   where
     dropped : (gs : List Group) (i : ℕ) → Among group.id (drop i gs) → Among group.id gs
     dropped gs i among = subst (λ hs. Among group.id hs) (take-append-drop i gs) (Among-append_right group.id (take i gs) (drop i gs) among)
+
+-- the answers with that to a group of the list, and those to the groups behind it
+pub answers_more : (p : Position) (set ws : List RuleInstance) {facts : Facts} {groups : List OpenGroup} {i : ℕ} {group : OpenGroup} {lent new : List RuleInstance}
+    → is_board (board_of p) ≡ true → groups ≡ map (open_group_at p) (groups_for White p) → i < length groups → group ≡ get_or groups i group
+    → facts ≡ facts_of p set → lent ≡ set
+    → new ≡ (if some_bars facts (has_square group.empty) lent then ws else with_one ws (first_standing p facts (has_square group.empty)))
+    → answers p set (drop (i + 1) (groups_for White p)) new ≡ answers p set (drop i (groups_for White p)) ws
+answers_more p set ws {facts} {groups} {i} {group} {lent} board same within at known lend made =
+    let gs = groups_for White p in
+    let next = group_at p gs groups i group same within at in
+    let empty = ap (λ (group : OpenGroup). group.empty) (group_is p gs groups i group same within at) in
+    ap (answers p set (drop (i + 1) gs)) (made
+    ∙ ap (λ zs. if some_bars facts (has_square group.empty) zs then ws else with_one ws (first_standing p facts (has_square group.empty))) lend
+    ∙ ap (λ us. if some_bars facts (has_square us) set then ws else with_one ws (first_standing p facts (has_square us))) empty)
+    ∙ sym (answers_one p set board facts group.id (drop (i + 1) gs) ws known (group_free p groups i group next))
+    ∙ ap (λ hs. answers p set hs ws) (sym next)

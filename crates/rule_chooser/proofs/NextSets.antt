@@ -98,10 +98,10 @@ module _ {p : Position} {set now list zones : List Instance} {squares : List Squ
   here = slice_get_read zones (length zones) i zone refl t.within t.at
 
   -- whether it may follow
-  pub told : {test answer : Bool} (lent_set : List Instance) → lent_set ≡ now
+  pub follows_is : {test answer : Bool} (lent_set : List Instance) → lent_set ≡ now
       → test ≡ (has_square (zone_of (written zone)) first && list_all (λ v. together v (written zone)) (written_list lent_set)) → test ≡ answer
       → may_follow p (written_list set) (written zone) ≡ answer
-  told {test} lent_set lend is answers =
+  follows_is {test} lent_set lend is answers =
       sym (test_is p set t.from.opens.leaves.going t.from.opens.leaves.is_set t.from.board squares zone first lent_set test t.from.opens.leaves.open_squares
       t.from.opens.at
       (lend ∙ t.from.same) is) ∙ answers
@@ -149,53 +149,65 @@ module _ {p : Position} {set now list zones : List Instance} {squares : List Squ
         without_one p set t.from.opens.leaves.going t.from.opens.leaves.is_set t.from.board zones i zone left rest t.within t.at stays
         ∙ ap (λ k. choice_among p k (after p (written_list set) (written_list (drop (i + 1) zones)) ++ rest)) (sym same_left))
 
-  -- it may follow
-  module _ (follows : may_follow p (written_list set) (written zone) ≡ true) where
-    pub has_room : length now < 50
-    has_room = omega (arith, next_room p set t.from.opens.leaves.going t.from.opens.leaves.is_set t.from.board zone among follows, ap length t.from.same)
+-- A zone of the list is tried, and it may follow.
+pub record Follows (p : Position) (set now list zones : List Instance) (squares : List Square) (first : Square) (before left i : ℕ)
+    (zone : Instance) : Type 0 where
+  pub at : Tries p set now list zones squares first before left i zone
+  pub may : may_follow p (written_list set) (written zone) ≡ true
 
-    module _ (pushed : List Instance) (push : pushed ≡ now ++ zone ∷ []) where
-      pushed_is : pushed ≡ set ++ zone ∷ []
-      pushed_is = push ∙ ap (λ zs. zs ++ zone ∷ []) t.from.same
+pub follows : {p : Position} {set now list zones lent : List Instance} {squares : List Square} {first : Square} {before left i : ℕ} {zone : Instance} {test : Bool}
+    → GoesFrom p set now list zones squares first before left i → i < length zones → zone ≡ get_or zones i zone → lent ≡ now
+    → test ≡ (has_square (zone_of (written zone)) first && list_all (λ v. together v (written zone)) (written_list lent)) → test ≡ true
+    → Follows p set now list zones squares first before left i zone
+follows {lent = lent} from within at lend is passes = let t = tries from within at in record { at = t; may = follows_is t lent lend is passes }
 
-      pub smaller : 2 * (50 - length pushed) + 1 < 2 * (50 - length set)
-      smaller = omega (arith, has_room, ap length t.from.same, ap length pushed_is, length-append set (zone ∷ []))
+module _ {p : Position} {set now list zones : List Instance} {squares : List Square} {first : Square} {before left i : ℕ} {zone : Instance}
+    (f : Follows p set now list zones squares first before left i zone) where
+  pub has_room : length now < 50
+  has_room = omega (arith, next_room p set f.at.from.opens.leaves.going f.at.from.opens.leaves.is_set f.at.from.board zone (among f.at) f.may, ap length f.at.from.same)
 
-      pub opens_next : {owned still : List Square} → IsSetOf (has_square (zone_of (written zone))) owned
-          → IsSetOf (λ u. has_square squares u && not (has_square owned u)) still
-          → LeavesOpen p (written_list pushed) still
-      opens_next {owned} {still} own is =
-          let leaves = t.from.opens.leaves in
-          subst (λ zs. LeavesOpen p (written_list zs) still) (sym pushed_is) (record {
-            going = leaves.going;
-            is_set = next_set p set leaves.going leaves.is_set t.from.board zone among follows;
-            open_squares = next_uncovered p set leaves.going leaves.is_set t.from.board zone squares owned still leaves.open_squares own is;
-          })
+  module _ {pushed : List Instance} (push : pushed ≡ now ++ zone ∷ []) where
+    pushed_is : pushed ≡ set ++ zone ∷ []
+    pushed_is = push ∙ ap (λ zs. zs ++ zone ∷ []) f.at.from.same
 
-      -- the set with it is visited
-      module _ (mid : ℕ) (ws : List RuleInstance) (found : WalkOutcome)
-          (visit : (rest : List (List RuleInstance)) → choice_among p left (walk_from p (written_list pushed) ++ rest) ≡ goes_on p mid rest ws found) where
-        goes_in : (rest : List (List RuleInstance))
-            → choice_among p left (after p (written_list set) (written_list (drop i zones)) ++ rest)
-            ≡ goes_on p mid (after p (written_list set) (written_list (drop (i + 1) zones)) ++ rest) ws found
-        goes_in rest =
-            with_one p set t.from.opens.leaves.going t.from.opens.leaves.is_set t.from.board zones i zone left rest t.within t.at follows
-            ∙ ap (λ zs. choice_among p left (walk_from p (written_list zs) ++ (after p (written_list set) (written_list (drop (i + 1) zones)) ++ rest)))
-            (sym pushed_is)
-            ∙ visit (after p (written_list set) (written_list (drop (i + 1) zones)) ++ rest)
+    pub smaller : 2 * (50 - length pushed) + 1 < 2 * (50 - length set)
+    smaller = omega (arith, has_room, ap length f.at.from.same, ap length pushed_is, length-append set (zone ∷ []))
 
-        -- which decides
-        pub decided : (rest : List (List RuleInstance)) → (found ≡ outcomes.NoPlan → ⊥)
-            → choice_among p before (after p (written_list set) (fitting_zones p) ++ rest) ≡ goes_on p mid rest ws found
-        decided rest some =
-            t.from.goes rest ∙ goes_in rest ∙ found_before p mid (after p (written_list set) (written_list (drop (i + 1) zones)) ++ rest) rest ws found some
+    pub opens_next : {owned still : List Square} → IsSetOf (has_square (zone_of (written zone))) owned
+        → IsSetOf (λ u. has_square squares u && not (has_square owned u)) still
+        → LeavesOpen p (written_list pushed) still
+    opens_next {owned} {still} own is =
+        let leaves = f.at.from.opens.leaves in
+        subst (λ zs. LeavesOpen p (written_list zs) still) (sym pushed_is) (record {
+          going = leaves.going;
+          is_set = next_set p set leaves.going leaves.is_set f.at.from.board zone (among f.at) f.may;
+          open_squares = next_uncovered p set leaves.going leaves.is_set f.at.from.board zone squares owned still leaves.open_squares own is;
+        })
 
-        -- or doesn't
-        pub tried : {n last : ℕ} {longer shorter new : List Instance} → IsNext list i n → found ≡ outcomes.NoPlan → last ≡ mid
-            → (found ≡ outcomes.NoPlan → longer ≡ pushed) → shorter ≡ take (length longer - 1) longer → new ≡ shorter
-            → GoesFrom p set new list zones squares first before last n
-        tried {longer = longer} {shorter} next none same_left back pop kept =
-            steps_on next (kept ∙ taken_back set longer shorter zone (back none ∙ pushed_is) pop) (λ rest.
-            goes_in rest
-            ∙ ap (goes_on p mid (after p (written_list set) (written_list (drop (i + 1) zones)) ++ rest) ws) none
-            ∙ ap (λ k. choice_among p k (after p (written_list set) (written_list (drop (i + 1) zones)) ++ rest)) (sym same_left))
+    -- the set with it is visited
+    module _ (mid : ℕ) (ws : List RuleInstance) (found : WalkOutcome)
+        (visit : (rest : List (List RuleInstance)) → choice_among p left (walk_from p (written_list pushed) ++ rest) ≡ goes_on p mid rest ws found) where
+      goes_in : (rest : List (List RuleInstance))
+          → choice_among p left (after p (written_list set) (written_list (drop i zones)) ++ rest)
+          ≡ goes_on p mid (after p (written_list set) (written_list (drop (i + 1) zones)) ++ rest) ws found
+      goes_in rest =
+          with_one p set f.at.from.opens.leaves.going f.at.from.opens.leaves.is_set f.at.from.board zones i zone left rest f.at.within f.at.at f.may
+          ∙ ap (λ zs. choice_among p left (walk_from p (written_list zs) ++ (after p (written_list set) (written_list (drop (i + 1) zones)) ++ rest)))
+          (sym pushed_is)
+          ∙ visit (after p (written_list set) (written_list (drop (i + 1) zones)) ++ rest)
+
+      -- which decides
+      pub decided : (rest : List (List RuleInstance)) → (found ≡ outcomes.NoPlan → ⊥)
+          → choice_among p before (after p (written_list set) (fitting_zones p) ++ rest) ≡ goes_on p mid rest ws found
+      decided rest some =
+          f.at.from.goes rest ∙ goes_in rest ∙ found_before p mid (after p (written_list set) (written_list (drop (i + 1) zones)) ++ rest) rest ws found some
+
+      -- or doesn't
+      pub tried : {n last : ℕ} {longer shorter new : List Instance} → IsNext list i n → found ≡ outcomes.NoPlan → last ≡ mid
+          → (found ≡ outcomes.NoPlan → longer ≡ pushed) → shorter ≡ take (length longer - 1) longer → new ≡ shorter
+          → GoesFrom p set new list zones squares first before last n
+      tried {longer = longer} {shorter} next none same_left back pop kept =
+          steps_on f.at next (kept ∙ taken_back set longer shorter zone (back none ∙ pushed_is) pop) (λ rest.
+          goes_in rest
+          ∙ ap (goes_on p mid (after p (written_list set) (written_list (drop (i + 1) zones)) ++ rest) ws) none
+          ∙ ap (λ k. choice_among p k (after p (written_list set) (written_list (drop (i + 1) zones)) ++ rest)) (sym same_left))

@@ -207,9 +207,9 @@ module _ (p : Position) (set : List Instance) (going : is_plan_position p ≡ tr
 -- ---- a set that leaves these squares open is visited
 
 module _ (set : List Instance) {p : Position} {squares : List Square} (leaves : LeavesOpen p (written_list set) squares) (board : is_board (board_of p) ≡ true)
-    (left k : ℕ) (more : left ≡ suc k) (rest : List (List RuleInstance)) where
+    {left : ℕ} (k : ℕ) (more : left ≡ suc k) (rest : List (List RuleInstance)) where
   -- the set alone decides
-  module _ (none : slice_get squares 0 ≡ None) (lent : List Instance) {answered : Bool} (lend : lent ≡ set)
+  module _ (none : slice_get squares 0 ≡ None) {lent : List Instance} {answered : Bool} (lend : lent ≡ set)
       (told : answered ≡ list_all (λ g. not (is_left p (written_list lent) g) || is_some (answer_to p (written_list lent) g)) (groups_of (board_of p))) where
     decided : choice_among p left (walk_from p (written_list set) ++ rest) ≡ (if answered then gave (given p (written_list set)) else choice_among p k rest)
     decided =

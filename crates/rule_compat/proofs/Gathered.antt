@@ -50,6 +50,14 @@ none_step list i x within at none =
     ∙ ap (λ place. option_map (λ k. (k, 1 + length (take i list))) place) (first_is (take i list) x)
     ∙ ap (λ j. option_map (λ k. (k, j)) (clash_in (zones_from owns 1 (take i list)) x)) (let size = length-take-le i list (omega arith) in omega (arith, size))
 
+-- the same, as code finds the clash: of the zone of the member at this place, among the zones so far
+pub clash_step : (list : List Instance) (i : ℕ) (x : Instance) {found : Option ℕ} {zone : ℕ × Instance} {lent zones : List (ℕ × Instance)} → i < length list
+    → x ≡ get_or list i x → first_two_from stand 1 (take i list) ≡ None → found ≡ clash_in lent zone.1 → zone ≡ (i + 1, x) → lent ≡ zones
+    → zones ≡ zones_from owns 1 (take i list) → first_two_from stand 1 (take (i + 1) list) ≡ option_map (λ k. (k, i + 1)) found
+clash_step list i x {found} {zone} {lent} within at none clash is lend kept =
+    none_step list i x within at none ∙ ap (option_map (λ k. (k, i + 1))) (sym (clash ∙ ap (λ zone. clash_in lent zone.1) is
+    ∙ ap (λ zones. clash_in zones x) (lend ∙ kept)))
+
 -- a member that owns no zone clashes with none
 stands_with_all : (zones : List (ℕ × Instance)) (x : Instance) → owns x ≡ false → clash_in zones x ≡ None
 stands_with_all [] x standing = refl
