@@ -20,7 +20,7 @@ use Rattle.reply_player.specs.Playing.{Playing}
 use Rattle.play_text.specs.Play as ends
 use Rattle.play_text.specs.Play.{PlayEnd, Played, behind, play_from, play_of, text_of, first_move}
 use Rattle.play_text.specs.Told.{IsTold}
-use Rattle.play_text.proofs.Steps.{behind_more, told}
+use Rattle.play_text.proofs.Steps.{behind_more, play_is_told}
 use Rattle.victor_run.specs.Streams.{Streams, TakesLines, WaitsBehind}
 use Rattle.io_ports.specs.Reading.{Pending, Reads, PassesLines}
 use Rattle.victor_run.specs.PlayPromise.{IsPlayed, BeginsPlay}
@@ -317,7 +317,7 @@ kept_from (Some xs) (Some ys) lines none put = put ∙ ap (λ lines. xs ++ text_
 
 -- what is told by an end
 told_by : (bytes : List ℕ) (lines : List (List ℕ)) (end : PlayEnd) → play_of bytes ≡ record { lines = lines; end = end } → IsTold bytes lines end
-told_by bytes lines end is = let P : Played → Type 0 = λ played. IsTold bytes played.lines played.end in subst P is (told bytes)
+told_by bytes lines end is = let P : Played → Type 0 = λ played. IsTold bytes played.lines played.end in subst P is (play_is_told bytes)
 
 -- what would have gone on
 begun : (bytes : List ℕ) (lines : List (List ℕ)) → (later : Played) × (play_of bytes ≡ behind lines later) → BeginsPlay lines bytes
