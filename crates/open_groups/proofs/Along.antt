@@ -1,5 +1,5 @@
 -- The groups of one direction by their anchors, and the room for those of all four.
-use Rattle.std.proofs.Common.{◌≡◌, ◌+◌, ◌≤◌, true, List, ◌++◌, length, map, filter, ap, arith, length-append}
+use Rattle.std.proofs.Common.{◌≡◌, ◌+◌, ◌≤◌, true, List, ◌++◌, length, map, filter, ap, ◌∙◌, arith, length-append}
 use Rattle.std.proofs.lemmas.List.{append-nil}
 use Rattle.game_rules.specs.Board.{Board, Square, is_board, is_line}
 use Rattle.game_rules.specs.Groups.{Group, group_on, groups_along, groups_of}
@@ -27,3 +27,7 @@ ways_fit b h =
       length-append (groups_along b V) (groups_along b U ++ groups_along b D),
       length-append (groups_along b U) (groups_along b D),
     )
+
+-- a list with more behind it is longer by as much
+pub length_behind : {X : Type 0} (old more : List X) {new : List X} → new ≡ old ++ more → length new ≡ length old + length more
+length_behind old more h = ap length h ∙ length-append old more

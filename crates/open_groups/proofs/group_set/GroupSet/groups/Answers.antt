@@ -2,6 +2,7 @@ use Rattle.std.proofs.Common.{◌≡◌, ◌+◌, ◌≤◌, ◌++◌, length, a
 use Rattle.game_rules.specs.Groups.{GroupsOn}
 use Rattle.game_rules.specs.declared.Way.TheVariants.{H, V, U, D}
 use Rattle.open_groups.specs.GroupBits.{those_along}
+use Rattle.open_groups.proofs.Along.{length_behind}
 use Rattle.open_groups.proofs.Members.{by_ways, kept_fit}
 use Rattle.open_groups.proofs.group_set.GroupSet.groups.Goals as goal
 use Rattle.game_rules.specs.declared.TheConstants.{MOST_GROUPS}
@@ -16,33 +17,23 @@ push_along-requires c = omega (arith, subst AllFit c.self.view_is (kept_fit c.se
 pub push_along-requires-2 : goal.push_along-requires-2
 push_along-requires-2 c =
     let fit = subst AllFit c.self.view_is (kept_fit c.self.inside c.self.invariant) in
-    let first = length-append c.new-groups.result.items (those_along c.args.self.now H) in
-    omega (arith, fit, ap length c.new-groups.ensures, ap length c.push_along.ensures, first)
+    let first = length_behind c.new-groups.result.items (those_along c.args.self.now H) c.push_along.ensures in
+    omega (arith, fit, ap length c.new-groups.ensures, first)
 
 pub push_along-requires-3 : goal.push_along-requires-3
 push_along-requires-3 c =
     let fit = subst AllFit c.self.view_is (kept_fit c.self.inside c.self.invariant) in
-    let first = length-append c.new-groups.result.items (those_along c.args.self.now H) in
-    let second = length-append c.push_along.new.groups.items (those_along c.args.self.now V) in
-    omega (arith, fit, ap length c.new-groups.ensures, ap length c.push_along.ensures, first, ap length c.push_along-2.ensures, second)
+    let first = length_behind c.new-groups.result.items (those_along c.args.self.now H) c.push_along.ensures in
+    let second = length_behind c.push_along.new.groups.items (those_along c.args.self.now V) c.push_along-2.ensures in
+    omega (arith, fit, ap length c.new-groups.ensures, first, second)
 
 pub push_along-requires-4 : goal.push_along-requires-4
 push_along-requires-4 c =
     let fit = subst AllFit c.self.view_is (kept_fit c.self.inside c.self.invariant) in
-    let first = length-append c.new-groups.result.items (those_along c.args.self.now H) in
-    let second = length-append c.push_along.new.groups.items (those_along c.args.self.now V) in
-    let third = length-append c.push_along-2.new.groups.items (those_along c.args.self.now U) in
-    omega (
-      arith,
-      fit,
-      ap length c.new-groups.ensures,
-      ap length c.push_along.ensures,
-      first,
-      ap length c.push_along-2.ensures,
-      second,
-      ap length c.push_along-3.ensures,
-      third,
-    )
+    let first = length_behind c.new-groups.result.items (those_along c.args.self.now H) c.push_along.ensures in
+    let second = length_behind c.push_along.new.groups.items (those_along c.args.self.now V) c.push_along-2.ensures in
+    let third = length_behind c.push_along-2.new.groups.items (those_along c.args.self.now U) c.push_along-3.ensures in
+    omega (arith, fit, ap length c.new-groups.ensures, first, second, third)
 
 pub returns : goal.returns
 returns c =
