@@ -5,6 +5,7 @@ use Rattle.std.proofs.lemmas.Bool.{and_parts, and_from, or_cases, cond-true, con
 use Rattle.game_rules.specs.Board.{Square, on_board}
 use Rattle.game_rules.specs.Position.{Position, board_of, height, man_at, has_man, side_to_move, after_move}
 use Rattle.game_rules.specs.Squares.{same_square, has_square, is_playable}
+use Rattle.game_rules.specs.declared.Side.{Side}
 use Rattle.game_rules.specs.declared.Side.TheVariants.{White, Black}
 use Rattle.game_rules.proofs.Lists.{Among}
 use Rattle.game_rules.proofs.Ends.{on_board_parts}
@@ -130,58 +131,35 @@ module _ (u v : Square) (apart : u.0 ≢ v.0) (q : Position) (white : side_to_mo
     ]
   ]
 
+  -- the top answers the middle, whatever men stand on the bottom and on the other top
+  top_for_middle : (m n : Side) → is_playable q (above u) ≡ true → man_at q (above (above u)) ≡ None → man_at q u ≡ Some m → man_at q v ≡ Some White
+      → man_at q (above v) ≡ Some Black → man_at q (above (above v)) ≡ Some n
+      → is_one_of high_words (Some m ∷ Some White ∷ Some Black ∷ Some White ∷ Some Black ∷ Some n ∷ []) ≡ true → HighAnswer u v q (above u)
+  top_for_middle m n playable none was_u was_v was_v1 was_v2 is_calm_word =
+      let open_now : is_playable (after_move q (above u).0) (above (above u)) ≡ true = answer_at q (above u) (above (above u)) playable
+      (on (above (above u)) in_u2) (up_one (above u)) none (low_above q (above u) playable) in
+      let after = turn q (above u) (above (above u)) white playable open_now in
+      let now_u = after.rest u (down_one u) (down_two u) ∙ was_u in
+      let now_v = after.rest v (back v (above u) refl refl) (back v (above (above u)) refl refl) ∙ was_v in
+      let now_v1 = after.rest (above v) (back (above v) (above u) refl refl) (back (above v) (above (above u)) refl refl) ∙ was_v1 in
+      let far_v2 = back (above (above v)) (above (above u)) refl refl in
+      let now_v2 = after.rest (above (above v)) (back (above (above v)) (above u) refl refl) far_v2 ∙ was_v2 in
+      let not_u = up_one u in
+      let here = same_square_refl (above u) in
+      record {
+        to = (above (above u));
+        is_reply = rw (not_u, here) refl;
+        in_zone = in_u2;
+        playable = open_now;
+        calm_after = rw (now_u, after.white, after.black, now_v, now_v1, now_v2) is_calm_word;
+      }
+
   at_middle : is_playable q (above u) ≡ true → HighAnswer u v q (above u)
   at_middle playable = elim (narrow (is_free_over 0 1) high_words (word_at q (squares u v)) calm
       (free_over_from q u (on_board_parts (board_of q) u.0 u.1 (on u in_u)).1 playable)) [
-        | inl word ↦
-            let none : man_at q (above (above u)) ≡ None = cc in
-            let open_now : is_playable (after_move q (above u).0) (above (above u)) ≡ true = answer_at q (above u) (above (above u)) playable
-            (on (above (above u)) in_u2) (up_one (above u)) none (low_above q (above u) playable) in
-            let after = turn q (above u) (above (above u)) white playable open_now in
-            let was_u : man_at q u ≡ Some Black = cc in
-            let now_u = after.rest u (down_one u) (down_two u) ∙ was_u in
-            let was_v : man_at q v ≡ Some White = cc in
-            let now_v = after.rest v (back v (above u) refl refl) (back v (above (above u)) refl refl) ∙ was_v in
-            let was_v1 : man_at q (above v) ≡ Some Black = cc in
-            let now_v1 = after.rest (above v) (back (above v) (above u) refl refl) (back (above v) (above (above u)) refl refl) ∙ was_v1 in
-            let was_v2 : man_at q (above (above v)) ≡ Some White = cc in
-            let far_v2 = back (above (above v)) (above (above u)) refl refl in
-            let now_v2 = after.rest (above (above v)) (back (above (above v)) (above u) refl refl) far_v2 ∙ was_v2 in
-            let not_u = up_one u in
-            let here = same_square_refl (above u) in
-            record {
-              to = (above (above u));
-              is_reply = rw (not_u, here) refl;
-              in_zone = in_u2;
-              playable = open_now;
-              calm_after =
-                  rw (now_u, after.white, after.black, now_v, now_v1, now_v2) refl;
-            }
+        | inl word ↦ top_for_middle Black White playable (cc) (cc) (cc) (cc) (cc) refl
         | inr more ↦ elim more [
-          | inl word ↦
-              let none : man_at q (above (above u)) ≡ None = cc in
-              let open_now : is_playable (after_move q (above u).0) (above (above u)) ≡ true = answer_at q (above u) (above (above u)) playable
-              (on (above (above u)) in_u2) (up_one (above u)) none (low_above q (above u) playable) in
-              let after = turn q (above u) (above (above u)) white playable open_now in
-              let was_u : man_at q u ≡ Some White = cc in
-              let now_u = after.rest u (down_one u) (down_two u) ∙ was_u in
-              let was_v : man_at q v ≡ Some White = cc in
-              let now_v = after.rest v (back v (above u) refl refl) (back v (above (above u)) refl refl) ∙ was_v in
-              let was_v1 : man_at q (above v) ≡ Some Black = cc in
-              let now_v1 = after.rest (above v) (back (above v) (above u) refl refl) (back (above v) (above (above u)) refl refl) ∙ was_v1 in
-              let was_v2 : man_at q (above (above v)) ≡ Some Black = cc in
-              let now_v2 = after.rest (above (above v)) (back (above (above v)) (above u) refl refl) (back (above (above v)) (above (above u)) refl refl)
-              ∙ was_v2 in
-              let not_u = up_one u in
-              let here = same_square_refl (above u) in
-              record {
-                to = (above (above u));
-                is_reply = rw (not_u, here) refl;
-                in_zone = in_u2;
-                playable = open_now;
-                calm_after =
-                    rw (now_u, after.white, after.black, now_v, now_v1, now_v2) refl;
-              }
+          | inl word ↦ top_for_middle White Black playable (cc) (cc) (cc) (cc) (cc) refl
           | inr past ↦ absurd past
         ]
       ]
