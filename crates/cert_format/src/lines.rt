@@ -7,9 +7,9 @@ ghost use Rattle.cert_format.specs.Shape.{reason_by, reason_of, reason_viewed, l
 
 use arrayvec::ArrayVec;
 use board_bits::Column;
+use plan_rules::MOST_MEMBERS;
 use proof_text::{Claim, Verdict};
 use rule_compat::Instance;
-use plan_rules::MOST_MEMBERS;
 
 /// The first line of each proof, which names the format.
 pub const FIRST_LINE: &[u8] = b"victor 1";

@@ -17,8 +17,8 @@ use crate::reading::split_word;
 use arrayvec::ArrayVec;
 use board_bits::Size;
 use io_ports::{Failed, Sink, put_all};
-use rule_compat::Instance;
 use plan_rules::MOST_MEMBERS;
+use rule_compat::Instance;
 
 /// Room for the text of an instance with the space before it.
 const MEMBER_ROOM: usize = 19;

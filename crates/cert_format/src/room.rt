@@ -12,9 +12,9 @@ use crate::lines::{
 use crate::reading::read_into;
 use arrayvec::ArrayVec;
 use board_bits::{Column, Size};
+use plan_rules::MOST_MEMBERS;
 use proof_text::{Claim, Verdict};
 use rule_compat::Instance;
-use plan_rules::MOST_MEMBERS;
 
 /// Room for one line.
 #[derive(Drop)]

@@ -3,7 +3,6 @@ use Rattle.std.proofs.Common.{◌≡◌, ◌≢◌, ℕ, Bool, true, List, [], �
 use Rattle.std.proofs.lemmas.Bool.{and_parts}
 use Rattle.game_rules.specs.Position.{Position, same_side, side_to_move}
 use Rattle.game_rules.specs.declared.Side.{Side}
-use Rattle.game_rules.specs.declared.Side.TheVariants.{White, Black}
 use Rattle.game_rules.specs.contracts.SidePartialEq.TheImpl.{eq-value}
 use Rattle.front_rules.specs.Counts.{same_count}
 use Rattle.front_rules.specs.Front.{is_own, verdict_by_numbers, verdict_on}

@@ -23,9 +23,9 @@ use crate::placed::PlacedZone;
 use arrayvec::ArrayVec;
 use board_bits::{Position, Square};
 use open_groups::{GroupId, group_mask};
+use plan_rules::MOST_MEMBERS;
 use rule_law::Kept;
 use std::marker::Model;
-use plan_rules::MOST_MEMBERS;
 
 /// A plan of Black's at a position. Every value of the type is one: it is only made of a list that passed each test.
 #[derive(Drop)]

@@ -49,13 +49,13 @@ impl Found {
         ensures { MatchOption result (IsTooMany self piece) (AddsPiece self piece) }
     {
         match piece {
-            Piece::Apart(name, number) | Piece::Joined(name, number) => self.with_option(name, number),
-            Piece::Own(number) => self.with_number(number),
+            Piece::Apart(name, number) | Piece::Joined(name, number) => self.option(name, number),
+            Piece::Own(number) => self.number(number),
         }
     }
 
     /// What was found with a number for an option; None exactly where the option was given before.
-    fn with_option(self, name: Name, number: u32) -> Option<Found>
+    fn option(self, name: Name, number: u32) -> Option<Found>
         ensures { MatchOption result (IsTooMany self (Apart name number)) (AddsPiece self (Apart name number)) }
     {
         match (name, self.nodes, self.reach, self.front, self.table) {
@@ -80,7 +80,7 @@ impl Found {
     }
 
     /// What was found with a number alone; None exactly where five stood alone before.
-    fn with_number(mut self, number: u32) -> Option<Found>
+    fn number(mut self, number: u32) -> Option<Found>
         ensures { MatchOption result (IsTooMany self (Own number)) (AddsPiece self (Own number)) }
     {
         if self.numbers.is_full() {

@@ -33,20 +33,20 @@ loop-index-preserved c =
     let more = zones_step list i x c.loop-index-test.true c.index-list-index.is in
     elim c.if-owns_zone.branch [
       | then-owns_zone+in_default w ↦ record {
-          none = clash_step list i x c.loop-index-test.true c.index-list-index.is l.none w.first_clash.ensures w.of-zone.ensures w.as_slice.ensures.value l.kept
-              ∙ ap (option_map (λ k. (k, i + 1))) w.in_default.is;
-          kept =
-              ap (λ zones. zones.items) w.zones-is
-              ∙ w.push.ensures.items
-              ∙ ap (λ zone. c.loop-index.zones.items ++ zone ∷ []) w.of-zone.ensures
-              ∙ ap (λ zones. zones ++ (i + 1, x) ∷ []) l.kept
-              ∙ sym (more ∙ ap (λ b. before ++ cond b ((i + 1, x) ∷ []) []) (sym c.owns_zone.ensures ∙ w.if-owns_zone.true));
-        }
+        none = clash_step list i x c.loop-index-test.true c.index-list-index.is l.none w.first_clash.ensures w.of-zone.ensures w.as_slice.ensures.value l.kept
+            ∙ ap (option_map (λ k. (k, i + 1))) w.in_default.is;
+        kept =
+            ap (λ zones. zones.items) w.zones-is
+            ∙ w.push.ensures.items
+            ∙ ap (λ zone. c.loop-index.zones.items ++ zone ∷ []) w.of-zone.ensures
+            ∙ ap (λ zones. zones ++ (i + 1, x) ∷ []) l.kept
+            ∙ sym (more ∙ ap (λ b. before ++ cond b ((i + 1, x) ∷ []) []) (sym c.owns_zone.ensures ∙ w.if-owns_zone.true));
+      }
       | else-owns_zone w ↦ record {
-          none = standing_step list i x c.loop-index-test.true c.index-list-index.is l.none (sym c.owns_zone.ensures ∙ w.if-owns_zone.false);
-          kept =
-              ap (λ zones. zones.items) w.zones-is
-              ∙ l.kept
-              ∙ sym (more ∙ ap (λ b. before ++ cond b ((i + 1, x) ∷ []) []) (sym c.owns_zone.ensures ∙ w.if-owns_zone.false) ∙ append-nil before);
-        }
+        none = standing_step list i x c.loop-index-test.true c.index-list-index.is l.none (sym c.owns_zone.ensures ∙ w.if-owns_zone.false);
+        kept =
+            ap (λ zones. zones.items) w.zones-is
+            ∙ l.kept
+            ∙ sym (more ∙ ap (λ b. before ++ cond b ((i + 1, x) ∷ []) []) (sym c.owns_zone.ensures ∙ w.if-owns_zone.false) ∙ append-nil before);
+      }
     ]

@@ -1,4 +1,4 @@
-use Rattle.std.proofs.Common.{◌≡◌, ◌+◌, ◌≤◌, ◌++◌, length, ap, ◌∙◌, sym, subst, arith, append_assoc, length-append}
+use Rattle.std.proofs.Common.{◌≡◌, ◌+◌, ◌≤◌, ◌++◌, length, ap, ◌∙◌, sym, subst, arith, append_assoc}
 use Rattle.game_rules.specs.Groups.{GroupsOn}
 use Rattle.game_rules.specs.declared.Way.TheVariants.{H, V, U, D}
 use Rattle.open_groups.specs.GroupBits.{those_along}
