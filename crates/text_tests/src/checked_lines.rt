@@ -65,22 +65,6 @@ fn refuse(alloc: Global, rows: &[(usize, &str, u64, Why)]) -> Result<(), Fail> {
 }
 
 #[test]
-fn right_lines_are_accepted(rt: HostRuntime) -> Result<(), Fail> {
-    let accepted = Accepted {
-        verdict: Verdict::Draw(8, 16),
-        lemmas: 16,
-    };
-    assert_eq!(rt; checked(rt.alloc(), &PROOF)?, Ok(accepted));
-    let accepted = Accepted {
-        verdict: Verdict::Unknown,
-        lemmas: 1,
-    };
-    let remarked = ["# one", PROOF[0], "# two", "value unknown"];
-    assert_eq!(rt; checked(rt.alloc(), &remarked)?, Ok(accepted));
-    Ok(())
-}
-
-#[test]
 fn wrong_lemmas_are_refused_by_their_names(rt: HostRuntime) -> Result<(), Fail> {
     let rows = [
         (0, "1 aaaa W- end", 4, Why::BadPath),
@@ -115,7 +99,18 @@ fn wrong_verdicts_are_refused_by_their_names(rt: HostRuntime) -> Result<(), Fail
 }
 
 #[test]
-fn wrong_plans_are_refused_with_their_faults(rt: HostRuntime) -> Result<(), Fail> {
+fn right_lines_are_accepted_and_wrong_plans_refused(rt: HostRuntime) -> Result<(), Fail> {
+    let accepted = Accepted {
+        verdict: Verdict::Draw(8, 16),
+        lemmas: 16,
+    };
+    assert_eq!(rt; checked(rt.alloc(), &PROOF)?, Ok(accepted));
+    let accepted = Accepted {
+        verdict: Verdict::Unknown,
+        lemmas: 1,
+    };
+    let remarked = ["# one", PROOF[0], "# two", "value unknown"];
+    assert_eq!(rt; checked(rt.alloc(), &remarked)?, Ok(accepted));
     let misfit = Why::BadPlan(PlanFault::Misfit(1));
     let ended = Why::BadPlan(PlanFault::Ended);
     let not_white = Why::BadPlan(PlanFault::NotWhiteToMove);
