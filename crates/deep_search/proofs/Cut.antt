@@ -36,7 +36,8 @@ lemmas_prefix true old new ls stands = stands
 lemmas_prefix false old new ls stands =
     let line = lemma_line stands.last in
     let all : lines_of stands.whole ++ line ≡ lines_of ls =
-    ap (λ last. lines_of stands.whole ++ last) (sym (append-nil line)) ∙ sym (flat_map-append lemma_line stands.whole (stands.last ∷ [])) ∙ ap lines_of (sym stands.are) in
+    ap (λ last. lines_of stands.whole ++ last) (sym (append-nil line)) ∙ sym (flat_map-append lemma_line stands.whole (stands.last ∷ []))
+    ∙ ap lines_of (sym stands.are) in
     subst (AppendsPrefix false old new) all (
       length (lines_of stands.whole) + stands.n,
       subst (Appends old new) (sym (take-append-add (lines_of stands.whole) line stands.n)) stands.bytes,

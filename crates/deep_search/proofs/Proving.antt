@@ -109,7 +109,8 @@ pub right_lemma : (root p : Position) (question : Question) (reach : ℕ) (won :
     → AppendsPrefix (is_whole result) old.bytes new.bytes (lemma_line (record { number = count + 1; path = path; claim = said; reason = reason }))
     → counted + uncounted result ≡ count + 1 → IsDetermined won count result
     → IsAfter p question won count old.table new.table result → Solves root p question reach known old new counted result
-right_lemma root p question reach won said known path reason old new count counted result is_said along many fits absent right planned short stands number answer
+right_lemma root p question reach won said known path reason old new count counted result is_said along many fits absent right planned short stands number
+    answer
     after = record {
       wrote = record {
         more = lemma_next count path (side_asked question) won reason ∷ [];
@@ -170,7 +171,8 @@ solves_found root p question reach known bytes before after count f same fits th
 }
 
 -- a search that takes nothing from the budget writes nothing
-pub solves_spent : {root : Position} {question : Question} {reach : ℕ} {known : List Shown} {bytes : Option (List ℕ)} {table : Entries} {count : ℕ} (p : Position)
+pub solves_spent : {root : Position} {question : Question} {reach : ℕ} {known : List Shown} {bytes : Option (List ℕ)} {table : Entries} {count : ℕ}
+    (p : Position)
     → length known ≡ count → FitsTable table known → Solves root p question reach known (moment table bytes) (moment table bytes) count (Err Spent)
 solves_spent {root} {question} {reach} {known} {bytes} {table} {count} p many fits = record {
   wrote = wrote_nothing root question reach known bytes table table (count + 0) (same_itself table) fits (omega (arith, many));
@@ -426,7 +428,8 @@ module _ {root p : Position} {question : Question} {reach : ℕ} {own : Bool} {k
     (so_far : SoFar root p question reach own known old mid count numbers order i) (going : end_of p ≡ None)
     (is_own : own ≡ same_side (side_asked question) (side_to_move p)) where
   -- the search after a move stopped
-  pub stopped_by_move : (c : ℕ) {new : Moment} {counted : ℕ} {stop : SearchStop} {child result : Result Answer SearchStop} → has_room p c ≡ true → child ≡ Err stop
+  pub stopped_by_move : (c : ℕ) {new : Moment} {counted : ℕ} {stop : SearchStop} {child result : Result Answer SearchStop} → has_room p c ≡ true
+      → child ≡ Err stop
       → result ≡ Err stop
       → Solves root (after_move p c) question reach (known ++ so_far.wrote.shown) mid new counted child
       → Solves root p question reach known old new counted result

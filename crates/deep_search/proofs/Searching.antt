@@ -33,11 +33,13 @@ pub order_after : (p : Position) (c : ℕ) {next : Position} {order : List ℕ} 
     → order ≡ centre_out (length next.columns)
 order_after p c in_order is = in_order ∙ ap centre_out (sym (ap (λ p. length p.columns) is ∙ cols_moved p c))
 
-pub deep_after : (p : Position) (c : ℕ) (path : List ℕ) {next : Position} {longer : List ℕ} → next ≡ after_move p c → has_room p c ≡ true → longer ≡ path ++ c ∷ []
+pub deep_after : (p : Position) (c : ℕ) (path : List ℕ) {next : Position} {longer : List ℕ} → next ≡ after_move p c → has_room p c ≡ true
+    → longer ≡ path ++ c ∷ []
     → length path + empty_count p ≤ longest_path → length longer + empty_count next ≤ longest_path
 deep_after p c path is room longer deep = let fewer = empty_after p c is room in omega (arith, fewer, ap length longer, length_push path c, deep)
 
-pub played_after : (root p : Position) (c : ℕ) (path : List ℕ) {next : Position} {longer : List ℕ} → longer ≡ path ++ c ∷ [] → next ≡ after_move p c → played root path ≡ Some p
+pub played_after : (root p : Position) (c : ℕ) (path : List ℕ) {next : Position} {longer : List ℕ} → longer ≡ path ++ c ∷ [] → next ≡ after_move p c
+    → played root path ≡ Some p
     → end_of p ≡ None → has_room p c ≡ true → played root longer ≡ Some next
 played_after root p c path longer is along going room =
     ap (played root) longer ∙ played_more root path p c along going room ∙ ap (λ p. Some p) (sym is)
@@ -120,7 +122,8 @@ module _ {question : Question} {reach : ℕ} {p : Position} {own : Bool} {order 
       → Solves root (after_move p c) question reach known mid new counted child
 
   module _ {c : ℕ} (next : IsNext p order i c) {counted : ℕ} {new : Moment} {child : Result Answer SearchStop} (solves : SolvesAfter c new counted child) where
-    behind : {root : Position} {known : List Shown} → played root first ≡ Some p → (so_far : SoFar root p question reach own known old mid now.lemmas numbers order i)
+    behind : {root : Position} {known : List Shown} → played root first ≡ Some p
+        → (so_far : SoFar root p question reach own known old mid now.lemmas numbers order i)
         → Solves root (after_move p c) question reach (known ++ so_far.wrote.shown) mid new counted child
     behind {root} {known} along so_far = solves root (known ++ so_far.wrote.shown) (ap (played root) s.same_path ∙ along) so_far.wrote.counted so_far.wrote.fits
 
@@ -133,7 +136,8 @@ module _ {question : Question} {reach : ℕ} {p : Position} {own : Bool} {order 
         stopped_by_move so_far s.asked.going s.asked.is_own c next.room was_stop is_stop (behind along so_far)
 
     -- the move decides
-    pub decided : {found : Answer} {result : Result Answer SearchStop} {last : ℕ} {last_moment : Moment} {root : Position} {known : List Shown} → child ≡ Ok found
+    pub decided : {found : Answer} {result : Result Answer SearchStop} {last : ℕ} {last_moment : Moment} {root : Position} {known : List Shown}
+        → child ≡ Ok found
         → beq found.yes own ≡ true → played root first ≡ Some p → length known ≡ was.lemmas → FitsTable old.table known
         → ((also : List Shown) → length also ≡ counted → FitsTable new.table also
         → HasReason also p (claim_for (side_asked question) own) (ByOne (record { column = c; lemma = found.lemma }))
@@ -144,7 +148,8 @@ module _ {question : Question} {reach : ℕ} {p : Position} {own : Bool} {order 
         closed_by_one so_far s.asked.going s.asked.is_own c was_found next.room (same_from_beq found.yes own same) (behind along so_far) tell
 
   -- the move doesn't decide
-  pub goes_on : {c : ℕ} (next : IsNext p order i c) {after : Stand} {new : Moment} {child : Result Answer SearchStop} (solves : SolvesAfter c new after.lemmas child)
+  pub goes_on : {c : ℕ} (next : IsNext p order i c) {after : Stand} {new : Moment} {child : Result Answer SearchStop}
+      (solves : SolvesAfter c new after.lemmas child)
       {found : Answer} {longer : List ℕ} {place : ℕ} → child ≡ Ok found → found.yes ≡ wins (side_asked question) (after_move p c)
       → beq found.yes own ≡ false → after.budget < now.budget
       → now.budget ≤ after.budget + count (solved_within reach) (side_asked question) (after_move p c) → Searched now after (Ok found) → longer ≡ path

@@ -82,7 +82,8 @@ module _ (side : Side) where
   turned true p = refl
   turned false p = not_not (is_own side p)
 
-  pub row_dual : (row : Row) (proof smallest : Bool) → is_zero (row_number side proof smallest row) ≡ is_infinite (row_number side (not proof) (not smallest) row)
+  pub row_dual : (row : Row) (proof smallest : Bool) → is_zero (row_number side proof smallest row) ≡ is_infinite (row_number side (not proof)
+      (not smallest) row)
   row_dual nothing proof true = refl
   row_dual nothing proof false = refl
   row_dual (leaf p v rest) proof smallest = dual_joined smallest _ _ _ _ (dual_leaf proof v) (row_dual rest proof smallest)

@@ -17,7 +17,8 @@ use Rattle.game_rules.proofs.Lists.{all_any, any_same}
 use Rattle.walk_rules.proofs.Choices.{solved_not_won}
 use Rattle.front_rules.specs.Counts.{plus, least, same_count, is_zero, is_infinite}
 use Rattle.front_rules.specs.Front.{Row, nothing, leaf, inner, moves_out, leaf_number, joined, is_own, takes_least, row_number, node_number, root_number}
-use Rattle.front_rules.specs.Front.{verdict_by_numbers, verdict_on, node_as, collapsed, end_verdict, verdict_at, leaves, expanded, front_within, is_settled, planned}
+use Rattle.front_rules.specs.Front.{verdict_by_numbers, verdict_on, node_as, collapsed, end_verdict, verdict_at, leaves, expanded, front_within, is_settled}
+use Rattle.front_rules.specs.Front.{planned}
 use Rattle.front_rules.specs.Front.{front, IsGrowing}
 use Rattle.front_rules.proofs.Numbers.{zero_least, zero_plus, row_dual, node_dual}
 use Rattle.front_rules.specs.declared.Count.{Count}

@@ -4,7 +4,8 @@ use Rattle.std.proofs.lemmas.Bool.{cases_Bool}
 use Rattle.game_rules.specs.Position.{Position}
 use Rattle.game_rules.specs.declared.Side.{Side}
 use Rattle.front_rules.specs.Counts.{same_count}
-use Rattle.front_rules.specs.Front.{Row, nothing, leaf, inner, moves_out, leaf_number, is_own, takes_least, row_number, node_number, root_number, verdict_by_numbers}
+use Rattle.front_rules.specs.Front.{Row, nothing, leaf, inner, moves_out, leaf_number, is_own, takes_least, row_number, node_number, root_number}
+use Rattle.front_rules.specs.Front.{verdict_by_numbers}
 use Rattle.front_rules.specs.Front.{verdict_on, node_as, collapsed, leaves, expanded, grown, front_within}
 use Rattle.front_rules.specs.Path.{IsClean, updated}
 use Rattle.front_rules.proofs.Numbers.{collapsed_number}

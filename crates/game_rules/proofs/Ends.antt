@@ -8,7 +8,8 @@ use Rattle.std.proofs.lemmas.List.{get_or-replicate, length-replicate, get_or_pa
 use Rattle.std.proofs.lemmas.List.Elements.{All-replicate}
 use Rattle.std.proofs.lemmas.List.Folds.{sum_by-replicate}
 use Rattle.game_rules.specs.Board.{Board, Square, below, on_board, step_of, line_at, line_length, is_line, ways}
-use Rattle.game_rules.specs.Position.{Position, board_of, empty_position, other, men_in, height, man_in, man_at, has_man, is_man, man_count, same_side, side_to_move}
+use Rattle.game_rules.specs.Position.{Position, board_of, empty_position, other, men_in, height, man_in, man_at, has_man, is_man, man_count, same_side}
+use Rattle.game_rules.specs.Position.{side_to_move}
 use Rattle.game_rules.specs.Position.{has_room, after_move, has_line_at, has_line_in_column, has_line_along, has_line, is_full, end_of, is_legal, played}
 use Rattle.game_rules.specs.Position.{IsStacked}
 use Rattle.game_rules.specs.Laws.{HasLine, IsFilled, DropsMan}

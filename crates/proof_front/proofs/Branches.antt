@@ -172,7 +172,8 @@ module _ (side : Side) {slots : List (Option Node)} {at : ℕ} {node : Node} (ro
 
           -- where the node keeps its numbers, so does the row
           pub inner_numbers_same : (kids : Row) → kids ≡ updated side closed own (number_in own node.numbers) (row_of i.kids)
-              → node.numbers ≡ node_numbers side node.position kids → (b smallest : Bool) → row_number side b smallest (updated side closed proof n (row_of row))
+              → node.numbers ≡ node_numbers side node.position kids → (b smallest : Bool)
+              → row_number side b smallest (updated side closed proof n (row_of row))
               ≡ row_number side b smallest (row_of row)
           inner_numbers_same kids e same b smallest =
               let p = node.position in

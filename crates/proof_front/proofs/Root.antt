@@ -6,7 +6,8 @@ use Rattle.std.proofs.lemmas.List.{length-append, get_or-replicate, get_or_past,
 use Rattle.game_rules.specs.Position.{Position}
 use Rattle.game_rules.specs.declared.Side.{Side}
 use Rattle.front_rules.specs.Counts.{least, same_count, is_zero, is_infinite}
-use Rattle.front_rules.specs.Front.{Row, nothing, leaf, inner, node_count, leaf_number, joined, row_number, node_number, root_number, verdict_by_numbers, node_as}
+use Rattle.front_rules.specs.Front.{Row, nothing, leaf, inner, node_count, leaf_number, joined, row_number, node_number, root_number, verdict_by_numbers}
+use Rattle.front_rules.specs.Front.{node_as}
 use Rattle.front_rules.specs.Front.{verdict_at, leaves, moves_out, grown, asked, asked_in, is_settled, planned, front_within, front}
 use Rattle.front_rules.specs.Path.{updated}
 use Rattle.front_rules.proofs.Numbers.{row_dual}

@@ -89,7 +89,8 @@ text_of white_remark white black_remark black last =
     ap (λ text. text ++ last) (entries_remark white_remark (map LemmaEntry white ++ (remark_entries black_remark ++ map LemmaEntry black))
     ∙ ap (λ text. remark_line white_remark ++ text) (entries_append (map LemmaEntry white) (remark_entries black_remark ++ map LemmaEntry black)
     ∙ ap (λ text. text ++ entry_lines (remark_entries black_remark ++ map LemmaEntry black)) (entries_map white)
-    ∙ ap (λ text. lines_of white ++ text) (entries_remark black_remark (map LemmaEntry black) ∙ ap (λ text. remark_line black_remark ++ text) (entries_map black))))
+    ∙ ap (λ text. lines_of white ++ text) (entries_remark black_remark (map LemmaEntry black)
+    ∙ ap (λ text. remark_line black_remark ++ text) (entries_map black))))
     ∙ append_assoc (remark_line white_remark) (lines_of white ++ (remark_line black_remark ++ lines_of black)) last
     ∙ ap (λ text. remark_line white_remark ++ text) (append_assoc (lines_of white) (remark_line black_remark ++ lines_of black) last
     ∙ ap (λ text. lines_of white ++ text) (append_assoc (remark_line black_remark) (lines_of black) last))

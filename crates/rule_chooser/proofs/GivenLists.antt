@@ -101,7 +101,8 @@ group_free p groups i group is =
     dropped gs i among = subst (λ hs. Among group.id hs) (take-append-drop i gs) (Among-append_right group.id (take i gs) (drop i gs) among)
 
 -- the answers with that to a group of the list, and those to the groups behind it
-pub answers_more : (p : Position) (set ws : List RuleInstance) {facts : Facts} {groups : List OpenGroup} {i : ℕ} {group : OpenGroup} {lent new : List RuleInstance}
+pub answers_more : (p : Position) (set ws : List RuleInstance) {facts : Facts} {groups : List OpenGroup} {i : ℕ} {group : OpenGroup}
+    {lent new : List RuleInstance}
     → is_board (board_of p) ≡ true → groups ≡ map (open_group_at p) (groups_for White p) → i < length groups → group ≡ get_or groups i group
     → facts ≡ facts_of p set → lent ≡ set
     → new ≡ (if some_bars facts (has_square group.empty) lent then ws else with_one ws (first_standing p facts (has_square group.empty)))

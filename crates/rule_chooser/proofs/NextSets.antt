@@ -1,5 +1,6 @@
 -- The sets that come of a set which leaves a square open: a search goes through the zones that may follow, one by one.
-use Rattle.std.proofs.Common.{◌≡◌, ℕ, ◌+◌, ◌<◌, ◌≤◌, ◌-◌, ◌*◌, Bool, true, false, ◌&&◌, not, List, [], ◌∷◌, ◌++◌, length, take, drop, get_or, Some, slice_get}
+use Rattle.std.proofs.Common.{◌≡◌, ℕ, ◌+◌, ◌<◌, ◌≤◌, ◌-◌, ◌*◌, Bool, true, false, ◌&&◌, not, List, [], ◌∷◌, ◌++◌, length, take, drop, get_or, Option, Some}
+use Rattle.std.proofs.Common.{slice_get}
 use Rattle.std.proofs.Common.{refl, sym, ap, ◌∙◌, subst, arith}
 use Rattle.std.specs.List.{list_all}
 use Rattle.std.proofs.lemmas.List.{length-append}
@@ -149,13 +150,27 @@ module _ {p : Position} {set now list zones : List Instance} {squares : List Squ
         without_one p set t.from.opens.leaves.going t.from.opens.leaves.is_set t.from.board zones i zone left rest t.within t.at stays
         ∙ ap (λ k. choice_among p k (after p (written_list set) (written_list (drop (i + 1) zones)) ++ rest)) (sym same_left))
 
+-- a zone that may not follow is passed by
+pub passes_by : {p : Position} {set now new list zones lent : List Instance} {squares : List Square} {first : Square} {before left last i n : ℕ}
+    {zone : Instance} {test : Bool} → GoesFrom p set now list zones squares first before left i → i < length zones → zone ≡ get_or zones i zone → lent ≡ now
+    → test ≡ (has_square (zone_of (written zone)) first && list_all (λ v. together v (written zone)) (written_list lent)) → test ≡ false → IsNext list i n
+    → last ≡ left → new ≡ now → GoesFrom p set new list zones squares first before last n
+passes_by {lent = lent} from within at lend is fails next same_left kept =
+    let t = tries from within at in passed_by t next (follows_is t lent lend is fails) same_left kept
+
+-- the set leaves the first of the squares open
+pub opens_at : {p : Position} {ws : List RuleInstance} {squares : List Square} {first : Square} {found : Option Square} → LeavesOpen p ws squares
+    → found ≡ slice_get squares 0 → found ≡ Some first → OpensAt p ws squares first
+opens_at leaves is some = record { leaves = leaves; at = sym is ∙ some }
+
 -- A zone of the list is tried, and it may follow.
 pub record Follows (p : Position) (set now list zones : List Instance) (squares : List Square) (first : Square) (before left i : ℕ)
     (zone : Instance) : Type 0 where
   pub at : Tries p set now list zones squares first before left i zone
   pub may : may_follow p (written_list set) (written zone) ≡ true
 
-pub follows : {p : Position} {set now list zones lent : List Instance} {squares : List Square} {first : Square} {before left i : ℕ} {zone : Instance} {test : Bool}
+pub follows : {p : Position} {set now list zones lent : List Instance} {squares : List Square} {first : Square} {before left i : ℕ}
+    {zone : Instance} {test : Bool}
     → GoesFrom p set now list zones squares first before left i → i < length zones → zone ≡ get_or zones i zone → lent ≡ now
     → test ≡ (has_square (zone_of (written zone)) first && list_all (λ v. together v (written zone)) (written_list lent)) → test ≡ true
     → Follows p set now list zones squares first before left i zone
@@ -164,7 +179,9 @@ follows {lent = lent} from within at lend is passes = let t = tries from within 
 module _ {p : Position} {set now list zones : List Instance} {squares : List Square} {first : Square} {before left i : ℕ} {zone : Instance}
     (f : Follows p set now list zones squares first before left i zone) where
   pub has_room : length now < 50
-  has_room = omega (arith, next_room p set f.at.from.opens.leaves.going f.at.from.opens.leaves.is_set f.at.from.board zone (among f.at) f.may, ap length f.at.from.same)
+  has_room =
+      let leaves = f.at.from.opens.leaves in
+      omega (arith, next_room p set leaves.going leaves.is_set f.at.from.board zone (among f.at) f.may, ap length f.at.from.same)
 
   module _ {pushed : List Instance} (push : pushed ≡ now ++ zone ∷ []) where
     pushed_is : pushed ≡ set ++ zone ∷ []

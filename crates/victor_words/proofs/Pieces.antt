@@ -13,7 +13,8 @@ use Rattle.plan_text.specs.Words.{split_once}
 use Rattle.plan_text.proofs.Spaced.{bind_some, map_some, all_each, is_text, IsDigits, digits_decimal, split_once_gives}
 use Rattle.text_words.proofs.Cuts.{uncut}
 use Rattle.victor_words.specs.Words.{command_word, name_word, words_of}
-use Rattle.victor_words.specs.Reading.{command_named, option_named, word_number, joined_piece, apart_piece, apart_or_own, piece_from, first_piece, IsSmall, AreWordsOf}
+use Rattle.victor_words.specs.Reading.{command_named, option_named, word_number, joined_piece, apart_piece, apart_or_own, piece_from, first_piece, IsSmall}
+use Rattle.victor_words.specs.Reading.{AreWordsOf}
 use Rattle.victor_words.specs.declared.form.Command.{Command}
 use Rattle.victor_words.specs.declared.form.Command.TheVariants as commands
 use Rattle.victor_words.specs.declared.piece.Name.{Name}

@@ -84,8 +84,8 @@ aftereven_spent = refl
 
 -- with a Vertical and two Befores, in the order of the groups that they answer
 with_befores : chosen 5 6 (0 ∷ 2 ∷ 2 ∷ 2 ∷ 2 ∷ 2 ∷ 2 ∷ 1 ∷ 0 ∷ 1 ∷ 1 ∷ 1 ∷ 1 ∷ 1 ∷ 4 ∷ 3 ∷ 0 ∷ 4 ∷ 3 ∷ 0 ∷ 3 ∷ 4 ∷ []) 100
-    ≡ Some (gave (claimeven (0, 5) ∷ lowinverse (3, 4) (3, 6) (4, 4) (4, 6) ∷ vertical (3, 4) ∷ before (group_of_four (1, 6) D) ∷ before (group_of_four (1, 2) U)
-    ∷ []))
+    ≡ Some (gave (claimeven (0, 5) ∷ lowinverse (3, 4) (3, 6) (4, 4) (4, 6) ∷ vertical (3, 4) ∷ before (group_of_four (1, 6) D)
+    ∷ before (group_of_four (1, 2) U) ∷ []))
 unfolding squares_of_board groups_of walk_within walk_from
 with_befores = refl
 

@@ -10,7 +10,8 @@ use Rattle.deep_search.proofs.Tables.{fits_same}
 use Rattle.deep_search.proofs.Plans.{plan_none}
 use Rattle.deep_search.proofs.Moves.{spent_below, own_wins, left_decided, other_wins, left_tried, same_from_beq}
 use Rattle.deep_search.proofs.Proving.{on_ok, solves_entered, solves_spent}
-use Rattle.deep_search.proofs.Searching.{empty_after, order_after, deep_after, played_after, stop_is, starts, next_move, goes_past, goes_on, stops, decided, closed}
+use Rattle.deep_search.proofs.Searching.{empty_after, order_after, deep_after, played_after, stop_is, starts, next_move, goes_past, goes_on, stops, decided}
+use Rattle.deep_search.proofs.Searching.{closed}
 use Rattle.deep_search.proofs.solving.+solve.Goals as goal
 use Rattle.deep_search.proofs.solving.+solve.Goals.{solve_by_moves-then-has_room+in_ok-found+else-found-own, solve_by_moves-else-has_room}
 
@@ -50,7 +51,8 @@ solve_after-returns-clause-below g t c = subst (λ n. OnlyBelow n c.args.table.n
 
 pub solve_after-returns-clause-wrote : goal.solve_after-returns-clause-wrote
 solve_after-returns-clause-wrote g t c root known along many fits = rw (← c.after-next.ensures) (c.solve-found.ensures.wrote root known
-    (played_after root c.args.position.now c.args.column c.args.path.now.items c.push.ensures.items c.after-next.ensures along c.requires.going c.requires.open) many fits)
+    (played_after root c.args.position.now c.args.column c.args.path.now.items c.push.ensures.items c.after-next.ensures along c.requires.going
+    c.requires.open) many fits)
 
 -- ---- solve_by_moves
 
@@ -109,7 +111,8 @@ pub solve_by_moves-returns-clause-wrote : goal.solve_by_moves-returns-clause-wro
 solve_by_moves-returns-clause-wrote g t c root known along many fits =
     let s = c.loop-column.invariant in
     let back : c.deref-2.result.now ≡ c.args.path.now.items = c.deref-2.ensures.0 ∙ s.same_path in
-    closed s c.loop-column-test.false along many fits (λ also counted fits reason. c.put_lemma-2.ensures.wrote root also (ap (played root) back ∙ along) counted fits
+    closed s c.loop-column-test.false along many fits (λ also counted fits reason. c.put_lemma-2.ensures.wrote root also (ap (played root) back
+    ∙ along) counted fits
     (subst (λ cites. HasReason also c.args.position.now (claim_for (side_asked c.args.aim.now.question) (not c.eq-own.result)) (ByAll cites))
     (sym c.cites_from-cites.ensures) reason))
 

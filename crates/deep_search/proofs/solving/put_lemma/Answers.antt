@@ -17,7 +17,8 @@ returns-in-Ok-clause-below g c = below_kept c.args.position.now c.args.aim.now.q
 
 pub returns-in-Ok-clause-wrote : goal.returns-in-Ok-clause-wrote
 returns-in-Ok-clause-wrote g c root known along many fits right =
-    right_lemma root c.args.position.now c.args.aim.now.question c.args.aim.now.reach c.args.yes c.of.result known c.args.path.now (reason_viewed c.args.reason.now) _
+    right_lemma root c.args.position.now c.args.aim.now.question c.args.aim.now.reach c.args.yes c.of.result known c.args.path.now
+    (reason_viewed c.args.reason.now) _
     _ c.args.lemmas.now c.put_view.new.self _ (c.of.ensures ∙ ap (λ side. claim_for side c.args.yes) c.side.ensures) along many fits c.requires.absent right
     c.requires.planned
     c.requires.short c.in-Ok.ensures.written (omega (arith, c.in-Ok.ensures.counted)) (c.in-Ok.ensures.number, refl)
@@ -26,7 +27,8 @@ returns-in-Ok-clause-wrote g c root known along many fits right =
 
 pub returns-in-Err-clause-wrote : goal.returns-in-Err-clause-wrote
 returns-in-Err-clause-wrote g c root known along many fits right =
-    right_lemma root c.args.position.now c.args.aim.now.question c.args.aim.now.reach c.args.yes c.of.result known c.args.path.now (reason_viewed c.args.reason.now) _
+    right_lemma root c.args.position.now c.args.aim.now.question c.args.aim.now.reach c.args.yes c.of.result known c.args.path.now
+    (reason_viewed c.args.reason.now) _
     _ c.args.lemmas.now c.put_view.new.self _ (c.of.ensures ∙ ap (λ side. claim_for side c.args.yes) c.side.ensures) along many fits c.requires.absent right
     c.requires.planned
     c.requires.short c.in-Err.ensures.written (omega (arith, c.in-Err.ensures.kept)) tt (refl, refl)

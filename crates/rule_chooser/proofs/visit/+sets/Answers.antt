@@ -1,6 +1,6 @@
 use Rattle.std.proofs.Common.{sym, ◌∙◌, arith, ap, lit<}
 use Rattle.rule_chooser.proofs.Visits.{none_left, gives, gives_none, goes_next}
-use Rattle.rule_chooser.proofs.NextSets.{begins, ends, tries, follows_is, follows, further, passed_by, has_room, smaller, opens_next, decided, tried}
+use Rattle.rule_chooser.proofs.NextSets.{begins, ends, tries, follows, further, passes_by, opens_at, has_room, smaller, opens_next, decided, tried}
 use Rattle.rule_chooser.proofs.visit.+sets.Goals as goal
 use Rattle.rule_chooser.proofs.visit.+sets.Goals.{visit_next-then-may_follow+in-NoPlan, visit_next-else-may_follow}
 
@@ -18,7 +18,7 @@ visit-returns-else-is_answered-clause-found t c rest = gives_none _ c.requires.s
     c.if-is_answered.false
 
 pub visit-visit_next-requires : goal.visit-visit_next-requires
-visit-visit_next-requires t c = (omega (arith, c.decreases), (c.requires.ground, record { leaves = c.requires.set; at = sym c.first.ensures ∙ c.in-Some-first.is }))
+visit-visit_next-requires t c = (omega (arith, c.decreases), (c.requires.ground, opens_at c.requires.set c.first.ensures c.in-Some-first.is))
 
 pub visit-returns-clause-found : goal.visit-returns-clause-found
 visit-returns-clause-found t c rest = goes_next _ c.requires.set c.has_a_board.ensures.board c.in-Some.less (omega (arith, c.in-Some.ensures)) rest
@@ -55,6 +55,6 @@ visit_next-zones-preserved t c = elim c.if-may_follow.branch [
       tried (follows c.zones.invariant c.zones-test.true c.index-zones-index.is c.as_slice.ensures.value c.may_follow.ensures w.if-may_follow.true)
       w.push.ensures.items _ _ _ w.visit.ensures.found c.next-index.ensures w.in-NoPlan.is w.left-is w.visit.ensures.set w.pop.ensures.rest
       (ap (λ v. v.items) w.set-is)
-  | visit_next-else-may_follow w ↦ let at = tries c.zones.invariant c.zones-test.true c.index-zones-index.is in
-      passed_by at c.next-index.ensures (follows_is at _ c.as_slice.ensures.value c.may_follow.ensures w.if-may_follow.false) w.left-is (ap (λ v. v.items) w.set-is)
+  | visit_next-else-may_follow w ↦ passes_by c.zones.invariant c.zones-test.true c.index-zones-index.is c.as_slice.ensures.value c.may_follow.ensures
+      w.if-may_follow.false c.next-index.ensures w.left-is (ap (λ v. v.items) w.set-is)
 ]
