@@ -230,11 +230,11 @@ module _ (old new : Option (List ℕ)) (before held : List ℕ) (moves : Moves o
 -- ---- how much is held
 
 -- bytes of which no whole line stood there were taken behind what was held
-pub within_filled : (a b : Option (List ℕ)) (old new : List ℕ) (n last : ℕ) → Moves a b old new → IsUndecided old → length new ≡ length old + n → last ≡ n
+pub within_filled : (a b : Option (List ℕ)) (old new : List ℕ) (last : ℕ) (moves : Moves a b old new) → IsUndecided old → last ≡ length moves.taken
     → IsWithinRead last new
-within_filled a b old new n last moves undecided grown is =
+within_filled a b old new last moves undecided is =
     let more : line_len old ≤ line_len new = subst (λ l. line_len old ≤ line_len l) (sym moves.grown) (line_len-prefix old moves.taken) in
-    omega (arith, more, undecided.0, undecided.1, grown, is)
+    omega (arith, more, undecided.0, undecided.1, ap length moves.grown, length-append old moves.taken, is)
 
 -- ---- a search that goes on behind what was searched
 

@@ -1,11 +1,12 @@
 //! The bytes that a reader of lines took from its source and hasn't given up, in a buffer of fixed size. They are moved
 //! to its start once half of it was given up, so no more bytes are ever moved than were given up before.
-ghost use Rattle.std.specs.Prelude.{◌≡◌, [], ◌+◌, ◌<◌, ◌≤◌, length, drop, IfOk, OnErr};
+ghost use Rattle.std.specs.Prelude.{◌≡◌, ◌↔◌, [], ◌+◌, ◌<◌, ◌≤◌, true, length, take, drop, IfOk, OnErr, OnOk};
 ghost use Rattle.std.specs.Io.KnownBytes.{IsAtEnd};
-ghost use Rattle.io_ports.specs.Lines.{Moves};
+ghost use Rattle.io_ports.specs.Lines.{IsUndecided, IsWithinRead, Moves, line_len};
 ghost use Rattle.device_rules.specs.Devices.{CountsRead, HasCause};
 
 use crate::{Failed, Source};
+use bstr::ByteSlice;
 use std::marker::Model;
 
 /// The most bytes that a line may have.
@@ -48,6 +49,28 @@ impl Ahead {
         &self.buffer[self.start..self.end]
     }
 
+    /// How many bytes stand before the first line feed, or in all. None of the first `searched` is one.
+    pub(crate) fn line_len(&self, searched: usize) -> usize
+        requires within { searched ≤ length self.now }
+        requires unfed { line_len (take searched self.now) ≡ searched }
+        ensures { result ≡ line_len self.now }
+    {
+        let held = self.bytes();
+        match (&held[searched..]).find_byte(b'\n') {
+            Some(at) => searched + at,
+            None => held.len(),
+        }
+    }
+
+    /// Whether more may come of the line of which `len` bytes are held: they are all that is held, and no more than a
+    /// line may have.
+    pub(crate) fn is_undecided(&self, len: usize) -> bool
+        ensures more { result ≡ true ↔ (len ≡ length self.now) × (len ≤ LONGEST) }
+        ensures held { length self.now ≤ CAPACITY }
+    {
+        len == self.bytes().len() && len <= LONGEST
+    }
+
     /// Gives up the first bytes.
     pub(crate) fn skip(&mut self, count: usize)
         requires { count ≤ length self.old }
@@ -69,6 +92,7 @@ impl Ahead {
         ensures moves { Moves (S.left source.old) (S.left source.new) self.old self.new }
         ensures count { IfOk result (λ n. length self.new ≡ length self.old + n) }
         ensures last_read { CountsRead (S.last_read source.old) (S.last_read source.new) result }
+        ensures few { IsUndecided self.old → OnOk result (IsWithinRead (S.last_read source.new) self.new) }
         ensures end { IfOk result (λ n. n ≡ 0 → IsAtEnd (S.left source.new)) }
         ensures refused { OnErr result (self.new ≡ self.old) }
         ensures held { length self.new ≤ CAPACITY }

@@ -1,7 +1,7 @@
 //! The lines of a source, one at a time, in buffers of fixed size: an input of any length is read in the memory that
 //! the reader itself has. What the next line is depends on the bytes alone and not on how the source cuts them, and a
 //! fault of the source loses none of them.
-ghost use Rattle.std.specs.Prelude.{◌≡◌, ◌≢◌, ◌≤◌, [], ◌++◌, false, length, All, IfOk, OnErr, OnOk};
+ghost use Rattle.std.specs.Prelude.{◌≡◌, ◌≢◌, ◌<◌, ◌≤◌, [], ◌++◌, true, false, length, All, IfOk, OnErr, OnOk};
 ghost use Rattle.std.specs.Io.KnownBytes.{IsAtEnd};
 ghost use Rattle.device_rules.specs.Devices.{HasCause, Rose};
 ghost use Rattle.io_ports.specs.Lines.{EachTextIsCut, Gives, Takes, Moves, HoldsFew, IsAhead, IsUndecided, IsWithinRead, is_end, line_len, longest_line, most_held};
@@ -9,7 +9,6 @@ ghost use Rattle.io_ports.specs.Reading.{Reads, pending};
 
 use crate::ahead::{Ahead, LONGEST};
 use crate::{Failed, Source};
-use bstr::ByteSlice;
 use std::marker::Model;
 
 /// What a reader of lines has got.
@@ -172,20 +171,29 @@ fn gather<S: Source>(ahead: &mut Ahead, source: &mut S) -> Result<usize, Failed>
     ensures few { OnOk result (IsWithinRead (S.last_read source.old) ahead.old → IsWithinRead (S.last_read source.new) ahead.new) }
     ensures cause { HasCause (S.faults source.old) (S.faults source.new) result }
 {
-    let mut searched = 0;
-    loop {
-        let held = ahead.bytes();
-        if let Some(at) = (&held[searched..]).find_byte(b'\n') {
-            return Ok(searched + at);
-        }
-        searched = held.len();
-        if searched > LONGEST {
-            return Ok(searched);
-        }
-        if ahead.fill(source)? == 0 {
-            return Ok(searched);
-        }
+    let mut len = ahead.line_len(0);
+    while ask(ahead, source, len)? {
+        len = ahead.line_len(len);
     }
+    Ok(len)
+}
+
+/// Takes more from the source where the bytes held don't decide the next line, and answers whether any came. `len` of
+/// them stand before the line feed, or in all.
+fn ask<S: Source>(ahead: &mut Ahead, source: &mut S, len: usize) -> Result<bool, Failed>
+    requires len { len ≡ line_len ahead.old }
+    ensures waiting { OnErr result (IsUndecided ahead.new) }
+    ensures few { OnOk result (IsWithinRead (S.last_read source.old) ahead.old → IsWithinRead (S.last_read source.new) ahead.new) }
+    ensures more { IfOk result (λ more. more ≡ true → IsUndecided ahead.old × (length ahead.old < length ahead.new)) }
+    ensures none { IfOk result (λ more. more ≡ false → (ahead.new ≡ ahead.old) × (IsUndecided ahead.old → IsAtEnd (S.left source.new))) }
+    ensures moves { Moves (S.left source.old) (S.left source.new) ahead.old ahead.new }
+    ensures held { length ahead.new ≤ most_held }
+    ensures cause { HasCause (S.faults source.old) (S.faults source.new) result }
+{
+    if ahead.is_undecided(len) {
+        return Ok(ahead.fill(source)? > 0);
+    }
+    Ok(false)
 }
 
 /// A law: each text has a next line, of at most 8,192 bytes and none of them a line feed, and the rest follows it.

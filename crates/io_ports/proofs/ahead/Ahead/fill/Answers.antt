@@ -1,5 +1,7 @@
-use Rattle.std.proofs.Common.{◌-◌, ◌++◌, ap, ◌∙◌, take, arith}
+use Rattle.std.proofs.Common.{◌-◌, ◌++◌, sym, ap, ◌∙◌, take, arith}
+use Rattle.std.proofs.lemmas.List.{length-take-le}
 use Rattle.io_ports.proofs.Windows.{grown, unmoved, Moves-none, OnErr-from}
+use Rattle.io_ports.proofs.LineLemmas.{within_filled}
 use Rattle.io_ports.proofs.ahead.Ahead.fill.Goals as goal
 
 pub returns-in_err-count-clause-moves : goal.returns-in_err-count-clause-moves
@@ -25,3 +27,9 @@ returns-clause-moves g c =
       grown = grown s.buffer got s.start s.end (16384 - s.end) n c.self.invariant.1 (omega (arith, c.self.told)) c.in_ok-count.ensures.within
           ∙ ap (λ l. l ++ take n got) c.self.view_is;
     }
+
+pub returns-clause-few : goal.returns-clause-few
+unfolding returns-clause-moves
+returns-clause-few g c =
+    let got = c.in_ok-count.ensures in
+    λ undecided. within_filled _ _ _ _ _ (returns-clause-moves g c) undecided (got.last_read ∙ sym (length-take-le c.in_ok-count.count c.read.new.buf got.within))
