@@ -185,7 +185,8 @@ fn ask<S: Source>(ahead: &mut Ahead, source: &mut S, len: usize) -> Result<bool,
     ensures waiting { OnErr result (IsUndecided ahead.new) }
     ensures few { OnOk result (IsWithinRead (S.last_read source.old) ahead.old → IsWithinRead (S.last_read source.new) ahead.new) }
     ensures more { IfOk result (λ more. more ≡ true → IsUndecided ahead.old × (length ahead.old < length ahead.new)) }
-    ensures none { IfOk result (λ more. more ≡ false → (ahead.new ≡ ahead.old) × (IsUndecided ahead.old → IsAtEnd (S.left source.new))) }
+    ensures none { IfOk result (λ more. more ≡ false
+        → (ahead.new ≡ ahead.old) × (IsUndecided ahead.old → IsAtEnd (S.left source.new))) }
     ensures moves { Moves (S.left source.old) (S.left source.new) ahead.old ahead.new }
     ensures held { length ahead.new ≤ most_held }
     ensures cause { HasCause (S.faults source.old) (S.faults source.new) result }

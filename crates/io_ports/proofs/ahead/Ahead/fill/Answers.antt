@@ -32,4 +32,5 @@ pub returns-clause-few : goal.returns-clause-few
 unfolding returns-clause-moves
 returns-clause-few g c =
     let got = c.in_ok-count.ensures in
-    λ undecided. within_filled _ _ _ _ _ (returns-clause-moves g c) undecided (got.last_read ∙ sym (length-take-le c.in_ok-count.count c.read.new.buf got.within))
+    let count = got.last_read ∙ sym (length-take-le c.in_ok-count.count c.read.new.buf got.within) in
+    λ undecided. within_filled _ _ _ _ _ (returns-clause-moves g c) undecided count
