@@ -1,4 +1,4 @@
-pub mod Pieces
-pub mod Steps
+pub mod Saying
+pub mod Numbers
 pub mod Forms
 pub mod Written

@@ -1,179 +1,119 @@
--- Words and their one form: what their pieces are like, and that what is read of them is their form.
-use Rattle.std.proofs.Common.{◌≡◌, ℕ, ◌-◌, ◌≤◌, List, [], ◌∷◌, flat_map, map, take, drop, get_or, length, Option, Some, None, option_to_list, IfSome, refl, sym}
-use Rattle.std.proofs.Common.{ap, ◌∙◌, subst, inl, inr, arith}
-use Rattle.std.specs.List.{AllByRecursion}
-use Rattle.std.proofs.lemmas.Bool.{and_parts}
+-- Words and their one form: what is read of words is their form, or they have none.
+use Rattle.std.proofs.Common.{◌≡◌, ℕ, ◌<◌, ◌≤◌, ◌-◌, ◌^◌, Bool, true, ◌&&◌, not, nat_le, List, [], ◌∷◌, map, take, drop, get_or, length, Option, Some}
+use Rattle.std.proofs.Common.{None, IfSome, refl, sym, ap, ◌∙◌, subst, inl, inr, arith}
+use Rattle.std.specs.List.{list_all, AllByRecursion}
+use Rattle.std.specs.Fmt.{decimal}
+use Rattle.std.proofs.lemmas.Bool.{ne_eqb, and_parts, leb-true}
 use Rattle.std.proofs.lemmas.List.{take_rest}
-use Rattle.game_rules.proofs.Groups.{board_most}
 use Rattle.game_rules.specs.Board.{is_board, same_length}
 use Rattle.game_rules.specs.declared.Length.TheVariants.{Four}
-use Rattle.plan_text.proofs.Spaced.{all_left, all_right}
-use Rattle.victor_words.specs.Words.{command_word, words_of, given_by, own_by, given, own, command_of, numbers_of, number_in, usual, HasRanges, IsGiven}
-use Rattle.victor_words.specs.Words.{IsWritten, IsReadAs}
-use Rattle.victor_words.specs.Reading.{command_named, form_with, number_found, IsSmall, AreWordsOf, AreFew, AreFound}
-use Rattle.victor_words.specs.declared.form.Command.{Command}
+use Rattle.game_rules.proofs.Groups.{board_most}
+use Rattle.game_rules.proofs.Lists.{Among}
+use Rattle.plan_text.specs.Words.{◌>>=◌}
+use Rattle.plan_text.proofs.Spaced.{IsDigits, digits_decimal, bind_some}
+use Rattle.victor_words.specs.Words.{OptionRow, Given, values, IsGiven, HasRanges, row_of, options_of, Says, IsWritten, IsReadAs}
+use Rattle.victor_words.specs.Reading.{is_name, most_options, most_own, nothing_found, found_from, form_with}
 use Rattle.victor_words.specs.declared.form.Form.{Form}
-use Rattle.victor_words.specs.declared.form.Form.TheVariants.{Prove, Check, Play, Explain, Drill}
-use Rattle.victor_words.specs.declared.found.Found.{Found}
-use Rattle.victor_words.specs.declared.piece.Name.{Name}
-use Rattle.victor_words.specs.declared.piece.Name.TheVariants.{Nodes, Reach, Front, Table}
-use Rattle.victor_words.specs.declared.piece.Piece.{Piece}
-use Rattle.victor_words.specs.declared.piece.Piece.TheVariants.{Apart, Joined, Own}
-use Rattle.victor_words.proofs.Pieces.{command_gives, command_spelled, same_pieces}
-use Rattle.victor_words.proofs.Forms.{form_gives, form_spelled}
+use Rattle.victor_words.specs.declared.form.Form.TheVariants.{Check, Drill}
+use Rattle.victor_words.proofs.Saying.{AreProper, found_says, says_found}
+use Rattle.victor_words.proofs.Numbers.{is_right, names_right, few_given}
+use Rattle.victor_words.proofs.Forms.{form_told, form_found}
 
--- ---- how many, and how large
+-- ---- what holds of each form
 
-given_few : (usually : Option ℕ) (number : Option ℕ) (numbers : List ℕ) → IsGiven usually number numbers → length numbers ≤ 1
-given_few usually None numbers h = omega (arith, ap length h)
-given_few usually (Some n) numbers (inl alone) = omega (arith, ap length alone)
-given_few usually (Some n) numbers (inr none) = omega (arith, ap length none.0)
+-- its options are right, and they and its own words are few
+abbrev is_fit : Form → Bool
+is_fit form = list_all is_right (options_of form) && (nat_le (length (options_of form)) most_options && nat_le (length (row_of form).own) most_own)
 
-five_at_most : (form : Form) → length (numbers_of form) ≤ 5
-five_at_most (Prove nodes reach front table) = omega arith
-five_at_most Check = omega arith
-five_at_most Play = omega arith
-five_at_most (Explain reach) = omega arith
-five_at_most (Drill size moves seed games nodes reach) = omega arith
+rows_fit : (form : Form) → is_fit form ≡ true
+rows_fit Check = refl
+rows_fit _ = refl
 
-few : (words : List (List ℕ)) (form : Form) (written : IsWritten words form) → AreFew written.pieces
-few words form written = record {
-  options = λ name. given_few (usual name) (number_in form name) _ (written.options name);
-  numbers = let most = five_at_most form in omega (arith, most, ap length written.numbers);
-}
+-- its own words are no option's
+unnamed : (word : List ℕ) → IsDigits word → not (is_name word) ≡ true
+unnamed [] digits = refl
+unnamed (byte ∷ []) digits = refl
+unnamed (byte ∷ second ∷ word) digits = rw (ne_eqb byte 45 (λ (e : byte ≡ 45). omega (arith, digits.0.0))) refl
 
-abbrev Fits : ℕ → Type 0
-Fits n = n ≤ 4294967295
+number_unnamed : (n high : ℕ) → n ≤ high → high < 2 ^ 64 → not (is_name (decimal n)) ≡ true
+number_unnamed n high range wide = unnamed (decimal n) (digits_decimal n (omega arith))
 
-option_fits : (form : Form) (name : Name) (n : ℕ) → HasRanges form → number_in form name ≡ Some n → Fits n
-option_fits (Prove nodes reach front table) Nodes n ranges h = let same : nodes ≡ n = cc in omega (arith, ranges.0.1)
-option_fits (Prove nodes reach front table) Reach n ranges h = let same : reach ≡ n = cc in omega (arith, ranges.1.1)
-option_fits (Prove nodes reach None table) Front n ranges h = cc
-option_fits (Prove nodes reach (Some slots) table) Front n ranges h = let same : slots ≡ n = cc in omega (arith, ranges.2.1)
-option_fits (Prove nodes reach front table) Table n ranges h = let same : table ≡ n = cc in omega (arith, ranges.3.1)
-option_fits Check name n ranges h = cc
-option_fits Play name n ranges h = cc
-option_fits (Explain reach) Nodes n ranges h = cc
-option_fits (Explain reach) Front n ranges h = cc
-option_fits (Explain reach) Table n ranges h = cc
-option_fits (Explain reach) Reach n ranges h = let same : reach ≡ n = cc in omega (arith, ranges.1)
-option_fits (Drill size moves seed games nodes reach) Front n ranges h = cc
-option_fits (Drill size moves seed games nodes reach) Table n ranges h = cc
-option_fits (Drill size moves seed games nodes reach) Nodes n ranges h = let same : nodes ≡ n = cc in omega (arith, ranges.1.1)
-option_fits (Drill size moves seed games nodes reach) Reach n ranges h = let same : reach ≡ n = cc in omega (arith, ranges.2.1)
+own_unnamed : (form : Form) → HasRanges form → list_all (λ word. not (is_name word)) (row_of form).own ≡ true
+own_unnamed (Drill size moves seed games n k) ranges =
+    let most = board_most size (and_parts (is_board size) (same_length size.len Four) ranges.1.size).0 in
+    rw (
+      number_unnamed size.cols 10 most.0 (omega arith),
+      number_unnamed size.rows 10 most.1 (omega arith),
+      number_unnamed moves 100 ranges.1.moves.1 (omega arith),
+      number_unnamed seed 2147483646 ranges.1.seed.1 (omega arith),
+      number_unnamed games 1000 ranges.1.games.1 (omega arith),
+    ) refl
+own_unnamed _ ranges = refl
 
-numbers_fit : (form : Form) → HasRanges form → AllByRecursion Fits (numbers_of form)
-numbers_fit (Prove nodes reach front table) ranges = tt
-numbers_fit Check ranges = tt
-numbers_fit Play ranges = tt
-numbers_fit (Explain reach) ranges = tt
-numbers_fit (Drill size moves seed games nodes reach) ranges =
-    let board = and_parts (is_board size) (same_length size.len Four) ranges.0.size in
-    let most = board_most size board.0 in
-    (omega (arith, most.0), (omega (arith, most.1), (omega (arith, ranges.0.moves.1), (omega (arith, ranges.0.seed.1), (omega (arith, ranges.0.games.1), tt)))))
+-- an option is given at most once
+once : (given : List Given) (options : List (OptionRow × Option ℕ)) → AllByRecursion (IsGiven given) options
+    → (option : OptionRow) → Among option (map (λ (option : OptionRow × Option ℕ). option.0) options) → length (values option.word given) ≤ 1
+once given [] is option among = absurd among
+once given (one ∷ options) is option (inr later) = once given options is.1 option later
+once given (one ∷ options) is option (inl same) = subst (λ (option : OptionRow). length (values option.word given) ≤ 1) same (at is.0)
+  where
+    at : IsGiven given one → length (values one.0.word given) ≤ 1
+    at (inl (n, same, are)) = omega (arith, ap length are)
+    at (inr (none, same)) = omega (arith, ap length none)
 
-given_fit : (usually : Option ℕ) (number : Option ℕ) (numbers : List ℕ) → ((n : ℕ) → number ≡ Some n → Fits n) → IsGiven usually number numbers
-    → AllByRecursion Fits numbers
-given_fit usually None numbers fit h = subst (AllByRecursion Fits) (sym h) tt
-given_fit usually (Some n) numbers fit (inl alone) = subst (AllByRecursion Fits) (sym alone) (fit n refl, tt)
-given_fit usually (Some n) numbers fit (inr none) = subst (AllByRecursion Fits) (sym none.0) tt
+-- ---- words and what is read of them
 
-first_fits : (piece : Piece) → ((name : Name) → AllByRecursion Fits (given_by name piece)) → AllByRecursion Fits (own_by piece) → IsSmall piece
-first_fits (Apart Nodes n) options alone = (options Nodes).0
-first_fits (Apart Reach n) options alone = (options Reach).0
-first_fits (Apart Front n) options alone = (options Front).0
-first_fits (Apart Table n) options alone = (options Table).0
-first_fits (Joined Nodes n) options alone = (options Nodes).0
-first_fits (Joined Reach n) options alone = (options Reach).0
-first_fits (Joined Front n) options alone = (options Front).0
-first_fits (Joined Table n) options alone = (options Table).0
-first_fits (Own n) options alone = alone.0
+abbrev pub read_from : List ℕ → List (List ℕ) → Option Form
+read_from word words = found_from words nothing_found >>= form_with word
 
-pieces_fit : (pieces : List Piece) → ((name : Name) → AllByRecursion Fits (given name pieces)) → AllByRecursion Fits (own pieces)
-    → AllByRecursion IsSmall pieces
-pieces_fit [] options alone = tt
-pieces_fit (piece ∷ pieces) options alone = (
-  first_fits piece (λ name. all_left Fits (given_by name piece) (given name pieces) (options name)) (all_left Fits (own_by piece) (own pieces) alone),
-  pieces_fit pieces (λ name. all_right Fits (given_by name piece) (given name pieces) (options name)) (all_right Fits (own_by piece) (own pieces) alone),
-)
+written_read : (word : List ℕ) (words : List (List ℕ)) (form : Form) → IsWritten (word ∷ words) form → read_from word words ≡ Some form
+written_read word words form written =
+    let fit = and_parts _ _ (rows_fit form) in
+    let few_rows = and_parts _ _ fit.1 in
+    let few_options : length (options_of form) ≤ most_options = leb-true _ _ few_rows.0 in
+    let few = few_given (options_of form) written.given (once written.given (row_of form).options written.options) written.no_others in
+    let names = names_right (options_of form) written.given fit.0 written.no_others in
+    let proper : AreProper written.given (row_of form).own = record { options = names; others = own_unnamed form written.ranges } in
+    let found = found_says written.says proper [] written.given [] (row_of form).own refl refl (omega (arith, few, few_options)) (leb-true _ _ few_rows.1) in
+    let first : word ≡ (row_of form).command = cc (written.command) in
+    let rest : words ≡ written.behind = cc (written.command) in
+    ap (λ word. read_from word words) first
+    ∙ ap (read_from (row_of form).command) rest
+    ∙ ap (λ found. found >>= form_with (row_of form).command) found
+    ∙ form_found form written.given written.options written.no_others written.ranges
 
-small : (words : List (List ℕ)) (form : Form) (written : IsWritten words form) → AllByRecursion IsSmall written.pieces
-small words form written = pieces_fit written.pieces
-    (λ name. given_fit (usual name) (number_in form name) _ (λ n. option_fits form name n written.ranges) (written.options name))
-    (subst (AllByRecursion Fits) (sym written.numbers) (numbers_fit form written.ranges))
-
--- ---- words behind a command
-
-words_behind : (word : List ℕ) (words : List (List ℕ)) (form : Form) (written : IsWritten (word ∷ words) form) → AreWordsOf written.pieces words
-words_behind word words form written = record { spelled = cc (written.spelled); small = small (word ∷ words) form written }
-
-pub no_pieces : (word : List ℕ) (words : List (List ℕ)) → ((pieces : List Piece) → AreWordsOf pieces words → AreFew pieces → ⊥) → IsReadAs (word ∷ words) None
-no_pieces word words never form written = never written.pieces (words_behind word words form written) (few (word ∷ words) form written)
-
-form_is : (word : List ℕ) (words : List (List ℕ)) (command : Command) (pieces : List Piece) (numbers : Name → Option ℕ) (form : Form)
-    → command_named word ≡ Some command → AreWordsOf pieces words → ((name : Name) → given name pieces ≡ option_to_list (numbers name))
-    → IsWritten (word ∷ words) form
-    → form_with command (own pieces) numbers ≡ Some form
-form_is word words command pieces numbers form named words_are options written =
-    let same : written.pieces ≡ pieces = same_pieces written.pieces pieces words (words_behind word words form written) words_are in
-    let first : word ≡ command_word (command_of form) = cc (written.spelled) in
-    let found : Some (command_of form) ≡ Some command = sym (command_spelled (command_of form)) ∙ ap command_named (sym first) ∙ named in
-    form_spelled command (own pieces) numbers form (record {
-      command = cc (found);
-      numbers = ap own (sym same) ∙ written.numbers;
-      options = λ name. subst (IsGiven (usual name) (number_in form name)) (ap (given name) same ∙ options name) (written.options name);
-      ranges = written.ranges;
-    })
-
-form_of_words : (word : List ℕ) (words : List (List ℕ)) (command : Command) (pieces : List Piece) (numbers : Name → Option ℕ) (form : Form)
-    → command_named word ≡ Some command → AreWordsOf pieces words → ((name : Name) → given name pieces ≡ option_to_list (numbers name))
-    → form_with command (own pieces) numbers ≡ Some form → IsWritten (word ∷ words) form
-form_of_words word words command pieces numbers form named words_are options h =
-    let is = form_gives command (own pieces) numbers form h in
+read_written : (word : List ℕ) (words : List (List ℕ)) (form : Form) → read_from word words ≡ Some form → IsWritten (word ∷ words) form
+read_written word words form h =
+    let found = bind_some (found_from words nothing_found) (form_with word) form h in
+    let adds = says_found words [] [] None found.0 found.1 in
+    let is = form_told word found.0 form found.2 in
     record {
-      pieces = pieces;
-      spelled = ap (λ first. first ∷ words) (command_gives word command named ∙ ap command_word (sym is.command))
-          ∙ ap (λ words. command_word (command_of form) ∷ words) words_are.spelled;
-      numbers = is.numbers;
-      options = λ name. subst (IsGiven (usual name) (number_in form name)) (sym (options name)) (is.options name);
-      ranges = is.ranges;
+      behind = words;
+      given = found.0.given;
+      command = ap (λ word. word ∷ words) is.0.command;
+      says = subst (Says words found.0.given) is.0.own (subst (λ own. Says words found.0.given own) (sym adds.all_own)
+          (subst (λ given. Says words given adds.own) (sym adds.all_given) adds.says));
+      options = is.0.options;
+      no_others = is.0.no_others;
+      ranges = (is.0.ranges, is.1);
     }
 
--- what is read of words is their form, or they have none
-pub reads_as : (word : List ℕ) (words : List (List ℕ)) (command : Command) (found : Found) → command_named word ≡ Some command
-    → ((pieces : List Piece) × AreWordsOf pieces words × AreFound pieces found)
-    → IsReadAs (word ∷ words) (form_with command found.numbers.items (number_found found))
-reads_as word words command found named (pieces, words_are, are_found) =
-    subst (λ alone. IsReadAs (word ∷ words) (form_with command alone (number_found found))) are_found.numbers
-    (at (form_with command (own pieces) (number_found found)) refl)
+pub reads : (words : List (List ℕ)) (word : List ℕ) (rest : List (List ℕ)) (read : Option Form) → words ≡ word ∷ rest → read_from word rest ≡ read
+    → IsReadAs words read
+reads words word rest read whole h = subst (λ words. IsReadAs words read) (sym whole) (at read h)
   where
-    at : (read : Option Form) → form_with command (own pieces) (number_found found) ≡ read → IsReadAs (word ∷ words) read
-    at (Some form) h = form_of_words word words command pieces (number_found found) form named words_are are_found.options h
-    at None h = λ form written. let never : None ≡ Some form = sym h ∙ form_is word words command pieces (number_found found) form named words_are
-        are_found.options written in cc
+    at : (read : Option Form) → read_from word rest ≡ read → IsReadAs (word ∷ rest) read
+    at (Some form) h = read_written word rest form h
+    at None h = λ form written. let never : None ≡ Some form = sym h ∙ written_read word rest form written in cc
 
 pub read_ranges : (words : List (List ℕ)) (read : Option Form) → IsReadAs words read → IfSome read HasRanges
 read_ranges words None is = tt
 read_ranges words (Some form) is = is.ranges
 
--- ---- one form
-
-as_option : (usually : Option ℕ) (number : Option ℕ) (numbers : List ℕ) → IsGiven usually number numbers → (given : Option ℕ) × (numbers ≡ option_to_list given)
-as_option usually None numbers h = (None, h)
-as_option usually (Some n) numbers (inl alone) = (Some n, alone)
-as_option usually (Some n) numbers (inr none) = (None, none.0)
-
 pub one_form : (words : List (List ℕ)) (one another : Form) → IsWritten words one → IsWritten words another → one ≡ another
-one_form words one another of_one of_another =
-    let numbers : Name → Option ℕ = λ name. (as_option (usual name) (number_in one name) _ (of_one.options name)).0 in
-    let options : (name : Name) → given name of_one.pieces ≡ option_to_list (numbers name) = λ name.
-    (as_option (usual name) (number_in one name) _ (of_one.options name)).1 in
-    let are : AreWordsOf of_one.pieces (flat_map words_of of_one.pieces) = record { spelled = refl; small = small words one of_one } in
-    let read = λ (form : Form) (written : IsWritten words form). form_is (command_word (command_of one)) (flat_map words_of of_one.pieces) (command_of one)
-    of_one.pieces numbers form
-    (command_spelled (command_of one)) are options (subst (λ words. IsWritten words form) of_one.spelled written) in
-    let same : Some one ≡ Some another = sym (read one of_one) ∙ read another of_another in
-    cc
+one_form [] one another of_one of_another = cc (of_one.command)
+one_form (word ∷ words) one another of_one of_another =
+    let same : Some one ≡ Some another = sym (written_read word words one of_one) ∙ written_read word words another of_another in cc
 
 -- ---- the first word
 

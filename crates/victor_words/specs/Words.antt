@@ -1,156 +1,72 @@
 -- Which lists of words are a written form of the command line, and of which one: what a form's words may be, not how
 -- they are read. The commands, the options and their ranges are this project's own.
-use Rattle.std.specs.Prelude.{◌≡◌, ℕ, Bool, true, false, if◌then◌else◌, ◌⊎◌, List, [], ◌∷◌, ◌++◌, Option, Some, None, IfSome, codes}
-use Rattle.std.specs.List.{flat_map}
+use Rattle.std.specs.Prelude.{◌≡◌, ℕ, Bool, true, ◌⊎◌, List, [], ◌∷◌, ◌++◌, map, filter, Option, Some, None, IfSome, codes}
+use Rattle.std.specs.List.{list_all, list_any, AllByRecursion}
 use Rattle.std.specs.Int.{IsInRange}
+use Rattle.std.specs.Str.{bytes_eq}
 use Rattle.std.specs.Fmt.{decimal}
 use Rattle.game_rules.specs.Board.{Board}
 use Rattle.game_rules.specs.Grammar.{is_spelled}
-use Rattle.victor_words.specs.declared.form.Command.{Command}
-use Rattle.victor_words.specs.declared.form.Command.TheVariants as commands
 use Rattle.victor_words.specs.declared.form.Form.{Form}
 use Rattle.victor_words.specs.declared.form.Form.TheVariants.{Prove, Check, Play, Explain, Drill}
-use Rattle.victor_words.specs.declared.piece.Name.{Name}
-use Rattle.victor_words.specs.declared.piece.Name.TheVariants.{Nodes, Reach, Front, Table}
-use Rattle.victor_words.specs.declared.piece.Piece.{Piece}
-use Rattle.victor_words.specs.declared.piece.Piece.TheVariants.{Apart, Joined, Own}
 
--- ---- words
+-- ---- the options
 
-abbrev pub command_word : Command → List ℕ
-command_word commands.Prove = codes "prove"
-command_word commands.Check = codes "check"
-command_word commands.Play = codes "play"
-command_word commands.Explain = codes "explain"
-command_word commands.Drill = codes "drill"
+-- An option: its word, the least and the greatest number that it may have, and its number where it isn't given, if it has
+-- one then.
+pub record OptionRow : Type 0 where
+  pub word : List ℕ
+  pub least : ℕ
+  pub most : ℕ
+  pub usual : Option ℕ
 
-abbrev pub name_word : Name → List ℕ
-name_word Nodes = codes "--nodes"
-name_word Reach = codes "--reach"
-name_word Front = codes "--front"
-name_word Table = codes "--table"
+abbrev pub option_row : List ℕ → ℕ → ℕ → Option ℕ → OptionRow
+option_row word least most usual = record { word = word; least = least; most = most; usual = usual }
 
--- Behind the command the words are pieces: an option and its number, in two words or in one with `=` between them, or a
--- number alone.
-abbrev pub words_of : Piece → List (List ℕ)
-words_of (Apart name n) = name_word name ∷ decimal n ∷ []
-words_of (Joined name n) = (name_word name ++ 61 ∷ decimal n) ∷ []
-words_of (Own n) = decimal n ∷ []
+-- how many positions a search may enter
+abbrev pub nodes : OptionRow
+nodes = option_row (codes "--nodes") 1 10000000 (Some 1000000)
 
--- ---- what pieces give
+-- at how many sets of zones a walk may look
+abbrev pub reach : OptionRow
+reach = option_row (codes "--reach") 0 1000000 (Some 1000)
 
-abbrev pub same_name : Name → Name → Bool
-same_name Nodes Nodes = true
-same_name Nodes Reach = false
-same_name Nodes Front = false
-same_name Nodes Table = false
-same_name Reach Nodes = false
-same_name Reach Reach = true
-same_name Reach Front = false
-same_name Reach Table = false
-same_name Front Nodes = false
-same_name Front Reach = false
-same_name Front Front = true
-same_name Front Table = false
-same_name Table Nodes = false
-same_name Table Reach = false
-same_name Table Front = false
-same_name Table Table = true
-
-abbrev pub given_by : Name → Piece → List ℕ
-given_by name (Apart other n) = if same_name name other then n ∷ [] else []
-given_by name (Joined other n) = if same_name name other then n ∷ [] else []
-given_by name (Own n) = []
-
-abbrev pub own_by : Piece → List ℕ
-own_by (Apart name n) = []
-own_by (Joined name n) = []
-own_by (Own n) = n ∷ []
-
--- the numbers given to an option, and those that stand alone, from the left
-abbrev pub given : Name → List Piece → List ℕ
-given name pieces = flat_map (given_by name) pieces
-
-abbrev pub own : List Piece → List ℕ
-own pieces = flat_map own_by pieces
-
--- ---- what a form says
-
-abbrev pub command_of : Form → Command
-command_of (Prove nodes reach front table) = commands.Prove
-command_of Check = commands.Check
-command_of Play = commands.Play
-command_of (Explain reach) = commands.Explain
-command_of (Drill size moves seed games nodes reach) = commands.Drill
-
--- its numbers that stand alone, in their order
-abbrev pub numbers_of : Form → List ℕ
-numbers_of (Prove nodes reach front table) = []
-numbers_of Check = []
-numbers_of Play = []
-numbers_of (Explain reach) = []
-numbers_of (Drill size moves seed games nodes reach) = size.cols ∷ size.rows ∷ moves ∷ seed ∷ games ∷ []
-
--- the number of an option, if the form has one
-abbrev pub number_in : Form → Name → Option ℕ
-number_in (Prove nodes reach front table) Nodes = Some nodes
-number_in (Prove nodes reach front table) Reach = Some reach
-number_in (Prove nodes reach front table) Front = front
-number_in (Prove nodes reach front table) Table = Some table
-number_in Check name = None
-number_in Play name = None
-number_in (Explain reach) Nodes = None
-number_in (Explain reach) Reach = Some reach
-number_in (Explain reach) Front = None
-number_in (Explain reach) Table = None
-number_in (Drill size moves seed games nodes reach) Nodes = Some nodes
-number_in (Drill size moves seed games nodes reach) Reach = Some reach
-number_in (Drill size moves seed games nodes reach) Front = None
-number_in (Drill size moves seed games nodes reach) Table = None
-
--- the number of an option that isn't given; a front that isn't asked for has none
-abbrev pub usual_nodes : ℕ
-usual_nodes = 1000000
-
-abbrev pub usual_reach : ℕ
-usual_reach = 1000
-
-abbrev pub usual_table : ℕ
-usual_table = 100000
-
-abbrev pub usual : Name → Option ℕ
-usual Nodes = Some usual_nodes
-usual Reach = Some usual_reach
-usual Front = None
-usual Table = Some usual_table
-
--- the greatest number that an option may have
-abbrev pub most_nodes : ℕ
-most_nodes = 10000000
-
-abbrev pub most_reach : ℕ
-most_reach = 1000000
-
-abbrev pub most_slots : ℕ
-most_slots = 1000000
-
-abbrev pub most_room : ℕ
-most_room = 1000000
-
--- how many positions a search may enter, and at how many sets of zones a walk may look
-abbrev pub AreNodes : ℕ → Type 0
-AreNodes n = IsInRange 1 most_nodes n
-
-abbrev pub IsReach : ℕ → Type 0
-IsReach n = IsInRange 0 most_reach n
-
--- how many slots a front may have
-abbrev pub AreSlots : ℕ → Type 0
-AreSlots n = IsInRange 1 most_slots n
+-- how many slots a front may have; there is none where it isn't asked for
+abbrev pub front : OptionRow
+front = option_row (codes "--front") 1 1000000 None
 
 -- how many settled positions a table may keep
+abbrev pub table : OptionRow
+table = option_row (codes "--table") 1 1000000 (Some 100000)
+
+abbrev pub IsNumberOf : OptionRow → ℕ → Type 0
+IsNumberOf option n = IsInRange option.least option.most n
+
+abbrev pub AreSlots : ℕ → Type 0
+AreSlots n = IsNumberOf front n
+
 abbrev pub IsRoom : ℕ → Type 0
-IsRoom n = IsInRange 1 most_room n
+IsRoom n = IsNumberOf table n
+
+-- ---- the forms
+
+-- What a form's words say: its command, its own words in their order, and the options that its command has, each with its
+-- number, if it has one.
+pub record FormRow : Type 0 where
+  pub command : List ℕ
+  pub own : List (List ℕ)
+  pub options : List (OptionRow × Option ℕ)
+
+abbrev pub form_row : List ℕ → List (List ℕ) → List (OptionRow × Option ℕ) → FormRow
+form_row command own options = record { command = command; own = own; options = options }
+
+abbrev pub row_of : Form → FormRow
+row_of (Prove n k slots room) = form_row (codes "prove") [] ((nodes, Some n) ∷ (reach, Some k) ∷ (front, slots) ∷ (table, Some room) ∷ [])
+row_of Check = form_row (codes "check") [] []
+row_of Play = form_row (codes "play") [] []
+row_of (Explain k) = form_row (codes "explain") [] ((reach, Some k) ∷ [])
+row_of (Drill size moves seed games n k) =
+    form_row (codes "drill") (map decimal (size.cols ∷ size.rows ∷ moves ∷ seed ∷ games ∷ [])) ((nodes, Some n) ∷ (reach, Some k) ∷ [])
 
 -- games on a board with lines of four, with their most moves, the number that they are made from, and how many they are
 pub record AreGames (board : Board) (most from count : ℕ) : Type 0 where
@@ -159,28 +75,59 @@ pub record AreGames (board : Board) (most from count : ℕ) : Type 0 where
   pub seed : IsInRange 1 2147483646 from
   pub games : IsInRange 1 1000 count
 
--- the numbers of a form are in their ranges
-abbrev pub HasRanges : Form → Type 0
-HasRanges (Prove nodes reach front table) = AreNodes nodes × IsReach reach × IfSome front AreSlots × IsRoom table
-HasRanges Check = Unit {0}
-HasRanges Play = Unit {0}
-HasRanges (Explain reach) = IsReach reach
-HasRanges (Drill size moves seed games nodes reach) = AreGames size moves seed games × AreNodes nodes × IsReach reach
+-- the numbers that a form's own words give are in their ranges
+abbrev pub HasOwnRanges : Form → Type 0
+HasOwnRanges (Drill size moves seed games n k) = AreGames size moves seed games
+HasOwnRanges _ = Unit {0}
 
--- An option of which the form has a number is given once with that number, or isn't given and the number is the usual
--- one, where there is one. Any other option isn't given.
-abbrev pub IsGiven : Option ℕ → Option ℕ → List ℕ → Type 0
-IsGiven usually None numbers = numbers ≡ []
-IsGiven usually (Some n) numbers = (numbers ≡ n ∷ []) ⊎ ((numbers ≡ []) × (usually ≡ Some n))
+-- and so are those of its options
+abbrev pub HasRanges : Form → Type 0
+HasRanges form = AllByRecursion (λ (option : OptionRow × Option ℕ). IfSome option.1 (IsNumberOf option.0)) (row_of form).options × HasOwnRanges form
 
 -- ---- words and forms
 
--- The words are the command and then, in any order, the form's numbers in their own order and its options.
+-- an option that is given, and its value
+abbrev pub Given : Type 0
+Given = List ℕ × List ℕ
+
+-- The words are given options, each in two words or in one with `=` between its name and its value, and other words,
+-- in any order; both lists are from the left.
+pub data Says : List (List ℕ) → List Given → List (List ℕ) → Type 0 where
+  Nothing : Says [] [] []
+  Apart : {words : List (List ℕ)} {given : List Given} {own : List (List ℕ)} (name value : List ℕ) → Says words given own
+      → Says (name ∷ value ∷ words) ((name, value) ∷ given) own
+  Joined : {words : List (List ℕ)} {given : List Given} {own : List (List ℕ)} (name value : List ℕ) → Says words given own
+      → Says ((name ++ 61 ∷ value) ∷ words) ((name, value) ∷ given) own
+  Own : {words : List (List ℕ)} {given : List Given} {own : List (List ℕ)} (word : List ℕ) → Says words given own
+      → Says (word ∷ words) given (word ∷ own)
+
+-- the values that are given to the option of this name
+abbrev pub values : List ℕ → List Given → List (List ℕ)
+values name given = map (λ (option : Given). option.1) (filter (λ (option : Given). bytes_eq option.0 name) given)
+
+-- An option has its number: it is given once, with that number, or it isn't given, and that is its usual number.
+abbrev pub IsGiven : List Given → OptionRow × Option ℕ → Type 0
+IsGiven given (option, number) =
+    ((n : ℕ) × (number ≡ Some n) × (values option.word given ≡ decimal n ∷ [])) ⊎ ((values option.word given ≡ []) × (number ≡ option.usual))
+
+-- none but these options are given
+abbrev pub is_among : List OptionRow → List ℕ → Bool
+is_among options name = list_any (λ (option : OptionRow). bytes_eq name option.word) options
+
+abbrev pub has_only : List OptionRow → List Given → Bool
+has_only options given = list_all (λ (option : Given). is_among options option.0) given
+
+abbrev pub options_of : Form → List OptionRow
+options_of form = map (λ (option : OptionRow × Option ℕ). option.0) (row_of form).options
+
+-- The words are the command and then, in any order, the form's own words, in their order, and its options.
 pub record IsWritten (words : List (List ℕ)) (form : Form) : Type 0 where
-  pub pieces : List Piece
-  pub spelled : words ≡ command_word (command_of form) ∷ flat_map words_of pieces
-  pub numbers : own pieces ≡ numbers_of form
-  pub options : (name : Name) → IsGiven (usual name) (number_in form name) (given name pieces)
+  pub behind : List (List ℕ)
+  pub given : List Given
+  pub command : words ≡ (row_of form).command ∷ behind
+  pub says : Says behind given (row_of form).own
+  pub options : AllByRecursion (IsGiven given) (row_of form).options
+  pub no_others : has_only (options_of form) given ≡ true
   pub ranges : HasRanges form
 
 -- the words are the form, and where they are read as none they are no form

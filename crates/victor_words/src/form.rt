@@ -1,7 +1,4 @@
 //! What the words of a command line ask for.
-ghost use Rattle.std.specs.Prelude.{◌≡◌, string_bytes};
-ghost use Rattle.std.specs.Str.{bytes_eq};
-ghost use Rattle.victor_words.specs.Reading.{command_named};
 
 use board_bits::Size;
 
@@ -43,41 +40,4 @@ pub enum Form {
         /// How many sets of zones a walk looks at, as for `Prove`.
         reach: u32,
     },
-}
-
-/// The first word of a form.
-#[derive(Clone, Copy)]
-pub(crate) enum Command {
-    Prove,
-    Check,
-    Play,
-    Explain,
-    Drill,
-}
-
-impl Command {
-    /// The command that the word is, and None exactly where it is none.
-    pub(crate) fn named(word: &str) -> Option<Command>
-        ensures { result ≡ command_named word.now }
-    {
-        if is_word(word, "prove") {
-            Some(Command::Prove)
-        } else if is_word(word, "check") {
-            Some(Command::Check)
-        } else if is_word(word, "play") {
-            Some(Command::Play)
-        } else if is_word(word, "explain") {
-            Some(Command::Explain)
-        } else if is_word(word, "drill") {
-            Some(Command::Drill)
-        } else {
-            None
-        }
-    }
-}
-
-fn is_word(word: &str, text: &str) -> bool
-    ensures { result ≡ bytes_eq word.now text.now }
-{
-    word == text
 }

@@ -1,13 +1,14 @@
 //! The words of the command line: which lists of words are a written form, and of which one.
 //!
-//! The definition, in `specs/Words.antt`, says what the words of a form may be. [`read_words`] reads them piece by
-//! piece, from the left, in one pass and with no memory: a piece is an option with its number, or a number alone, and
-//! no list of words is two lists of pieces. What a command may be given is looked at once all pieces are known.
+//! The definition, in `specs/Words.antt`, says what the words of a form may be, by a row for each option and one for
+//! each form. [`read_words`] goes through them once, from the left and with no memory, and keeps the options with their
+//! values apart from the other words (`found`). Then the command's own function (`read`) asks for its options by their
+//! rows (`options`), and puts the form together.
 #![tactic(auto)]
 
 mod form;
 mod found;
-mod piece;
+mod options;
 mod read;
 
 pub use form::Form;
