@@ -3,7 +3,7 @@ use Rattle.std.specs.Prelude.{◌≡◌, ℕ, List, ◌++◌, Option, Ok}
 use Rattle.game_rules.specs.Position.{Position}
 use Rattle.game_rules.specs.Text.{game_at}
 use Rattle.proof_text.specs.declared.Verdict.{Verdict}
-use Rattle.victor_run.specs.Proof.{IsProofOf}
+use Rattle.run_prove.specs.Proof.{IsProofOf}
 
 -- what was there, and more behind it
 abbrev pub StillHolds : List ℕ → List ℕ → Type 0

@@ -10,10 +10,10 @@ ghost use Rattle.game_rules.specs.Cost.{cost};
 ghost use Rattle.game_rules.specs.Text.{game_at};
 ghost use Rattle.deep_search.specs.Planned.{solved_within};
 ghost use Rattle.victor_words.specs.Words.{IsWritten};
-ghost use Rattle.victor_run.specs.Outcome.{status_of};
 ghost use Rattle.victor_words.specs.declared.form.Form.TheVariants as forms;
-ghost use Rattle.victor_run.specs.declared.ending.Ending.{Ending};
-ghost use Rattle.victor_run.specs.declared.ending.Ending.TheVariants as endings;
+ghost use Rattle.run_prove.specs.Proves.{proved_status};
+ghost use Rattle.run_prove.specs.declared.proved.Proved.{Proved};
+ghost use Rattle.run_prove.specs.declared.proved.Proved.TheVariants as ends;
 ghost use Rattle.run_callers.specs.Held.{StillHolds, HoldsProof};
 
 use io_ports::{MemSink, NullSink, Sink, Source};
@@ -36,7 +36,7 @@ pub fn run_into_memory<S: Source>(
 }
 
 /// Proves a game whose cost is within the budget that the arguments give: where no stream failed, the run ends as one that
-/// did all that was asked, or for want of memory.
+/// wrote a proof of its value, or for want of memory.
 pub fn prove_within_budget<S: Source, O: Sink>(
     alloc: Global,
     words: &[String],
@@ -46,7 +46,7 @@ pub fn prove_within_budget<S: Source, O: Sink>(
     ensures { (nodes reach table : ℕ) (front : Option ℕ) (bytes : List ℕ) (p : Position) → IsWritten (map string_bytes words.now) (forms.Prove nodes reach front table)
         → S.left source.old ≡ Some bytes → game_at bytes ≡ Ok p → cost (solved_within reach) p ≤ nodes
         → (Rose (S.faults source.old) (S.faults source.new) → ⊥) → (Rose (O.faults out.old) (O.faults out.new) → ⊥)
-        → (ending : Ending) × (result ≡ status_of ending) × ((ending ≡ endings.Done) ⊎ (ending ≡ endings.Memory)) }
+        → (end : Proved) × (result ≡ proved_status end) × ((end ≡ ends.Value) ⊎ (end ≡ ends.Memory)) }
 {
     run(alloc, words, source, out, &mut NullSink::new())
 }

@@ -1,17 +1,1 @@
-pub mod Ends
-pub mod Growing
-pub mod Asking
-pub mod Writing
-pub mod Drilling
 pub mod Completed
-pub mod Cuts
-pub mod Begun
-pub mod CheckLines
-pub mod GameRead
-pub mod PlayRead
-pub mod CheckKnown
-pub mod Passing
-pub mod Taken
-pub mod Judging
-pub mod PlayJudged
-pub mod Explaining

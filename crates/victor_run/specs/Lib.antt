@@ -1,15 +1,1 @@
-pub mod Output
 pub mod Outcome
-pub mod Streams
-pub mod Remarks
-pub mod SizedFronts
-pub mod Questions
-pub mod Proof
-pub mod Check
-pub mod CheckSteps
-pub mod Reading
-pub mod PlayPromise
-pub mod PlaySteps
-pub mod ExplainPromise
-pub mod DrillPromise
-pub mod GameInput

@@ -1,31 +1,19 @@
 //! The commands, over any source and any sinks.
-ghost use Rattle.std.specs.Prelude.{◌≡◌, ◌⊎◌, ℕ, Option, ◌≤◌, Ok, Some, IfSome, map, string_bytes, true, false};
+ghost use Rattle.std.specs.Prelude.{◌≡◌, ℕ, List, Option, Some, map, string_bytes};
 ghost use Rattle.device_rules.specs.Devices.{Reports, Rose};
-ghost use Rattle.game_rules.specs.Board.{Board};
-ghost use Rattle.game_rules.specs.Position.{Position};
-ghost use Rattle.game_rules.specs.Cost.{cost};
-ghost use Rattle.game_rules.specs.Text.{game_at};
-ghost use Rattle.proof_text.specs.Texts.{check_of, Accepted};
-ghost use Rattle.proof_text.specs.declared.Verdict.{Verdict};
-ghost use Rattle.play_text.specs.Play.{AllPlayed, play_of};
-ghost use Rattle.walk_rules.specs.Walk.{solved};
-ghost use Rattle.deep_search.specs.Planned.{solved_within};
 ghost use Rattle.victor_words.specs.Words.{IsReadAs, IsWritten, HasRanges};
 ghost use Rattle.victor_words.specs.declared.form.Form.{Form};
-ghost use Rattle.victor_run.specs.Output.{fault_text};
-ghost use Rattle.victor_run.specs.Outcome.{status_of, Outcome};
-ghost use Rattle.victor_words.specs.declared.form.Form.TheVariants as forms;
-ghost use Rattle.victor_run.specs.declared.ending.Ending.{Ending};
-ghost use Rattle.victor_run.specs.declared.ending.Ending.TheVariants as endings;
+ghost use Rattle.run_frame.specs.Streams.{StillHolds};
+ghost use Rattle.victor_run.specs.Outcome.{Outcome, Completes};
 
-use crate::check::check;
-use crate::drill::drill;
-use crate::ending::Ending;
-use crate::explain::explain;
-use crate::output::report;
-use crate::play::play;
-use crate::prove::prove;
+use crate::no_form::NoForm;
 use io_ports::{Sink, Source};
+use run_check::check;
+use run_drill::drill;
+use run_explain::explain;
+use run_frame::report;
+use run_play::play;
+use run_prove::prove;
 use std::alloc::Global;
 use victor_words::{Form, read_words};
 
@@ -59,9 +47,11 @@ pub fn run<S: Source, O: Sink, E: Sink>(
     // Every status has its cause here: the words, the bytes that were taken of the source, the cost, or a count of faults.
     // The words are a form, or none. The bytes are few, and those that the source gave as far as it tells: one that tells its
     // bytes determines them.
-    ensures outcome { (form : Option Form) × IsReadAs (map string_bytes words.now) form × (ending : Ending) × (result ≡ status_of ending) × Outcome form
-        (record { input = S.left source.old; left = S.left source.new; last_read = S.last_read source.new; old = O.written out.old; new = O.written out.new }) ending
-        × Reports (E.faults err.old) (E.faults err.new) (E.written err.old) (E.written err.new) (fault_text ending) }
+    ensures outcome { (form : Option Form) × IsReadAs (map string_bytes words.now) form × (text : List ℕ) × Outcome form
+        (record { input = S.left source.old; left = S.left source.new; last_read = S.last_read source.new; old = O.written out.old; new = O.written out.new }) result text
+        × Reports (E.faults err.old) (E.faults err.new) (E.written err.old) (E.written err.new) text }
+    // However it ends, what the sink held stands there still, where it tells.
+    ensures held { StillHolds (O.written out.old) (O.written out.new) }
     ensures read_fault { result ≡ 6 → Rose (S.faults source.old) (S.faults source.new) }
     ensures write_fault { result ≡ 7 → Rose (O.faults out.old) (O.faults out.new) }
 
@@ -69,54 +59,32 @@ pub fn run<S: Source, O: Sink, E: Sink>(
     // accepted, unless memory runs out; a game, a plan and moves of White's are played to their end; a plan is explained
     // where the position is solved within the reach, and is said to be none where it isn't; and games are made and counted,
     // unless memory runs out.
-    ensures complete { (nodes reach table : ℕ) (front : Option ℕ) → IsWritten (map string_bytes words.now) (forms.Prove nodes reach front table)
-        → (Rose (S.faults source.old) (S.faults source.new) → ⊥) → (Rose (O.faults out.old) (O.faults out.new) → ⊥)
-        → IfSome (S.left source.old) (λ bytes. (p : Position) → game_at bytes ≡ Ok p → cost (solved_within reach) p ≤ nodes → (result ≡ 0) ⊎ (result ≡ 8)) }
-    ensures check_complete { IsWritten (map string_bytes words.now) forms.Check
-        → (Rose (S.faults source.old) (S.faults source.new) → ⊥) → (Rose (O.faults out.old) (O.faults out.new) → ⊥)
-        → IfSome (S.left source.old) (λ bytes. (v : Verdict) (count : ℕ) → check_of bytes ≡ Accepted v count → (result ≡ 0) ⊎ (result ≡ 8)) }
-    ensures play_complete { IsWritten (map string_bytes words.now) forms.Play
-        → (Rose (S.faults source.old) (S.faults source.new) → ⊥) → (Rose (O.faults out.old) (O.faults out.new) → ⊥)
-        → IfSome (S.left source.old) (λ bytes. (play_of bytes).end ≡ AllPlayed → result ≡ 0) }
-    ensures explain_complete { (reach : ℕ) → IsWritten (map string_bytes words.now) (forms.Explain reach)
-        → (Rose (S.faults source.old) (S.faults source.new) → ⊥) → (Rose (O.faults out.old) (O.faults out.new) → ⊥)
-        → IfSome (S.left source.old) (λ bytes. (p : Position) → game_at bytes ≡ Ok p → solved p reach ≡ true → result ≡ 0) }
-    ensures explain_none { (reach : ℕ) → IsWritten (map string_bytes words.now) (forms.Explain reach)
-        → (Rose (S.faults source.old) (S.faults source.new) → ⊥) → (Rose (O.faults out.old) (O.faults out.new) → ⊥)
-        → IfSome (S.left source.old) (λ bytes. (p : Position) → game_at bytes ≡ Ok p → solved p reach ≡ false → result ≡ 5) }
-    ensures drill_complete { (size : Board) (moves seed games nodes reach : ℕ) → IsWritten (map string_bytes words.now) (forms.Drill size moves seed games nodes reach)
-        → (Rose (O.faults out.old) (O.faults out.new) → ⊥) → (result ≡ 0) ⊎ (result ≡ 8) }
-{
-    let ending = run_words(alloc, words, source, out);
-    report(err, &ending);
-    ending.status()
-}
-
-/// Reads the words, and runs the command that they are.
-fn run_words<S: Source, O: Sink>(
-    alloc: Global,
-    words: &[String],
-    source: &mut S,
-    out: &mut O,
-) -> Ending
-    ensures outcome { (form : Option Form) × IsReadAs (map string_bytes words.now) form × Outcome form
-        (record { input = S.left source.old; left = S.left source.new; last_read = S.last_read source.new; old = O.written out.old; new = O.written out.new }) result }
-    ensures read_fault { result ≡ endings.Read → Rose (S.faults source.old) (S.faults source.new) }
-    ensures write_fault { result ≡ endings.Write → Rose (O.faults out.old) (O.faults out.new) }
+    ensures complete { (form : Form) → IsWritten (map string_bytes words.now) form
+        → Completes form (Rose (S.faults source.old) (S.faults source.new)) (Rose (O.faults out.old) (O.faults out.new)) (S.left source.old) result }
 {
     match read_words(words) {
-        Some(form) => run_form(alloc, form, source, out),
-        None => Ending::Usage,
+        Some(form) => run_form(alloc, form, source, out, err),
+        None => report(&NoForm, err),
     }
 }
 
-/// Runs the command that a form is.
-fn run_form<S: Source, O: Sink>(alloc: Global, form: Form, source: &mut S, out: &mut O) -> Ending
+/// Runs the command that a form is, and tells its end.
+#[tactic(auto, using(crate::proofs::Completed::completes_as))]
+fn run_form<S: Source, O: Sink, E: Sink>(
+    alloc: Global,
+    form: Form,
+    source: &mut S,
+    out: &mut O,
+    err: &mut E,
+) -> u8
     requires { HasRanges form }
-    ensures outcome { Outcome (Some form)
-        (record { input = S.left source.old; left = S.left source.new; last_read = S.last_read source.new; old = O.written out.old; new = O.written out.new }) result }
-    ensures read_fault { result ≡ endings.Read → Rose (S.faults source.old) (S.faults source.new) }
-    ensures write_fault { result ≡ endings.Write → Rose (O.faults out.old) (O.faults out.new) }
+    ensures outcome { (text : List ℕ) × Outcome (Some form)
+        (record { input = S.left source.old; left = S.left source.new; last_read = S.last_read source.new; old = O.written out.old; new = O.written out.new }) result text
+        × Reports (E.faults err.old) (E.faults err.new) (E.written err.old) (E.written err.new) text }
+    ensures held { StillHolds (O.written out.old) (O.written out.new) }
+    ensures read_fault { result ≡ 6 → Rose (S.faults source.old) (S.faults source.new) }
+    ensures write_fault { result ≡ 7 → Rose (O.faults out.old) (O.faults out.new) }
+    ensures complete { Completes form (Rose (S.faults source.old) (S.faults source.new)) (Rose (O.faults out.old) (O.faults out.new)) (S.left source.old) result }
 {
     match form {
         Form::Prove {
@@ -124,10 +92,10 @@ fn run_form<S: Source, O: Sink>(alloc: Global, form: Form, source: &mut S, out: 
             reach,
             front,
             table,
-        } => prove(alloc, nodes, reach, front, table, source, out),
-        Form::Check => check(alloc, source, out),
-        Form::Play => play(source, out),
-        Form::Explain { reach } => explain(reach, source, out),
+        } => report(&prove(alloc, nodes, reach, front, table, source, out), err),
+        Form::Check => report(&check(alloc, source, out), err),
+        Form::Play => report(&play(source, out), err),
+        Form::Explain { reach } => report(&explain(reach, source, out), err),
         Form::Drill {
             size,
             moves,
@@ -135,6 +103,9 @@ fn run_form<S: Source, O: Sink>(alloc: Global, form: Form, source: &mut S, out: 
             games,
             nodes,
             reach,
-        } => drill(alloc, size, moves, seed, games, nodes, reach, out),
+        } => report(
+            &drill(alloc, size, moves, seed, games, nodes, reach, out),
+            err,
+        ),
     }
 }

@@ -1,19 +1,9 @@
-//! The top call: all that the program does, over any source and any two sinks. Its contract is what the product
-//! promises.
+//! The top call: the words of a command line are read, the command that they ask for runs, over any source and any two
+//! sinks, and its end is told by a status and a text. Its contract is what the product promises; what each command promises
+//! stands in the command's own crate.
 #![tactic(auto)]
 
-mod check;
 mod command;
-mod drill;
-mod ending;
-mod explain;
-mod fronts;
-mod game_input;
-mod game_lines;
-mod output;
-mod play;
-mod prove;
-mod questions;
+mod no_form;
 
 pub use command::run;
-pub use ending::Ending;

@@ -10,6 +10,10 @@ use Rattle.game_rules.specs.Grammar.{is_spelled}
 use Rattle.victor_words.specs.declared.form.Form.{Form}
 use Rattle.victor_words.specs.declared.form.Form.TheVariants.{Prove, Check, Play, Explain, Drill}
 
+-- what is said of the written forms where the words are none
+abbrev pub usage : List ℕ
+usage = codes "usage: victor prove [--nodes N] [--reach K] [--front F] [--table T] | check | play | explain [--reach K] | drill COLS ROWS MOVES SEED GAMES [--nodes N] [--reach K]"
+
 -- ---- the options
 
 -- An option: its word, the least and the greatest number that it may have, and its number where it isn't given, if it has

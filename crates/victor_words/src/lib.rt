@@ -12,4 +12,4 @@ mod options;
 mod read;
 
 pub use form::Form;
-pub use read::{a_list_of_words_is_at_most_one_form, read_words};
+pub use read::{USAGE, a_list_of_words_is_at_most_one_form, read_words};

@@ -11,6 +11,10 @@ use crate::options::{FRONT, NODES, REACH, TABLE};
 use board_bits::Size;
 use text_words::number_between;
 
+/// What is said of the written forms where the words are none.
+pub const USAGE: &[u8] =
+    b"usage: victor prove [--nodes N] [--reach K] [--front F] [--table T] | check | play | explain [--reach K] | drill COLS ROWS MOVES SEED GAMES [--nodes N] [--reach K]\n";
+
 /// The most moves that a game made from a number may be given.
 const MOST_MOVES: u32 = 100;
 

@@ -1,39 +1,14 @@
-use Rattle.std.proofs.Common.{true, false}
-use Rattle.victor_run.proofs.Completed.{by_form, prove_completes, check_completes, play_completes, explain_completes, drill_completes}
+use Rattle.device_rules.specs.Devices.{Rose}
+use Rattle.victor_run.specs.Outcome.{Completes}
+use Rattle.victor_run.proofs.Completed.{for_form}
 use Rattle.victor_run.proofs.command.run.Goals as goal
 
-pub returns-clause-complete : goal.returns-clause-complete
-returns-clause-complete g c = λ nodes reach table front written unread unwritten.
-    let ran = c.run_words-ending.ensures in
-    rw c.status.ensures (prove_completes _ nodes reach table front _ (by_form _ _ _ _ ran.outcome written) (λ failed. unread (ran.read_fault failed))
-    (λ failed. unwritten (ran.write_fault failed)))
+pub returns-in-Some-clause-complete : goal.returns-in-Some-clause-complete
+returns-in-Some-clause-complete g c = λ form written.
+    for_form _ c.in-Some.form form c.in-Some.ensures.value written
+    (λ form. Completes form (Rose (g.S.Source.faults c.args.source.now) (g.S.Source.faults c.run_form.new.source))
+    (Rose (g.O.Sink.faults c.args.out.now) (g.O.Sink.faults c.run_form.new.out)) (g.S.Source.left c.args.source.now) c.run_form.result)
+    c.run_form.ensures.complete
 
-pub returns-clause-check_complete : goal.returns-clause-check_complete
-returns-clause-check_complete g c = λ written unread unwritten.
-    let ran = c.run_words-ending.ensures in
-    rw c.status.ensures (check_completes _ _ (by_form _ _ _ _ ran.outcome written) (λ failed. unread (ran.read_fault failed))
-    (λ failed. unwritten (ran.write_fault failed)))
-
-pub returns-clause-play_complete : goal.returns-clause-play_complete
-returns-clause-play_complete g c = λ written unread unwritten.
-    let ran = c.run_words-ending.ensures in
-    rw c.status.ensures (play_completes _ _ (by_form _ _ _ _ ran.outcome written) (λ failed. unread (ran.read_fault failed))
-    (λ failed. unwritten (ran.write_fault failed)))
-
-pub returns-clause-explain_complete : goal.returns-clause-explain_complete
-returns-clause-explain_complete g c = λ reach written unread unwritten.
-    let ran = c.run_words-ending.ensures in
-    rw c.status.ensures (explain_completes _ reach _ (by_form _ _ _ _ ran.outcome written) (λ failed. unread (ran.read_fault failed))
-    (λ failed. unwritten (ran.write_fault failed)) true)
-
-pub returns-clause-explain_none : goal.returns-clause-explain_none
-returns-clause-explain_none g c = λ reach written unread unwritten.
-    let ran = c.run_words-ending.ensures in
-    rw c.status.ensures (explain_completes _ reach _ (by_form _ _ _ _ ran.outcome written) (λ failed. unread (ran.read_fault failed))
-    (λ failed. unwritten (ran.write_fault failed)) false)
-
-pub returns-clause-drill_complete : goal.returns-clause-drill_complete
-returns-clause-drill_complete g c = λ size moves seed games nodes reach written unwritten.
-    let ran = c.run_words-ending.ensures in
-    rw c.status.ensures (drill_completes _ size moves seed games nodes reach _ (by_form _ _ _ _ ran.outcome written)
-    (λ failed. unwritten (ran.write_fault failed)))
+pub returns-in-None-clause-complete : goal.returns-in-None-clause-complete
+returns-in-None-clause-complete g c = λ form written. absurd (c.in-None.ensures.value form written)

@@ -1,0 +1,67 @@
+//! The command, over any source and any sink.
+ghost use Rattle.std.specs.Prelude.{◌≡◌, is_ok};
+ghost use Rattle.device_rules.specs.Devices.{Rose, HasCause, AppendsPrefix};
+ghost use Rattle.run_check.specs.Checks.{accepted_line, checked_status, Checks, CheckCompletes};
+ghost use Rattle.run_check.specs.declared.checked.Checked.TheVariants as ends;
+ghost use Rattle.run_frame.specs.Streams.{StillHolds};
+ghost use Rattle.run_frame.specs.declared.game_input.InputStop.TheVariants as inputs;
+ghost use Rattle.run_proof.specs.declared.stop.ProofStop.TheVariants as stops;
+
+use crate::checked::Checked;
+use cert_checker::Accepted;
+use io_ports::{Failed, Sink, Source};
+use run_frame::put_line;
+use run_proof::read_proof;
+use std::alloc::Global;
+use text_words::{LineText, push_number, push_text};
+
+/// Reads a proof, and writes one line where it is right. It ends as the definitions answer the text, unless a stream
+/// failed, which comes only where its count of faults rose, or memory ran out.
+pub fn check<S: Source, O: Sink>(alloc: Global, source: &mut S, out: &mut O) -> Checked
+    ensures outcome { Checks
+        (record { input = S.left source.old; left = S.left source.new; last_read = S.last_read source.new; old = O.written out.old; new = O.written out.new }) result }
+    ensures held { StillHolds (O.written out.old) (O.written out.new) }
+    ensures read_fault { result ≡ ends.Stopped (stops.Input inputs.Read) → Rose (S.faults source.old) (S.faults source.new) }
+    ensures write_fault { result ≡ ends.Write → Rose (O.faults out.old) (O.faults out.new) }
+    ensures complete { (Rose (S.faults source.old) (S.faults source.new) → ⊥) → (Rose (O.faults out.old) (O.faults out.new) → ⊥)
+        → CheckCompletes (S.left source.old) (checked_status result) }
+{
+    check_input(alloc, source, out)
+}
+
+/// The same, without what a run owes where no stream failed.
+fn check_input<S: Source, O: Sink>(alloc: Global, source: &mut S, out: &mut O) -> Checked
+    ensures outcome { Checks
+        (record { input = S.left source.old; left = S.left source.new; last_read = S.last_read source.new; old = O.written out.old; new = O.written out.new }) result }
+    ensures read_fault { result ≡ ends.Stopped (stops.Input inputs.Read) → Rose (S.faults source.old) (S.faults source.new) }
+    ensures write_fault { result ≡ ends.Write → Rose (O.faults out.old) (O.faults out.new) }
+{
+    match read_proof(alloc, source) {
+        Ok(accepted) => match put_accepted(out, accepted) {
+            Ok(()) => Checked::Accepted,
+            Err(Failed) => Checked::Write,
+        },
+        Err(stop) => Checked::Stopped(stop),
+    }
+}
+
+/// Writes that a proof is accepted.
+fn put_accepted<O: Sink>(out: &mut O, accepted: Accepted) -> Result<(), Failed>
+    ensures written { AppendsPrefix (is_ok result) (O.written out.old) (O.written out.new) (accepted_line accepted.verdict accepted.lemmas) }
+    ensures cause { HasCause (O.faults out.old) (O.faults out.new) result }
+{
+    put_line(out, accepted_line(accepted).as_slice())
+}
+
+/// The line for a proof that is accepted, with its line feed.
+fn accepted_line(accepted: Accepted) -> LineText
+    ensures { result.items ≡ accepted_line accepted.verdict accepted.lemmas }
+{
+    let mut line = LineText::new();
+    push_text(&mut line, b"accepted ");
+    push_text(&mut line, accepted.verdict.word());
+    line.push(b' ');
+    push_number(&mut line, accepted.lemmas);
+    line.push(b'\n');
+    line
+}

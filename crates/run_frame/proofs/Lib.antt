@@ -1,0 +1,5 @@
+pub mod Inputs
+pub mod Cuts
+pub mod GameRead
+pub mod Taken
+pub mod Passing

@@ -1,0 +1,5 @@
+pub mod Streams
+pub mod Texts
+pub mod Ended
+pub mod Reading
+pub mod GameInput

@@ -1,0 +1,54 @@
+//! The command, over any source and any sink.
+ghost use Rattle.std.specs.Prelude.{◌≡◌};
+ghost use Rattle.device_rules.specs.Devices.{Rose};
+ghost use Rattle.run_frame.specs.Streams.{StillHolds};
+ghost use Rattle.run_frame.specs.declared.game_input.InputStop.TheVariants as inputs;
+ghost use Rattle.run_play.specs.Plays.{play_status, Plays, PlayCompletes};
+ghost use Rattle.run_play.specs.Steps.{PlaysInput, HasPlayCause};
+ghost use Rattle.run_play.specs.declared.play_end.PlayEnding.TheVariants as ends;
+ghost use Rattle.run_play.specs.declared.play_end.PlayStop.TheVariants as stops;
+
+use crate::plan_line::read_plan_line;
+use crate::play_end::{PlayEnding, PlayStop};
+use crate::turns::play_moves;
+use io_ports::{Lines, Sink, Source};
+use reply_player::Session;
+use run_frame::read_game_lines;
+
+/// Plays a game by a plan, to the end of the input or to what stops play. It ends as the definitions say of the input,
+/// unless a stream failed, which comes only where its count of faults rose.
+pub fn play<S: Source, O: Sink>(source: &mut S, out: &mut O) -> PlayEnding
+    ensures outcome { Plays
+        (record { input = S.left source.old; left = S.left source.new; last_read = S.last_read source.new; old = O.written out.old; new = O.written out.new }) result }
+    ensures held { StillHolds (O.written out.old) (O.written out.new) }
+    ensures read_fault { result ≡ ends.Stopped (stops.Input inputs.Read) → Rose (S.faults source.old) (S.faults source.new) }
+    ensures write_fault { result ≡ ends.Stopped stops.Write → Rose (O.faults out.old) (O.faults out.new) }
+    ensures complete { (Rose (S.faults source.old) (S.faults source.new) → ⊥) → (Rose (O.faults out.old) (O.faults out.new) → ⊥)
+        → PlayCompletes (S.left source.old) (play_status result) }
+{
+    play_input(source, out)
+}
+
+/// The same, without what a run owes where no stream failed.
+fn play_input<S: Source, O: Sink>(source: &mut S, out: &mut O) -> PlayEnding
+    ensures outcome { Plays
+        (record { input = S.left source.old; left = S.left source.new; last_read = S.last_read source.new; old = O.written out.old; new = O.written out.new }) result }
+    ensures read_fault { result ≡ ends.Stopped (stops.Input inputs.Read) → Rose (S.faults source.old) (S.faults source.new) }
+    ensures write_fault { result ≡ ends.Stopped stops.Write → Rose (O.faults out.old) (O.faults out.new) }
+{
+    match play_all(source, out) {
+        Ok(()) => PlayEnding::Done,
+        Err(stop) => PlayEnding::Stopped(stop),
+    }
+}
+
+/// Plays to the end of the input, or to what stops play.
+fn play_all<S: Source, O: Sink>(source: &mut S, out: &mut O) -> Result<(), PlayStop>
+    ensures plays { PlaysInput (S.left source.old) (S.left source.new) (S.last_read source.new) (O.written out.old) (O.written out.new) result }
+    ensures cause { HasPlayCause (S.faults source.old) (S.faults source.new) (O.faults out.old) (O.faults out.new) result }
+{
+    let mut lines = Lines::new();
+    let root = read_game_lines(&mut lines, source)?;
+    let plan = read_plan_line(&root, &mut lines, source)?;
+    play_moves(&mut Session::new(plan), &mut lines, source, out)
+}

@@ -1,0 +1,57 @@
+//! The line of the plan, the third of the input.
+ghost use Rattle.std.specs.Prelude.{◌≡◌, ◌≤◌, ℕ, List, [], ◌∷◌, length, MatchResult, IfOk, IfErr};
+ghost use Rattle.io_ports.specs.Lines.{longest_line};
+ghost use Rattle.io_ports.specs.Reading.{pending, Reads, PassesLines};
+ghost use Rattle.game_rules.specs.Position.{empty_count};
+ghost use Rattle.rule_compat.specs.Planned.{members};
+ghost use Rattle.play_text.specs.Play.{play_from, play_lines, first_move};
+ghost use Rattle.run_play.specs.Steps.{played_at, played_from, StopsPlay, lines_besides, IsWaiting, IsNoPlan, StopsReading};
+
+use crate::play_end::PlayStop;
+use board_bits::Position;
+use cert_format::read_plan;
+use io_ports::{LineGot, Lines, Source};
+use rule_compat::Plan;
+use run_frame::InputStop;
+
+/// Reads the line of the plan, which has to be one at this position.
+pub(crate) fn read_plan_line<S: Source>(
+    root: &Position,
+    lines: &mut Lines,
+    source: &mut S,
+) -> Result<Plan, PlayStop>
+    ensures answer { Reads (pending lines.old (S.left source.old) (S.last_read source.old))
+        (pending lines.new (S.left source.new) (S.last_read source.new))
+        (λ bytes rest. PassesLines 1 bytes rest × MatchResult result
+        (λ plan. played_at root.now bytes ≡ played_from (record { plan = plan; stands = root.now }) first_move rest)
+        (StopsPlay (played_at root.now bytes) [])) }
+    ensures at { IfOk result (λ plan. (plan.at ≡ root.now) × (empty_count root.now ≤ 100)) }
+    ensures waiting { IfErr result (IsWaiting lines.new.ahead) }
+    ensures stops { IfErr result (λ stop. 3 ≤ lines_besides stop) }
+    ensures later { S.faults source.old ≤ S.faults source.new }
+    ensures caused { IfErr result (λ stop. StopsReading (S.faults source.old) (S.faults source.new) stop) }
+{
+    match lines.next(source) {
+        LineGot::Line => plan_of(root, lines.text()),
+        LineGot::Long | LineGot::Done => Err(PlayStop::NoPlanLine),
+        LineGot::Failed => Err(PlayStop::Input(InputStop::Read)),
+    }
+}
+
+/// The plan at this position that the bytes name.
+fn plan_of(root: &Position, bytes: &[u8]) -> Result<Plan, PlayStop>
+    requires short { length bytes.now ≤ longest_line }
+    ensures answer { (more : List (List ℕ)) → MatchResult result
+        (λ plan. play_lines root.now (bytes.now ∷ more) ≡ play_from (members plan) root.now first_move more)
+        (StopsPlay (play_lines root.now (bytes.now ∷ more)) []) }
+    ensures at { IfOk result (λ plan. (plan.at ≡ root.now) × (empty_count root.now ≤ 100)) }
+    ensures stops { IfErr result IsNoPlan }
+{
+    let Ok(list) = read_plan(bytes, root.size()) else {
+        return Err(PlayStop::NoPlanLine);
+    };
+    match Plan::check(root, list.as_slice()) {
+        Ok(plan) => Ok(plan),
+        Err(fault) => Err(PlayStop::NoPlan(fault)),
+    }
+}

@@ -1,0 +1,38 @@
+use Rattle.std.proofs.Common.{List, ℕ, sym, ap, ◌∙◌, subst}
+use Rattle.std.proofs.lemmas.Result.{err_from_is_err_and}
+use Rattle.io_ports.specs.Lines.{Gives}
+use Rattle.io_ports.specs.declared.line_reader.LineGot.TheVariants.{Line}
+use Rattle.io_ports.specs.Reading.{pending, Reads}
+use Rattle.run_proof.proofs.Known.{line_known, line_stops, long_stops, none_known, with_bytes_root}
+use Rattle.run_proof.proofs.reading.add_next.Goals as goal
+
+pub returns-in_err-add_line-in-Line-clause-answer : goal.returns-in_err-add_line-in-Line-clause-answer
+returns-in_err-add_line-in-Line-clause-answer g c =
+    let a = pending c.args.lines.now (g.S.Source.left c.args.source.now) (g.S.Source.last_read c.args.source.now) in
+    let b = pending c.next.new.self (g.S.Source.left c.next.new.source) (g.S.Source.last_read c.next.new.source) in
+    let P : List ℕ → Type 0 = λ text. Reads a b (λ bytes rest. Gives bytes rest Line text c.next.new.self.fed) in
+    let stop = err_from_is_err_and c.from_residual.result c.from_residual.ensures.1 in
+    rw (stop.1, stop.2) (
+    line_stops a b c.text.result.now c.next.new.self.fed c.args.checker.now c.args.at (subst P (sym c.text.ensures) c.in-Line.ensures.gives)
+    (g.S.Source.faults c.args.source.now) (g.S.Source.faults c.next.new.source) c.in_err-add_line-in-Line.field-0.0 c.in_err-add_line-in-Line.ensures.answer
+    )
+
+pub returns-in_ok-add_line-in-Line-clause-answer : goal.returns-in_ok-add_line-in-Line-clause-answer
+returns-in_ok-add_line-in-Line-clause-answer g c =
+    let a = pending c.args.lines.now (g.S.Source.left c.args.source.now) (g.S.Source.last_read c.args.source.now) in
+    let b = pending c.next.new.self (g.S.Source.left c.next.new.source) (g.S.Source.last_read c.next.new.source) in
+    let P : List ℕ → Type 0 = λ text. Reads a b (λ bytes rest. Gives bytes rest Line text c.next.new.self.fed) in
+    let added = c.in_ok-add_line-in-Line.ensures.answer in
+    line_known a b c.text.result.now c.next.new.self.fed c.args.checker.now c.args.at (subst P (sym c.text.ensures) c.in-Line.ensures.gives) added.0
+    c.add_line.new.checker added.1
+
+pub returns-in_ok-add_line-in-Line-clause-root : goal.returns-in_ok-add_line-in-Line-clause-root
+returns-in_ok-add_line-in-Line-clause-root g c = ap (λ s. s.root) c.in_ok-add_line-in-Line.ensures.answer.1
+    ∙ with_bytes_root c.args.checker.now c.text.result.now
+
+pub returns-in-Long-clause-answer : goal.returns-in-Long-clause-answer
+returns-in-Long-clause-answer g c =
+    rw c.bad_line.ensures (long_stops _ _ c.next.new.self.text c.next.new.self.fed c.args.checker.now c.args.at c.in-Long.ensures.gives)
+
+pub returns-in-Done-clause-answer : goal.returns-in-Done-clause-answer
+returns-in-Done-clause-answer g c = none_known _ _ c.next.new.self.text c.next.new.self.fed c.args.checker.now c.args.at c.in-Done.ensures.gives

@@ -1,0 +1,3 @@
+pub mod Whole
+pub mod Stops
+pub mod Steps

@@ -1,0 +1,104 @@
+-- How a proof is gone through: at each step the answer to the bytes that were not given yet is that to those that
+-- are not given after it, or the step ends the reading with an answer, or for want of memory.
+use Rattle.std.specs.Prelude.{◌≡◌, ◌⊎◌, ℕ, ◌+◌, Bool, true, false, List, [], ◌∷◌, length, Option, Some, None, Ok, IfSome, Result, MatchResult}
+use Rattle.std.specs.Io.KnownBytes.{Consumes}
+use Rattle.device_rules.specs.Devices.{Rose}
+use Rattle.game_rules.specs.Position.{Position, board_of}
+use Rattle.game_rules.specs.Text.{game_at}
+use Rattle.proof_text.specs.Checked.{CheckerState}
+use Rattle.proof_text.specs.Lemma.{Lemma, ALemma}
+use Rattle.proof_text.specs.Reading.{read_line}
+use Rattle.proof_text.specs.Texts.{pieces, lines_in, first_number, game_of, behind_game, bytes_refusal, with_bytes, start, CheckAnswer, NoGame, Refused, game_answer, verdict_answer, check_from, check_of}
+use Rattle.cert_checker.specs.Checking.{why_of}
+use Rattle.cert_checker.specs.declared.stops.Accepted.{Accepted}
+use Rattle.run_frame.specs.Streams.{TakesLines}
+use Rattle.run_frame.specs.declared.game_input.InputStop.TheVariants as inputs
+use Rattle.run_proof.specs.Whole.{BeginsProof, IsRightInput, most_lines_read}
+use Rattle.run_proof.specs.declared.stop.ProofStop.{ProofStop}
+use Rattle.run_proof.specs.declared.stop.ProofStop.TheVariants as stops
+
+-- the answer to the bytes behind the first line
+unfoldable pub game_from : List ℕ → CheckAnswer
+game_from bytes = game_answer (game_at (game_of (pieces bytes))) (behind_game (pieces bytes))
+
+-- the answer to the bytes behind the game, or behind some lines, the next of which has this number
+unfoldable pub lines_from : CheckerState → ℕ → List ℕ → CheckAnswer
+lines_from s at bytes = check_from s at (lines_in (pieces bytes))
+
+-- behind what stands, the line isn't refused at this number, and is a lemma
+abbrev pub IsNextLemma : CheckerState → ℕ → List ℕ → Type 0
+IsNextLemma s at bytes = (bytes_refusal s at bytes ≡ None) × (l : Lemma) × (read_line (board_of s.root) bytes ≡ Some (ALemma l))
+
+-- behind what stands, the lines aren't refused up to one that is a lemma; the first has this number
+abbrev pub ReachLemma : CheckerState → ℕ → List (List ℕ) → Type 0
+ReachLemma s at [] = ⊥
+ReachLemma s at (line ∷ lines) = IsNextLemma s at line ⊎ ((bytes_refusal s at line ≡ None) × ReachLemma (with_bytes s line) (at + 1) lines)
+
+-- the same of the bytes behind the game, or behind some lines, the next of which has this number
+unfoldable pub LinesReach : CheckerState → ℕ → List ℕ → Type 0
+LinesReach s at bytes = ReachLemma s at (lines_in (pieces bytes))
+
+-- and of those behind the first line
+unfoldable pub GameReaches : List ℕ → Type 0
+GameReaches bytes = (root : Position) × (game_at (game_of (pieces bytes)) ≡ Ok root) × ReachLemma (start root) first_number (behind_game (pieces bytes))
+
+-- Where the reading of a text stands: before the first line; behind it, before the game; and behind the game, with what
+-- stands after the lines and the number of the next.
+pub data Place : Type 0 where
+  AtHead : Place
+  AtGame : Place
+  AtLine : CheckerState → ℕ → Place
+
+-- the answer to the bytes behind a place
+abbrev pub answer_at : Place → List ℕ → CheckAnswer
+answer_at AtHead bytes = check_of bytes
+answer_at AtGame bytes = game_from bytes
+answer_at (AtLine s at) bytes = lines_from s at bytes
+
+-- the bytes behind a place stand up to some lemma
+abbrev pub Reaches : Place → List ℕ → Type 0
+Reaches AtHead bytes = BeginsProof bytes
+Reaches AtGame bytes = GameReaches bytes
+Reaches (AtLine s at) bytes = LinesReach s at bytes
+
+-- From a place to a later one, what was passed stood: the answer is that to the rest, and where that reaches a lemma, so do
+-- the bytes.
+pub record GoesOn (place : Place) (bytes : List ℕ) (next : Place) (rest : List ℕ) : Type 0 where
+  pub answer : answer_at place bytes ≡ answer_at next rest
+  pub reaches : Reaches next rest → Reaches place bytes
+
+-- A line was added, or there was none, and the verdict decides.
+abbrev pub Adds : CheckerState → CheckerState → ℕ → Bool → List ℕ → List ℕ → Type 0
+Adds s t at true bytes rest = GoesOn (AtLine s at) bytes (AtLine t (at + 1)) rest
+Adds s t at false bytes rest = lines_from s at bytes ≡ verdict_answer at (length t.known) t.verdict
+
+-- The answer is that of what stopped the reading; a fault comes only where the source's count rose, and want of memory
+-- only at a lemma.
+abbrev pub StopsBy : Place → List ℕ → ℕ → ℕ → ProofStop → Type 0
+StopsBy place bytes before after (stops.Input (inputs.NoGame fault)) = answer_at place bytes ≡ NoGame fault
+StopsBy place bytes before after (stops.Input inputs.Read) = Rose before after
+StopsBy place bytes before after (stops.Refused r) = answer_at place bytes ≡ Refused r.at (why_of r.why)
+StopsBy place bytes before after stops.Memory = Reaches place bytes
+
+-- behind what stands, the line at a number is refused by this name, or is a lemma for which memory runs out
+abbrev pub StopsAtLine : CheckerState → ℕ → List ℕ → ProofStop → Type 0
+StopsAtLine s at bytes (stops.Refused r) = (bytes_refusal s at bytes ≡ Some (why_of r.why)) × (r.at ≡ at)
+StopsAtLine s at bytes stops.Memory = IsNextLemma s at bytes
+StopsAtLine s at bytes (stops.Input why) = ⊥
+
+-- the number of the last line that is read, at most, by what stops the reading
+abbrev pub lines_read_until : ProofStop → ℕ
+lines_read_until (stops.Refused r) = r.at
+lines_read_until (stops.Input (inputs.NoGame fault)) = 3
+lines_read_until (stops.Input inputs.Read) = most_lines_read
+lines_read_until stops.Memory = most_lines_read
+
+-- What was read of a proof, to its end or to what stopped the reading: the bytes that were taken are right, or they stopped
+-- it; and so did all of the input, where the source tells it.
+pub record Judges (input left : Option (List ℕ)) (last_read before after : ℕ) (result : Result Accepted ProofStop) : Type 0 where
+  pub taken : List ℕ
+  pub gave : Consumes input left taken
+  pub answer : MatchResult result (λ accepted. IsRightInput taken left accepted.verdict accepted.lemmas)
+      (λ stop. StopsBy AtHead taken before after stop × IfSome input (λ bytes. StopsBy AtHead bytes before after stop)
+      × TakesLines (lines_read_until stop) last_read taken)
+  pub lines : TakesLines most_lines_read last_read taken

@@ -1,0 +1,72 @@
+//! What stops the reading of a proof.
+ghost use Rattle.std.specs.Prelude.{◌≡◌, ◌++◌};
+ghost use Rattle.arrayvec.specs.ArrayVec.{array_vec_len};
+ghost use Rattle.run_proof.specs.Stops.{refusal_line};
+ghost use Rattle.run_proof.specs.declared.stop.ProofStop.TheVariants as stops;
+
+use cert_checker::{Refusal, Why};
+use cert_format::push_plan_fault;
+use itoa::Buffer;
+use run_frame::{Ending, InputStop, memory_text};
+use text_words::{LineText, push_text};
+
+/// What stops the reading of a proof before its end.
+#[derive(Clone, Copy)]
+pub enum ProofStop {
+    /// The game is none, or the source failed: status 3 or 6.
+    Input(InputStop),
+    /// A line is refused, the first that fails, by the first name that holds there: status 4.
+    Refused(Refusal),
+    /// Memory ran out, at a lemma that isn't refused: status 8.
+    Memory,
+}
+
+impl From<InputStop> for ProofStop {
+    ghost from_gives = { λ why stop. stop ≡ stops.Input why };
+
+    fn from(why: InputStop) -> ProofStop {
+        ProofStop::Input(why)
+    }
+}
+
+impl Ending for ProofStop {
+    ghost use Rattle.run_proof.specs.Stops.{stop_status, stop_text};
+
+    ghost status_of = { stop_status };
+
+    ghost text_of = { stop_text };
+
+    fn status(&self) -> u8 {
+        match self {
+            ProofStop::Input(why) => why.status(),
+            ProofStop::Refused(_) => 4,
+            ProofStop::Memory => 8,
+        }
+    }
+
+    fn text(&self) -> LineText {
+        match self {
+            ProofStop::Input(why) => why.text(),
+            ProofStop::Refused(refusal) => refusal_text(refusal),
+            ProofStop::Memory => memory_text(),
+        }
+    }
+}
+
+/// The number of the line that is refused, and why.
+fn refusal_text(refusal: &Refusal) -> LineText
+    ensures { result.items ≡ refusal_line refusal.now }
+{
+    let mut text = LineText::new();
+    let mut digits = Buffer::new();
+    push_text(&mut text, b"refused line ");
+    push_text(&mut text, digits.format(refusal.at).as_bytes());
+    push_text(&mut text, b": ");
+    push_text(&mut text, refusal.why.word());
+    if let Why::BadPlan(fault) = &refusal.why {
+        text.push(b' ');
+        push_plan_fault(&mut text, fault);
+    }
+    text.push(b'\n');
+    text
+}

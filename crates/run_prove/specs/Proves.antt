@@ -1,0 +1,102 @@
+-- How `prove` ends, and what it promises of the bytes that it took and of its sink, by its end. What is said of what a sink holds
+-- is said of a sink that tells it.
+use Rattle.std.specs.Prelude.{◌≡◌, ◌≢◌, ◌⊎◌, ℕ, ◌<◌, ◌≤◌, false, List, [], Option, Result, Ok, Err, IfSome}
+use Rattle.std.specs.Io.KnownBytes.{Keeps, Appends, IsAtEnd}
+use Rattle.device_rules.specs.Devices.{AppendsPrefix}
+use Rattle.game_rules.specs.Position.{Position}
+use Rattle.game_rules.specs.Cost.{cost}
+use Rattle.game_rules.specs.Text.{game_at}
+use Rattle.proof_text.specs.declared.Verdict.{Verdict}
+use Rattle.proof_text.specs.declared.Verdict.TheVariants as verdicts
+use Rattle.deep_search.specs.Planned.{solved_within}
+use Rattle.io_ports.specs.declared.ports.Failed.{Failed}
+use Rattle.run_frame.specs.Ended.{EndsBy}
+use Rattle.run_frame.specs.GameInput.{most_input}
+use Rattle.run_frame.specs.Streams.{Streams, Took}
+use Rattle.run_frame.specs.Texts.{stop_status, stop_text, write_line, memory_line}
+use Rattle.run_frame.specs.declared.game_input.InputStop.TheVariants as stops
+use Rattle.run_prove.specs.Proof.{IsProofOf, MayStandFor}
+use Rattle.run_prove.specs.declared.proved.Proved.{Proved}
+use Rattle.run_prove.specs.declared.proved.Proved.TheVariants.{Value, Unknown, Input, Write, Memory}
+
+-- how many settled positions a table may keep
+abbrev pub IsRoom : ℕ → Type 0
+IsRoom n = (1 ≤ n) × (n ≤ 1000000)
+
+-- the exit status of an end, and its text for the error stream
+abbrev pub proved_status : Proved → ℕ
+proved_status Value = 0
+proved_status Unknown = 5
+proved_status (Input stop) = stop_status stop
+proved_status Write = 7
+proved_status Memory = 8
+
+abbrev pub proved_text : Proved → List ℕ
+proved_text Value = []
+proved_text Unknown = []
+proved_text (Input stop) = stop_text stop
+proved_text Write = write_line
+proved_text Memory = memory_line
+
+-- the end of a run that wrote a proof with the verdict, or failed to
+abbrev pub proved_of : Result Verdict Failed → Proved
+proved_of (Ok (verdicts.Win lemma)) = Value
+proved_of (Ok (verdicts.Loss lemma)) = Value
+proved_of (Ok (verdicts.Draw white black)) = Value
+proved_of (Ok verdicts.Unknown) = Unknown
+proved_of (Err failed) = Write
+
+abbrev pub IsGame : List ℕ → Type 0
+IsGame bytes = (p : Position) × (game_at bytes ≡ Ok p)
+
+-- The bytes are a game, and a proof of its position was written whose verdict is a win, a loss or a draw.
+pub record HasProved (nodes reach : ℕ) (slots : Option ℕ) (bytes : List ℕ) (old new : Option (List ℕ)) : Type 0 where
+  pub position : Position
+  pub game : game_at bytes ≡ Ok position
+  pub verdict : Verdict
+  pub known : verdict ≢ verdicts.Unknown
+  pub text : List ℕ
+  pub proof : IsProofOf nodes reach slots bytes position text verdict
+  pub written : Appends old new text
+
+-- The same with the verdict unknown, which comes only where the number of nodes is below the position's cost.
+pub record LeavesUnknown (nodes reach : ℕ) (slots : Option ℕ) (bytes : List ℕ) (old new : Option (List ℕ)) : Type 0 where
+  pub position : Position
+  pub game : game_at bytes ≡ Ok position
+  pub short : nodes < cost (solved_within reach) position
+  pub text : List ℕ
+  pub proof : IsProofOf nodes reach slots bytes position text verdicts.Unknown
+  pub written : Appends old new text
+
+-- The bytes are a game, and of a text that may stand while a proof is written a prefix was.
+pub record WasCut (nodes reach : ℕ) (slots : Option ℕ) (bytes : List ℕ) (old new : Option (List ℕ)) : Type 0 where
+  pub position : Position
+  pub game : game_at bytes ≡ Ok position
+  pub text : List ℕ
+  pub stands : MayStandFor nodes reach slots bytes position text
+  pub written : AppendsPrefix false old new text
+
+-- With so many nodes, this reach and a front of so many slots, if any, from the bytes that it took, by its end. A proof is of the
+-- game that they are, and all of the input was read then, as it was where memory runs out; a fault is theirs, and that of all of
+-- the input, where the source tells it.
+abbrev pub ProvesFrom : (nodes reach : ℕ) (slots : Option ℕ) → List ℕ → Streams → Proved → Type 0
+ProvesFrom nodes reach slots taken s Value = HasProved nodes reach slots taken s.old s.new × IsAtEnd s.left
+ProvesFrom nodes reach slots taken s Unknown = LeavesUnknown nodes reach slots taken s.old s.new × IsAtEnd s.left
+ProvesFrom nodes reach slots taken s Write = WasCut nodes reach slots taken s.old s.new × IsAtEnd s.left
+ProvesFrom nodes reach slots taken s (Input (stops.NoGame fault)) =
+    (game_at taken ≡ Err fault) × IfSome s.input (λ bytes. game_at bytes ≡ Err fault) × Keeps s.old s.new
+ProvesFrom nodes reach slots taken s (Input stops.Read) = Keeps s.old s.new
+ProvesFrom nodes reach slots taken s Memory = IsGame taken × IsAtEnd s.left × Keeps s.old s.new
+
+-- `prove` with these numbers
+abbrev pub Proves : (nodes reach : ℕ) (slots : Option ℕ) → Streams → Proved → Type 0
+Proves nodes reach slots s end = Took s most_input (λ taken. ProvesFrom nodes reach slots taken s end)
+
+-- the same, as a caller of `run` sees it
+abbrev pub ProveRuns : (nodes reach : ℕ) (slots : Option ℕ) → Streams → (status : ℕ) → (text : List ℕ) → Type 0
+ProveRuns nodes reach slots s status text = EndsBy proved_status proved_text (Proves nodes reach slots s) status text
+
+-- how it ends on a game whose cost is within the budget, where no stream failed: with its value, unless memory runs out
+abbrev pub ProveCompletes : (nodes reach : ℕ) → Option (List ℕ) → (status : ℕ) → Type 0
+ProveCompletes nodes reach input status =
+    IfSome input (λ bytes. (p : Position) → game_at bytes ≡ Ok p → cost (solved_within reach) p ≤ nodes → (status ≡ 0) ⊎ (status ≡ 8))

@@ -1,0 +1,3 @@
+pub mod Remarks
+pub mod SizedFronts
+pub mod Questions

@@ -1,8 +1,0 @@
-use Rattle.game_rules.specs.Cost.{cost}
-use Rattle.drill_games.specs.Games.{games_from}
-use Rattle.deep_search.specs.Planned.{solved_within}
-use Rattle.victor_run.proofs.Drilling.{Drilled}
-use Rattle.victor_run.proofs.drill.tally_of.Given as goal
-
-abbrev pub invariant-loop-made : goal.invariant-loop-made
-invariant-loop-made l = Drilled (cost (solved_within l.reach)) l.nodes (games_from l.games l.size l.moves l.seed) l.size l.moves l.games l.made l.state l.tally

@@ -1,6 +1,0 @@
-use Rattle.std.proofs.Common.{arith}
-use Rattle.victor_run.proofs.Growing.{number_word}
-use Rattle.victor_run.proofs.fronts.push_digits.Goals as goal
-
-pub returns-clause-word : goal.returns-clause-word
-returns-clause-word c = number_word c.args.number (omega arith)
