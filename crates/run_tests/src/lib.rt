@@ -1,18 +1,13 @@
-//! Tests of runs: words and texts in, texts and statuses out, over devices that may fail. A crate of their own has them,
-//! as `rule_tests` says.
+//! Tests of runs over devices: that fail, that cut what they give, of std, and of a terminal; and of what callers rest
+//! on. What a run answers over sound devices is shown by the files of `examples/`. A crate of their own has them, as
+//! `rule_tests` says.
 #![tactic(auto)]
 
 #[cfg(test)]
 mod callers;
 #[cfg(test)]
-mod commands;
-#[cfg(test)]
-mod front_remarks;
-#[cfg(test)]
-mod play;
+mod devices;
 #[cfg(test)]
 mod running;
-#[cfg(test)]
-mod table_room;
 #[cfg(test)]
 mod terminal;

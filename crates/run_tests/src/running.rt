@@ -4,7 +4,7 @@ use std::alloc::{AllocError, Global};
 use victor_run::run;
 
 /// Room for all that a run of a test writes.
-pub(crate) const ROOM: usize = 1 << 12;
+const ROOM: usize = 1 << 12;
 
 /// What a run wrote, and its status.
 #[derive(Drop)]
@@ -56,6 +56,3 @@ pub(crate) fn run_over(
         err: err.bytes().to_vec(alloc)?,
     })
 }
-
-/// The words of a run, its input, its status and its output.
-pub(crate) type Written = (&'static [&'static str], &'static str, u8, &'static str);

@@ -1,0 +1,326 @@
+//! Runs over devices that fail, over a source that gives its bytes in pieces, and over the readers and writers of std.
+//! What a run answers over sound devices is shown by the files of `examples/`.
+use crate::running::{Devices, SOUND, run_over, words_of};
+use io_ports::{StdSink, StdSource};
+use std::test::Fail;
+use victor_run::run;
+
+const TWO_SQUARES_LEFT: &str = "board 4 4\nmoves cdccddcdaaaabb";
+
+/// Two squares are left, and nobody wins.
+const TWO_SQUARES_PROOF: &str = "victor 1\n\
+    board 4 4\n\
+    moves cdccddcdaaaabb\n\
+    1 bb W- end\n\
+    2 b W- one b 1\n\
+    3 - W- all b:2\n\
+    4 bb B- end\n\
+    5 b B- all b:4\n\
+    6 - B- one b 5\n\
+    value draw 3 6\n";
+
+/// The same up to its first lemma.
+const FIRST_LEMMA: &str = "victor 1\nboard 4 4\nmoves cdccddcdaaaabb\n1 bb W- end\n";
+
+/// The same up to a part of it.
+const CUT_LEMMA: &str = "victor 1\nboard 4 4\nmoves cdccddcdaaaabb\n1 bb W";
+
+/// A game by a plan up to a full board.
+const DUEL: &str = "board 4 4\nmoves -\nplan CE:a1 CE:a3 CE:b1 CE:b3 BI:c1,d1 LI:c2-c4,d2-d4\n\
+    c\nc\nd\nc\na\na\nb\nb\n";
+
+/// With no plan looked for.
+const PROVE_BY_SEARCH: &[&str] = &["prove", "--reach", "0"];
+
+const CHECK: &[&str] = &["check"];
+
+const PLAY: &[&str] = &["play"];
+
+const DRILL: &[&str] = &["drill", "4", "4", "12", "1", "1"];
+
+/// The words of a run and its input, its devices, its status, and what it writes and reports.
+type Failing = (
+    &'static [&'static str],
+    &'static str,
+    Devices<'static>,
+    u8,
+    &'static str,
+    &'static str,
+);
+
+const FAILING: [Failing; 15] = [
+    (
+        PROVE_BY_SEARCH,
+        TWO_SQUARES_LEFT,
+        Devices {
+            piece: 4,
+            source_fails: &[2],
+            ..SOUND
+        },
+        6,
+        "",
+        "read fault\n",
+    ),
+    (
+        PROVE_BY_SEARCH,
+        TWO_SQUARES_LEFT,
+        Devices {
+            source_fails: &[1],
+            err_fails: &[1],
+            ..SOUND
+        },
+        6,
+        "",
+        "",
+    ),
+    (
+        PROVE_BY_SEARCH,
+        TWO_SQUARES_LEFT,
+        Devices {
+            out_fails: &[1],
+            ..SOUND
+        },
+        7,
+        "",
+        "write fault\n",
+    ),
+    (
+        PROVE_BY_SEARCH,
+        TWO_SQUARES_LEFT,
+        Devices {
+            out_fails: &[3],
+            ..SOUND
+        },
+        7,
+        FIRST_LEMMA,
+        "write fault\n",
+    ),
+    (
+        PROVE_BY_SEARCH,
+        TWO_SQUARES_LEFT,
+        Devices {
+            out_fails: &[9],
+            ..SOUND
+        },
+        7,
+        TWO_SQUARES_PROOF,
+        "write fault\n",
+    ),
+    (
+        PROVE_BY_SEARCH,
+        TWO_SQUARES_LEFT,
+        Devices { room: 46, ..SOUND },
+        7,
+        CUT_LEMMA,
+        "write fault\n",
+    ),
+    (
+        CHECK,
+        TWO_SQUARES_PROOF,
+        Devices {
+            piece: 4,
+            source_fails: &[2],
+            ..SOUND
+        },
+        6,
+        "",
+        "read fault\n",
+    ),
+    (
+        CHECK,
+        TWO_SQUARES_PROOF,
+        Devices {
+            out_fails: &[1],
+            ..SOUND
+        },
+        7,
+        "",
+        "write fault\n",
+    ),
+    // the line is written, and then it can't be handed on
+    (
+        CHECK,
+        TWO_SQUARES_PROOF,
+        Devices {
+            out_fails: &[2],
+            ..SOUND
+        },
+        7,
+        "accepted draw 6\n",
+        "write fault\n",
+    ),
+    (
+        CHECK,
+        TWO_SQUARES_PROOF,
+        Devices { room: 9, ..SOUND },
+        7,
+        "accepted ",
+        "write fault\n",
+    ),
+    (
+        PLAY,
+        DUEL,
+        Devices {
+            piece: 70,
+            source_fails: &[2],
+            ..SOUND
+        },
+        6,
+        "",
+        "read fault\n",
+    ),
+    (
+        PLAY,
+        DUEL,
+        Devices {
+            piece: 75,
+            source_fails: &[2],
+            ..SOUND
+        },
+        6,
+        "c1 d1\nc2 c3\n",
+        "read fault\n",
+    ),
+    (
+        PLAY,
+        DUEL,
+        Devices { room: 9, ..SOUND },
+        7,
+        "c1 d1\nc2 ",
+        "write fault\n",
+    ),
+    // a drill reads nothing
+    (
+        DRILL,
+        "",
+        Devices {
+            source_fails: &[1],
+            ..SOUND
+        },
+        0,
+        "drill win 1 draw 0 loss 0 unknown 0\n",
+        "",
+    ),
+    (
+        DRILL,
+        "",
+        Devices {
+            source_fails: &[1],
+            room: 11,
+            ..SOUND
+        },
+        7,
+        "drill win 1",
+        "write fault\n",
+    ),
+];
+
+#[test]
+fn a_failing_stream_has_its_status_and_leaves_a_prefix(rt: HostRuntime) -> Result<(), Fail> {
+    for (words, input, devices, status, out, reported) in FAILING {
+        let got = run_over(rt.alloc(), words, input.as_bytes(), devices)?;
+        assert_eq!(rt; got.status, status, "{words:?} {out}");
+        assert_eq!(rt; got.out.as_slice(), out.as_bytes(), "{words:?} {out}");
+        assert_eq!(rt; got.err.as_slice(), reported.as_bytes(), "{words:?} {out}");
+    }
+    Ok(())
+}
+
+/// No game, and longer than what is read of one.
+const LONG_TEXT: &str = "\
+    aaaaaaaaaaaaaaaaaaaaaaaaaaaaaaaaaaaaaaaaaaaaaaaaaaaaaaaaaaaaaaaaaaaaaaaaaaaaaaaaaaaaaaaaaaaaaaaaaaaa\
+    aaaaaaaaaaaaaaaaaaaaaaaaaaaaaaaaaaaaaaaaaaaaaaaaaaaaaaaaaaaaaaaaaaaaaaaaaaaaaaaaaaaaaaaaaaaaaaaaaaaa\
+    aaaaaaaaaaaaaaaaaaaaaaaaaaaaaaaaaaaaaaaaaaaaaaaaaaaaaaaaaaaaaaaaaaaaaaaaaaaaaaaaaaaaaaaaaaaaaaaaaaaa\
+    aaaaaaaaaaaaaaaaaaaaaaaaaaaaaaaaaaaaaaaaaaaaaaaaaaaaaaaaaaaaaaaaaaaaaaaaaaaaaaaaaaaaaaaaaaaaaaaaaaaa";
+
+/// The words of a run and its input, its status, and what it writes and reports.
+type Cut = (
+    &'static [&'static str],
+    &'static str,
+    u8,
+    &'static str,
+    &'static str,
+);
+
+const CUT: [Cut; 9] = [
+    (PROVE_BY_SEARCH, TWO_SQUARES_LEFT, 0, TWO_SQUARES_PROOF, ""),
+    (
+        PROVE_BY_SEARCH,
+        "board 4 4\nmoves aaaaa",
+        3,
+        "",
+        "input fault: ColumnFull at 20\n",
+    ),
+    (
+        PROVE_BY_SEARCH,
+        LONG_TEXT,
+        3,
+        "",
+        "input fault: BadHeader at 0\n",
+    ),
+    (
+        &["explain", "--reach", "10"],
+        "board 4 4\nmoves -",
+        5,
+        "no plan within reach\n",
+        "",
+    ),
+    (CHECK, TWO_SQUARES_PROOF, 0, "accepted draw 6\n", ""),
+    (
+        CHECK,
+        "victor 1\nboard 4 4",
+        3,
+        "",
+        "input fault: BadHeader at 9\n",
+    ),
+    (
+        CHECK,
+        "victor 1\nboard 4 4\nmoves -\n",
+        4,
+        "",
+        "refused line 4: EndedEarly\n",
+    ),
+    (
+        PLAY,
+        DUEL,
+        0,
+        "c1 d1\nc2 c3\nd2 d3\nc4 d4\na1 a2\na3 a4\nb1 b2\nb3 b4 full\n",
+        "",
+    ),
+    (
+        PLAY,
+        "board 4 4\nmoves cccdcd\nplan CE:a1 CE:a3 CE:b1 CE:b3 CE:d3 AE:a2h\na\nb\na\n",
+        3,
+        "a1 a2\nb1 b2 won\n",
+        "input fault: GameOver at line 6\n",
+    ),
+];
+
+#[test]
+fn a_source_may_give_its_bytes_in_any_pieces(rt: HostRuntime) -> Result<(), Fail> {
+    for (words, input, status, out, reported) in CUT {
+        for piece in [1, 4, 256] {
+            let devices = Devices { piece, ..SOUND };
+            let got = run_over(rt.alloc(), words, input.as_bytes(), devices)?;
+            assert_eq!(rt; got.status, status, "{words:?} {out}");
+            assert_eq!(rt; got.out.as_slice(), out.as_bytes(), "{words:?} {out}");
+            assert_eq!(rt; got.err.as_slice(), reported.as_bytes(), "{words:?} {out}");
+        }
+    }
+    Ok(())
+}
+
+#[test]
+fn readers_and_writers_of_std_carry_a_run(rt: HostRuntime) -> Result<(), Fail> {
+    let words = words_of(rt.alloc(), PROVE_BY_SEARCH)?;
+    let mut source = StdSource::new(TWO_SQUARES_LEFT.as_bytes());
+    let mut written = Vec::new(rt.alloc());
+    let mut reported = Vec::new(rt.alloc());
+    let mut out = StdSink::new(&mut written);
+    let mut err = StdSink::new(&mut reported);
+    let status = run(rt.alloc(), &words, &mut source, &mut out, &mut err);
+    assert_eq!(rt; status, 0);
+    assert_eq!(rt; written.as_slice(), TWO_SQUARES_PROOF.as_bytes());
+    assert_eq!(rt; reported.len(), 0);
+    Ok(())
+}
