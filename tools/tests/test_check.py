@@ -19,8 +19,8 @@ class CheckTest(ToolTest):
         """The command on each proof of examples/, on standard input and as a file."""
         words = [sys.executable, os.path.join(TOOLS, "check.py")]
         seen = 0
-        for folder in (example(), example("refused")):
-            for name in sorted(os.listdir(folder)):
+        for folder, _, names in sorted(os.walk(example())):
+            for name in sorted(names):
                 if name.endswith(".proof"):
                     path = os.path.join(folder, name)
                     with open(path, "rb") as source:
@@ -29,7 +29,7 @@ class CheckTest(ToolTest):
                     self.assertEqual(mutants.answer_of(words, proof), there, name)
                     self.assertEqual(mutants.answer_of(words + [path], b""), there, name)
                     seen += 1
-        self.assertGreater(seen, 20)
+        self.assertGreater(seen, 50)
 
     def test_games(self):
         """The games that are refused, as games of proofs: the kind and the place."""
