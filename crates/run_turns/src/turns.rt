@@ -69,10 +69,7 @@ fn play_next<P: Player, S: Source, O: Sink>(
                 Err(Failed) => Err(TurnStop::Write),
             }
         }
-        LineGot::Long => Err(TurnStop::NoMove(PlayFault {
-            kind: PlayKind::BadMove,
-            at,
-        })),
+        LineGot::Long => Err(TurnStop::NoMove(no_move(PlayKind::BadMove, at))),
         LineGot::Done => Ok(false),
         LineGot::Failed => Err(TurnStop::Read),
     }
@@ -88,21 +85,12 @@ fn play_line<P: Player>(player: &mut P, at: u64, bytes: &[u8]) -> Result<LineTex
     ensures same { IfErr result (λ _. player.new ≡ player.old) }
 {
     let Some(column) = column_in(player.size(), bytes) else {
-        return Err(PlayFault {
-            kind: PlayKind::BadMove,
-            at,
-        });
+        return Err(no_move(PlayKind::BadMove, at));
     };
     match player.answer(column) {
         Ok(line) => Ok(line),
-        Err(MoveFault::GameOver) => Err(PlayFault {
-            kind: PlayKind::GameOver,
-            at,
-        }),
-        Err(MoveFault::ColumnFull) => Err(PlayFault {
-            kind: PlayKind::ColumnFull,
-            at,
-        }),
+        Err(MoveFault::GameOver) => Err(no_move(PlayKind::GameOver, at)),
+        Err(MoveFault::ColumnFull) => Err(no_move(PlayKind::ColumnFull, at)),
     }
 }
 
@@ -114,4 +102,11 @@ fn column_in(size: Size, bytes: &[u8]) -> Option<Column>
         [letter] => size.column_named(*letter),
         _ => None,
     }
+}
+
+/// A line that is no move.
+fn no_move(kind: PlayKind, at: u64) -> PlayFault
+    ensures { result ≡ record { kind = kind; at = at } }
+{
+    PlayFault { kind, at }
 }

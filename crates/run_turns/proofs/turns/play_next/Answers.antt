@@ -33,7 +33,8 @@ returns-in-Err-clause-plays g c =
     (next_cut _ _ _ _ _ _ c.args.player.now c.play_line.new.player c.args.at gives line made.answer)
 
 pub returns-in-Long-clause-plays : goal.returns-in-Long-clause-plays
-returns-in-Long-clause-plays g c = step_none _ _ _ _ _ _ _ (omega arith) (long_got _ _ _ _ _ _ c.args.player.now c.args.at c.in-Long.ensures.gives)
+returns-in-Long-clause-plays g c =
+    rw c.no_move.ensures (step_none _ _ _ _ _ _ _ (omega arith) (long_got _ _ _ _ _ _ c.args.player.now c.args.at c.in-Long.ensures.gives))
 
 pub returns-in-Done-clause-plays : goal.returns-in-Done-clause-plays
 returns-in-Done-clause-plays g c = step_none _ _ _ _ _ _ _ (omega arith) (none_got _ _ _ _ _ _ c.args.player.now c.args.at c.in-Done.ensures.gives)
