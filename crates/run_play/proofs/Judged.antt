@@ -1,117 +1,37 @@
--- Steps of play, one after another; and what `play` promises of all that was played.
-use Rattle.std.proofs.Common.{◌≡◌, ℕ, ◌+◌, ◌-◌, ◌≤◌, Bool, true, false, List, [], ◌∷◌, ◌++◌, length, Option, Some, None, Result, Ok, Err, refl}
-use Rattle.std.proofs.Common.{sym, ap, ◌∙◌, subst, arith, append-nil, length-append}
+-- The game, the plan and White's lines, one after another; and what `play` promises of all that was played.
+use Rattle.std.proofs.Common.{◌≡◌, ℕ, ◌+◌, ◌≤◌, true, false, List, [], ◌++◌, length, Option, Some, None, Result, Ok, Err, refl}
+use Rattle.std.proofs.Common.{sym, ap, ◌∙◌, subst, arith}
 use Rattle.std.specs.Bool.{⊤}
-use Rattle.std.specs.Result.{OnOk, IfErr}
 use Rattle.std.specs.Io.KnownBytes.{Appends}
-use Rattle.std.proofs.KnownBytes.{Appends-nil}
-use Rattle.std.proofs.lemmas.Grind.{flat_map-append}
-use Rattle.device_rules.specs.Devices.{AppendsPrefix}
-use Rattle.device_rules.proofs.DeviceLaws.{AppendsPrefix_all, AppendsPrefix_more}
-use Rattle.io_ports.specs.Lines.{Gives, IsUndecided}
-use Rattle.io_ports.specs.declared.line_reader.LineGot.TheVariants.{Line}
-use Rattle.game_rules.specs.Position.{Position}
+use Rattle.device_rules.specs.Devices.{AppendsPrefix, Rose}
+use Rattle.device_rules.proofs.DeviceLaws.{Rose_before}
+use Rattle.io_ports.specs.Lines.{Cutting, IsUndecided}
+use Rattle.game_rules.specs.Position.{Position, empty_count}
 use Rattle.game_rules.specs.Text.{game_at}
 use Rattle.game_rules.specs.declared.InputFault.{InputFault}
 use Rattle.proof_text.specs.Texts.{pieces, lines_in, game_of, behind_game}
-use Rattle.rule_compat.specs.Planned.{members}
+use Rattle.rule_compat.specs.Planned.{Planned}
 use Rattle.reply_player.specs.Playing.{Playing}
 use Rattle.play_text.specs.Play as ends
 use Rattle.play_text.specs.Play.{PlayEnd, Played, behind, play_from, play_of, text_of, first_move}
 use Rattle.play_text.proofs.Steps.{behind_more}
 use Rattle.run_frame.specs.Streams.{TakesLines, WaitsBehind}
-use Rattle.io_ports.specs.Reading.{Pending, Reads, PassesLines}
-use Rattle.run_play.specs.Steps.{played_at, played_from, end_by, EndsSo, StopsPlay, lines_besides, PassesMoves, IsWaiting, TakesUntil, IsNoMove, IsCaused}
-use Rattle.run_play.specs.Steps.{HasPlayCause, is_whole, PlayStep, PlaysNext, PlaysMoves, PlaysInput}
+use Rattle.io_ports.specs.Reading.{Pending, pending, Reads, PassesLines}
+use Rattle.run_turns.specs.Steps.{StopsTurns, passed_by, TurnStep, PlaysTurns}
+use Rattle.run_turns.specs.Steps as run_turns
+use Rattle.run_turns.specs.declared.turn_stop.TurnStop.{TurnStop}
+use Rattle.run_turns.specs.declared.turn_stop.TurnStop.TheVariants as turns
+use Rattle.run_play.specs.Steps.{played_at, played_from, end_by, EndsSo, StopsPlay, lines_besides, IsWaiting, TakesUntil, IsCaused, of_turns, is_whole, PlaysInput}
+use Rattle.run_play.specs.Turns.{plan_stands, plan_turn, turns_left}
+use Rattle.run_play.specs.declared.plan_player.PlanPlayer.{PlanPlayer}
 use Rattle.run_frame.specs.Reading.{StopsGame}
 use Rattle.run_frame.specs.declared.game_input.InputStop.{InputStop}
 use Rattle.run_frame.specs.declared.game_input.InputStop.TheVariants as inputs
 use Rattle.run_play.specs.declared.play_end.PlayStop.{PlayStop}
 use Rattle.run_play.specs.declared.play_end.PlayStop.TheVariants as stops
-use Rattle.run_play.proofs.Read.{game_goes, game_none, moves_got}
-use Rattle.io_ports.proofs.Reading.{Reads_more, Reads_start, Reads_then, passes_none, passes_then, passes_most}
-use Rattle.run_frame.proofs.Taken.{fresh, of_taken, of_input, of_lines, of_waiting}
-
--- ---- one line
-
-line_text : (line : List ℕ) → text_of (line ∷ []) ≡ line
-line_text line = append-nil line
-
--- a line was written for two men
-pub step_line : (a b : Pending) (old new : Option (List ℕ)) (whole : Bool) (before after : ℕ) (Fact : List (List ℕ) → List ℕ → List ℕ → Type 0) (line : List ℕ)
-    → AppendsPrefix whole old new line → after + 2 ≡ before → Reads a b (Fact (line ∷ [])) → PlayStep a b old new whole before after Fact
-step_line a b old new whole before after Fact line put men reads = record {
-  lines = line ∷ [];
-  written = subst (AppendsPrefix whole old new) (sym (line_text line)) put;
-  few = omega arith;
-  reads = reads;
-}
-
--- nothing was written
-pub step_none : (a b : Pending) (out : Option (List ℕ)) (whole : Bool) (before after : ℕ) (Fact : List (List ℕ) → List ℕ → List ℕ → Type 0)
-    → after ≤ before → Reads a b (Fact []) → PlayStep a b out out whole before after Fact
-step_none a b out whole before after Fact men reads = record {
-  lines = [];
-  written = AppendsPrefix_all whole out out [] (Appends-nil out);
-  few = omega arith;
-  reads = reads;
-}
-
--- a line that was given is the text that is asked for
-pub line_given : (a b : Pending) (text asked : List ℕ) (fed : Bool) → asked ≡ text → Reads a b (λ bytes rest. Gives bytes rest Line text fed)
-    → Reads a b (λ bytes rest. Gives bytes rest Line asked fed)
-line_given a b text asked fed is gives =
-    let P : List ℕ → Type 0 = λ text. Reads a b (λ bytes rest. Gives bytes rest Line text fed) in
-    subst P (sym is) gives
-
-module _ (a b : Pending) (text : List ℕ) (fed : Bool) (s t : Playing) (at : ℕ) (gives : Reads a b (λ bytes rest. Gives bytes rest Line text fed)) where
-  pub next_played : (line : List ℕ)
-      → ((more : List (List ℕ)) → play_from (members s.plan) s.stands at (text ∷ more) ≡ behind (line ∷ []) (play_from (members t.plan) t.stands (at + 1) more))
-      → Reads a b (PlaysNext s t at (Ok true) (line ∷ []))
-  unfolding played_from
-  next_played line answer = moves_got a b text fed s at (λ played rest. played ≡ behind (line ∷ []) (played_from t (at + 1) rest)) gives
-      (λ rest. answer (lines_in (pieces rest)))
-
-  -- the line wasn't written whole
-  pub next_cut : (line : List ℕ)
-      → ((more : List (List ℕ)) → play_from (members s.plan) s.stands at (text ∷ more) ≡ behind (line ∷ []) (play_from (members t.plan) t.stands (at + 1) more))
-      → Reads a b (PlaysNext s t at (Err stops.Write) (line ∷ []))
-  next_cut line answer = Reads_more a b _ _ (next_played line answer) (λ bytes rest h. ((omega arith, h.0), (played_from t (at + 1) rest, h.1)))
-
-  pub next_stopped : (stop : PlayStop) → ((more : List (List ℕ)) → StopsPlay (play_from (members s.plan) s.stands at (text ∷ more)) [] stop) → IsNoMove stop
-      → Reads a b (PlaysNext s t at (Err stop) [])
-  next_stopped stop answer line =
-      Reads_more a b _ _ (moves_got a b text fed s at (λ played rest. StopsPlay played [] stop) gives (λ rest. answer (lines_in (pieces rest))))
-      (λ bytes rest h. (of_stop stop line bytes rest h.0, h.1))
-    where
-      of_stop : (stop : PlayStop) → IsNoMove stop → (bytes rest : List ℕ) → PassesLines 1 bytes rest → PassesMoves stop 0 bytes rest
-      of_stop (stops.NoMove fault) line = λ bytes rest passed. (omega arith, passed)
-      of_stop (stops.Input why) line = absurd line
-      of_stop stops.NoPlanLine line = absurd line
-      of_stop (stops.NoPlan fault) line = absurd line
-      of_stop stops.Write line = absurd line
-
--- where a line is no move, the source didn't fail
-pub no_move_waits : (ahead : List ℕ) (stop : PlayStop) → IsNoMove stop → IsWaiting ahead stop
-no_move_waits ahead (stops.NoMove fault) line = tt
-no_move_waits ahead (stops.Input why) line = absurd line
-no_move_waits ahead stops.NoPlanLine line = absurd line
-no_move_waits ahead (stops.NoPlan fault) line = absurd line
-no_move_waits ahead stops.Write line = absurd line
-
--- for what a line says no stream is at fault
-pub line_cause : {X : Type 0} (read_before read_after write : ℕ) (stop : PlayStop) → IsNoMove stop → read_before ≤ read_after
-    → HasPlayCause {X = X} read_before read_after write write (Err stop)
-line_cause read_before read_after write stop line later = record { read_later = later; write_later = omega arith; caused = of_stop stop line }
-  where
-    of_stop : (stop : PlayStop) → IsNoMove stop → IsCaused read_before read_after write write stop
-    of_stop (stops.NoMove fault) line = tt
-    of_stop (stops.Input why) line = absurd line
-    of_stop stops.NoPlanLine line = absurd line
-    of_stop (stops.NoPlan fault) line = absurd line
-    of_stop stops.Write line = absurd line
-
--- ---- several
+use Rattle.run_play.proofs.Read.{game_goes, game_none, turns_by_plan}
+use Rattle.io_ports.proofs.Reading.{Reads_more, Reads_then, passes_then, passes_most}
+use Rattle.run_frame.proofs.Taken.{fresh, from_fresh, of_taken, of_input, of_lines, of_waiting}
 
 -- what stops play behind some lines
 pub stops_behind : (played later : Played) (lines more : List (List ℕ)) (stop : PlayStop) → played ≡ behind lines later → StopsPlay later more stop
@@ -121,49 +41,6 @@ stops_behind played later lines more stop goes stops = of_end (end_by stop) stop
     of_end : (end : Option PlayEnd) → EndsSo later more end → EndsSo played (lines ++ more) end
     of_end (Some end) is = goes ∙ ap (behind lines) is
     of_end None (rest, is) = (rest, goes ∙ ap (behind lines) is ∙ behind_more lines more rest)
-
-pub step_then : (a b c : Pending) (o p q : Option (List ℕ)) (whole : Bool) (i j k : ℕ) (F G H : List (List ℕ) → List ℕ → List ℕ → Type 0)
-    → PlayStep a b o p true i j F → PlayStep b c p q whole j k G
-    → ((xs ys : List (List ℕ)) (bytes mid rest : List ℕ) → F xs bytes mid → G ys mid rest → H (xs ++ ys) bytes rest) → PlayStep a c o q whole i k H
-step_then a b c o p q whole i j k F G H first next more = record {
-  lines = first.lines ++ next.lines;
-  written = subst (AppendsPrefix whole o q) (sym (flat_map-append (λ line. line) first.lines next.lines))
-      (AppendsPrefix_more whole o p q (text_of first.lines) (text_of next.lines) first.written next.written);
-  few = omega (arith, length-append first.lines next.lines, first.few, next.few);
-  reads = Reads_then a b c _ _ _ first.reads next.reads (λ bytes mid rest. more first.lines next.lines bytes mid rest);
-}
-
--- some of White's lines were played
-abbrev pub Goes : Playing → Playing → ℕ → List (List ℕ) → List ℕ → List ℕ → Type 0
-Goes s t at lines bytes rest = PassesLines (length lines) bytes rest × (played_from s first_move bytes ≡ behind lines (played_from t at rest))
-
-pub goes_none : (a : Pending) (out : Option (List ℕ)) (s : Playing) (men : ℕ) → PlayStep a a out out true men men (Goes s s first_move)
-goes_none a out s men = step_none a a out true men men (Goes s s first_move) (omega arith)
-    (Reads_start a (Goes s s first_move []) (λ bytes. (passes_none bytes, refl)))
-
-passes_lines : (xs ys : List (List ℕ)) (n : ℕ) (bytes mid rest : List ℕ) → PassesLines (length xs) bytes mid → PassesLines (length ys + n) mid rest
-    → PassesLines (length (xs ++ ys) + n) bytes rest
-passes_lines xs ys n bytes mid rest p q =
-    passes_most (length xs + (length ys + n)) (length (xs ++ ys) + n) bytes rest (omega (arith, length-append xs ys))
-    (passes_then (length xs) (length ys + n) bytes mid rest p q)
-
-pub goes_next : (s t u : Playing) (at : ℕ) (xs ys : List (List ℕ)) (bytes mid rest : List ℕ) → Goes s t at xs bytes mid → PlaysNext t u at (Ok true) ys mid rest
-    → Goes s u (at + 1) (xs ++ ys) bytes rest
-goes_next s t u at xs ys bytes mid rest p q = (
-  passes_most (length xs + length ys) (length (xs ++ ys)) bytes rest (omega (arith, length-append xs ys))
-      (passes_then (length xs) (length ys) bytes mid rest p.0 q.0),
-  p.1 ∙ ap (behind xs) q.1 ∙ behind_more xs ys (played_from u (at + 1) rest),
-)
-
-pub goes_all : (s t u : Playing) (at : ℕ) (xs ys : List (List ℕ)) (bytes mid rest : List ℕ) → Goes s t at xs bytes mid → PlaysNext t u at (Ok false) ys mid rest
-    → PlaysMoves {X = ⊤} s first_move (Ok tt) (xs ++ ys) bytes rest
-goes_all s t u at xs ys bytes mid rest p q = (passes_lines xs ys 1 bytes mid rest p.0 q.0, p.1 ∙ ap (behind xs) q.1)
-
-pub goes_stop : (s t u : Playing) (at : ℕ) (stop : PlayStop) (xs ys : List (List ℕ)) (bytes mid rest : List ℕ) → Goes s t at xs bytes mid
-    → PlaysNext t u at (Err stop) ys mid rest
-    → PlaysMoves {X = ⊤} s first_move (Err stop) (xs ++ ys) bytes rest
-goes_stop s t u at stop xs ys bytes mid rest p q =
-    ((q.0.0, passes_lines xs ys (lines_besides stop - 3) bytes mid rest p.0 q.0.1), stops_behind _ _ xs ys stop p.1 q.1)
 
 -- ---- the game, the plan, and then White's lines
 
@@ -187,16 +64,13 @@ pub game_waits : (ahead : List ℕ) (game : Result Position InputStop) (why : In
 game_waits ahead game (inputs.NoGame fault) is waits = tt
 game_waits ahead game inputs.Read is waits = waits is
 
-pub game_cause : {X : Type 0} (a b : Pending) (before after write : ℕ) (why : InputStop) → before ≤ after
+pub game_cause : (a b : Pending) (before after write_before write_after : ℕ) (why : InputStop)
     → Reads a b (λ bytes rest. PassesLines 2 bytes rest × StopsGame (game_at (game_of (pieces bytes))) before after why)
-    → HasPlayCause {X = X} before after write write (Err (stops.Input why))
-game_cause a b before after write why later game = record {
-  read_later = later;
-  write_later = omega arith;
-  caused = by_game _ why (game.fact [] (λ _. refl)).1;
-}
+    → IsCaused before after write_before write_after (stops.Input why)
+game_cause a b before after write_before write_after why game = by_game _ why (game.fact [] (λ _. refl)).1
   where
-    by_game : (read : Result Position InputFault) (why : InputStop) → StopsGame read before after why → IsCaused before after write write (stops.Input why)
+    by_game : (read : Result Position InputFault) (why : InputStop) → StopsGame read before after why
+        → IsCaused before after write_before write_after (stops.Input why)
     by_game read (inputs.NoGame fault) h = tt
     by_game read inputs.Read h = h
 
@@ -218,23 +92,76 @@ module _ (a b c : Pending) (root : Position)
   plan_goes s plan = Reads_then a b c _ _ _ game plan
       (λ bytes mid rest p q. (passes_then 2 1 bytes mid rest p.0 q.0, game_goes bytes mid root p.1.0 p.1.1 ∙ q.1))
 
-module _ (a b c : Pending) (s : Playing) (lines : List (List ℕ))
-    (start : Reads a b (λ bytes rest. PassesLines 3 bytes rest × (play_of bytes ≡ played_from s first_move rest))) where
-  passes_all : (bytes mid rest : List ℕ) → PassesLines 3 bytes mid → PassesLines (length lines + 1) mid rest → PassesLines (4 + length lines) bytes rest
-  passes_all bytes mid rest p q = passes_most (3 + (length lines + 1)) (4 + length lines) bytes rest (omega arith)
-      (passes_then 3 (length lines + 1) bytes mid rest p q)
+-- a player begins at the plan's position
+module _ (root : Position) (plan : Planned) (player : PlanPlayer) (new : player ≡ record { session = record { plan = plan; stands = plan.at } })
+    (at : (plan.at ≡ root) × (empty_count root ≤ 100)) where
+  starts : player ≡ record { session = record { plan = plan; stands = root } }
+  starts = new ∙ ap (λ stands. record { session = record { plan = plan; stands = stands } }) at.0
 
-  pub moves_stop : (stop : PlayStop) → Reads b c (PlaysMoves {X = ⊤} s first_move (Err stop) lines)
-      → Reads a c (λ bytes rest. PassesLines (lines_besides stop + length lines) bytes rest × StopsPlay (play_of bytes) lines stop)
+  pub few_turns : turns_left player ≤ 50
+  few_turns = omega (arith, ap (λ (player : PlanPlayer). empty_count player.session.stands) starts, at.1)
+
+  pub play_begins : (left : Option (List ℕ)) (begun : ℕ) (lines : Cutting) (mid next : Pending)
+      → lines ≡ record { ended = false; ahead = []; text = []; fed = false }
+      → Reads (pending lines left begun) mid (λ bytes rest. PassesLines 2 bytes rest
+      × ((game_at (game_of (pieces bytes)) ≡ Ok root) × (behind_game (pieces bytes) ≡ lines_in (pieces rest))))
+      → Reads mid next (λ bytes rest. PassesLines 1 bytes rest × (played_at root bytes ≡ played_from (record { plan = plan; stands = root }) first_move rest))
+      → Reads (fresh left begun) next (λ bytes rest. PassesLines 3 bytes rest × (play_of bytes ≡ played_from player.session first_move rest))
+  play_begins left begun lines mid next is game list =
+      let P : PlanPlayer → Type 0 = λ player. Reads (fresh left begun) next (λ bytes rest. PassesLines 3 bytes rest
+      × (play_of bytes ≡ played_from player.session first_move rest)) in
+      subst P (sym starts) (plan_goes (fresh left begun) mid next root (from_fresh left begun lines mid _ is game) (record { plan = plan; stands = root }) list)
+
+-- ---- White's lines
+
+-- what stops a turn stops play: what is played, how many lines were passed, and whether the last one stands whole
+turns_stop : (played : Played) (lines : List (List ℕ)) (stop : TurnStop) → StopsTurns played lines stop → StopsPlay played lines (of_turns stop)
+turns_stop played lines (turns.NoMove fault) stops = stops
+turns_stop played lines turns.Read stops = stops
+turns_stop played lines turns.Write stops = stops
+
+turns_passed : (stop : TurnStop) (begun : ℕ) → 3 + passed_by stop begun ≡ lines_besides (of_turns stop) + begun
+turns_passed (turns.NoMove fault) begun = omega arith
+turns_passed turns.Read begun = omega arith
+turns_passed turns.Write begun = omega arith
+
+turns_whole : (stop : TurnStop) → run_turns.is_whole {T = ⊤} (Err stop) ≡ is_whole {X = ⊤} (Err (of_turns stop))
+turns_whole (turns.NoMove fault) = refl
+turns_whole turns.Read = refl
+turns_whole turns.Write = refl
+
+turns_wait : {T : Type 0} (ahead : List ℕ) (result : Result T TurnStop) (stop : TurnStop) → result ≡ Err stop
+    → (result ≡ Err turns.Read → IsUndecided ahead) → IsWaiting ahead (of_turns stop)
+turns_wait ahead result (turns.NoMove fault) is waits = tt
+turns_wait ahead result turns.Read is waits = waits is
+turns_wait ahead result turns.Write is waits = tt
+
+pub turns_cause : {T : Type 0} (read_before mid read_after write_before write_after : ℕ) (result : Result T TurnStop) (stop : TurnStop) → result ≡ Err stop
+    → read_before ≤ mid
+    → (result ≡ Err turns.Read → Rose mid read_after) → (result ≡ Err turns.Write → Rose write_before write_after)
+    → IsCaused read_before read_after write_before write_after (of_turns stop)
+turns_cause read_before mid read_after write_before write_after result (turns.NoMove fault) is later read write = tt
+turns_cause read_before mid read_after write_before write_after result turns.Read is later read write = Rose_before read_before mid read_after later (read is)
+turns_cause read_before mid read_after write_before write_after result turns.Write is later read write = write is
+
+module _ (a b c : Pending) (player : PlanPlayer) (lines : List (List ℕ))
+    (start : Reads a b (λ bytes rest. PassesLines 3 bytes rest × (play_of bytes ≡ played_from player.session first_move rest))) where
+  moves_stop : (stop : TurnStop) → Reads b c (PlaysTurns {T = ⊤} plan_stands plan_turn player first_move (Err stop) lines)
+      → Reads a c (λ bytes rest. PassesLines (lines_besides (of_turns stop) + length lines) bytes rest × StopsPlay (play_of bytes) lines (of_turns stop))
   moves_stop stop moves =
-      Reads_then a b c _ _ _ start moves (λ bytes mid rest p q. let n = length lines + (lines_besides stop - 3) in (
-        passes_most (3 + n) (lines_besides stop + length lines) bytes rest (omega (arith, q.0.0)) (passes_then 3 n bytes mid rest p.0 q.0.1),
-        stops_behind (play_of bytes) (played_from s first_move mid) [] lines stop p.1 q.1,
+      Reads_then a b c _ _ _ start moves (λ bytes mid rest p q. let n = passed_by stop (length lines) in (
+        passes_most (3 + n) (lines_besides (of_turns stop) + length lines) bytes rest (omega (arith, turns_passed stop (length lines)))
+            (passes_then 3 n bytes mid rest p.0 q.0),
+        stops_behind (play_of bytes) _ [] lines (of_turns stop) (p.1 ∙ sym (turns_by_plan player first_move mid)) (turns_stop _ lines stop q.1),
       ))
 
-  pub moves_played : Reads b c (PlaysMoves {X = ⊤} s first_move (Ok tt) lines)
+  moves_played : Reads b c (PlaysTurns {T = ⊤} plan_stands plan_turn player first_move (Ok tt) lines)
       → Reads a c (λ bytes rest. PassesLines (4 + length lines) bytes rest × (play_of bytes ≡ record { lines = lines; end = ends.AllPlayed }))
-  moves_played moves = Reads_then a b c _ _ _ start moves (λ bytes mid rest p q. (passes_all bytes mid rest p.0 q.0, p.1 ∙ q.1))
+  moves_played moves = Reads_then a b c _ _ _ start moves
+      (λ bytes mid rest p q. (
+        passes_most (3 + (length lines + 1)) (4 + length lines) bytes rest (omega arith) (passes_then 3 (length lines + 1) bytes mid rest p.0 q.0),
+        p.1 ∙ sym (turns_by_plan player first_move mid) ∙ q.1,
+      ))
 
 -- ---- all of an input
 
@@ -288,15 +215,18 @@ module _ {X : Type 0} (old : Option (List ℕ)) (begun : ℕ) (last : Pending) (
       }
 
 -- what was played of all lines behind the plan
-pub input_moves : {X : Type 0} (old : Option (List ℕ)) (begun : ℕ) (mid last : Pending) (o n : Option (List ℕ)) (s : Playing) (before after : ℕ)
-    (result : Result X PlayStop)
-    → Reads (fresh old begun) mid (λ bytes rest. PassesLines 3 bytes rest × (play_of bytes ≡ played_from s first_move rest))
-    → PlayStep mid last o n (is_whole result) before after (PlaysMoves s first_move result) → before ≤ 100
-    → (OnOk result (last.ended ≡ true)) → IfErr result (IsWaiting last.ahead)
-    → PlaysInput old last.left last.last_read o n result
-input_moves old begun mid last o n s before after (Ok x) start step men end waits =
-    input_played old begun last o n step.lines (omega (arith, step.few)) x step.written end
-    (moves_played (fresh old begun) mid last s step.lines start step.reads)
-input_moves {X} old begun mid last o n s before after (Err stop) start step men end waits =
-    input_stops old begun last o n step.lines (omega (arith, step.few)) stop (lines_besides stop + length step.lines) (omega arith) waits step.written
-    (moves_stop (fresh old begun) mid last s step.lines start stop step.reads)
+module _ (old : Option (List ℕ)) (begun : ℕ) (mid last : Pending) (o n : Option (List ℕ)) (player : PlanPlayer) (before after : ℕ) (few : before ≤ 50)
+    (start : Reads (fresh old begun) mid (λ bytes rest. PassesLines 3 bytes rest × (play_of bytes ≡ played_from player.session first_move rest))) where
+  pub all_played : TurnStep mid last o n true before after (PlaysTurns {T = ⊤} plan_stands plan_turn player first_move (Ok tt))
+      → last.ended ≡ true → PlaysInput {X = ⊤} old last.left last.last_read o n (Ok tt)
+  all_played step end = input_played old begun last o n step.lines (omega (arith, step.few)) tt step.written end
+      (moves_played (fresh old begun) mid last player step.lines start step.reads)
+
+  pub all_stopped : (result : Result ⊤ TurnStop) (stop : TurnStop) → result ≡ Err stop
+      → TurnStep mid last o n (run_turns.is_whole {T = ⊤} (Err stop)) before after (PlaysTurns {T = ⊤} plan_stands plan_turn player first_move (Err stop))
+      → (result ≡ Err turns.Read → IsUndecided last.ahead) → PlaysInput {X = ⊤} old last.left last.last_read o n (Err (of_turns stop))
+  all_stopped result stop is step waits =
+      input_stops old begun last o n step.lines (omega (arith, step.few)) (of_turns stop) (lines_besides (of_turns stop) + length step.lines) (omega arith)
+      (turns_wait last.ahead result stop is waits)
+      (subst (λ whole. AppendsPrefix whole o n (text_of step.lines)) (turns_whole stop) step.written)
+      (moves_stop (fresh old begun) mid last player step.lines start stop step.reads)

@@ -1,10 +1,10 @@
 -- What each step of `play` says of the bytes: what is played goes on, or how it ends.
-use Rattle.std.proofs.Common.{◌≡◌, ℕ, ◌+◌, ◌<◌, Bool, true, List, [], ◌∷◌, ◌++◌, length, Option, Some, None, Result, Ok, Err, refl, sym, ap, ◌∙◌, subst, arith}
+use Rattle.std.proofs.Common.{◌≡◌, ℕ, ◌+◌, ◌/◌, ◌<◌, Bool, true, List, [], ◌∷◌, ◌++◌, length, Option, Some, None, option_map, Result, Ok, Err, refl, sym, ap, ◌∙◌, subst, arith}
 use Rattle.std.specs.Result.{MatchResult}
 use Rattle.std.proofs.lemmas.Bool.{lt-leb}
 use Rattle.io_ports.specs.Lines.{Gives}
 use Rattle.io_ports.specs.declared.line_reader.LineGot.TheVariants.{Line, Long, Done, Failed}
-use Rattle.game_rules.specs.Board.{on_board}
+use Rattle.game_rules.specs.Board.{Square, on_board}
 use Rattle.game_rules.specs.Position.{Position, board_of, height, end_of, empty_count, after_move}
 use Rattle.game_rules.specs.Text.{game_at}
 use Rattle.game_rules.specs.declared.End.{End}
@@ -19,16 +19,19 @@ use Rattle.proof_text.specs.Texts.{pieces, lines_in, game_of, behind_game}
 use Rattle.rule_compat.specs.Planned.{Planned, members}
 use Rattle.reply_player.specs.Playing.{Playing, reply_for, HasAnswered}
 use Rattle.reply_player.specs.declared.session.Reply.{Reply}
-use Rattle.play_text.specs.Play.{NoGame, NoPlanLine, NoMove, AllPlayed, Played, ended, behind, end_text, turn_text, column_in, play_from, play_list, play_lines}
-use Rattle.play_text.specs.Play.{play_game, plan_in, play_of, first_move}
-use Rattle.play_text.specs.declared.PlayKind.TheVariants.{BadMove}
-use Rattle.play_text.proofs.Turns.{line_played}
+use Rattle.play_text.specs.Play.{NoGame, NoPlanLine, Played, ended, behind, end_text, turn_text, column_in, move_refusal, answer_to, with_answer, with_column}
+use Rattle.play_text.specs.Play.{play_from, play_list, play_lines, play_game, plan_in, play_of, first_move}
+use Rattle.play_text.specs.declared.PlayKind.{PlayKind}
+use Rattle.play_text.proofs.Turns.{answer_is}
+use Rattle.run_turns.specs.Turns.{with_turn, with_move, turns_from}
+use Rattle.run_turns.specs.Steps.{turns_by}
+use Rattle.run_play.specs.Turns.{plan_stands, turn_with, plan_turn}
+use Rattle.run_play.specs.declared.plan_player.PlanPlayer.{PlanPlayer}
 use Rattle.io_ports.specs.Reading.{Pending, Reads, PassesLines}
 use Rattle.run_play.specs.Steps.{reply_column, reply_end, answered_line, played_at, played_from, StopsPlay}
 use Rattle.run_play.specs.declared.play_end.PlayStop.{PlayStop}
 use Rattle.run_frame.proofs.Cuts.{line_first, long_first, none_left}
 use Rattle.run_frame.proofs.GameRead.{by_line}
-use Rattle.io_ports.proofs.Reading.{Reads_more}
 
 -- ---- the game
 
@@ -126,50 +129,51 @@ module _ (old new : Playing) (column : ℕ) (reply : Reply) (has : HasAnswered o
       let second = empty_count_moved mid has.answered.reply.0 (playable_room mid has.answered.reply has.answered.playable) in
       omega (arith, first, second, ap empty_count has.next)
 
-  pub turn_goes : (at : ℕ) (bytes line : List ℕ) (more : List (List ℕ)) → column_in (board_of old.stands) bytes ≡ Some column
-      → line ≡ answered_line old.stands column new.stands reply
-      → play_from (members old.plan) old.stands at (bytes ∷ more) ≡ behind (line ∷ []) (play_from (members new.plan) new.stands (at + 1) more)
-  turn_goes at bytes line more named told =
-      line_played (members old.plan) old.stands at bytes more column has.answered named has.legal
-      ∙ ap (λ text. behind (text ∷ []) (play_from (members old.plan) (after_move mid has.answered.reply.0) (at + 1) more)) (sym line_is ∙ sym told)
-      ∙ ap (λ q. behind (line ∷ []) (play_from (members old.plan) q (at + 1) more)) (sym has.next)
-      ∙ ap (λ plan. behind (line ∷ []) (play_from (members plan) new.stands (at + 1) more)) (sym has.same_plan)
+  -- the line is that of the plan's turn
+  pub turn_is : (line : List ℕ) → line ≡ answered_line old.stands column new.stands reply
+      → plan_turn (record { session = old }) column ≡ Some (line, record { session = new })
+  turn_is line told =
+      let player : PlanPlayer = record { session = old } in
+      let next : new ≡ record { plan = old.plan; stands = after_move mid has.answered.reply.0 } =
+      ap (λ plan. record { plan = plan; stands = new.stands }) has.same_plan ∙ ap (λ q. record { plan = old.plan; stands = q }) has.next in
+      ap (option_map (turn_with player column)) (answer_is (members old.plan) old.stands column has.answered)
+      ∙ ap (λ text. Some (text, record { session = record { plan = old.plan; stands = after_move mid has.answered.reply.0 } })) (sym line_is ∙ sym told)
+      ∙ ap (λ session. Some (line, record { session = session })) (sym next)
+
+  -- and there is one less
+  pub fewer_left : empty_count new.stands / 2 < empty_count old.stands / 2
+  fewer_left = omega (arith, two_fewer)
 
 -- ---- White's lines
 
-module _ (a b : Pending) (text : List ℕ) (fed : Bool) (s : Playing) (at : ℕ) where
-  pub moves_got : (P : Played → List ℕ → Type 0) → Reads a b (λ bytes rest. Gives bytes rest Line text fed)
-      → ((rest : List ℕ) → P (play_from (members s.plan) s.stands at (text ∷ lines_in (pieces rest))) rest)
-      → Reads a b (λ bytes rest. PassesLines 1 bytes rest × P (played_from s at bytes) rest)
-  unfolding played_from
-  moves_got P gives answer =
-      by_line a b Line text fed gives _ (λ bytes rest is.
-      let lines = line_first bytes (record { got = Line; text = text; fed = fed; rest = rest }) is refl in
-      subst (λ lines. P (play_from (members s.plan) s.stands at lines) rest) (sym lines) (answer rest))
+-- what is played by the turns of a player by a plan is what is played by the plan
+turns_played : (player : PlanPlayer) (at : ℕ) (lines : List (List ℕ))
+    → turns_from plan_stands plan_turn player at lines ≡ play_from (members player.session.plan) player.session.stands at lines
+turns_played player at [] = refl
+turns_played player at (line ∷ lines) =
+    of_column (column_in (board_of player.session.stands) line) (move_refusal player.session.stands (column_in (board_of player.session.stands) line))
+    (λ next. turns_played next (at + 1) lines)
+  where
+    of_answer : (column : ℕ) (answer : Option Square)
+        → ((next : PlanPlayer) → turns_from plan_stands plan_turn next (at + 1) lines
+        ≡ play_from (members next.session.plan) next.session.stands (at + 1) lines)
+        → with_turn (option_map (turn_with player column) answer) (λ next. turns_from plan_stands plan_turn next (at + 1) lines)
+        ≡ with_answer player.session.stands column answer (λ next. play_from (members player.session.plan) next (at + 1) lines)
+    of_answer column None later = refl
+    of_answer column (Some reply) later =
+        let turn = turn_with player column reply in
+        ap (behind (turn.0 ∷ [])) (later turn.1)
 
-  pub moves_long : Reads a b (λ bytes rest. Gives bytes rest Long text fed)
-      → Reads a b (λ bytes rest. PassesLines 1 bytes rest × (played_from s at bytes ≡ ended (NoMove (record { kind = BadMove; at = at }))))
-  unfolding played_from
-  moves_long gives =
-      by_line a b Long text fed gives _ (λ bytes rest is.
-      let some = long_first bytes (record { got = Long; text = text; fed = fed; rest = rest }) is refl in
-      ap (play_from (members s.plan) s.stands at) some.2 ∙ long_line some.0 some.1 some.3)
-    where
-      long_line : (first : List ℕ) (more : List (List ℕ)) → longest_line < length first
-          → play_from (members s.plan) s.stands at (first ∷ more) ≡ ended (NoMove (record { kind = BadMove; at = at }))
-      long_line [] more long = absurd (omega arith)
-      long_line (byte ∷ []) more long = absurd (omega arith)
-      long_line (byte ∷ next ∷ first) more long = refl
+    of_column : (column : Option ℕ) (refusal : Option PlayKind)
+        → ((next : PlanPlayer) → turns_from plan_stands plan_turn next (at + 1) lines
+        ≡ play_from (members next.session.plan) next.session.stands (at + 1) lines)
+        → with_move (plan_turn player) at column refusal (λ next. turns_from plan_stands plan_turn next (at + 1) lines)
+        ≡ with_column (members player.session.plan) player.session.stands at column refusal
+        (λ next. play_from (members player.session.plan) next (at + 1) lines)
+    of_column column (Some kind) later = refl
+    of_column None None later = refl
+    of_column (Some column) None later = of_answer column (answer_to (members player.session.plan) player.session.stands column) later
 
-  pub moves_none : Reads a b (λ bytes rest. Gives bytes rest Done text fed)
-      → Reads a b (λ bytes rest. PassesLines 1 bytes rest × (played_from s at bytes ≡ ended AllPlayed))
-  unfolding played_from
-  moves_none gives =
-      by_line a b Done text fed gives _
-      (λ bytes rest is. ap (play_from (members s.plan) s.stands at)
-      (none_left bytes (record { got = Done; text = text; fed = fed; rest = rest }) is refl).0)
-
-  -- the source failed, and no line was passed
-  pub moves_unread : Reads a b (λ bytes rest. Gives bytes rest Failed text fed)
-      → Reads a b (λ bytes rest. PassesLines 0 bytes rest × ((later : Played) × (played_from s at bytes ≡ behind [] later)))
-  moves_unread gives = Reads_more a b _ _ gives (λ bytes rest is. ((0, omega arith, is), (played_from s at bytes, refl)))
+pub turns_by_plan : (player : PlanPlayer) (at : ℕ) (bytes : List ℕ) → turns_by plan_stands plan_turn player at bytes ≡ played_from player.session at bytes
+unfolding turns_by played_from
+turns_by_plan player at bytes = turns_played player at (lines_in (pieces bytes))

@@ -1,6 +1,6 @@
 -- How `play` ends, and what it promises of the bytes that it took and of its sink, by its end. What is said of what a sink holds
 -- is said of a sink that tells it.
-use Rattle.std.specs.Prelude.{◌≡◌, ℕ, ◌+◌, ◌*◌, false, List, [], ◌++◌, length, Option, IfSome, codes, decimal}
+use Rattle.std.specs.Prelude.{◌≡◌, ℕ, ◌+◌, ◌*◌, false, List, [], ◌++◌, length, Option, IfSome, codes}
 use Rattle.std.specs.Io.KnownBytes.{Keeps, Appends, IsAtEnd}
 use Rattle.device_rules.specs.Devices.{AppendsPrefix}
 use Rattle.io_ports.specs.Lines.{most_held}
@@ -12,13 +12,12 @@ use Rattle.rule_compat.specs.declared.fault.PlanFault.{PlanFault}
 use Rattle.play_text.specs.Play as ends
 use Rattle.play_text.specs.Play.{PlayEnd, play_of, text_of}
 use Rattle.play_text.specs.Told.{TellsPlay}
-use Rattle.play_text.specs.Words.{kind_word}
-use Rattle.play_text.specs.declared.PlayFault.{PlayFault}
 use Rattle.run_frame.specs.Ended.{EndsBy}
 use Rattle.run_frame.specs.Streams.{Streams, Took, TakesLines, WaitsBehind}
 use Rattle.run_frame.specs.Texts as inputs
 use Rattle.run_frame.specs.Texts.{write_line}
 use Rattle.run_frame.specs.declared.game_input.InputStop.TheVariants.{NoGame, Read}
+use Rattle.run_turns.specs.Turns.{move_fault_line}
 use Rattle.run_play.specs.declared.play_end.PlayStop.{PlayStop}
 use Rattle.run_play.specs.declared.play_end.PlayStop.TheVariants.{Input, NoPlanLine, NoPlan, NoMove, Write}
 use Rattle.run_play.specs.declared.play_end.PlayEnding.{PlayEnding}
@@ -32,10 +31,6 @@ no_plan_line_text = as_line (codes "refused line 3: BadLine")
 
 abbrev pub no_plan_text : PlanFault → List ℕ
 no_plan_text fault = as_line (codes "refused line 3: " ++ plan_fault_text (fault_of fault))
-
--- why a line is no move of White's, and its number
-abbrev pub move_fault_line : PlayFault → List ℕ
-move_fault_line fault = as_line (codes "input fault: " ++ kind_word fault.kind ++ codes " at line " ++ decimal fault.at)
 
 -- the exit status, and the text for the error stream
 abbrev pub stop_status : PlayStop → ℕ

@@ -1,6 +1,6 @@
 -- How `play` goes through an input: at each step what is played by the bytes that were not given yet is what the step wrote
 -- and then what is played by those that are not given after it, or the step ends play.
-use Rattle.std.specs.Prelude.{◌≡◌, ◌≤◌, ℕ, ◌+◌, ◌-◌, ◌*◌, Bool, true, false, List, [], ◌∷◌, ◌++◌, length, Option, Some, None, IfSome, IfErr, MatchResult, ⊤, codes, Result, Ok, Err}
+use Rattle.std.specs.Prelude.{◌≡◌, ◌≤◌, ℕ, ◌+◌, Bool, true, false, List, [], ◌∷◌, ◌++◌, length, Option, Some, None, IfSome, MatchResult, ⊤, codes, Result, Ok, Err}
 use Rattle.std.specs.Io.KnownBytes.{Consumes, IsAtEnd}
 use Rattle.device_rules.specs.Devices.{Rose, AppendsPrefix}
 use Rattle.io_ports.specs.Lines.{IsUndecided}
@@ -15,9 +15,10 @@ use Rattle.reply_player.specs.declared.session.Reply.{Reply}
 use Rattle.reply_player.specs.declared.session.Reply.TheVariants.{BlackWon, Filled, Move}
 use Rattle.play_text.specs.Play as ends
 use Rattle.play_text.specs.Play.{PlayEnd, Played, behind, play_from, play_lines, play_of, text_of}
-use Rattle.io_ports.specs.Reading.{Pending, Reads, PassesLines}
 use Rattle.run_frame.specs.Streams.{TakesLines, WaitsBehind}
 use Rattle.run_frame.specs.declared.game_input.InputStop.TheVariants.{NoGame, Read}
+use Rattle.run_turns.specs.declared.turn_stop.TurnStop.{TurnStop}
+use Rattle.run_turns.specs.declared.turn_stop.TurnStop.TheVariants as turns
 use Rattle.run_play.specs.declared.play_end.PlayStop.{PlayStop}
 use Rattle.run_play.specs.declared.play_end.PlayStop.TheVariants.{Input, NoPlanLine, NoPlan, NoMove, Write}
 
@@ -73,10 +74,6 @@ lines_besides (NoPlan fault) = 3
 lines_besides (NoMove fault) = 4
 lines_besides Write = 3
 
--- the lines behind the plan that were passed when play stopped there, where so many lines were begun
-abbrev pub PassesMoves : PlayStop → ℕ → List ℕ → List ℕ → Type 0
-PassesMoves stop begun bytes rest = (3 ≤ lines_besides stop) × PassesLines (begun + (lines_besides stop - 3)) bytes rest
-
 -- where the source failed, the bytes that were taken and not given are no whole line
 abbrev pub IsWaiting : List ℕ → PlayStop → Type 0
 IsWaiting ahead (Input Read) = IsUndecided ahead
@@ -95,7 +92,13 @@ TakesUntil NoPlanLine begun last_read taken = TakesLines (3 + begun) last_read t
 TakesUntil (NoPlan fault) begun last_read taken = TakesLines (3 + begun) last_read taken
 TakesUntil (NoMove fault) begun last_read taken = TakesLines (4 + begun) last_read taken
 
--- ---- steps
+-- ---- what stops play
+
+-- what stops a turn stops play
+abbrev pub of_turns : TurnStop → PlayStop
+of_turns (turns.NoMove fault) = NoMove fault
+of_turns turns.Read = Input Read
+of_turns turns.Write = Write
 
 -- whether the last line that was begun stands whole
 abbrev pub is_whole : {X : Type 0} → Result X PlayStop → Bool
@@ -106,25 +109,6 @@ is_whole (Err (NoPlan fault)) = true
 is_whole (Err (NoMove fault)) = true
 is_whole (Err Write) = false
 
--- Lines were written, of which the last may be cut after a write that failed; and a fact of the bytes that were not given
--- before and of those that are not given after, whatever the source may give later. A line is written for two men.
-pub record PlayStep (a b : Pending) (old new : Option (List ℕ)) (whole : Bool) (before after : ℕ) (Fact : List (List ℕ) → List ℕ → List ℕ → Type 0) : Type 0 where
-  pub lines : List (List ℕ)
-  pub written : AppendsPrefix whole old new (text_of lines)
-  pub few : 2 * length lines + after ≤ before
-  pub reads : Reads a b (Fact lines)
-
--- A line was played, or there was none, or play stopped.
-abbrev pub PlaysNext : Playing → Playing → ℕ → Result Bool PlayStop → List (List ℕ) → List ℕ → List ℕ → Type 0
-PlaysNext s t at (Ok true) lines bytes rest = PassesLines (length lines) bytes rest × (played_from s at bytes ≡ behind lines (played_from t (at + 1) rest))
-PlaysNext s t at (Ok false) lines bytes rest = PassesLines (length lines + 1) bytes rest × (played_from s at bytes ≡ record { lines = lines; end = ends.AllPlayed })
-PlaysNext s t at (Err stop) lines bytes rest = PassesMoves stop (length lines) bytes rest × StopsPlay (played_from s at bytes) lines stop
-
--- All lines were played, or play stopped.
-abbrev pub PlaysMoves : {X : Type 0} → Playing → ℕ → Result X PlayStop → List (List ℕ) → List ℕ → List ℕ → Type 0
-PlaysMoves s at (Ok x) lines bytes rest = PassesLines (length lines + 1) bytes rest × (played_from s at bytes ≡ record { lines = lines; end = ends.AllPlayed })
-PlaysMoves s at (Err stop) lines bytes rest = PassesMoves stop (length lines) bytes rest × StopsPlay (played_from s at bytes) lines stop
-
 -- a stream is said to have failed only where its count rose
 abbrev pub IsCaused : ℕ → ℕ → ℕ → ℕ → PlayStop → Type 0
 IsCaused read_before read_after write_before write_after (Input Read) = Rose read_before read_after
@@ -133,19 +117,6 @@ IsCaused read_before read_after write_before write_after (Input (NoGame fault)) 
 IsCaused read_before read_after write_before write_after NoPlanLine = ⊤
 IsCaused read_before read_after write_before write_after (NoPlan fault) = ⊤
 IsCaused read_before read_after write_before write_after (NoMove fault) = ⊤
-
-pub record HasPlayCause {X : Type 0} (read_before read_after write_before write_after : ℕ) (result : Result X PlayStop) : Type 0 where
-  pub read_later : read_before ≤ read_after
-  pub write_later : write_before ≤ write_after
-  pub caused : IfErr result (IsCaused read_before read_after write_before write_after)
-
--- a line is no move
-abbrev pub IsNoMove : PlayStop → Type 0
-IsNoMove (NoMove fault) = ⊤
-IsNoMove (Input why) = ⊥
-IsNoMove NoPlanLine = ⊥
-IsNoMove (NoPlan fault) = ⊥
-IsNoMove Write = ⊥
 
 -- a line names no plan
 abbrev pub IsNoPlan : PlayStop → Type 0

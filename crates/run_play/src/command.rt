@@ -1,19 +1,22 @@
 //! The command, over any source and any sink.
-ghost use Rattle.std.specs.Prelude.{◌≡◌};
+ghost use Rattle.std.specs.Prelude.{◌≡◌, IfErr};
 ghost use Rattle.device_rules.specs.Devices.{Rose};
 ghost use Rattle.run_frame.specs.Streams.{StillHolds};
 ghost use Rattle.run_frame.specs.declared.game_input.InputStop.TheVariants as inputs;
 ghost use Rattle.run_play.specs.Plays.{play_status, Plays, PlayCompletes};
-ghost use Rattle.run_play.specs.Steps.{PlaysInput, HasPlayCause};
+ghost use Rattle.run_play.specs.Steps.{PlaysInput, IsCaused};
 ghost use Rattle.run_play.specs.declared.play_end.PlayEnding.TheVariants as ends;
 ghost use Rattle.run_play.specs.declared.play_end.PlayStop.TheVariants as stops;
 
 use crate::plan_line::read_plan_line;
+use crate::plan_player::PlanPlayer;
 use crate::play_end::{PlayEnding, PlayStop};
-use crate::turns::play_moves;
 use io_ports::{Lines, Sink, Source};
-use reply_player::Session;
 use run_frame::read_game_lines;
+use run_turns::play_turns;
+
+/// The number of White's first line.
+const FIRST_MOVE: u64 = 4;
 
 /// Plays a game by a plan, to the end of the input or to what stops play. It ends as the definitions say of the input,
 /// unless a stream failed, which comes only where its count of faults rose.
@@ -45,10 +48,17 @@ fn play_input<S: Source, O: Sink>(source: &mut S, out: &mut O) -> PlayEnding
 /// Plays to the end of the input, or to what stops play.
 fn play_all<S: Source, O: Sink>(source: &mut S, out: &mut O) -> Result<(), PlayStop>
     ensures plays { PlaysInput (S.left source.old) (S.left source.new) (S.last_read source.new) (O.written out.old) (O.written out.new) result }
-    ensures cause { HasPlayCause (S.faults source.old) (S.faults source.new) (O.faults out.old) (O.faults out.new) result }
+    ensures cause { IfErr result (IsCaused (S.faults source.old) (S.faults source.new) (O.faults out.old) (O.faults out.new)) }
 {
     let mut lines = Lines::new();
     let root = read_game_lines(&mut lines, source)?;
     let plan = read_plan_line(&root, &mut lines, source)?;
-    play_moves(&mut Session::new(plan), &mut lines, source, out)
+    play_turns(
+        &mut PlanPlayer::new(plan),
+        FIRST_MOVE,
+        &mut lines,
+        source,
+        out,
+    )?;
+    Ok(())
 }

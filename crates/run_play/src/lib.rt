@@ -5,9 +5,9 @@
 
 mod command;
 mod plan_line;
+mod plan_player;
 mod play_end;
 mod turn_text;
-mod turns;
 
 pub use command::play;
 pub use play_end::{PlayEnding, PlayStop};

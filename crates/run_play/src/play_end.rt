@@ -1,14 +1,15 @@
 //! How `play` ends.
 ghost use Rattle.std.specs.Prelude.{◌≡◌, ◌++◌};
-ghost use Rattle.run_play.specs.Plays.{move_fault_line, no_plan_line_text, no_plan_text};
+ghost use Rattle.run_play.specs.Plays.{no_plan_line_text, no_plan_text};
+ghost use Rattle.run_play.specs.Steps.{of_turns};
 ghost use Rattle.run_play.specs.declared.play_end.PlayStop.TheVariants as stops;
 
 use cert_format::push_plan_fault;
 use io_ports::WRITE_FAULT;
-use itoa::Buffer;
 use play_text::PlayFault;
 use rule_compat::PlanFault;
 use run_frame::{Ending, InputStop, write_text};
+use run_turns::{TurnStop, move_fault_text};
 use text_words::{LineText, push_text};
 
 /// What stops play before the end of the input.
@@ -40,6 +41,18 @@ impl From<InputStop> for PlayStop {
 
     fn from(why: InputStop) -> PlayStop {
         PlayStop::Input(why)
+    }
+}
+
+impl From<TurnStop> for PlayStop {
+    ghost from_gives = { λ why stop. stop ≡ of_turns why };
+
+    fn from(why: TurnStop) -> PlayStop {
+        match why {
+            TurnStop::NoMove(fault) => PlayStop::NoMove(fault),
+            TurnStop::Read => PlayStop::Input(InputStop::Read),
+            TurnStop::Write => PlayStop::Write,
+        }
     }
 }
 
@@ -108,20 +121,6 @@ fn no_plan_text(fault: &PlanFault) -> LineText
     let mut text = LineText::new();
     push_text(&mut text, b"refused line 3: ");
     push_plan_fault(&mut text, fault);
-    text.push(b'\n');
-    text
-}
-
-/// Says why a line is no move of White's, and gives its number.
-fn move_fault_text(fault: PlayFault) -> LineText
-    ensures { result.items ≡ move_fault_line fault }
-{
-    let mut text = LineText::new();
-    let mut digits = Buffer::new();
-    push_text(&mut text, b"input fault: ");
-    push_text(&mut text, fault.kind.word());
-    push_text(&mut text, b" at line ");
-    push_text(&mut text, digits.format(fault.at).as_bytes());
     text.push(b'\n');
     text
 }

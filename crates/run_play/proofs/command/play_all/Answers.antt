@@ -1,19 +1,16 @@
-use Rattle.std.proofs.Common.{◌≡◌, ◌≤◌, ◌∙◌, true, [], Ok, Err, sym, ap, subst, arith}
+use Rattle.std.proofs.Common.{◌≡◌, true, [], Ok, Err, subst, arith}
 use Rattle.std.specs.Bool.{⊤}
 use Rattle.std.proofs.KnownBytes.{Appends-nil}
 use Rattle.std.proofs.lemmas.Result.{err_from_is_err_and}
 use Rattle.device_rules.proofs.DeviceLaws.{AppendsPrefix_all}
-use Rattle.game_rules.specs.Position.{empty_count}
 use Rattle.game_rules.specs.Text.{game_at}
 use Rattle.proof_text.specs.Texts.{pieces, lines_in, game_of, behind_game}
-use Rattle.play_text.specs.Play.{play_of, first_move}
-use Rattle.reply_player.specs.Playing.{Playing}
+use Rattle.play_text.specs.Play.{play_of}
 use Rattle.io_ports.specs.Lines.{Cutting}
 use Rattle.io_ports.specs.Reading.{pending, Reads, PassesLines}
-use Rattle.run_play.specs.Steps.{is_whole, StopsPlay, played_from}
+use Rattle.run_play.specs.Steps.{is_whole, StopsPlay}
 use Rattle.run_play.specs.declared.play_end.PlayStop.TheVariants as stops
-use Rattle.run_play.proofs.Judged.{game_stops, game_besides, game_waits, game_cause, input_stops, input_moves, plan_goes, plan_stops}
-use Rattle.run_frame.proofs.Taken.{fresh}
+use Rattle.run_play.proofs.Judged.{game_stops, game_besides, game_waits, game_cause, input_stops, plan_stops, few_turns, play_begins, turns_cause, all_stopped, all_played}
 use Rattle.run_play.proofs.command.play_all.Goals as goal
 
 pub returns-in_err-root-clause-plays : goal.returns-in_err-root-clause-plays
@@ -34,7 +31,7 @@ returns-in_err-root-clause-plays g c =
 pub returns-in_err-root-clause-cause : goal.returns-in_err-root-clause-cause
 returns-in_err-root-clause-cause g c =
     let same = err_from_is_err_and c.from_residual.result c.from_residual.ensures.1 in
-    rw (same.1, same.2) (game_cause _ _ _ _ _ c.in_err-root.field-0.0 c.in_err-root.ensures.later c.in_err-root.ensures.answer)
+    rw (same.1, same.2) (game_cause _ _ _ _ (g.O.Sink.faults c.args.out.now) (g.O.Sink.faults c.args.out.now) c.in_err-root.field-0.0 c.in_err-root.ensures.answer)
 
 pub returns-in_err-plan-clause-plays : goal.returns-in_err-plan-clause-plays
 returns-in_err-plan-clause-plays g c =
@@ -52,21 +49,44 @@ returns-in_err-plan-clause-plays g c =
     (AppendsPrefix_all (is_whole {X = ⊤} (Err stop)) out out [] (Appends-nil out))
     (plan_stops _ mid last root (subst P c.new-lines.ensures c.in_ok-root.ensures.answer) stop c.in_err-plan.ensures.answer))
 
+pub play_turns-requires : goal.play_turns-requires
+play_turns-requires g c = omega (arith, few_turns c.in_ok-root.root c.in_ok-plan.plan c.new.result c.new.ensures c.in_ok-plan.ensures.at)
+
+pub returns-in_err-play_turns-clause-plays : goal.returns-in_err-play_turns-clause-plays
+returns-in_err-play_turns-clause-plays g c =
+    let left = g.S.Source.left c.args.source.now in
+    let begun = g.S.Source.last_read c.args.source.now in
+    let mid = pending c.read_game_lines.new.lines (g.S.Source.left c.read_game_lines.new.source) (g.S.Source.last_read c.read_game_lines.new.source) in
+    let next = pending c.read_plan_line.new.lines (g.S.Source.left c.read_plan_line.new.source) (g.S.Source.last_read c.read_plan_line.new.source) in
+    let last = pending c.play_turns.new.lines (g.S.Source.left c.play_turns.new.source) (g.S.Source.last_read c.play_turns.new.source) in
+    let same = err_from_is_err_and c.from_residual-in_err-play_turns.result c.from_residual-in_err-play_turns.ensures.1 in
+    let root = c.in_ok-root.root in
+    let plan = c.in_ok-plan.plan in
+    let few = few_turns root plan c.new.result c.new.ensures c.in_ok-plan.ensures.at in
+    let begins = play_begins root plan c.new.result c.new.ensures c.in_ok-plan.ensures.at left begun c.new-lines.result mid next c.new-lines.ensures
+    c.in_ok-root.ensures.answer c.in_ok-plan.ensures.answer in
+    let stopped = c.in_err-play_turns in
+    rw (same.1, same.2) (all_stopped left begun next last _ _ c.new.result _ _ few begins c.play_turns.result stopped.field-0.0 stopped.was
+    stopped.ensures.plays c.play_turns.ensures.waiting)
+
+pub returns-in_err-play_turns-clause-cause : goal.returns-in_err-play_turns-clause-cause
+returns-in_err-play_turns-clause-cause g c =
+    let same = err_from_is_err_and c.from_residual-in_err-play_turns.result c.from_residual-in_err-play_turns.ensures.1 in
+    let stopped = c.in_err-play_turns in
+    let ended = c.play_turns.ensures in
+    rw (same.1, same.2) (turns_cause _ _ _ _ _ c.play_turns.result stopped.field-0.0 stopped.was
+    (omega (arith, c.read_game_lines.ensures.later, c.read_plan_line.ensures.later)) ended.read_fault ended.write_fault)
+
 pub returns-clause-plays : goal.returns-clause-plays
 returns-clause-plays g c =
     let left = g.S.Source.left c.args.source.now in
     let begun = g.S.Source.last_read c.args.source.now in
     let mid = pending c.read_game_lines.new.lines (g.S.Source.left c.read_game_lines.new.source) (g.S.Source.last_read c.read_game_lines.new.source) in
     let next = pending c.read_plan_line.new.lines (g.S.Source.left c.read_plan_line.new.source) (g.S.Source.last_read c.read_plan_line.new.source) in
-    let last = pending c.play_moves.new.lines (g.S.Source.left c.play_moves.new.source) (g.S.Source.last_read c.play_moves.new.source) in
+    let last = pending c.play_turns.new.lines (g.S.Source.left c.play_turns.new.source) (g.S.Source.last_read c.play_turns.new.source) in
     let root = c.in_ok-root.root in
     let plan = c.in_ok-plan.plan in
-    let begins : Playing = record { plan = plan; stands = root } in
-    let same : c.new.result ≡ begins = c.new.ensures.value ∙ ap (λ at. record { plan = plan; stands = at }) c.in_ok-plan.ensures.at.0 in
-    let P : Cutting → Type 0 = λ lines. Reads (pending lines left begun) mid (λ bytes rest. PassesLines 2 bytes rest
-    × ((game_at (game_of (pieces bytes)) ≡ Ok root) × (behind_game (pieces bytes) ≡ lines_in (pieces rest)))) in
-    let Q : Playing → Type 0 = λ s. Reads (fresh left begun) next (λ bytes rest. PassesLines 3 bytes rest × (play_of bytes ≡ played_from s first_move rest)) in
-    let start = plan_goes _ mid next root (subst P c.new-lines.ensures c.in_ok-root.ensures.answer) begins c.in_ok-plan.ensures.answer in
-    let few : empty_count c.new.result.stands ≤ 100 = omega (arith, ap (λ (s : Playing). empty_count s.stands) same, c.in_ok-plan.ensures.at.1) in
-    input_moves left begun next last _ _ c.new.result _ _ c.play_moves.result (subst Q (sym same) start) c.play_moves.ensures.plays few
-    c.play_moves.ensures.ended c.play_moves.ensures.waiting
+    let few = few_turns root plan c.new.result c.new.ensures c.in_ok-plan.ensures.at in
+    let begins = play_begins root plan c.new.result c.new.ensures c.in_ok-plan.ensures.at left begun c.new-lines.result mid next c.new-lines.ensures
+    c.in_ok-root.ensures.answer c.in_ok-plan.ensures.answer in
+    all_played left begun next last _ _ c.new.result _ _ few begins c.in_ok-play_turns.ensures.plays c.in_ok-play_turns.ensures.ended
