@@ -1,11 +1,11 @@
 -- The game, the plan and White's lines, one after another; and what `play` promises of all that was played.
-use Rattle.std.proofs.Common.{◌≡◌, ℕ, ◌+◌, ◌≤◌, true, false, List, [], ◌++◌, length, Option, Some, None, Result, Ok, Err, refl}
+use Rattle.std.proofs.Common.{◌≡◌, ℕ, ◌+◌, ◌≤◌, true, List, [], ◌++◌, length, Option, Some, None, Result, Ok, Err, refl}
 use Rattle.std.proofs.Common.{sym, ap, ◌∙◌, subst, arith}
 use Rattle.std.specs.Bool.{⊤}
 use Rattle.std.specs.Io.KnownBytes.{Appends}
 use Rattle.device_rules.specs.Devices.{AppendsPrefix, Rose}
 use Rattle.device_rules.proofs.DeviceLaws.{Rose_before}
-use Rattle.io_ports.specs.Lines.{Cutting, IsUndecided}
+use Rattle.io_ports.specs.Lines.{IsUndecided}
 use Rattle.game_rules.specs.Position.{Position, empty_count}
 use Rattle.game_rules.specs.Text.{game_at}
 use Rattle.game_rules.specs.declared.InputFault.{InputFault}
@@ -16,12 +16,13 @@ use Rattle.play_text.specs.Play as ends
 use Rattle.play_text.specs.Play.{PlayEnd, Played, behind, play_from, play_of, text_of, first_move}
 use Rattle.play_text.proofs.Steps.{behind_more}
 use Rattle.run_frame.specs.Streams.{TakesLines, WaitsBehind}
-use Rattle.io_ports.specs.Reading.{Pending, pending, Reads, PassesLines}
+use Rattle.io_ports.specs.Reading.{Pending, Reads, PassesLines}
 use Rattle.run_turns.specs.Steps.{StopsTurns, passed_by, TurnStep, PlaysTurns}
 use Rattle.run_turns.specs.Steps as run_turns
 use Rattle.run_turns.specs.declared.turn_stop.TurnStop.{TurnStop}
 use Rattle.run_turns.specs.declared.turn_stop.TurnStop.TheVariants as turns
-use Rattle.run_play.specs.Steps.{played_at, played_from, end_by, EndsSo, StopsPlay, lines_besides, IsWaiting, TakesUntil, IsCaused, of_turns, is_whole, PlaysInput}
+use Rattle.run_play.specs.Steps.{played_at, played_from, end_by, EndsSo, StopsPlay, lines_besides, IsWaiting, TakesUntil, IsCaused, StopsReading, of_turns}
+use Rattle.run_play.specs.Steps.{is_whole, PlaysInput}
 use Rattle.run_play.specs.Turns.{plan_stands, plan_turn, turns_left}
 use Rattle.run_play.specs.declared.plan_player.PlanPlayer.{PlanPlayer}
 use Rattle.run_frame.specs.Reading.{StopsGame}
@@ -31,7 +32,7 @@ use Rattle.run_play.specs.declared.play_end.PlayStop.{PlayStop}
 use Rattle.run_play.specs.declared.play_end.PlayStop.TheVariants as stops
 use Rattle.run_play.proofs.Read.{game_goes, game_none, turns_by_plan}
 use Rattle.io_ports.proofs.Reading.{Reads_more, Reads_then, passes_then, passes_most}
-use Rattle.run_frame.proofs.Taken.{fresh, from_fresh, of_taken, of_input, of_lines, of_waiting}
+use Rattle.run_frame.proofs.Taken.{fresh, of_taken, of_input, of_lines, of_waiting}
 
 -- what stops play behind some lines
 pub stops_behind : (played later : Played) (lines more : List (List ℕ)) (stop : PlayStop) → played ≡ behind lines later → StopsPlay later more stop
@@ -47,42 +48,51 @@ stops_behind played later lines more stop goes stops = of_end (end_by stop) stop
 -- what stops the reading of the game stops play
 pub game_stops : (a b : Pending) (before after : ℕ) (why : InputStop)
     → Reads a b (λ bytes rest. PassesLines 2 bytes rest × StopsGame (game_at (game_of (pieces bytes))) before after why)
-    → Reads a b (λ bytes rest. PassesLines 2 bytes rest × StopsPlay (play_of bytes) [] (stops.Input why))
-game_stops a b before after why game = Reads_more a b _ _ game (λ bytes rest h. (h.0, by_game bytes why h.1))
+    → Reads a b (λ bytes rest. PassesLines (lines_besides (stops.Input why)) bytes rest × StopsPlay (play_of bytes) [] (stops.Input why))
+game_stops a b before after why game =
+    Reads_more a b _ _ game (λ bytes rest h. (passes_most 2 (lines_besides (stops.Input why)) bytes rest (besides why) h.0, by_game bytes why h.1))
   where
+    besides : (why : InputStop) → 2 ≤ lines_besides (stops.Input why)
+    besides (inputs.NoGame fault) = omega arith
+    besides inputs.Read = omega arith
+
     by_game : (bytes : List ℕ) (why : InputStop) → StopsGame (game_at (game_of (pieces bytes))) before after why
         → StopsPlay (play_of bytes) [] (stops.Input why)
     by_game bytes (inputs.NoGame fault) h = game_none bytes fault h
     by_game bytes inputs.Read h = (play_of bytes, refl)
-
-pub game_besides : (why : InputStop) → 2 ≤ lines_besides (stops.Input why)
-game_besides (inputs.NoGame fault) = omega arith
-game_besides inputs.Read = omega arith
 
 pub game_waits : (ahead : List ℕ) (game : Result Position InputStop) (why : InputStop) → game ≡ Err why
     → (game ≡ Err inputs.Read → IsUndecided ahead) → IsWaiting ahead (stops.Input why)
 game_waits ahead game (inputs.NoGame fault) is waits = tt
 game_waits ahead game inputs.Read is waits = waits is
 
-pub game_cause : (a b : Pending) (before after write_before write_after : ℕ) (why : InputStop)
+pub game_caused : (a b : Pending) (before after : ℕ) (why : InputStop)
     → Reads a b (λ bytes rest. PassesLines 2 bytes rest × StopsGame (game_at (game_of (pieces bytes))) before after why)
-    → IsCaused before after write_before write_after (stops.Input why)
-game_cause a b before after write_before write_after why game = by_game _ why (game.fact [] (λ _. refl)).1
+    → StopsReading before after (stops.Input why)
+game_caused a b before after why game = by_game _ why (game.fact [] (λ _. refl)).1
   where
-    by_game : (read : Result Position InputFault) (why : InputStop) → StopsGame read before after why
-        → IsCaused before after write_before write_after (stops.Input why)
+    by_game : (read : Result Position InputFault) (why : InputStop) → StopsGame read before after why → StopsReading before after (stops.Input why)
     by_game read (inputs.NoGame fault) h = tt
     by_game read inputs.Read h = h
+
+-- the source failed at a later step
+pub caused_before : (before mid after : ℕ) (stop : PlayStop) → before ≤ mid → StopsReading mid after stop → StopsReading before after stop
+caused_before before mid after (stops.Input inputs.Read) later caused = Rose_before before mid after later caused
+caused_before before mid after (stops.Input (inputs.NoGame fault)) later caused = tt
+caused_before before mid after stops.NoPlanLine later caused = tt
+caused_before before mid after (stops.NoPlan fault) later caused = tt
+caused_before before mid after (stops.NoMove fault) later caused = tt
+caused_before before mid after stops.Write later caused = caused
 
 module _ (a b c : Pending) (root : Position)
     (game : Reads a b (λ bytes rest. PassesLines 2 bytes rest
     × ((game_at (game_of (pieces bytes)) ≡ Ok root) × (behind_game (pieces bytes) ≡ lines_in (pieces rest))))) where
-  pub plan_stops : (stop : PlayStop) → Reads b c (λ bytes rest. PassesLines 1 bytes rest × StopsPlay (played_at root bytes) [] stop)
-      → Reads a c (λ bytes rest. PassesLines 3 bytes rest × StopsPlay (play_of bytes) [] stop)
-  plan_stops stop plan =
+  pub plan_stops : (stop : PlayStop) → 3 ≤ lines_besides stop → Reads b c (λ bytes rest. PassesLines 1 bytes rest × StopsPlay (played_at root bytes) [] stop)
+      → Reads a c (λ bytes rest. PassesLines (lines_besides stop) bytes rest × StopsPlay (play_of bytes) [] stop)
+  plan_stops stop besides plan =
       Reads_then a b c _ _ _ game plan
       (λ bytes mid rest p q. (
-        passes_then 2 1 bytes mid rest p.0 q.0,
+        passes_most 3 (lines_besides stop) bytes rest besides (passes_then 2 1 bytes mid rest p.0 q.0),
         stops_behind (play_of bytes) (played_at root mid) [] [] stop
             (game_goes bytes mid root p.1.0 p.1.1) q.1,
       ))
@@ -101,16 +111,13 @@ module _ (root : Position) (plan : Planned) (player : PlanPlayer) (new : player 
   pub few_turns : turns_left player ≤ 50
   few_turns = omega (arith, ap (λ (player : PlanPlayer). empty_count player.session.stands) starts, at.1)
 
-  pub play_begins : (left : Option (List ℕ)) (begun : ℕ) (lines : Cutting) (mid next : Pending)
-      → lines ≡ record { ended = false; ahead = []; text = []; fed = false }
-      → Reads (pending lines left begun) mid (λ bytes rest. PassesLines 2 bytes rest
-      × ((game_at (game_of (pieces bytes)) ≡ Ok root) × (behind_game (pieces bytes) ≡ lines_in (pieces rest))))
-      → Reads mid next (λ bytes rest. PassesLines 1 bytes rest × (played_at root bytes ≡ played_from (record { plan = plan; stands = root }) first_move rest))
-      → Reads (fresh left begun) next (λ bytes rest. PassesLines 3 bytes rest × (play_of bytes ≡ played_from player.session first_move rest))
-  play_begins left begun lines mid next is game list =
-      let P : PlanPlayer → Type 0 = λ player. Reads (fresh left begun) next (λ bytes rest. PassesLines 3 bytes rest
+  pub player_begins : (a b : Pending)
+      → Reads a b (λ bytes rest. PassesLines 3 bytes rest × (play_of bytes ≡ played_from (record { plan = plan; stands = root }) first_move rest))
+      → Reads a b (λ bytes rest. PassesLines 3 bytes rest × (play_of bytes ≡ played_from player.session first_move rest))
+  player_begins a b reads =
+      let P : PlanPlayer → Type 0 = λ player. Reads a b (λ bytes rest. PassesLines 3 bytes rest
       × (play_of bytes ≡ played_from player.session first_move rest)) in
-      subst P (sym starts) (plan_goes (fresh left begun) mid next root (from_fresh left begun lines mid _ is game) (record { plan = plan; stands = root }) list)
+      subst P (sym starts) reads
 
 -- ---- White's lines
 

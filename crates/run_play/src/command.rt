@@ -8,11 +8,9 @@ ghost use Rattle.run_play.specs.Steps.{PlaysInput, IsCaused};
 ghost use Rattle.run_play.specs.declared.play_end.PlayEnding.TheVariants as ends;
 ghost use Rattle.run_play.specs.declared.play_end.PlayStop.TheVariants as stops;
 
-use crate::plan_line::read_plan_line;
-use crate::plan_player::PlanPlayer;
+use crate::head::read_player;
 use crate::play_end::{PlayEnding, PlayStop};
 use io_ports::{Lines, Sink, Source};
-use run_frame::read_game_lines;
 use run_turns::play_turns;
 
 /// The number of White's first line.
@@ -51,14 +49,7 @@ fn play_all<S: Source, O: Sink>(source: &mut S, out: &mut O) -> Result<(), PlayS
     ensures cause { IfErr result (IsCaused (S.faults source.old) (S.faults source.new) (O.faults out.old) (O.faults out.new)) }
 {
     let mut lines = Lines::new();
-    let root = read_game_lines(&mut lines, source)?;
-    let plan = read_plan_line(&root, &mut lines, source)?;
-    play_turns(
-        &mut PlanPlayer::new(plan),
-        FIRST_MOVE,
-        &mut lines,
-        source,
-        out,
-    )?;
+    let mut player = read_player(&mut lines, source)?;
+    play_turns(&mut player, FIRST_MOVE, &mut lines, source, out)?;
     Ok(())
 }

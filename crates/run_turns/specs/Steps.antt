@@ -36,7 +36,8 @@ is_whole (Err Write) = false
 
 -- Lines were written, of which the last may be cut after a write that failed; and a fact of the bytes that were not given
 -- before and of those that are not given after, whatever the source may give later. Each line is one turn less.
-pub record TurnStep (a b : Pending) (old new : Option (List ℕ)) (whole : Bool) (before after : ℕ) (Fact : List (List ℕ) → List ℕ → List ℕ → Type 0) : Type 0 where
+pub record TurnStep (a b : Pending) (old new : Option (List ℕ)) (whole : Bool) (before after : ℕ)
+    (Fact : List (List ℕ) → List ℕ → List ℕ → Type 0) : Type 0 where
   pub lines : List (List ℕ)
   pub written : AppendsPrefix whole old new (text_of lines)
   pub few : length lines + after ≤ before

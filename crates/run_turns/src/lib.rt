@@ -1,6 +1,7 @@
-//! A game line by line: each line of an input is a move of one side, by the letter of its column, and a player answers it.
-//! The answer's line is written and flushed before more of the input is read, so that whoever makes the moves can read it
-//! before the next one. What a player answers, and what it writes, is its own. No call takes memory.
+//! A game line by line: each line of an input is a move of one side, by the letter of its column, and a player answers
+//! it. The line of the answer is written and flushed before more of the input is read, so that whoever makes the moves
+//! can read it before the next one. What a player answers, and what is written for it, is the player's own; why a line
+//! is no move is the game's. No call takes memory.
 #![tactic(auto)]
 
 mod player;

@@ -12,8 +12,8 @@ pub trait Player {
     /// The position that the game has come to.
     ghost stands: { Self → Position };
 
-    /// What the player makes of a legal column: the line that is written for it, and the player after it; or nothing, where
-    /// there is no answer.
+    /// What the player makes of a legal column: the line that is written for it, and the player after it; or nothing,
+    /// where there is no answer.
     ghost turn: { Self → ℕ → Turn Self };
 
     /// How many turns may come yet.
@@ -23,10 +23,11 @@ pub trait Player {
     fn size(&self) -> Size
         ensures { result ≡ board_of (stands self.now) };
 
-    /// Plays the other side's man into the column, and then the player's answer, and gives the line that is written for both.
+    /// Plays the other side's man into the column, and then the player's answer, and gives the line that is written for
+    /// both.
     ///
-    /// `GameOver` comes exactly where the game has ended, else `ColumnFull` exactly where the column, which is on the board,
-    /// has no room. Nothing is changed then.
+    /// `GameOver` comes exactly where the game has ended, else `ColumnFull` exactly where the column, which is on the
+    /// board, has no room. Nothing is changed then.
     fn answer(&mut self, column: Column) -> Result<LineText, MoveFault>
         requires { column < length (stands self.old).columns }
         ensures legal { IfOk result (λ _. is_legal (stands self.old) column ≡ true) }

@@ -17,7 +17,8 @@ pub returns-in_err-play_next-clause-plays : goal.returns-in_err-play_next-clause
 returns-in_err-play_next-clause-plays g c =
     let same = err_from_is_err_and c.from_residual.result c.from_residual.ensures.1 in
     rw (same.1, same.2) (step_then _ _ _ _ _ _ _ _ _ _ _ _ _ c.loop-at.invariant.goes c.in_err-play_next.ensures.plays
-    (λ xs ys bytes mid rest goes. goes_stop _ _ _ _ c.loop-at.player c.play_next.new.player c.loop-at.at xs ys bytes mid rest goes c.in_err-play_next.field-0.0))
+    (λ xs ys bytes mid rest goes. goes_stop _ _ _ _ c.loop-at.player c.play_next.new.player c.loop-at.at xs ys bytes mid rest goes
+    c.in_err-play_next.field-0.0))
 
 pub loop-at-preserved : goal.loop-at-preserved
 loop-at-preserved g c =
