@@ -9,7 +9,7 @@ use Rattle.std.proofs.lemmas.Bool.{eqb-true, eq-eqb, lt-ltb, le-ltb, ltb-false, 
 use Rattle.std.specs.Io.KnownBytes.{IsAtEnd}
 use Rattle.bstr.specs.Find.{IsFirstByte, is_byte}
 use Rattle.io_ports.proofs.FirstByte.{first_none, first_found}
-use Rattle.io_ports.specs.Lines.{Cut, line_len, next_line, IsCut, EachTextIsCut, Gives, Takes, Moves, IsUndecided, IsWithinRead, is_end}
+use Rattle.io_ports.specs.Lines.{longest_line, Cut, line_len, next_line, IsCut, EachTextIsCut, Gives, Takes, Moves, IsUndecided, IsWithinRead, is_end}
 use Rattle.io_ports.specs.declared.line_reader.LineGot.TheVariants.{Line, Long, Done, Failed}
 
 fails : (b : Bool) → (b ≡ true → ⊥) → b ≡ false
@@ -41,36 +41,36 @@ no_feed xs n within k d below same =
     cc (other, eq-eqb (get_or xs k d) 10 (sym at ∙ same))
 
 -- what `next_line` is in each case
-next_line-long : (bytes : List ℕ) → 8192 < line_len bytes → next_line bytes ≡ record { got = Long; text = take 8192 bytes; fed = false; rest = bytes }
+next_line-long : (bytes : List ℕ) → longest_line < line_len bytes → next_line bytes ≡ record { got = Long; text = take longest_line bytes; fed = false; rest = bytes }
 next_line-long [] long = absurd (omega arith)
-next_line-long (b ∷ bs) long = rw (lt-ltb 8192 (line_len (b ∷ bs)) long) refl
+next_line-long (b ∷ bs) long = rw (lt-ltb longest_line (line_len (b ∷ bs)) long) refl
 
-next_line-fed : (bytes : List ℕ) → line_len bytes ≤ 8192 → line_len bytes < length bytes
+next_line-fed : (bytes : List ℕ) → line_len bytes ≤ longest_line → line_len bytes < length bytes
     → next_line bytes ≡ record { got = Line; text = take (line_len bytes) bytes; fed = true; rest = drop (line_len bytes + 1) bytes }
 next_line-fed [] short found = absurd (omega arith)
 next_line-fed (b ∷ bs) short found =
-    rw (le-ltb 8192 (line_len (b ∷ bs)) short) (rw (lt-ltb (line_len (b ∷ bs)) (length (b ∷ bs)) found) refl)
+    rw (le-ltb longest_line (line_len (b ∷ bs)) short) (rw (lt-ltb (line_len (b ∷ bs)) (length (b ∷ bs)) found) refl)
 
 -- n is the length of the line
-next_line-fed_at : (bytes : List ℕ) (n : ℕ) → n ≡ line_len bytes → n ≤ 8192 → n < length bytes
+next_line-fed_at : (bytes : List ℕ) (n : ℕ) → n ≡ line_len bytes → n ≤ longest_line → n < length bytes
     → next_line bytes ≡ record { got = Line; text = take n bytes; fed = true; rest = drop (n + 1) bytes }
 next_line-fed_at bytes n is short found =
     next_line-fed bytes (omega (arith, is)) (omega (arith, is))
     ∙ ap (λ m. record { got = Line; text = take m bytes; fed = true; rest = drop (m + 1) bytes }) (sym is)
 
-next_line-unfed : (bytes : List ℕ) → line_len bytes ≤ 8192 → line_len bytes ≡ length bytes → 0 < length bytes
+next_line-unfed : (bytes : List ℕ) → line_len bytes ≤ longest_line → line_len bytes ≡ length bytes → 0 < length bytes
     → next_line bytes ≡ record { got = Line; text = bytes; fed = false; rest = [] }
 next_line-unfed [] short all some = absurd (omega arith)
 next_line-unfed (b ∷ bs) short all some =
-    rw (le-ltb 8192 (line_len (b ∷ bs)) short) (rw (le-ltb (line_len (b ∷ bs)) (length (b ∷ bs)) (omega (arith, all))) refl)
+    rw (le-ltb longest_line (line_len (b ∷ bs)) short) (rw (le-ltb (line_len (b ∷ bs)) (length (b ∷ bs)) (omega (arith, all))) refl)
 
 -- the same of what the words say
-long_is_cut : (bytes : List ℕ) → 8192 < line_len bytes → IsCut bytes Long (take 8192 bytes) false bytes
+long_is_cut : (bytes : List ℕ) → longest_line < line_len bytes → IsCut bytes Long (take longest_line bytes) false bytes
 long_is_cut bytes long = record {
   stays = refl;
   prefix = refl;
   long = omega (arith, line_len-le bytes);
-  no_feed = no_feed bytes 8193 (omega arith);
+  no_feed = no_feed bytes (longest_line + 1) (omega arith);
 }
 
 -- what stands at the end of a line that a line feed ends
@@ -81,7 +81,7 @@ feed_there bytes found =
     let rest : drop n bytes ≡ 10 ∷ drop (n + 1) bytes = drop_more bytes n 0 found ∙ ap (λ b. b ∷ drop (n + 1) bytes) is_feed in
     sym (take-append-drop n bytes) ∙ ap (λ l. take n bytes ++ l) rest ∙ sym (append_assoc (take n bytes) (10 ∷ []) (drop (n + 1) bytes))
 
-fed_is_cut : (bytes : List ℕ) → line_len bytes ≤ 8192 → line_len bytes < length bytes
+fed_is_cut : (bytes : List ℕ) → line_len bytes ≤ longest_line → line_len bytes < length bytes
     → IsCut bytes Line (take (line_len bytes) bytes) true (drop (line_len bytes + 1) bytes)
 fed_is_cut bytes short found = record {
   whole = feed_there bytes found;
@@ -90,7 +90,7 @@ fed_is_cut bytes short found = record {
   short = omega (arith, length-take-le (line_len bytes) bytes (line_len-le bytes));
 }
 
-unfed_is_cut : (bytes : List ℕ) → line_len bytes ≤ 8192 → line_len bytes ≡ length bytes → 0 < length bytes → IsCut bytes Line bytes false []
+unfed_is_cut : (bytes : List ℕ) → line_len bytes ≤ longest_line → line_len bytes ≡ length bytes → 0 < length bytes → IsCut bytes Line bytes false []
 unfed_is_cut bytes short all some =
     let whole : take (line_len bytes) bytes ≡ bytes = take_all (line_len bytes) bytes (omega (arith, all)) in
     let P : List ℕ → Type 0 = λ l. All (λ b. b ≢ 10) l in
@@ -108,7 +108,7 @@ pub each_text_is_cut : EachTextIsCut
 each_text_is_cut [] = (refl, refl, refl)
 each_text_is_cut (b ∷ bs) =
     let bytes = b ∷ bs in
-    elim (cases_lt 8192 (line_len bytes)) [
+    elim (cases_lt longest_line (line_len bytes)) [
       | inl long ↦ subst (IsCutBy bytes) (sym (next_line-long bytes long)) (long_is_cut bytes long)
       | inr short ↦
           elim (cases_lt (line_len bytes) (length bytes)) [
@@ -132,15 +132,15 @@ line_len-prefix xs ys =
 
 -- the bytes are those that are held, and then those that come later
 
-Gives-long : (bytes held later : List ℕ) → held ++ later ≡ bytes → 8192 < line_len held → Gives bytes (held ++ later) Long (take 8192 held) false
+Gives-long : (bytes held later : List ℕ) → held ++ later ≡ bytes → longest_line < line_len held → Gives bytes (held ++ later) Long (take longest_line held) false
 Gives-long bytes held later whole long =
-    let P : List ℕ → Type 0 = λ l. record { got = Long; text = take 8192 held; fed = false; rest = held ++ later } ≡ next_line l in
-    let prefix : take 8192 (held ++ later) ≡ take 8192 held = take-append-le 8192 held later (omega (arith, line_len-le held)) in
+    let P : List ℕ → Type 0 = λ l. record { got = Long; text = take longest_line held; fed = false; rest = held ++ later } ≡ next_line l in
+    let prefix : take longest_line (held ++ later) ≡ take longest_line held = take-append-le longest_line held later (omega (arith, line_len-le held)) in
     subst P whole
     (ap (λ t. record { got = Long; text = t; fed = false; rest = held ++ later }) (sym prefix)
     ∙ sym (next_line-long (held ++ later) (omega (arith, line_len-prefix held later))))
 
-Gives-fed : (bytes held later : List ℕ) (n : ℕ) → held ++ later ≡ bytes → n ≡ line_len held → n ≤ 8192 → n < length held
+Gives-fed : (bytes held later : List ℕ) (n : ℕ) → held ++ later ≡ bytes → n ≡ line_len held → n ≤ longest_line → n < length held
     → Gives bytes (drop (n + 1) held ++ later) Line (take n held) true
 Gives-fed bytes held later n whole is short found =
     let all = held ++ later in
@@ -153,7 +153,7 @@ Gives-fed bytes held later n whole is short found =
     ∙ ap (λ r. record { got = Line; text = take n all; fed = true; rest = r }) (sym after)
     ∙ sym (next_line-fed_at all n ends short (omega (arith, length-append held later))))
 
-Gives-unfed : (bytes held later : List ℕ) (n : ℕ) → held ++ later ≡ bytes → n ≡ line_len held → n ≤ 8192 → n ≡ length held → 0 < length held → later ≡ []
+Gives-unfed : (bytes held later : List ℕ) (n : ℕ) → held ++ later ≡ bytes → n ≡ line_len held → n ≤ longest_line → n ≡ length held → 0 < length held → later ≡ []
     → Gives bytes (drop n held ++ later) Line (take n held) false
 Gives-unfed bytes held later n whole is short all some none =
     let P : List ℕ → Type 0 = λ l. record { got = Line; text = take n held; fed = false; rest = drop n held ++ later } ≡ next_line l in
@@ -166,7 +166,7 @@ Gives-unfed bytes held later n whole is short all some none =
     ∙ sym (next_line-unfed held (omega (arith, is)) (sym is ∙ all) some))
 
 -- a line, which a line feed ended where it is not all that is held
-Gives-line : (bytes held later : List ℕ) (n m : ℕ) (fed : Bool) → held ++ later ≡ bytes → n ≡ line_len held → n ≤ 8192 → 0 < length held
+Gives-line : (bytes held later : List ℕ) (n m : ℕ) (fed : Bool) → held ++ later ≡ bytes → n ≡ line_len held → n ≤ longest_line → 0 < length held
     → (not fed ≡ true → later ≡ []) → fed ≡ ltb n (length held) → m ≡ min (length held) (n + 1)
     → Gives bytes (drop m held ++ later) Line (take n held) fed
 Gives-line bytes held later n m fed whole is short some none fed_is m_is =
@@ -189,7 +189,7 @@ module _ (old new : Option (List ℕ)) (before held : List ℕ) (moves : Moves o
   joined_later : (later : List ℕ) → held ++ later ≡ before ++ (moves.taken ++ later)
   joined_later later = ap (λ l. l ++ later) moves.grown ∙ append_assoc before moves.taken later
 
-  pub Takes-long : 8192 < line_len held → Takes (is_end Long false) old new (λ bytes rest. Gives (before ++ bytes) (held ++ rest) Long (take 8192 held) false)
+  pub Takes-long : longest_line < line_len held → Takes (is_end Long false) old new (λ bytes rest. Gives (before ++ bytes) (held ++ rest) Long (take longest_line held) false)
   Takes-long long = record {
     taken = moves.taken;
     gave = moves.gave;
@@ -197,7 +197,7 @@ module _ (old new : Option (List ℕ)) (before held : List ℕ) (moves : Moves o
     fact = λ later none. Gives-long _ held later (joined_later later) long;
   }
 
-  pub Takes-line : (n m : ℕ) (fed : Bool) → n ≡ line_len held → n ≤ 8192 → 0 < length held → (n ≡ length held → n ≤ 8192 → IsAtEnd new)
+  pub Takes-line : (n m : ℕ) (fed : Bool) → n ≡ line_len held → n ≤ longest_line → 0 < length held → (n ≡ length held → n ≤ longest_line → IsAtEnd new)
       → fed ≡ ltb n (length held) → m ≡ min (length held) (n + 1)
       → Takes (is_end Line fed) old new (λ bytes rest. Gives (before ++ bytes) (drop m held ++ rest) Line (take n held) fed)
   Takes-line n m fed is short some whole fed_is m_is = record {
@@ -213,7 +213,7 @@ module _ (old new : Option (List ℕ)) (before held : List ℕ) (moves : Moves o
       unfed true h = sym h
       unfed false h = refl
 
-  pub Takes-done : (n : ℕ) → held ≡ [] → n ≡ line_len held → (n ≡ length held → n ≤ 8192 → IsAtEnd new)
+  pub Takes-done : (n : ℕ) → held ≡ [] → n ≡ line_len held → (n ≡ length held → n ≤ longest_line → IsAtEnd new)
       → Takes (is_end Done false) old new (λ bytes rest. Gives (before ++ bytes) (held ++ rest) Done [] false)
   Takes-done n none is whole = record {
     taken = moves.taken;

@@ -23,12 +23,13 @@ pub(crate) struct Ahead {
 
 impl Model for Ahead {
     ghost use Rattle.std.specs.Prelude.{ℕ, List, slice_range, ◌≤◌, ◌<◌};
+    ghost use Rattle.io_ports.specs.declared.ahead.TheConstants.{LONGEST, CAPACITY};
 
     ghost Value = { List ℕ };
 
     ghost view = { λ ahead. slice_range ahead.buffer ahead.start ahead.end };
 
-    ghost invariant = { λ ahead. (ahead.start < 8192) × (ahead.start ≤ ahead.end) × (ahead.end ≤ 16384) };
+    ghost invariant = { λ ahead. (ahead.start < LONGEST) × (ahead.start ≤ ahead.end) × (ahead.end ≤ CAPACITY) };
 }
 
 impl Ahead {

@@ -6,4 +6,4 @@ mod key;
 mod table;
 
 pub use board_bits::Question;
-pub use table::{Found, Table};
+pub use table::{Found, MOST_ROOM, Table};

@@ -2,6 +2,7 @@
 ghost use Rattle.std.specs.Prelude.{◌≡◌, ◌≤◌, [], None, true, is_ok, IfOk, OnOk, OnErr};
 ghost use Rattle.std.specs.Map.{lookup};
 ghost use Rattle.position_table.specs.Keys.{is_for};
+ghost use Rattle.position_table.specs.declared.table.TheConstants.{MOST_ROOM};
 ghost use Rattle.position_table.specs.Table.{IsTable, used, entries_kept, whole_kept};
 
 use crate::key::Key;
@@ -10,6 +11,9 @@ use lru::LruCache;
 use std::alloc::{AllocError, Global};
 use std::marker::Model;
 use std::num::NonZeroUsize;
+
+/// No table has room for more entries.
+pub const MOST_ROOM: u32 = 1_000_000;
 
 /// What was found at a position: the answer to the question, and the number of the lemma that shows it.
 #[derive(Clone, Copy, Debug, PartialEq, Eq, Drop)]
@@ -35,10 +39,10 @@ impl Model for Table {
 }
 
 impl Table {
-    /// A table without entries, with room for so many: from 1 to 1,000,000. No memory is taken for room that isn't used.
+    /// A table without entries, with room for so many: from 1 to [`MOST_ROOM`]. No memory is taken for room that isn't used.
     pub fn new(alloc: Global, room: u32) -> Result<Table, AllocError>
         requires some { 1 ≤ room }
-        requires few { room ≤ 1000000 }
+        requires few { room ≤ MOST_ROOM }
         ensures { IfOk result (λ table. table ≡ record { entries = []; room = room; whole = true }) }
     {
         let room = NonZeroUsize::new(room as usize).unwrap();

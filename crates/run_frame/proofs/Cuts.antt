@@ -1,5 +1,5 @@
 -- The lines that are got one after the other are those of the text.
-use Rattle.std.proofs.Common.{◌≡◌, ◌⊎◌, ℕ, ◌<◌, ◌≤◌, ◌≢◌, Bool, true, false, List, [], ◌∷◌, ◌++◌, length, take, drop, get_or, Ok, refl, sym, ap, ◌∙◌, subst}
+use Rattle.std.proofs.Common.{◌+◌, ◌≡◌, ◌⊎◌, ℕ, ◌<◌, ◌≤◌, ◌≢◌, Bool, true, false, List, [], ◌∷◌, ◌++◌, length, take, drop, get_or, Ok, refl, sym, ap, ◌∙◌, subst}
 use Rattle.std.proofs.Common.{append_assoc, append-nil, inl, inr, arith}
 use Rattle.std.specs.List.{All, join_with_byte}
 use Rattle.std.proofs.lemmas.List.{length-append, length-take-le, take-append-le, take-append-drop, get_or-take}
@@ -66,10 +66,10 @@ long_pieces bytes text rest long =
     never first behind short whole (inl none) = omega (arith, long.long, ap length (whole ∙ ap (λ behind. first ++ behind) none ∙ append-nil first))
     never first behind short whole (inr (tail, feed)) =
         let cut : bytes ≡ first ++ 10 ∷ tail = whole ∙ ap (λ behind. first ++ behind) feed in
-        let within : length first < 8193 = omega arith in
-        let size : length (take 8193 bytes) ≡ 8193 = length-take-le 8193 bytes long.long in
-        let here : length first < length (take 8193 bytes) = omega arith in
-        long.no_feed (length first) 0 here (get_or-take 8193 bytes (length first) 0 within ∙ ap (λ xs. get_or xs (length first) 0) cut ∙ at_seam first tail 10)
+        let within : length first < longest_line + 1 = omega arith in
+        let size : length (take (longest_line + 1) bytes) ≡ longest_line + 1 = length-take-le (longest_line + 1) bytes long.long in
+        let here : length first < length (take (longest_line + 1) bytes) = omega arith in
+        long.no_feed (length first) 0 here (get_or-take (longest_line + 1) bytes (length first) 0 within ∙ ap (λ xs. get_or xs (length first) 0) cut ∙ at_seam first tail 10)
 
 -- ---- what was got
 

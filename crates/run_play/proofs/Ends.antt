@@ -2,6 +2,8 @@
 use Rattle.std.proofs.Common.{◌≡◌, ℕ, ◌+◌, ◌*◌, ◌≤◌, List, [], ◌++◌, length, Option, Some, None, Ok, Err, refl, sym, ap, ◌∙◌, subst, arith, append-nil}
 use Rattle.std.specs.Io.KnownBytes.{Keeps, Appends}
 use Rattle.io_ports.specs.declared.line_reader.LineGot.TheVariants.{Failed}
+use Rattle.proof_text.specs.Texts.{longest_line}
+use Rattle.io_ports.specs.Lines.{most_held}
 use Rattle.rule_compat.specs.Faults.{fault_of}
 use Rattle.play_text.specs.Play as ends
 use Rattle.play_text.specs.Play.{PlayEnd, Played, behind, play_of, text_of}
@@ -11,7 +13,7 @@ use Rattle.run_frame.specs.Streams.{Streams, TakesLines, StillHolds}
 use Rattle.run_frame.specs.declared.game_input.InputStop.TheVariants as inputs
 use Rattle.run_frame.proofs.Inputs.{of_each, IfSome_more, kept_still, appended_still, cut_still}
 use Rattle.run_frame.proofs.Passing.{takes_bytes}
-use Rattle.run_play.specs.Plays.{IsPlayed, BeginsPlay, play_status, Plays, PlayCompletes}
+use Rattle.run_play.specs.Plays.{IsPlayed, BeginsPlay, most_play_lines, play_status, Plays, PlayCompletes}
 use Rattle.run_play.specs.Steps.{PlaysInput}
 use Rattle.run_play.specs.declared.play_end.PlayStop.{PlayStop}
 use Rattle.run_play.specs.declared.play_end.PlayStop.TheVariants as stops
@@ -32,8 +34,8 @@ begun : (bytes : List ℕ) (lines : List (List ℕ)) → (later : Played) × (pl
 begun bytes lines (later, is) = (later.lines, ap (λ played. played.lines) is)
 
 takes_few : (most last_read : ℕ) (lines : List (List ℕ)) (taken : List ℕ) → most ≤ 4 → length lines ≤ 50 → TakesLines (most + length lines) last_read taken
-    → length taken ≤ 54 * 8193 + 16384
-takes_few most last_read lines taken few begun takes = takes_bytes 54 last_read taken (takes.0, omega (arith, takes.1, few, begun), takes.2, takes.3)
+    → length taken ≤ most_play_lines * (longest_line + 1) + most_held
+takes_few most last_read lines taken few begun takes = takes_bytes most_play_lines last_read taken (takes.0, omega (arith, takes.1, few, begun), takes.2, takes.3)
 
 -- no line was begun
 takes_first : (most last_read : ℕ) (lines : List (List ℕ)) (taken : List ℕ) → lines ≡ [] → TakesLines (most + length lines) last_read taken

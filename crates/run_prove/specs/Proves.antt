@@ -8,6 +8,7 @@ use Rattle.game_rules.specs.Cost.{cost}
 use Rattle.game_rules.specs.Text.{game_at}
 use Rattle.proof_text.specs.declared.Verdict.{Verdict}
 use Rattle.proof_text.specs.declared.Verdict.TheVariants as verdicts
+use Rattle.position_table.specs.declared.table.TheConstants.{MOST_ROOM}
 use Rattle.deep_search.specs.Planned.{solved_within}
 use Rattle.io_ports.specs.declared.ports.Failed.{Failed}
 use Rattle.run_frame.specs.Ended.{EndsBy}
@@ -21,7 +22,7 @@ use Rattle.run_prove.specs.declared.proved.Proved.TheVariants.{Value, Unknown, I
 
 -- how many settled positions a table may keep
 abbrev pub IsRoom : ℕ → Type 0
-IsRoom n = (1 ≤ n) × (n ≤ 1000000)
+IsRoom n = (1 ≤ n) × (n ≤ MOST_ROOM)
 
 -- the exit status of an end, and its text for the error stream
 abbrev pub proved_status : Proved → ℕ

@@ -1,5 +1,5 @@
-use Rattle.std.proofs.Common.{◌≡◌, ◌-◌, ◌≤◌, length}
-use Rattle.io_ports.specs.Lines.{line_len, IsWithinRead, Moves}
+use Rattle.std.proofs.Common.{◌≡◌, ◌+◌, ◌-◌, ◌≤◌, length}
+use Rattle.io_ports.specs.Lines.{longest_line, line_len, IsWithinRead, Moves}
 use Rattle.io_ports.proofs.line_reader.gather.Given as goal
 
 -- no byte was lost, the count hasn't fallen, and no more was taken than has to be
@@ -12,4 +12,4 @@ invariant-loop-ahead g l =
 
 -- one more byte at each turn, and no more than a line may have before the last
 abbrev pub decreases-loop-ahead : goal.decreases-loop-ahead
-decreases-loop-ahead g l = 8193 - length l.ahead
+decreases-loop-ahead g l = longest_line + 1 - length l.ahead

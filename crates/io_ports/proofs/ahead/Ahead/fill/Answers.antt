@@ -1,5 +1,6 @@
 use Rattle.std.proofs.Common.{◌-◌, ◌++◌, sym, ap, ◌∙◌, take, arith}
 use Rattle.std.proofs.lemmas.List.{length-take-le}
+use Rattle.io_ports.specs.Lines.{most_held}
 use Rattle.io_ports.proofs.Windows.{grown, unmoved, Moves-none, OnErr-from}
 use Rattle.io_ports.proofs.LineLemmas.{within_filled}
 use Rattle.io_ports.proofs.ahead.Ahead.fill.Goals as goal
@@ -7,13 +8,13 @@ use Rattle.io_ports.proofs.ahead.Ahead.fill.Goals as goal
 pub returns-in_err-count-clause-moves : goal.returns-in_err-count-clause-moves
 returns-in_err-count-clause-moves g c =
     let s = c.self.inside in
-    let same = unmoved s.buffer c.read.new.buf s.start s.end (16384 - s.end) c.self.invariant.1 (omega (arith, c.self.told)) ∙ c.self.view_is in
+    let same = unmoved s.buffer c.read.new.buf s.start s.end (most_held - s.end) c.self.invariant.1 (omega (arith, c.self.told)) ∙ c.self.view_is in
     Moves-none _ _ c.args.self.now _ c.in_err-count.ensures.bytes same
 
 pub returns-in_err-count-clause-refused : goal.returns-in_err-count-clause-refused
 returns-in_err-count-clause-refused g c =
     let s = c.self.inside in
-    let same = unmoved s.buffer c.read.new.buf s.start s.end (16384 - s.end) c.self.invariant.1 (omega (arith, c.self.told)) ∙ c.self.view_is in
+    let same = unmoved s.buffer c.read.new.buf s.start s.end (most_held - s.end) c.self.invariant.1 (omega (arith, c.self.told)) ∙ c.self.view_is in
     OnErr-from c.from_residual.result _ same
 
 pub returns-clause-moves : goal.returns-clause-moves
@@ -24,7 +25,7 @@ returns-clause-moves g c =
     record {
       taken = take n got;
       gave = c.in_ok-count.ensures.bytes.0;
-      grown = grown s.buffer got s.start s.end (16384 - s.end) n c.self.invariant.1 (omega (arith, c.self.told)) c.in_ok-count.ensures.within
+      grown = grown s.buffer got s.start s.end (most_held - s.end) n c.self.invariant.1 (omega (arith, c.self.told)) c.in_ok-count.ensures.within
           ∙ ap (λ l. l ++ take n got) c.self.view_is;
     }
 
