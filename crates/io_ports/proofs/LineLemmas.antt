@@ -41,7 +41,8 @@ no_feed xs n within k d below same =
     cc (other, eq-eqb (get_or xs k d) 10 (sym at ∙ same))
 
 -- what `next_line` is in each case
-next_line-long : (bytes : List ℕ) → longest_line < line_len bytes → next_line bytes ≡ record { got = Long; text = take longest_line bytes; fed = false; rest = bytes }
+next_line-long : (bytes : List ℕ) → longest_line < line_len bytes
+    → next_line bytes ≡ record { got = Long; text = take longest_line bytes; fed = false; rest = bytes }
 next_line-long [] long = absurd (omega arith)
 next_line-long (b ∷ bs) long = rw (lt-ltb longest_line (line_len (b ∷ bs)) long) refl
 
@@ -132,7 +133,8 @@ line_len-prefix xs ys =
 
 -- the bytes are those that are held, and then those that come later
 
-Gives-long : (bytes held later : List ℕ) → held ++ later ≡ bytes → longest_line < line_len held → Gives bytes (held ++ later) Long (take longest_line held) false
+Gives-long : (bytes held later : List ℕ) → held ++ later ≡ bytes → longest_line < line_len held
+    → Gives bytes (held ++ later) Long (take longest_line held) false
 Gives-long bytes held later whole long =
     let P : List ℕ → Type 0 = λ l. record { got = Long; text = take longest_line held; fed = false; rest = held ++ later } ≡ next_line l in
     let prefix : take longest_line (held ++ later) ≡ take longest_line held = take-append-le longest_line held later (omega (arith, line_len-le held)) in
@@ -153,7 +155,8 @@ Gives-fed bytes held later n whole is short found =
     ∙ ap (λ r. record { got = Line; text = take n all; fed = true; rest = r }) (sym after)
     ∙ sym (next_line-fed_at all n ends short (omega (arith, length-append held later))))
 
-Gives-unfed : (bytes held later : List ℕ) (n : ℕ) → held ++ later ≡ bytes → n ≡ line_len held → n ≤ longest_line → n ≡ length held → 0 < length held → later ≡ []
+Gives-unfed : (bytes held later : List ℕ) (n : ℕ) → held ++ later ≡ bytes → n ≡ line_len held → n ≤ longest_line → n ≡ length held → 0 < length held
+    → later ≡ []
     → Gives bytes (drop n held ++ later) Line (take n held) false
 Gives-unfed bytes held later n whole is short all some none =
     let P : List ℕ → Type 0 = λ l. record { got = Line; text = take n held; fed = false; rest = drop n held ++ later } ≡ next_line l in
@@ -189,7 +192,8 @@ module _ (old new : Option (List ℕ)) (before held : List ℕ) (moves : Moves o
   joined_later : (later : List ℕ) → held ++ later ≡ before ++ (moves.taken ++ later)
   joined_later later = ap (λ l. l ++ later) moves.grown ∙ append_assoc before moves.taken later
 
-  pub Takes-long : longest_line < line_len held → Takes (is_end Long false) old new (λ bytes rest. Gives (before ++ bytes) (held ++ rest) Long (take longest_line held) false)
+  pub Takes-long : longest_line < line_len held
+      → Takes (is_end Long false) old new (λ bytes rest. Gives (before ++ bytes) (held ++ rest) Long (take longest_line held) false)
   Takes-long long = record {
     taken = moves.taken;
     gave = moves.gave;

@@ -17,7 +17,8 @@ module _ (last_read nodes reach : ℕ) (front : Option ℕ) (input left : Option
   abbrev run_streams : Streams
   run_streams = record { input = input; left = left; last_read = last_read; old = Some old; new = Some new }
 
-  proof_of : (end : Proved) → Proves nodes reach front run_streams end → (proved_status end ≡ 0) ⊎ (proved_status end ≡ 5) → HoldsProof nodes reach front old new
+  proof_of : (end : Proved) → Proves nodes reach front run_streams end → (proved_status end ≡ 0) ⊎ (proved_status end ≡ 5)
+      → HoldsProof nodes reach front old new
   proof_of Value o ended =
       let proved = o.holds.0 in
       record {

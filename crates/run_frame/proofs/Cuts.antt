@@ -1,6 +1,6 @@
 -- The lines that are got one after the other are those of the text.
-use Rattle.std.proofs.Common.{◌+◌, ◌≡◌, ◌⊎◌, ℕ, ◌<◌, ◌≤◌, ◌≢◌, Bool, true, false, List, [], ◌∷◌, ◌++◌, length, take, drop, get_or, Ok, refl, sym, ap, ◌∙◌, subst}
-use Rattle.std.proofs.Common.{append_assoc, append-nil, inl, inr, arith}
+use Rattle.std.proofs.Common.{◌≡◌, ◌⊎◌, ℕ, ◌<◌, ◌≤◌, ◌≢◌, Bool, true, false, List, [], ◌∷◌, ◌++◌, length, take, drop, get_or, Ok, refl, sym, ap, ◌∙◌, subst}
+use Rattle.std.proofs.Common.{◌+◌, append_assoc, append-nil, inl, inr, arith}
 use Rattle.std.specs.List.{All, join_with_byte}
 use Rattle.std.proofs.lemmas.List.{length-append, length-take-le, take-append-le, take-append-drop, get_or-take}
 use Rattle.std.proofs.lemmas.List.Elements.{All-tail}
@@ -69,7 +69,8 @@ long_pieces bytes text rest long =
         let within : length first < longest_line + 1 = omega arith in
         let size : length (take (longest_line + 1) bytes) ≡ longest_line + 1 = length-take-le (longest_line + 1) bytes long.long in
         let here : length first < length (take (longest_line + 1) bytes) = omega arith in
-        long.no_feed (length first) 0 here (get_or-take (longest_line + 1) bytes (length first) 0 within ∙ ap (λ xs. get_or xs (length first) 0) cut ∙ at_seam first tail 10)
+        long.no_feed (length first) 0 here
+        (get_or-take (longest_line + 1) bytes (length first) 0 within ∙ ap (λ xs. get_or xs (length first) 0) cut ∙ at_seam first tail 10)
 
 -- ---- what was got
 

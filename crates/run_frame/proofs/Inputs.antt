@@ -1,5 +1,6 @@
 -- What an input that was read to its end, or to 256 bytes, says of the whole.
-use Rattle.std.proofs.Common.{[], false, append-nil, ◌≡◌, ℕ, ◌<◌, ◌≤◌, List, Option, Some, None, Ok, Err, IfSome, length, take, refl, sym, ap, ◌∙◌, inl, inr, arith}
+use Rattle.std.proofs.Common.{[], false, append-nil, ◌≡◌, ℕ, ◌<◌, ◌≤◌, List, Option, Some, None, Ok, Err, IfSome, length, take, refl, sym}
+use Rattle.std.proofs.Common.{ap, ◌∙◌, inl, inr, arith}
 use Rattle.std.specs.Io.KnownBytes.{Keeps, Appends, Consumes, IsAtEnd}
 use Rattle.std.proofs.KnownBytes.{Consumes-whole}
 use Rattle.std.proofs.lemmas.Bool.{cases_lt}

@@ -35,7 +35,8 @@ begun bytes lines (later, is) = (later.lines, ap (λ played. played.lines) is)
 
 takes_few : (most last_read : ℕ) (lines : List (List ℕ)) (taken : List ℕ) → most ≤ 4 → length lines ≤ 50 → TakesLines (most + length lines) last_read taken
     → length taken ≤ most_play_lines * (longest_line + 1) + most_held
-takes_few most last_read lines taken few begun takes = takes_bytes most_play_lines last_read taken (takes.0, omega (arith, takes.1, few, begun), takes.2, takes.3)
+takes_few most last_read lines taken few begun takes =
+    takes_bytes most_play_lines last_read taken (takes.0, omega (arith, takes.1, few, begun), takes.2, takes.3)
 
 -- no line was begun
 takes_first : (most last_read : ℕ) (lines : List (List ℕ)) (taken : List ℕ) → lines ≡ [] → TakesLines (most + length lines) last_read taken

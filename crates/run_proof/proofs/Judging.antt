@@ -121,7 +121,8 @@ judged_right old begun last n before after accepted reads ended all =
     }
 
 -- what stopped the reading is what is said of it
-pub stopped : (s : Streams) (before after : ℕ) (stop : ProofStop) → (judged : Judges s.input s.left s.last_read before after (Err stop)) → IsStopped judged.taken s stop
+pub stopped : (s : Streams) (before after : ℕ) (stop : ProofStop) → (judged : Judges s.input s.left s.last_read before after (Err stop))
+    → IsStopped judged.taken s stop
 stopped s before after (stops.Input (inputs.NoGame fault)) judged = ((judged.answer.0, judged.answer.1), judged.answer.2)
 stopped s before after (stops.Input inputs.Read) judged = tt
 stopped s before after (stops.Refused r) judged = ((judged.answer.0, judged.answer.1), judged.answer.2)

@@ -310,7 +310,8 @@ same_stop r stop other h k = cc
 -- White's question begins with nothing known, over a table without entries
 pub asked_first : (p : Position) (reach : ℕ) (slots : Option ℕ) (count nodes total : ℕ) (table : Entries) (bytes : Option (List ℕ)) (new : Moment)
     (asked read : Result Answer SearchStop) → count ≡ 0 → table.entries ≡ [] → asked ≡ read
-    → ((known : List Shown) → length known ≡ count → FitsTable table known → AsksSide p White reach slots known (count + nodes) (moment table bytes) new total asked)
+    → ((known : List Shown) → length known ≡ count → FitsTable table known
+    → AsksSide p White reach slots known (count + nodes) (moment table bytes) new total asked)
     → AsksSide p White reach slots [] (count + nodes) (moment table bytes) new total read
 asked_first p reach slots count nodes total table bytes new asked read none empty same asks =
     subst (AsksSide p White reach slots [] (count + nodes) (moment table bytes) new total) same (asks [] (sym none) (fits_if_empty table [] empty))

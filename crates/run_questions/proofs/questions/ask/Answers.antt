@@ -31,7 +31,8 @@ pub returns-then-white-clause-asked : goal.returns-then-white-clause-asked
 returns-then-white-clause-asked g c =
     let white = asked_first _ _ _ _ c.args.nodes _ _ _ _ _ _ c.new-lemmas.ensures c.requires.empty c.in_ok-white.was c.ask_side.ensures.asked in
     asks_white c.args.position.now c.args.nodes c.args.reach (slots_of c.args.front.now) _ _ _ _ c.ask_side.new.lemmas _ (omega (arith, c.new-lemmas.ensures))
-    c.in_ok-white.white c.to_move.result c.won_by.result white c.if-white.true c.to_move.ensures (sym c.in_ok-white.ensures.answer ∙ c.if-white.true) c.won_by.ensures
+    c.in_ok-white.white c.to_move.result c.won_by.result white c.if-white.true c.to_move.ensures (sym c.in_ok-white.ensures.answer ∙ c.if-white.true)
+    c.won_by.ensures
 
 pub returns-clause-asked : goal.returns-clause-asked
 returns-clause-asked g c =
