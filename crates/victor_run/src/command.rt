@@ -17,26 +17,12 @@ use run_prove::prove;
 use std::alloc::Global;
 use victor_words::{Form, read_words};
 
-/// Runs the command that the arguments ask for, reads from `source`, writes to `out`, and answers the exit status; the
-/// text of a fault goes to `err`, whole unless the count of faults of `err` rose.
+/// Runs the command that the words ask for: reads from `source`, writes to `out`, and answers the exit status; the text
+/// of a fault goes to `err`, whole unless the count of faults of `err` rose.
 ///
-/// `prove` reads a game and writes a proof of its value under perfect play, for the side to move; with `--nodes`, `--reach`
-/// and `--table` the arguments say how many positions its search may enter, how far it looks for a plan of Black's at each,
-/// and how many settled positions it keeps in a table. With `--front` a tree of at most so many positions grows before each
-/// question, and a remark says how often it was expanded and how much is left to be shown by its numbers.
-/// `check` reads a proof and writes a line where it is right. `play` reads a game, a plan at its position and then White's
-/// moves, and answers each by the plan, in a line that is written before it reads on: where the source fails, each whole
-/// line of White's that was taken has its answer. `explain` reads a game and writes the plan of Black's that is chosen
-/// at its position, with what each instance owns and answers. `drill` reads nothing: it makes games from a number,
-/// searches each as `prove` does, and writes how many are won, drawn and lost for the side to move, and of how many the
-/// budget left the value unknown. `prove` and `drill` take memory for tables of settled positions, `prove` for the tree
-/// too, and `check` for lemmas.
-///
-/// The status is 0 where that was done, 2 where the words are no written form, 3 where the game is none or a line of `play`
-/// no move, 4 where the proof is refused or the plan is none, 5 where the budget of `prove` was below the cost (the proof
-/// then says so) or `explain` found no plan within the reach (which it says), 6 where reading failed, 7 where writing failed,
-/// and 8 where `prove` or `drill` found no memory for a table or a tree, or `check` for a lemma; nothing was written then. What stops
-/// the run first decides it.
+/// What a command reads and writes, and with which status and text it ends, its own crate says: [`prove`], [`check`],
+/// [`play`], [`explain`], [`drill`]. Where the words are no written form, the status is 2 and nothing is read or written.
+/// What stops a run first decides its end. `prove`, `check` and `drill` alone take memory.
 pub fn run<S: Source, O: Sink, E: Sink>(
     alloc: Global,
     words: &[String],
