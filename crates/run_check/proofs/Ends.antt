@@ -1,7 +1,8 @@
 -- How a run of `check` ends.
-use Rattle.std.proofs.Common.{◌≡◌, ℕ, false, Ok, Err, refl, sym, ◌∙◌, inl, inr}
+use Rattle.std.proofs.Common.{◌≡◌, ℕ, false, List, Option, Ok, Err, refl, sym, ◌∙◌, inl, inr}
 use Rattle.std.specs.Io.KnownBytes.{Keeps, Appends}
 use Rattle.device_rules.specs.Devices.{AppendsPrefix}
+use Rattle.proof_text.specs.Lemma.{Lemma}
 use Rattle.cert_checker.specs.declared.stops.Accepted.{Accepted as Right}
 use Rattle.run_frame.specs.Streams.{Streams, StillHolds}
 use Rattle.run_frame.specs.declared.game_input.InputStop.TheVariants as inputs
@@ -14,31 +15,31 @@ use Rattle.run_check.specs.Checks.{accepted_line, checked_status, Checks, CheckC
 use Rattle.run_check.specs.declared.checked.Checked.{Checked}
 use Rattle.run_check.specs.declared.checked.Checked.TheVariants.{Accepted, Stopped, Write}
 
-module _ (s : Streams) (before after : ℕ) where
-  pub checks_done : (accepted : Right) → Judges s.input s.left s.last_read before after (Ok accepted)
+module _ (s : Streams) (before after : ℕ) (had has : Option (List Lemma)) where
+  pub checks_done : (accepted : Right) → Judges s.input s.left s.last_read before after had has (Ok accepted)
       → Appends s.old s.new (accepted_line accepted.verdict accepted.lemmas) → Checks s Accepted
   checks_done accepted judged put = record {
     taken = judged.taken;
     gave = judged.gave;
-    few = judged_few s before after (Ok accepted) judged;
+    few = judged_few s before after had has (Ok accepted) judged;
     holds = ((accepted.verdict, accepted.lemmas, judged.answer, put), judged.lines);
   }
 
-  pub checks_cut : (accepted : Right) → Judges s.input s.left s.last_read before after (Ok accepted)
+  pub checks_cut : (accepted : Right) → Judges s.input s.left s.last_read before after had has (Ok accepted)
       → AppendsPrefix false s.old s.new (accepted_line accepted.verdict accepted.lemmas) → Checks s Write
   checks_cut accepted judged put = record {
     taken = judged.taken;
     gave = judged.gave;
-    few = judged_few s before after (Ok accepted) judged;
+    few = judged_few s before after had has (Ok accepted) judged;
     holds = ((accepted.verdict, accepted.lemmas, judged.answer, put), judged.lines);
   }
 
-  pub checks_stop : (stop : ProofStop) → Judges s.input s.left s.last_read before after (Err stop) → Keeps s.old s.new → Checks s (Stopped stop)
+  pub checks_stop : (stop : ProofStop) → Judges s.input s.left s.last_read before after had has (Err stop) → Keeps s.old s.new → Checks s (Stopped stop)
   checks_stop stop judged kept = record {
     taken = judged.taken;
     gave = judged.gave;
-    few = judged_few s before after (Err stop) judged;
-    holds = ((stopped s before after stop judged, kept), judged.lines);
+    few = judged_few s before after had has (Err stop) judged;
+    holds = ((stopped s before after had has stop judged, kept), judged.lines);
   }
 
 pub check_completes : (s : Streams) (end : Checked) → Checks s end → (end ≡ Stopped (stops.Input inputs.Read) → ⊥) → (end ≡ Write → ⊥)

@@ -11,7 +11,7 @@ use crate::checked::Checked;
 use cert_checker::Accepted;
 use io_ports::{Failed, Sink, Source};
 use run_frame::put_line;
-use run_proof::read_proof;
+use run_proof::{KeepsNone, read_proof};
 use std::alloc::Global;
 use text_words::{LineText, push_number, push_text};
 
@@ -36,7 +36,7 @@ fn check_input<S: Source, O: Sink>(alloc: Global, source: &mut S, out: &mut O) -
     ensures read_fault { result ≡ ends.Stopped (stops.Input inputs.Read) → Rose (S.faults source.old) (S.faults source.new) }
     ensures write_fault { result ≡ ends.Write → Rose (O.faults out.old) (O.faults out.new) }
 {
-    match read_proof(alloc, source) {
+    match read_proof(alloc, source, &mut KeepsNone) {
         Ok(accepted) => match put_accepted(out, accepted) {
             Ok(()) => Checked::Accepted,
             Err(Failed) => Checked::Write,

@@ -1,5 +1,5 @@
 -- What each step of `check` says of the bytes, where those are known: that the answer goes on, or what it is.
-use Rattle.std.proofs.Common.{◌≡◌, ℕ, ◌+◌, ◌≤◌, Bool, List, length, Option, Some, None, refl, sym, ap, ◌∙◌, subst}
+use Rattle.std.proofs.Common.{◌≡◌, ℕ, ◌+◌, ◌≤◌, Bool, List, [], ◌∷◌, ◌++◌, length, Option, Some, None, Result, Ok, Err, MatchResult, refl, sym, ap, ◌∙◌, subst}
 use Rattle.std.proofs.lemmas.Bool.{le-leb}
 use Rattle.std.specs.Io.KnownBytes.{IsAtEnd}
 use Rattle.io_ports.specs.Lines.{Cut, next_line, Gives}
@@ -7,7 +7,7 @@ use Rattle.io_ports.specs.declared.line_reader.LineGot.{LineGot}
 use Rattle.io_ports.specs.declared.line_reader.LineGot.TheVariants.{Line, Long, Done, Failed}
 use Rattle.game_rules.specs.Board.{Board}
 use Rattle.game_rules.specs.Position.{board_of}
-use Rattle.proof_text.specs.Checked.{unless, or_then, line_refusal, CheckerState}
+use Rattle.proof_text.specs.Checked.{unless, or_then, line_refusal, with_line, CheckerState}
 use Rattle.proof_text.specs.Texts.{first_line, most_lines, check_of, Refused, Accepted, said_refusal, bytes_refusal, with_bytes, with_said, verdict_answer}
 use Rattle.proof_text.proofs.Sound.{true_text}
 use Rattle.proof_text.proofs.Whole.{whole_accepted}
@@ -16,22 +16,23 @@ use Rattle.proof_text.specs.declared.Why.TheVariants.{BadLine}
 use Rattle.proof_text.specs.Reading.{read_line}
 use Rattle.proof_text.specs.Lemma.{Lemma, Line as Said, ALemma, ARemark, AVerdict}
 use Rattle.cert_checker.specs.Checking.{why_of, IsLemma}
+use Rattle.run_proof.specs.Taken.{lemmas_said, lemmas_from_lines}
 use Rattle.run_proof.specs.Whole.{IsRightInput}
 use Rattle.run_proof.specs.Steps.{lines_from, IsNextLemma, LinesReach, AtHead, AtGame, AtLine, GoesOn, StopsBy, StopsAtLine}
 use Rattle.io_ports.specs.Reading.{Pending, Reads, PassesLines}
 use Rattle.run_frame.proofs.GameRead.{given, by_line}
-use Rattle.run_proof.proofs.Lines.{head_named, head_reaches, head_other, line_refused, line_stands, line_reaches, lemma_reached, long_got, none_got}
+use Rattle.run_proof.proofs.Lines.{line_says, none_says, head_says, head_named, head_reaches, head_other, line_refused, line_stands, line_reaches, lemma_reached, long_got, none_got}
 use Rattle.run_proof.specs.declared.stop.ProofStop.{ProofStop}
 use Rattle.run_proof.specs.declared.stop.ProofStop.TheVariants as stops
 
 -- ---- the head
 
 module _ (a b : Pending) (got : LineGot) (text : List ℕ) (fed : Bool) (gives : Reads a b (λ bytes rest. Gives bytes rest got text fed)) where
-  pub head_known : (got ≡ Failed → ⊥) → text ≡ first_line → Reads a b (λ bytes rest. PassesLines 1 bytes rest × GoesOn AtHead bytes AtGame rest)
+  pub head_known : (got ≡ Failed → ⊥) → text ≡ first_line → Reads a b (λ bytes rest. PassesLines 1 bytes rest × GoesOn AtHead bytes AtGame rest [])
   head_known other named = by_line a b got text fed gives _ (λ bytes rest h.
       let line : Cut = record { got = got; text = text; fed = fed; rest = rest } in
       let is = given bytes rest text got fed h other in
-      record { answer = head_named bytes line is named; reaches = head_reaches bytes line is named })
+      record { answer = head_named bytes line is named; reaches = head_reaches bytes line is named; says = head_says bytes line is named })
 
   pub head_stops : (got ≡ Failed → ⊥) → (text ≡ first_line → ⊥) → Reads a b (λ bytes rest. PassesLines 1 bytes rest × (check_of bytes ≡ Refused 1 BadLine))
   head_stops other unnamed = by_line a b got text fed gives _
@@ -39,9 +40,18 @@ module _ (a b : Pending) (got : LineGot) (text : List ℕ) (fed : Bool) (gives :
 
 -- ---- the lines
 
+pub with_bytes_root : (s : CheckerState) (bytes : List ℕ) → (with_bytes s bytes).root ≡ s.root
+with_bytes_root s bytes = of_line (read_line (board_of s.root) bytes)
+  where
+    of_line : (line : Option Said) → (with_said s line).root ≡ s.root
+    of_line None = refl
+    of_line (Some (ALemma l)) = refl
+    of_line (Some ARemark) = refl
+    of_line (Some (AVerdict v)) = refl
+
 module _ (a b : Pending) (text : List ℕ) (fed : Bool) (s : CheckerState) (at : ℕ) where
   pub line_known : Reads a b (λ bytes rest. Gives bytes rest Line text fed) → bytes_refusal s at text ≡ None → (t : CheckerState) → t ≡ with_bytes s text
-      → Reads a b (λ bytes rest. PassesLines 1 bytes rest × GoesOn (AtLine s at) bytes (AtLine t (at + 1)) rest)
+      → Reads a b (λ bytes rest. PassesLines 1 bytes rest × GoesOn (AtLine s at) bytes (AtLine t (at + 1)) rest (lemmas_said (board_of s.root) (text ∷ [])))
   line_known gives stands t next =
       by_line a b Line text fed gives _
       (λ bytes rest is.
@@ -49,6 +59,9 @@ module _ (a b : Pending) (text : List ℕ) (fed : Bool) (s : CheckerState) (at :
       record {
         answer = line_stands s at bytes line is refl stands ∙ ap (λ t. lines_from t (at + 1) rest) (sym next);
         reaches = λ later. line_reaches s at bytes line is refl stands (subst (λ t. LinesReach t (at + 1) rest) next later);
+        says = line_says (board_of s.root) bytes line is refl
+            ∙ ap (λ root. lemmas_said (board_of s.root) (text ∷ []) ++ lemmas_from_lines (board_of root) rest)
+            (sym (ap (λ t. t.root) next ∙ with_bytes_root s text));
       })
 
   pub line_stops : Reads a b (λ bytes rest. Gives bytes rest Line text fed) → (before after : ℕ) (stop : ProofStop) → StopsAtLine s at text stop
@@ -68,34 +81,38 @@ module _ (a b : Pending) (text : List ℕ) (fed : Bool) (s : CheckerState) (at :
       (λ bytes rest is. long_got s at bytes (record { got = Long; text = text; fed = fed; rest = rest }) is refl)
 
   pub none_known : Reads a b (λ bytes rest. Gives bytes rest Done text fed)
-      → Reads a b (λ bytes rest. PassesLines 1 bytes rest × (lines_from s at bytes ≡ verdict_answer at (length s.known) s.verdict))
+      → Reads a b (λ bytes rest. PassesLines 1 bytes rest × ((lines_from s at bytes ≡ verdict_answer at (length s.known) s.verdict)
+      × (lemmas_from_lines (board_of s.root) bytes ≡ [])))
   none_known gives = by_line a b Done text fed gives _
-      (λ bytes rest is. (none_got s at bytes (record { got = Done; text = text; fed = fed; rest = rest }) is refl))
+      (λ bytes rest is.
+      let line : Cut = record { got = Done; text = text; fed = fed; rest = rest } in
+      (none_got s at bytes line is refl, none_says (board_of s.root) bytes line is refl))
 
--- a line that is read as a lemma which isn't refused
-pub next_lemma : (s : CheckerState) (at : ℕ) (bytes : List ℕ) (size : Board) (line : Said) → board_of s.root ≡ size → at ≤ most_lines
-    → read_line size bytes ≡ Some line → line_refusal s line ≡ None → IsLemma line → IsNextLemma s at bytes
-next_lemma s at bytes size line board within said stands lemma =
-    let here : read_line (board_of s.root) bytes ≡ Some line = ap (λ board. read_line board bytes) board ∙ said in
-    let none : bytes_refusal s at bytes ≡ None =
-    ap (λ few. or_then (unless few BadLine) (said_refusal s (read_line (board_of s.root) bytes))) (le-leb at most_lines within) ∙ ap (said_refusal s) here
-    ∙ stands in
-    let found = lemma_of line lemma in
-    (none, found.0, here ∙ ap (λ line. Some line) found.1)
-  where
-    lemma_of : (line : Said) → IsLemma line → (l : Lemma) × (line ≡ ALemma l)
-    lemma_of (ALemma l) is = (l, refl)
-    lemma_of ARemark is = absurd is
-    lemma_of (AVerdict v) is = absurd is
+-- a line that is read and not refused
+module _ (s : CheckerState) (at : ℕ) (bytes : List ℕ) (size : Board) (line : Said) (board : board_of s.root ≡ size) (within : at ≤ most_lines)
+    (said : read_line size bytes ≡ Some line) (stands : line_refusal s line ≡ None) where
+  here : read_line (board_of s.root) bytes ≡ Some line
+  here = ap (λ board. read_line board bytes) board ∙ said
 
-pub with_bytes_root : (s : CheckerState) (bytes : List ℕ) → (with_bytes s bytes).root ≡ s.root
-with_bytes_root s bytes = of_line (read_line (board_of s.root) bytes)
-  where
-    of_line : (line : Option Said) → (with_said s line).root ≡ s.root
-    of_line None = refl
-    of_line (Some (ALemma l)) = refl
-    of_line (Some ARemark) = refl
-    of_line (Some (AVerdict v)) = refl
+  none : bytes_refusal s at bytes ≡ None
+  none = ap (λ few. or_then (unless few BadLine) (said_refusal s (read_line (board_of s.root) bytes))) (le-leb at most_lines within)
+      ∙ ap (said_refusal s) here ∙ stands
+
+  -- being a lemma
+  pub next_lemma : IsLemma line → IsNextLemma s at bytes
+  next_lemma lemma = let found = lemma_of line lemma in (none, found.0, here ∙ ap (λ line. Some line) found.1)
+    where
+      lemma_of : (line : Said) → IsLemma line → (l : Lemma) × (line ≡ ALemma l)
+      lemma_of (ALemma l) is = (l, refl)
+      lemma_of ARemark is = absurd is
+      lemma_of (AVerdict v) is = absurd is
+
+  -- being handed to the taker, which may not take it
+  pub handed : {A : Type 0} → (t : CheckerState) (result : Result A ProofStop) (Taken : A → Type 0) (Kept : Type 0) → t ≡ with_line s line
+      → MatchResult result Taken (λ stop. (stop ≡ stops.Memory) × IsLemma line × Kept)
+      → MatchResult result (λ _. (bytes_refusal s at bytes ≡ None) × (t ≡ with_bytes s bytes)) (StopsAtLine s at bytes)
+  handed t (Ok x) Taken Kept added h = (none, added ∙ ap (with_said s) (sym here))
+  handed t (Err stop) Taken Kept added h = subst (StopsAtLine s at bytes) (sym h.0) (next_lemma h.1)
 
 -- ---- a whole text
 

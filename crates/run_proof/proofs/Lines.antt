@@ -1,16 +1,20 @@
 -- What `check` answers to the bytes before a line is determined by the line and by the answer to the bytes behind it.
-use Rattle.std.proofs.Common.{◌≡◌, ℕ, ◌+◌, List, [], ◌∷◌, length, Ok, Err, Some, None, sym, ap, ◌∙◌, subst, inl, inr, arith}
+use Rattle.std.proofs.Common.{◌≡◌, ℕ, ◌+◌, List, [], ◌∷◌, ◌++◌, length, Option, Ok, Err, Some, None, refl, sym, ap, ◌∙◌, subst, inl, inr, arith}
 use Rattle.io_ports.specs.Lines.{Cut, next_line}
 use Rattle.io_ports.specs.declared.line_reader.LineGot.TheVariants.{Line, Long, Done}
-use Rattle.game_rules.specs.Position.{Position}
+use Rattle.game_rules.specs.Board.{Board}
+use Rattle.game_rules.specs.Position.{Position, board_of}
 use Rattle.game_rules.specs.Text.{game_at}
 use Rattle.game_rules.specs.declared.InputFault.{InputFault}
 use Rattle.proof_text.specs.Checked.{Why, CheckerState}
+use Rattle.proof_text.specs.Lemma.{Line as Said, ALemma, ARemark, AVerdict}
+use Rattle.proof_text.specs.Reading.{read_line}
 use Rattle.proof_text.specs.Texts.{pieces, lines_in, first_number, game_of, behind_game, bytes_refusal, NoGame, Refused, verdict_answer, line_answer}
 use Rattle.proof_text.specs.Texts.{with_bytes, check_from, start, game_answer, first_line, check_of}
 use Rattle.proof_text.proofs.Fold.{answer_by_lines}
 use Rattle.proof_text.proofs.First.{out_of_bounds, no_head, with_head}
 use Rattle.proof_text.specs.declared.Why.TheVariants.{BadLine}
+use Rattle.run_proof.specs.Taken.{lemmas_said, game_lemmas, pieces_lemmas, text_lemmas, lemmas_from_game, lemmas_from_lines}
 use Rattle.run_proof.specs.Whole.{BeginsProof}
 use Rattle.run_proof.specs.Steps.{game_from, lines_from, IsNextLemma, ReachLemma, LinesReach, GameReaches}
 use Rattle.run_proof.proofs.Begun.{begins_proof}
@@ -103,3 +107,38 @@ game_reaches bytes rest root game behind reach = (root, game, subst (ReachLemma 
 pub game_fault : (bytes : List ℕ) (fault : InputFault) → game_at (game_of (pieces bytes)) ≡ Err fault → game_from bytes ≡ NoGame fault
 unfolding game_from
 game_fault bytes fault game = ap (λ r. game_answer r (behind_game (pieces bytes))) game
+
+-- ---- the lemmas that are said
+
+-- a line says its own, and then come those of the others
+said_first : (board : Board) (line : List ℕ) (lines : List (List ℕ)) → lemmas_said board (line ∷ lines) ≡ lemmas_said board (line ∷ []) ++ lemmas_said board lines
+said_first board line lines = of_read (read_line board line) refl
+  where
+    of_read : (said : Option Said) → read_line board line ≡ said → lemmas_said board (line ∷ lines) ≡ lemmas_said board (line ∷ []) ++ lemmas_said board lines
+    of_read None e = rw e refl
+    of_read (Some (ALemma l)) e = rw e refl
+    of_read (Some ARemark) e = rw e refl
+    of_read (Some (AVerdict v)) e = rw e refl
+
+pub line_says : (board : Board) (bytes : List ℕ) (line : Cut) → line ≡ next_line bytes → line.got ≡ Line
+    → lemmas_from_lines board bytes ≡ lemmas_said board (line.text ∷ []) ++ lemmas_from_lines board line.rest
+unfolding lemmas_from_lines
+line_says board bytes line is got = ap (lemmas_said board) (line_first bytes line is got) ∙ said_first board line.text (lines_in (pieces line.rest))
+
+pub none_says : (board : Board) (bytes : List ℕ) (line : Cut) → line ≡ next_line bytes → line.got ≡ Done → lemmas_from_lines board bytes ≡ []
+unfolding lemmas_from_lines
+none_says board bytes line is got = ap (lemmas_said board) (none_left bytes line is got).0
+
+pub head_says : (bytes : List ℕ) (line : Cut) → line ≡ next_line bytes → line.text ≡ first_line → text_lemmas bytes ≡ lemmas_from_game line.rest
+unfolding text_lemmas lemmas_from_game
+head_says bytes line is named =
+    by_piece bytes line (pieces_lemmas (pieces bytes) ≡ game_lemmas (game_at (game_of (pieces line.rest))) (behind_game (pieces line.rest))) is
+    (λ fed cut. ap pieces_lemmas cut)
+    (λ fed none cut. ap pieces_lemmas cut ∙ ap (λ rest. game_lemmas (game_at (game_of (pieces rest))) (behind_game (pieces rest))) (sym none))
+    (λ first more cut longer size prefix. absurd (omega (arith, size, ap length named)))
+
+pub game_says : (bytes rest : List ℕ) (root : Position) → game_at (game_of (pieces bytes)) ≡ Ok root → behind_game (pieces bytes) ≡ lines_in (pieces rest)
+    → lemmas_from_game bytes ≡ lemmas_from_lines (board_of root) rest
+unfolding lemmas_from_game lemmas_from_lines
+game_says bytes rest root game behind =
+    ap (λ r. game_lemmas r (behind_game (pieces bytes))) game ∙ ap (lemmas_said (board_of root)) behind

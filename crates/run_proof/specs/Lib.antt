@@ -1,3 +1,4 @@
 pub mod Whole
 pub mod Stops
+pub mod Taken
 pub mod Steps

@@ -1,6 +1,6 @@
 -- How a proof is gone through: at each step the answer to the bytes that were not given yet is that to those that
 -- are not given after it, or the step ends the reading with an answer, or for want of memory.
-use Rattle.std.specs.Prelude.{◌≡◌, ◌⊎◌, ℕ, ◌+◌, Bool, true, false, List, [], ◌∷◌, length, Option, Some, None, Ok, IfSome, Result, MatchResult}
+use Rattle.std.specs.Prelude.{◌≡◌, ◌⊎◌, ℕ, ◌+◌, Bool, true, false, List, [], ◌∷◌, ◌++◌, length, Option, Some, None, Ok, IfSome, Result, MatchResult}
 use Rattle.std.specs.Io.KnownBytes.{Consumes}
 use Rattle.device_rules.specs.Devices.{Rose}
 use Rattle.game_rules.specs.Position.{Position, board_of}
@@ -11,8 +11,10 @@ use Rattle.proof_text.specs.Reading.{read_line}
 use Rattle.proof_text.specs.Texts.{pieces, lines_in, first_number, game_of, behind_game, bytes_refusal, with_bytes, start, CheckAnswer, NoGame, Refused, game_answer, verdict_answer, check_from, check_of}
 use Rattle.cert_checker.specs.Checking.{why_of}
 use Rattle.cert_checker.specs.declared.stops.Accepted.{Accepted}
+use Rattle.io_ports.specs.Reading.{Pending, Reads}
 use Rattle.run_frame.specs.Streams.{TakesLines}
 use Rattle.run_frame.specs.declared.game_input.InputStop.TheVariants as inputs
+use Rattle.run_proof.specs.Taken.{text_lemmas, lemmas_from_game, lemmas_from_lines, Gains, BeginWith}
 use Rattle.run_proof.specs.Whole.{BeginsProof, IsRightInput, most_lines_read}
 use Rattle.run_proof.specs.declared.stop.ProofStop.{ProofStop}
 use Rattle.run_proof.specs.declared.stop.ProofStop.TheVariants as stops
@@ -61,16 +63,29 @@ Reaches AtHead bytes = BeginsProof bytes
 Reaches AtGame bytes = GameReaches bytes
 Reaches (AtLine s at) bytes = LinesReach s at bytes
 
+-- the lemmas that the bytes behind a place say
+abbrev pub lemmas_at : Place → List ℕ → List Lemma
+lemmas_at AtHead bytes = text_lemmas bytes
+lemmas_at AtGame bytes = lemmas_from_game bytes
+lemmas_at (AtLine s at) bytes = lemmas_from_lines (board_of s.root) bytes
+
 -- From a place to a later one, what was passed stood: the answer is that to the rest, and where that reaches a lemma, so do
--- the bytes.
-pub record GoesOn (place : Place) (bytes : List ℕ) (next : Place) (rest : List ℕ) : Type 0 where
+-- the bytes. What was passed says these lemmas, and the rest the others.
+pub record GoesOn (place : Place) (bytes : List ℕ) (next : Place) (rest : List ℕ) (lemmas : List Lemma) : Type 0 where
   pub answer : answer_at place bytes ≡ answer_at next rest
   pub reaches : Reaches next rest → Reaches place bytes
+  pub says : lemmas_at place bytes ≡ lemmas ++ lemmas_at next rest
+
+-- what a step took of the input, the lemmas that its taker got, and a fact of both
+pub record Gets (old new : Pending) (had has : Option (List Lemma)) (Fact : List Lemma → List ℕ → List ℕ → Type 0) : Type 0 where
+  pub lemmas : List Lemma
+  pub gains : Gains had has lemmas
+  pub reads : Reads old new (Fact lemmas)
 
 -- A line was added, or there was none, and the verdict decides.
-abbrev pub Adds : CheckerState → CheckerState → ℕ → Bool → List ℕ → List ℕ → Type 0
-Adds s t at true bytes rest = GoesOn (AtLine s at) bytes (AtLine t (at + 1)) rest
-Adds s t at false bytes rest = lines_from s at bytes ≡ verdict_answer at (length t.known) t.verdict
+abbrev pub Adds : CheckerState → CheckerState → ℕ → Bool → List Lemma → List ℕ → List ℕ → Type 0
+Adds s t at true lemmas bytes rest = GoesOn (AtLine s at) bytes (AtLine t (at + 1)) rest lemmas
+Adds s t at false lemmas bytes rest = (lines_from s at bytes ≡ verdict_answer at (length t.known) t.verdict) × (lemmas_at (AtLine s at) bytes ≡ lemmas)
 
 -- The answer is that of what stopped the reading; a fault comes only where the source's count rose, and want of memory
 -- only at a lemma.
@@ -79,6 +94,10 @@ StopsBy place bytes before after (stops.Input (inputs.NoGame fault)) = answer_at
 StopsBy place bytes before after (stops.Input inputs.Read) = Rose before after
 StopsBy place bytes before after (stops.Refused r) = answer_at place bytes ≡ Refused r.at (why_of r.why)
 StopsBy place bytes before after stops.Memory = Reaches place bytes
+
+-- the same, and the lemmas behind the place begin with those that the taker got
+abbrev pub StopsWith : Place → List Lemma → List ℕ → ℕ → ℕ → ProofStop → Type 0
+StopsWith place lemmas bytes before after stop = StopsBy place bytes before after stop × BeginWith (lemmas_at place bytes) lemmas
 
 -- behind what stands, the line at a number is refused by this name, or is a lemma for which memory runs out
 abbrev pub StopsAtLine : CheckerState → ℕ → List ℕ → ProofStop → Type 0
@@ -94,11 +113,15 @@ lines_read_until (stops.Input inputs.Read) = most_lines_read
 lines_read_until stops.Memory = most_lines_read
 
 -- What was read of a proof, to its end or to what stopped the reading: the bytes that were taken are right, or they stopped
--- it; and so did all of the input, where the source tells it.
-pub record Judges (input left : Option (List ℕ)) (last_read before after : ℕ) (result : Result Accepted ProofStop) : Type 0 where
+-- it; and so did all of the input, where the source tells it. A taker that tells its lemmas has got all that the bytes say, where
+-- they are right, and else some first ones.
+pub record Judges (input left : Option (List ℕ)) (last_read before after : ℕ) (had has : Option (List Lemma)) (result : Result Accepted ProofStop)
+    : Type 0 where
   pub taken : List ℕ
   pub gave : Consumes input left taken
   pub answer : MatchResult result (λ accepted. IsRightInput taken left accepted.verdict accepted.lemmas)
       (λ stop. StopsBy AtHead taken before after stop × IfSome input (λ bytes. StopsBy AtHead bytes before after stop)
       × TakesLines (lines_read_until stop) last_read taken)
+  pub lemmas : MatchResult result (λ _. Gains had has (text_lemmas taken))
+      (λ _. (got : List Lemma) × Gains had has got × BeginWith (text_lemmas taken) got)
   pub lines : TakesLines most_lines_read last_read taken

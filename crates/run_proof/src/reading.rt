@@ -1,18 +1,23 @@
 //! The reading of a proof: line by line, and each line is judged as it comes, so that only what its lemmas show is kept.
 //! Reading stops at the first line that is refused.
-ghost use Rattle.std.specs.Prelude.{◌≡◌, ◌+◌, ◌-◌, ◌≤◌, true, false, [], length, is_ok, Ok, Some, MatchResult, IfOk, IfErr, OnOk};
+ghost use Rattle.std.specs.Prelude.{◌≡◌, ◌+◌, ◌-◌, ◌≤◌, true, false, [], ◌∷◌, length, is_ok, Ok, Some, MatchResult, IfOk, IfErr, OnOk};
 ghost use Rattle.game_rules.specs.Position.{board_of};
+ghost use Rattle.cert_checker.specs.Checking.{IsLemma};
+ghost use Rattle.cert_format.specs.Shape.{viewed};
+ghost use Rattle.proof_text.specs.Checked.{lemmas_in};
 ghost use Rattle.proof_text.specs.Texts.{first_number, bytes_refusal, with_bytes, verdict_answer};
 ghost use Rattle.run_proof.specs.Whole.{most_lines_read};
-ghost use Rattle.run_proof.specs.Steps.{lines_from, AtHead, AtGame, AtLine, GoesOn, Adds, StopsBy, StopsAtLine, lines_read_until, Judges};
+ghost use Rattle.run_proof.specs.Taken.{lemmas_said, Gains};
+ghost use Rattle.run_proof.specs.Steps.{lines_from, lemmas_at, AtHead, AtGame, AtLine, GoesOn, Gets, Adds, StopsBy, StopsWith, StopsAtLine, lines_read_until, Judges};
 ghost use Rattle.io_ports.specs.Reading.{pending, Reads, PassesLines};
 ghost use Rattle.run_proof.specs.declared.stop.ProofStop.TheVariants as stops;
 ghost use Rattle.proof_text.specs.declared.Why.TheVariants as whys;
 
 use crate::stop::ProofStop;
+use crate::taker::{LemmaTaker, NotTaken};
 use board_bits::Size;
 use cert_checker::{Accepted, AddStop, Checker, Refusal, Why};
-use cert_format::{FIRST_LINE, LineBuffer};
+use cert_format::{FIRST_LINE, LineBuffer, LineView};
 use io_ports::{LineGot, Lines, Source};
 use run_frame::{InputStop, read_game_lines};
 use std::alloc::Global;
@@ -24,16 +29,22 @@ const FIRST_NUMBER: u64 = 4;
 const MOST_LINES: u64 = 20_000_000;
 
 /// Reads a proof to its end, or to what stops the reading: the first line that is refused, a game that is none, a source that
-/// failed, or want of memory for a lemma. An accepted proof is right, and what it says is true.
-pub fn read_proof<S: Source>(alloc: Global, source: &mut S) -> Result<Accepted, ProofStop>
-    ensures { Judges (S.left source.old) (S.left source.new) (S.last_read source.new) (S.faults source.old) (S.faults source.new) result }
+/// failed, or a lemma for which memory ran out or which the taker didn't take. An accepted proof is right, and what it says
+/// is true. The taker gets each lemma after it was accepted, in their order.
+pub fn read_proof<S: Source, T: LemmaTaker>(
+    alloc: Global,
+    source: &mut S,
+    taker: &mut T,
+) -> Result<Accepted, ProofStop>
+    ensures { Judges (S.left source.old) (S.left source.new) (S.last_read source.new) (S.faults source.old) (S.faults source.new)
+        (T.lemmas taker.old) (T.lemmas taker.new) result }
 {
     let mut lines = Lines::new();
     read_head(&mut lines, source)?;
     let root = read_game_lines(&mut lines, source)?;
     let size = root.size();
     let mut checker = Checker::new(alloc, root);
-    let end = add_lines(&mut checker, size, &mut lines, source)?;
+    let end = add_lines(&mut checker, taker, size, &mut lines, source)?;
     match checker.finish(end) {
         Ok(accepted) => Ok(accepted),
         Err(refusal) => Err(ProofStop::Refused(refusal)),
@@ -44,7 +55,7 @@ pub fn read_proof<S: Source>(alloc: Global, source: &mut S) -> Result<Accepted, 
 fn read_head<S: Source>(lines: &mut Lines, source: &mut S) -> Result<(), ProofStop>
     ensures answer { Reads (pending lines.old (S.left source.old) (S.last_read source.old))
         (pending lines.new (S.left source.new) (S.last_read source.new))
-        (λ bytes rest. PassesLines 1 bytes rest × MatchResult result (λ _. GoesOn AtHead bytes AtGame rest)
+        (λ bytes rest. PassesLines 1 bytes rest × MatchResult result (λ _. GoesOn AtHead bytes AtGame rest [])
         (StopsBy AtHead bytes (S.faults source.old) (S.faults source.new))) }
     ensures stops { IfErr result (λ stop. 1 ≤ lines_read_until stop) }
     ensures later { S.faults source.old ≤ S.faults source.new }
@@ -60,34 +71,37 @@ fn read_head<S: Source>(lines: &mut Lines, source: &mut S) -> Result<(), ProofSt
 }
 
 /// Adds the lines behind the game, and answers the number after that of the last.
-fn add_lines<S: Source>(
+fn add_lines<S: Source, T: LemmaTaker>(
     checker: &mut Checker,
+    taker: &mut T,
     size: Size,
     lines: &mut Lines,
     source: &mut S,
 ) -> Result<u64, ProofStop>
     requires { board_of checker.old.root ≡ size }
-    ensures answer { Reads (pending lines.old (S.left source.old) (S.last_read source.old))
-        (pending lines.new (S.left source.new) (S.last_read source.new))
-        (λ bytes rest. MatchResult result
-        (λ end. PassesLines (end - 3) bytes rest × (lines_from checker.old first_number bytes ≡ verdict_answer end (length checker.new.known) checker.new.verdict))
+    ensures answer { Gets (pending lines.old (S.left source.old) (S.last_read source.old))
+        (pending lines.new (S.left source.new) (S.last_read source.new)) (T.lemmas taker.old) (T.lemmas taker.new)
+        (λ lemmas bytes rest. MatchResult result
+        (λ end. PassesLines (end - 3) bytes rest × ((lines_from checker.old first_number bytes ≡ verdict_answer end (length checker.new.known) checker.new.verdict)
+        × (lemmas_at (AtLine checker.old first_number) bytes ≡ lemmas)))
         (λ stop. PassesLines (lines_read_until stop - 3) bytes rest
-        × StopsBy (AtLine checker.old first_number) bytes (S.faults source.old) (S.faults source.new) stop)) }
+        × StopsWith (AtLine checker.old first_number) lemmas bytes (S.faults source.old) (S.faults source.new) stop)) }
     ensures few { MatchResult result (λ end. (FIRST_NUMBER ≤ end) × (end ≤ most_lines_read)) (λ stop. (3 ≤ lines_read_until stop) × (lines_read_until stop ≤ most_lines_read)) }
     ensures ended { OnOk result (lines.new.ended ≡ true) }
     ensures later { S.faults source.old ≤ S.faults source.new }
 {
     let mut room = LineBuffer::new();
     let mut at = FIRST_NUMBER;
-    while add_next(checker, &mut room, size, at, lines, source)? {
+    while add_next(checker, taker, &mut room, size, at, lines, source)? {
         at += 1;
     }
     Ok(at)
 }
 
 /// Adds the next line, which has this number, and answers whether there was one. It is read into the room.
-fn add_next<S: Source>(
+fn add_next<S: Source, T: LemmaTaker>(
     checker: &mut Checker,
+    taker: &mut T,
     room: &mut LineBuffer,
     size: Size,
     at: u64,
@@ -95,10 +109,10 @@ fn add_next<S: Source>(
     source: &mut S,
 ) -> Result<bool, ProofStop>
     requires { board_of checker.old.root ≡ size }
-    ensures answer { Reads (pending lines.old (S.left source.old) (S.last_read source.old))
-        (pending lines.new (S.left source.new) (S.last_read source.new))
-        (λ bytes rest. PassesLines 1 bytes rest × MatchResult result (λ more. Adds checker.old checker.new at more bytes rest)
-        (StopsBy (AtLine checker.old at) bytes (S.faults source.old) (S.faults source.new))) }
+    ensures answer { Gets (pending lines.old (S.left source.old) (S.last_read source.old))
+        (pending lines.new (S.left source.new) (S.last_read source.new)) (T.lemmas taker.old) (T.lemmas taker.new)
+        (λ lemmas bytes rest. PassesLines 1 bytes rest × MatchResult result (λ more. Adds checker.old checker.new at more lemmas bytes rest)
+        (StopsWith (AtLine checker.old at) lemmas bytes (S.faults source.old) (S.faults source.new))) }
     ensures few { result ≡ Ok true → at ≤ MOST_LINES }
     ensures root { OnOk result (checker.new.root ≡ checker.old.root) }
     ensures ended { result ≡ Ok false → lines.new.ended ≡ true }
@@ -107,7 +121,7 @@ fn add_next<S: Source>(
 {
     match lines.next(source) {
         LineGot::Line => {
-            add_line(checker, room, size, at, lines.text())?;
+            add_line(checker, taker, room, size, at, lines.text())?;
             Ok(true)
         }
         LineGot::Long => Err(bad_line(at)),
@@ -117,8 +131,9 @@ fn add_next<S: Source>(
 }
 
 /// Adds the line at this number, given by its bytes. It is read into the room.
-fn add_line(
+fn add_line<T: LemmaTaker>(
     checker: &mut Checker,
+    taker: &mut T,
     room: &mut LineBuffer,
     size: Size,
     at: u64,
@@ -128,6 +143,9 @@ fn add_line(
     ensures answer { MatchResult result
         (λ _. (bytes_refusal checker.old at bytes.now ≡ None) × (checker.new ≡ with_bytes checker.old bytes.now))
         (StopsAtLine checker.old at bytes.now) }
+    ensures taken { MatchResult result
+        (λ _. Gains (T.lemmas taker.old) (T.lemmas taker.new) (lemmas_said (board_of checker.old.root) (bytes.now ∷ [])))
+        (λ _. T.lemmas taker.new ≡ T.lemmas taker.old) }
     ensures few { OnOk result (at ≤ MOST_LINES) }
 {
     if at > MOST_LINES {
@@ -137,9 +155,24 @@ fn add_line(
         return Err(bad_line(at));
     };
     match checker.add_view(at, &line) {
-        Ok(()) => Ok(()),
+        Ok(()) => hand_on(taker, &line),
         Err(AddStop::Refused(refusal)) => Err(ProofStop::Refused(refusal)),
         Err(AddStop::Memory(_)) => Err(ProofStop::Memory),
+    }
+}
+
+/// Hands an accepted line to the taker, where it is a lemma.
+fn hand_on<T: LemmaTaker>(taker: &mut T, line: &LineView<'_>) -> Result<(), ProofStop>
+    ensures { MatchResult result
+        (λ _. Gains (T.lemmas taker.old) (T.lemmas taker.new) (lemmas_in (viewed line.now ∷ [])))
+        (λ stop. (stop ≡ stops.Memory) × IsLemma (viewed line.now) × (T.lemmas taker.new ≡ T.lemmas taker.old)) }
+{
+    match line {
+        LineView::Lemma(lemma) => match taker.take(lemma) {
+            Ok(()) => Ok(()),
+            Err(NotTaken) => Err(ProofStop::Memory),
+        },
+        LineView::Remark | LineView::Verdict(_) => Ok(()),
     }
 }
 

@@ -1,0 +1,45 @@
+-- The lemmas that the text of a proof says, and those that a taker of lemmas has got.
+use Rattle.std.specs.Prelude.{◌≡◌, ℕ, List, [], ◌∷◌, ◌++◌, filter_map, Option, Some, None, Result, Ok, Err, ⊤}
+use Rattle.game_rules.specs.Board.{Board}
+use Rattle.game_rules.specs.Position.{Position, board_of}
+use Rattle.game_rules.specs.Text.{game_at}
+use Rattle.game_rules.specs.declared.InputFault.{InputFault}
+use Rattle.proof_text.specs.Checked.{lemmas_in}
+use Rattle.proof_text.specs.Lemma.{Lemma}
+use Rattle.proof_text.specs.Reading.{read_line}
+use Rattle.proof_text.specs.Texts.{pieces, lines_in, game_of, behind_game}
+
+-- the lemmas that some lines say, in their order; each line is given by its bytes
+abbrev pub lemmas_said : Board → List (List ℕ) → List Lemma
+lemmas_said board lines = lemmas_in (filter_map (read_line board) lines)
+
+-- those that the lines behind a game say; where there is no game, there is none
+abbrev pub game_lemmas : Result Position InputFault → List (List ℕ) → List Lemma
+game_lemmas (Err fault) lines = []
+game_lemmas (Ok root) lines = lemmas_said (board_of root) lines
+
+abbrev pub pieces_lemmas : List (List ℕ) → List Lemma
+pieces_lemmas [] = []
+pieces_lemmas (first ∷ more) = game_lemmas (game_at (game_of more)) (behind_game more)
+
+-- the lemmas that a text says behind its game, in their order
+unfoldable pub text_lemmas : List ℕ → List Lemma
+text_lemmas bytes = pieces_lemmas (pieces bytes)
+
+-- the same of the bytes behind the first line
+unfoldable pub lemmas_from_game : List ℕ → List Lemma
+lemmas_from_game bytes = game_lemmas (game_at (game_of (pieces bytes))) (behind_game (pieces bytes))
+
+-- and of those behind the game, or behind some lines
+unfoldable pub lemmas_from_lines : Board → List ℕ → List Lemma
+lemmas_from_lines board bytes = lemmas_said board (lines_in (pieces bytes))
+
+-- a taker that tells its lemmas has these behind those that it had
+abbrev pub Gains : Option (List Lemma) → Option (List Lemma) → List Lemma → Type 0
+Gains None after lemmas = ⊤
+Gains (Some before) None lemmas = ⊥
+Gains (Some before) (Some after) lemmas = after ≡ before ++ lemmas
+
+-- the lemmas begin with these
+abbrev pub BeginWith : List Lemma → List Lemma → Type 0
+BeginWith all first = (more : List Lemma) × (all ≡ first ++ more)
