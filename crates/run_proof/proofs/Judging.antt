@@ -1,5 +1,6 @@
 -- All that was read of a proof: from the first step on, what was taken, and how `check` answers it.
-use Rattle.std.proofs.Common.{◌≡◌, ℕ, ◌+◌, ◌-◌, ◌≤◌, true, List, [], ◌++◌, length, Option, Some, None, Result, Ok, Err, refl, sym, ap, ◌∙◌, subst, arith, append_assoc, append-nil}
+use Rattle.std.proofs.Common.{◌≡◌, ℕ, ◌+◌, ◌-◌, ◌≤◌, Bool, true, List, [], ◌++◌, length, Option, Result, Ok, Err}
+use Rattle.std.proofs.Common.{refl, sym, ap, ◌∙◌, subst, arith, append_assoc, append-nil}
 use Rattle.game_rules.specs.Position.{Position}
 use Rattle.game_rules.specs.Text.{game_at}
 use Rattle.proof_text.specs.Checked.{CheckerState}
@@ -13,7 +14,7 @@ use Rattle.run_proof.specs.Whole.{most_lines_read, most_taken}
 use Rattle.run_proof.specs.Stops.{IsStopped}
 use Rattle.run_frame.specs.Streams.{Streams}
 use Rattle.run_proof.specs.Taken.{text_lemmas, Gains, BeginWith}
-use Rattle.run_proof.specs.Steps.{StopsBy, StopsWith, Judges, Place, AtHead, AtGame, AtLine, GoesOn, Gets, lines_from, lemmas_at, lines_read_until}
+use Rattle.run_proof.specs.Steps.{Adds, StopsBy, StopsWith, Judges, Place, AtHead, AtGame, AtLine, GoesOn, Gets, lines_from, lemmas_at, lines_read_until}
 use Rattle.io_ports.specs.Reading.{Pending, Reads, PassesLines}
 use Rattle.run_frame.specs.Reading.{StopsGame}
 use Rattle.run_frame.specs.declared.game_input.InputStop.{InputStop}
@@ -21,6 +22,7 @@ use Rattle.run_frame.specs.declared.game_input.InputStop.TheVariants as inputs
 use Rattle.run_proof.specs.declared.stop.ProofStop.{ProofStop}
 use Rattle.run_proof.specs.declared.stop.ProofStop.TheVariants as stops
 use Rattle.run_proof.proofs.Lines.{game_says, game_read, game_reaches, game_fault}
+use Rattle.run_proof.proofs.Taking.{stops_bare}
 use Rattle.run_proof.proofs.Known.{right_input}
 use Rattle.run_frame.proofs.Inputs.{IfSome_more}
 use Rattle.run_frame.proofs.Passing.{takes_bytes}
@@ -36,43 +38,14 @@ goes_then one two three bytes mid rest ls ms first next = record {
   says = first.says ∙ ap (λ rest. ls ++ rest) next.says ∙ sym (append_assoc ls ms (lemmas_at three rest));
 }
 
+-- the next line was added, or there was none
+abbrev pub AddsLine : Pending → Pending → Option (List Lemma) → Option (List Lemma) → CheckerState → CheckerState → ℕ → Bool → Type 0
+AddsLine a b had has s t at more = Gets a b had has (λ lemmas bytes rest. PassesLines 1 bytes rest × Adds s t at more lemmas bytes rest)
+
 -- the lemmas of the rest begin with some, so those of all begin with those passed and these
 pub begin_earlier : (one two : Place) (bytes mid : List ℕ) (ls ms : List Lemma) → GoesOn one bytes two mid ls → BeginWith (lemmas_at two mid) ms
     → BeginWith (lemmas_at one bytes) (ls ++ ms)
 begin_earlier one two bytes mid ls ms goes (more, is) = (more, goes.says ∙ ap (λ rest. ls ++ rest) is ∙ sym (append_assoc ls ms more))
-
--- a step that hands on no lemma
-pub gains_none : (told : Option (List Lemma)) → Gains told told []
-gains_none None = tt
-gains_none (Some ls) = sym (append-nil ls)
-
-pub gains_same : (before after : Option (List Lemma)) → after ≡ before → Gains before after []
-gains_same before after same = let G : Option (List Lemma) → Type 0 = λ after. Gains before after [] in subst G (sym same) (gains_none before)
-
-pub gains_then : (a b c : Option (List Lemma)) (ls ms : List Lemma) → Gains a b ls → Gains b c ms → Gains a c (ls ++ ms)
-gains_then None b c ls ms p q = tt
-gains_then (Some xs) None c ls ms p q = absurd p
-gains_then (Some xs) (Some ys) None ls ms p q = absurd q
-gains_then (Some xs) (Some ys) (Some zs) ls ms p q = q ∙ ap (λ l. l ++ ms) p ∙ append_assoc xs ls ms
-
--- a step that stops and hands on none
-pub stops_bare : (a b : Pending) (had has : Option (List Lemma)) (place : Place) (n before after : ℕ) (stop : ProofStop) → has ≡ had
-    → Reads a b (λ bytes rest. PassesLines n bytes rest × StopsBy place bytes before after stop)
-    → Gets a b had has (λ ls bytes rest. PassesLines n bytes rest × StopsWith place ls bytes before after stop)
-stops_bare a b had has place n before after stop same reads = record {
-  lemmas = [];
-  gains = gains_same had has same;
-  reads = Reads_more a b _ _ reads (λ bytes rest p. (p.0, (p.1, (lemmas_at place bytes, refl))));
-}
-
--- one step after another, with what both gave the taker
-pub gets_then : (a b c : Pending) (x y z : Option (List Lemma)) (P Q R : List Lemma → List ℕ → List ℕ → Type 0) → Gets a b x y P → Gets b c y z Q
-    → ((ls ms : List Lemma) (bytes mid rest : List ℕ) → P ls bytes mid → Q ms mid rest → R (ls ++ ms) bytes rest) → Gets a c x z R
-gets_then a b c x y z P Q R first next more = record {
-  lemmas = first.lemmas ++ next.lemmas;
-  gains = gains_then x y z first.lemmas next.lemmas first.gains next.gains;
-  reads = Reads_then a b c _ _ _ first.reads next.reads (more first.lemmas next.lemmas);
-}
 
 -- what stops a later step stops all steps
 pub stops_earlier : (one two : Place) (bytes mid : List ℕ) (ls : List Lemma) (a b c : ℕ) (stop : ProofStop) → GoesOn one bytes two mid ls
@@ -173,15 +146,26 @@ judged_stop old begun last had has n before after stop gets few all =
       lines = of_lines old begun last n most_lines_read Stopped gets.reads all;
     }
 
+-- it stopped before the first lemma
+pub judged_bare : (old : Option (List ℕ)) (begun : ℕ) (last : Pending) (told : Option (List Lemma)) (n before after : ℕ) (stop : ProofStop)
+    → Reads (fresh old begun) last (λ bytes rest. PassesLines n bytes rest × StopsBy AtHead bytes before after stop)
+    → n ≤ lines_read_until stop → n ≤ most_lines_read → Judges old last.left last.last_read before after told told (Err stop)
+judged_bare old begun last told n before after stop reads few all =
+    judged_stop old begun last told told n before after stop (stops_bare (fresh old begun) last told told AtHead n before after stop refl reads) few all
+
 -- no line is left, and there was no verdict
-pub refused_with : (a b : Pending) (had has : Option (List Lemma)) (n before after : ℕ) (r : Refusal)
-    → Gets a b had has (λ ls bytes rest. PassesLines n bytes rest × ((check_of bytes ≡ answers.Refused r.at (why_of r.why)) × (text_lemmas bytes ≡ ls)))
-    → Gets a b had has (λ ls bytes rest. PassesLines n bytes rest × StopsWith AtHead ls bytes before after (stops.Refused r))
-refused_with a b had has n before after r gets = record {
-  lemmas = gets.lemmas;
-  gains = gets.gains;
-  reads = Reads_more a b _ _ gets.reads (λ bytes rest p. (p.0, (p.1.0, ([], p.1.1 ∙ sym (append-nil gets.lemmas)))));
-}
+pub judged_unended : (old : Option (List ℕ)) (begun : ℕ) (last : Pending) (had has : Option (List Lemma)) (n before after : ℕ) (r : Refusal)
+    → Gets (fresh old begun) last had has
+    (λ ls bytes rest. PassesLines n bytes rest × ((check_of bytes ≡ answers.Refused r.at (why_of r.why)) × (text_lemmas bytes ≡ ls)))
+    → n ≤ r.at → n ≤ most_lines_read → Judges old last.left last.last_read before after had has (Err (stops.Refused r))
+judged_unended old begun last had has n before after r gets few all =
+    let stopped : Gets (fresh old begun) last had has (λ ls bytes rest. PassesLines n bytes rest × StopsWith AtHead ls bytes before after (stops.Refused r)) =
+    record {
+      lemmas = gets.lemmas;
+      gains = gets.gains;
+      reads = Reads_more _ _ _ _ gets.reads (λ bytes rest p. (p.0, (p.1.0, ([], p.1.1 ∙ sym (append-nil gets.lemmas)))));
+    } in
+    judged_stop old begun last had has n before after (stops.Refused r) stopped few all
 
 pub judged_right : (old : Option (List ℕ)) (begun : ℕ) (last : Pending) (had has : Option (List Lemma)) (n before after : ℕ) (accepted : Accepted)
     → Gets (fresh old begun) last had has

@@ -1,5 +1,6 @@
 -- What each step of `check` says of the bytes, where those are known: that the answer goes on, or what it is.
-use Rattle.std.proofs.Common.{◌≡◌, ℕ, ◌+◌, ◌≤◌, Bool, List, [], ◌∷◌, ◌++◌, length, Option, Some, None, Result, Ok, Err, MatchResult, refl, sym, ap, ◌∙◌, subst}
+use Rattle.std.proofs.Common.{◌≡◌, ℕ, ◌+◌, ◌≤◌, Bool, List, [], ◌∷◌, ◌++◌, length, Option, Some, None, Result, Ok, Err, MatchResult, OnOk}
+use Rattle.std.proofs.Common.{refl, sym, ap, ◌∙◌, subst}
 use Rattle.std.proofs.lemmas.Bool.{le-leb}
 use Rattle.std.specs.Io.KnownBytes.{IsAtEnd}
 use Rattle.io_ports.specs.Lines.{Cut, next_line, Gives}
@@ -7,7 +8,7 @@ use Rattle.io_ports.specs.declared.line_reader.LineGot.{LineGot}
 use Rattle.io_ports.specs.declared.line_reader.LineGot.TheVariants.{Line, Long, Done, Failed}
 use Rattle.game_rules.specs.Board.{Board}
 use Rattle.game_rules.specs.Position.{board_of}
-use Rattle.proof_text.specs.Checked.{unless, or_then, line_refusal, with_line, CheckerState}
+use Rattle.proof_text.specs.Checked.{unless, or_then, line_refusal, with_line, lemmas_in, CheckerState}
 use Rattle.proof_text.specs.Texts.{first_line, most_lines, check_of, Refused, Accepted, said_refusal, bytes_refusal, with_bytes, with_said, verdict_answer}
 use Rattle.proof_text.proofs.Sound.{true_text}
 use Rattle.proof_text.proofs.Whole.{whole_accepted}
@@ -16,12 +17,16 @@ use Rattle.proof_text.specs.declared.Why.TheVariants.{BadLine}
 use Rattle.proof_text.specs.Reading.{read_line}
 use Rattle.proof_text.specs.Lemma.{Lemma, Line as Said, ALemma, ARemark, AVerdict}
 use Rattle.cert_checker.specs.Checking.{why_of, IsLemma}
-use Rattle.run_proof.specs.Taken.{lemmas_said, lemmas_from_lines}
+use Rattle.run_proof.specs.Taken.{lemmas_said, lemmas_from_lines, Gains, InStep}
 use Rattle.run_proof.specs.Whole.{IsRightInput}
-use Rattle.run_proof.specs.Steps.{lines_from, IsNextLemma, LinesReach, AtHead, AtGame, AtLine, GoesOn, StopsBy, StopsAtLine}
+use Rattle.run_proof.specs.Steps.{lines_from, IsNextLemma, LinesReach, AtHead, AtGame, AtLine, GoesOn, Gets, StopsBy, StopsWith, StopsAtLine}
 use Rattle.io_ports.specs.Reading.{Pending, Reads, PassesLines}
+use Rattle.device_rules.specs.Devices.{Rose}
+use Rattle.run_frame.specs.declared.game_input.InputStop.TheVariants as inputs
 use Rattle.run_frame.proofs.GameRead.{given, by_line}
-use Rattle.run_proof.proofs.Lines.{line_says, none_says, head_says, head_named, head_reaches, head_other, line_refused, line_stands, line_reaches, lemma_reached, long_got, none_got}
+use Rattle.run_proof.proofs.Taking.{gains_none, step_more, stops_bare}
+use Rattle.run_proof.proofs.Lines.{line_says, none_says, head_says}
+use Rattle.run_proof.proofs.Lines.{head_named, head_reaches, head_other, line_refused, line_stands, line_reaches, lemma_reached, long_got, none_got}
 use Rattle.run_proof.specs.declared.stop.ProofStop.{ProofStop}
 use Rattle.run_proof.specs.declared.stop.ProofStop.TheVariants as stops
 
@@ -49,24 +54,44 @@ with_bytes_root s bytes = of_line (read_line (board_of s.root) bytes)
     of_line (Some ARemark) = refl
     of_line (Some (AVerdict v)) = refl
 
-module _ (a b : Pending) (text : List ℕ) (fed : Bool) (s : CheckerState) (at : ℕ) where
+module _ (a b : Pending) (text : List ℕ) (fed : Bool) (s : CheckerState) (at : ℕ) (had has : Option (List Lemma)) where
   pub line_known : Reads a b (λ bytes rest. Gives bytes rest Line text fed) → bytes_refusal s at text ≡ None → (t : CheckerState) → t ≡ with_bytes s text
-      → Reads a b (λ bytes rest. PassesLines 1 bytes rest × GoesOn (AtLine s at) bytes (AtLine t (at + 1)) rest (lemmas_said (board_of s.root) (text ∷ [])))
-  line_known gives stands t next =
-      by_line a b Line text fed gives _
-      (λ bytes rest is.
-      let line : Cut = record { got = Line; text = text; fed = fed; rest = rest } in
-      record {
-        answer = line_stands s at bytes line is refl stands ∙ ap (λ t. lines_from t (at + 1) rest) (sym next);
-        reaches = λ later. line_reaches s at bytes line is refl stands (subst (λ t. LinesReach t (at + 1) rest) next later);
-        says = line_says (board_of s.root) bytes line is refl
-            ∙ ap (λ root. lemmas_said (board_of s.root) (text ∷ []) ++ lemmas_from_lines (board_of root) rest)
-            (sym (ap (λ t. t.root) next ∙ with_bytes_root s text));
-      })
+      → Gains had has (lemmas_said (board_of s.root) (text ∷ []))
+      → Gets a b had has (λ lemmas bytes rest. PassesLines 1 bytes rest × GoesOn (AtLine s at) bytes (AtLine t (at + 1)) rest lemmas)
+  line_known gives stands t next gains = record {
+    lemmas = lemmas_said (board_of s.root) (text ∷ []);
+    gains = gains;
+    reads = by_line a b Line text fed gives _ (λ bytes rest is.
+        let line : Cut = record { got = Line; text = text; fed = fed; rest = rest } in
+        record {
+          answer = line_stands s at bytes line is refl stands ∙ ap (λ t. lines_from t (at + 1) rest) (sym next);
+          reaches = λ later. line_reaches s at bytes line is refl stands (subst (λ t. LinesReach t (at + 1) rest) next later);
+          says = line_says (board_of s.root) bytes line is refl
+              ∙ ap (λ root. lemmas_said (board_of s.root) (text ∷ []) ++ lemmas_from_lines (board_of root) rest)
+              (sym (ap (λ t. t.root) next ∙ with_bytes_root s text));
+        });
+  }
 
-  pub line_stops : Reads a b (λ bytes rest. Gives bytes rest Line text fed) → (before after : ℕ) (stop : ProofStop) → StopsAtLine s at text stop
-      → Reads a b (λ bytes rest. PassesLines 1 bytes rest × StopsBy (AtLine s at) bytes before after stop)
-  line_stops gives before after stop h = by_line a b Line text fed gives _ (λ bytes rest is. by_stop bytes rest is stop h)
+  pub none_known : Reads a b (λ bytes rest. Gives bytes rest Done text fed) → has ≡ had
+      → Gets a b had has (λ lemmas bytes rest. PassesLines 1 bytes rest
+      × ((lines_from s at bytes ≡ verdict_answer at (length s.known) s.verdict) × (lemmas_from_lines (board_of s.root) bytes ≡ lemmas)))
+  none_known gives same = record {
+    lemmas = [];
+    gains = same ∙ gains_none had;
+    reads = by_line a b Done text fed gives _ (λ bytes rest is.
+        let line : Cut = record { got = Done; text = text; fed = fed; rest = rest } in
+        (none_got s at bytes line is refl, none_says (board_of s.root) bytes line is refl));
+  }
+
+  -- what stops at a line, and hands on none
+  at_line : (before after : ℕ) (stop : ProofStop) (got : LineGot) → Reads a b (λ bytes rest. Gives bytes rest got text fed) → has ≡ had
+      → ((bytes rest : List ℕ) → Gives bytes rest got text fed → StopsBy (AtLine s at) bytes before after stop)
+      → Gets a b had has (λ lemmas bytes rest. PassesLines 1 bytes rest × StopsWith (AtLine s at) lemmas bytes before after stop)
+  at_line before after stop got gives same stops = stops_bare a b had has (AtLine s at) 1 before after stop same (by_line a b got text fed gives _ stops)
+
+  pub line_stops : Reads a b (λ bytes rest. Gives bytes rest Line text fed) → has ≡ had → (before after : ℕ) (stop : ProofStop) → StopsAtLine s at text stop
+      → Gets a b had has (λ lemmas bytes rest. PassesLines 1 bytes rest × StopsWith (AtLine s at) lemmas bytes before after stop)
+  line_stops gives same before after stop h = at_line before after stop Line gives same (λ bytes rest is. by_stop bytes rest is stop h)
     where
       by_stop : (bytes rest : List ℕ) → record { got = Line; text = text; fed = fed; rest = rest } ≡ next_line bytes
           → (stop : ProofStop) → StopsAtLine s at text stop → StopsBy (AtLine s at) bytes before after stop
@@ -75,18 +100,15 @@ module _ (a b : Pending) (text : List ℕ) (fed : Bool) (s : CheckerState) (at :
       by_stop bytes rest is stops.Memory h = lemma_reached s at bytes (record { got = Line; text = text; fed = fed; rest = rest }) is refl h
       by_stop bytes rest is (stops.Input why) h = absurd h
 
-  pub long_stops : Reads a b (λ bytes rest. Gives bytes rest Long text fed)
-      → Reads a b (λ bytes rest. PassesLines 1 bytes rest × (lines_from s at bytes ≡ Refused at BadLine))
-  long_stops gives = by_line a b Long text fed gives _
+  pub long_stops : Reads a b (λ bytes rest. Gives bytes rest Long text fed) → has ≡ had → (before after : ℕ)
+      → Gets a b had has (λ lemmas bytes rest. PassesLines 1 bytes rest
+      × StopsWith (AtLine s at) lemmas bytes before after (stops.Refused (record { at = at; why = BadLine })))
+  long_stops gives same before after = at_line before after (stops.Refused (record { at = at; why = BadLine })) Long gives same
       (λ bytes rest is. long_got s at bytes (record { got = Long; text = text; fed = fed; rest = rest }) is refl)
 
-  pub none_known : Reads a b (λ bytes rest. Gives bytes rest Done text fed)
-      → Reads a b (λ bytes rest. PassesLines 1 bytes rest × ((lines_from s at bytes ≡ verdict_answer at (length s.known) s.verdict)
-      × (lemmas_from_lines (board_of s.root) bytes ≡ [])))
-  none_known gives = by_line a b Done text fed gives _
-      (λ bytes rest is.
-      let line : Cut = record { got = Done; text = text; fed = fed; rest = rest } in
-      (none_got s at bytes line is refl, none_says (board_of s.root) bytes line is refl))
+  pub unread_stops : Reads a b (λ bytes rest. Gives bytes rest Failed text fed) → has ≡ had → (before after : ℕ) → Rose before after
+      → Gets a b had has (λ lemmas bytes rest. PassesLines 1 bytes rest × StopsWith (AtLine s at) lemmas bytes before after (stops.Input inputs.Read))
+  unread_stops gives same before after rose = at_line before after (stops.Input inputs.Read) Failed gives same (λ bytes rest failed. rose)
 
 -- a line that is read and not refused
 module _ (s : CheckerState) (at : ℕ) (bytes : List ℕ) (size : Board) (line : Said) (board : board_of s.root ≡ size) (within : at ≤ most_lines)
@@ -108,11 +130,15 @@ module _ (s : CheckerState) (at : ℕ) (bytes : List ℕ) (size : Board) (line :
       lemma_of (AVerdict v) is = absurd is
 
   -- being handed to the taker, which may not take it
-  pub handed : {A : Type 0} → (t : CheckerState) (result : Result A ProofStop) (Taken : A → Type 0) (Kept : Type 0) → t ≡ with_line s line
-      → MatchResult result Taken (λ stop. (stop ≡ stops.Memory) × IsLemma line × Kept)
+  pub handed : {A : Type 0} → (t : CheckerState) (had has : Option (List Lemma)) (result : Result A ProofStop) → t ≡ with_line s line → InStep had s
+      → MatchResult result (λ _. Gains had has (lemmas_in (line ∷ []))) (λ stop. (stop ≡ stops.Memory) × IsLemma line × (has ≡ had))
       → MatchResult result (λ _. (bytes_refusal s at bytes ≡ None) × (t ≡ with_bytes s bytes)) (StopsAtLine s at bytes)
-  handed t (Ok x) Taken Kept added h = (none, added ∙ ap (with_said s) (sym here))
-  handed t (Err stop) Taken Kept added h = subst (StopsAtLine s at bytes) (sym h.0) (next_lemma h.1)
+      × MatchResult result (λ _. Gains had has (lemmas_said (board_of s.root) (bytes ∷ []))) (λ _. has ≡ had) × OnOk result (InStep has t)
+  handed t had has (Err stop) added step h = (subst (StopsAtLine s at bytes) (sym h.0) (next_lemma h.1), h.2, tt)
+  handed t had has (Ok x) added step h =
+      let next : t ≡ with_bytes s bytes = added ∙ ap (with_said s) (sym here) in
+      let gains : Gains had has (lemmas_said (board_of s.root) (bytes ∷ [])) = rw here h in
+      ((none, next), gains, step_more s bytes at t had has none next step gains)
 
 -- ---- a whole text
 

@@ -1,4 +1,6 @@
+mod Vectors
 pub mod Begun
 pub mod Lines
+pub mod Taking
 pub mod Known
 pub mod Judging

@@ -111,7 +111,8 @@ game_fault bytes fault game = ap (λ r. game_answer r (behind_game (pieces bytes
 -- ---- the lemmas that are said
 
 -- a line says its own, and then come those of the others
-said_first : (board : Board) (line : List ℕ) (lines : List (List ℕ)) → lemmas_said board (line ∷ lines) ≡ lemmas_said board (line ∷ []) ++ lemmas_said board lines
+said_first : (board : Board) (line : List ℕ) (lines : List (List ℕ))
+    → lemmas_said board (line ∷ lines) ≡ lemmas_said board (line ∷ []) ++ lemmas_said board lines
 said_first board line lines = of_read (read_line board line) refl
   where
     of_read : (said : Option Said) → read_line board line ≡ said → lemmas_said board (line ∷ lines) ≡ lemmas_said board (line ∷ []) ++ lemmas_said board lines

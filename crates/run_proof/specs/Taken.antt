@@ -1,12 +1,13 @@
 -- The lemmas that the text of a proof says, and those that a taker of lemmas has got.
-use Rattle.std.specs.Prelude.{◌≡◌, ℕ, List, [], ◌∷◌, ◌++◌, filter_map, Option, Some, None, Result, Ok, Err, ⊤}
+use Rattle.std.specs.Prelude.{◌≡◌, ℕ, ◌+◌, List, [], ◌∷◌, ◌++◌, filter_map, length, Option, option_map, IfSome, Result, Ok, Err, ⊤}
 use Rattle.game_rules.specs.Board.{Board}
 use Rattle.game_rules.specs.Position.{Position, board_of}
 use Rattle.game_rules.specs.Text.{game_at}
 use Rattle.game_rules.specs.declared.InputFault.{InputFault}
-use Rattle.proof_text.specs.Checked.{lemmas_in}
-use Rattle.proof_text.specs.Lemma.{Lemma}
+use Rattle.proof_text.specs.Checked.{CheckerState, lemmas_in}
+use Rattle.proof_text.specs.Lemma.{Lemma, Line, ALemma, ARemark, AVerdict}
 use Rattle.proof_text.specs.Reading.{read_line}
+use Rattle.proof_text.specs.Spelling.{Fits}
 use Rattle.proof_text.specs.Texts.{pieces, lines_in, game_of, behind_game}
 
 -- the lemmas that some lines say, in their order; each line is given by its bytes
@@ -36,9 +37,27 @@ lemmas_from_lines board bytes = lemmas_said board (lines_in (pieces bytes))
 
 -- a taker that tells its lemmas has these behind those that it had
 abbrev pub Gains : Option (List Lemma) → Option (List Lemma) → List Lemma → Type 0
-Gains None after lemmas = ⊤
-Gains (Some before) None lemmas = ⊥
-Gains (Some before) (Some after) lemmas = after ≡ before ++ lemmas
+Gains had has lemmas = has ≡ option_map (λ got. got ++ lemmas) had
+
+-- the lemma has the number behind those that the taker has got
+abbrev pub IsNext : Option (List Lemma) → Lemma → Type 0
+IsNext told l = IfSome told (λ got. l.number ≡ length got + 1)
+
+abbrev pub IsSpelled : Lemma → Type 0
+IsSpelled l = (board : Board) × Fits board l
+
+-- a line that may be handed on
+abbrev pub MayHandOn : Option (List Lemma) → Line → Type 0
+MayHandOn told (ALemma l) = IsNext told l × IsSpelled l
+MayHandOn told ARemark = ⊤
+MayHandOn told (AVerdict v) = ⊤
+
+-- the taker has got as many lemmas as stand
+abbrev pub InStep : Option (List Lemma) → CheckerState → Type 0
+InStep told s = IfSome told (λ got. length got ≡ length s.known)
+
+abbrev pub HasNone : Option (List Lemma) → Type 0
+HasNone told = IfSome told (λ got. got ≡ [])
 
 -- the lemmas begin with these
 abbrev pub BeginWith : List Lemma → List Lemma → Type 0

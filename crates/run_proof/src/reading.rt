@@ -7,7 +7,7 @@ ghost use Rattle.cert_format.specs.Shape.{viewed};
 ghost use Rattle.proof_text.specs.Checked.{lemmas_in};
 ghost use Rattle.proof_text.specs.Texts.{first_number, bytes_refusal, with_bytes, verdict_answer};
 ghost use Rattle.run_proof.specs.Whole.{most_lines_read};
-ghost use Rattle.run_proof.specs.Taken.{lemmas_said, Gains};
+ghost use Rattle.run_proof.specs.Taken.{lemmas_said, Gains, MayHandOn, InStep, HasNone};
 ghost use Rattle.run_proof.specs.Steps.{lines_from, lemmas_at, AtHead, AtGame, AtLine, GoesOn, Gets, Adds, StopsBy, StopsWith, StopsAtLine, lines_read_until, Judges};
 ghost use Rattle.io_ports.specs.Reading.{pending, Reads, PassesLines};
 ghost use Rattle.run_proof.specs.declared.stop.ProofStop.TheVariants as stops;
@@ -28,14 +28,15 @@ const FIRST_NUMBER: u64 = 4;
 /// A proof has no more lines.
 const MOST_LINES: u64 = 20_000_000;
 
-/// Reads a proof to its end, or to what stops the reading: the first line that is refused, a game that is none, a source that
-/// failed, or a lemma for which memory ran out or which the taker didn't take. An accepted proof is right, and what it says
-/// is true. The taker gets each lemma after it was accepted, in their order.
+/// Reads a proof to its end, or to what stops the reading: the first line that is refused, a game that is none, a source
+/// that failed, or a lemma for which memory ran out or which the taker didn't take. An accepted proof is right, and what it
+/// says is true. The taker, which has got no lemma before, gets each after it was accepted, in their order.
 pub fn read_proof<S: Source, T: LemmaTaker>(
     alloc: Global,
     source: &mut S,
     taker: &mut T,
 ) -> Result<Accepted, ProofStop>
+    requires { HasNone (T.lemmas taker.old) }
     ensures { Judges (S.left source.old) (S.left source.new) (S.last_read source.new) (S.faults source.old) (S.faults source.new)
         (T.lemmas taker.old) (T.lemmas taker.new) result }
 {
@@ -78,7 +79,8 @@ fn add_lines<S: Source, T: LemmaTaker>(
     lines: &mut Lines,
     source: &mut S,
 ) -> Result<u64, ProofStop>
-    requires { board_of checker.old.root ≡ size }
+    requires board { board_of checker.old.root ≡ size }
+    requires in_step { InStep (T.lemmas taker.old) checker.old }
     ensures answer { Gets (pending lines.old (S.left source.old) (S.last_read source.old))
         (pending lines.new (S.left source.new) (S.last_read source.new)) (T.lemmas taker.old) (T.lemmas taker.new)
         (λ lemmas bytes rest. MatchResult result
@@ -108,11 +110,13 @@ fn add_next<S: Source, T: LemmaTaker>(
     lines: &mut Lines,
     source: &mut S,
 ) -> Result<bool, ProofStop>
-    requires { board_of checker.old.root ≡ size }
+    requires board { board_of checker.old.root ≡ size }
+    requires in_step { InStep (T.lemmas taker.old) checker.old }
     ensures answer { Gets (pending lines.old (S.left source.old) (S.last_read source.old))
         (pending lines.new (S.left source.new) (S.last_read source.new)) (T.lemmas taker.old) (T.lemmas taker.new)
         (λ lemmas bytes rest. PassesLines 1 bytes rest × MatchResult result (λ more. Adds checker.old checker.new at more lemmas bytes rest)
         (StopsWith (AtLine checker.old at) lemmas bytes (S.faults source.old) (S.faults source.new))) }
+    ensures in_step { OnOk result (InStep (T.lemmas taker.new) checker.new) }
     ensures few { result ≡ Ok true → at ≤ MOST_LINES }
     ensures root { OnOk result (checker.new.root ≡ checker.old.root) }
     ensures ended { result ≡ Ok false → lines.new.ended ≡ true }
@@ -139,13 +143,15 @@ fn add_line<T: LemmaTaker>(
     at: u64,
     bytes: &[u8],
 ) -> Result<(), ProofStop>
-    requires { board_of checker.old.root ≡ size }
+    requires board { board_of checker.old.root ≡ size }
+    requires in_step { InStep (T.lemmas taker.old) checker.old }
     ensures answer { MatchResult result
         (λ _. (bytes_refusal checker.old at bytes.now ≡ None) × (checker.new ≡ with_bytes checker.old bytes.now))
         (StopsAtLine checker.old at bytes.now) }
     ensures taken { MatchResult result
         (λ _. Gains (T.lemmas taker.old) (T.lemmas taker.new) (lemmas_said (board_of checker.old.root) (bytes.now ∷ [])))
         (λ _. T.lemmas taker.new ≡ T.lemmas taker.old) }
+    ensures in_step { OnOk result (InStep (T.lemmas taker.new) checker.new) }
     ensures few { OnOk result (at ≤ MOST_LINES) }
 {
     if at > MOST_LINES {
@@ -163,6 +169,7 @@ fn add_line<T: LemmaTaker>(
 
 /// Hands an accepted line to the taker, where it is a lemma.
 fn hand_on<T: LemmaTaker>(taker: &mut T, line: &LineView<'_>) -> Result<(), ProofStop>
+    requires { MayHandOn (T.lemmas taker.old) (viewed line.now) }
     ensures { MatchResult result
         (λ _. Gains (T.lemmas taker.old) (T.lemmas taker.new) (lemmas_in (viewed line.now ∷ [])))
         (λ stop. (stop ≡ stops.Memory) × IsLemma (viewed line.now) × (T.lemmas taker.new ≡ T.lemmas taker.old)) }

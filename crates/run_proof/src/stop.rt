@@ -17,7 +17,7 @@ pub enum ProofStop {
     Input(InputStop),
     /// A line is refused, the first that fails, by the first name that holds there: status 4.
     Refused(Refusal),
-    /// Memory ran out, at a lemma that isn't refused: status 8.
+    /// Memory ran out at a lemma that isn't refused, or the taker didn't take it: status 8.
     Memory,
 }
 

@@ -3,7 +3,7 @@
 ghost use Rattle.std.specs.Prelude.{◌≡◌, [], ◌∷◌, List, Option, MatchResult};
 ghost use Rattle.proof_text.specs.Lemma.{Lemma};
 ghost use Rattle.cert_format.specs.Shape.{lemma_viewed};
-ghost use Rattle.run_proof.specs.Taken.{Gains};
+ghost use Rattle.run_proof.specs.Taken.{Gains, IsNext, IsSpelled};
 
 use cert_format::LemmaView;
 
@@ -16,8 +16,10 @@ pub trait LemmaTaker {
     /// The lemmas that it has got, in their order, where it tells them.
     ghost lemmas: { Self → Option (List Lemma) };
 
-    /// Takes one lemma more. After an error it has those that it had.
+    /// Takes the lemma with the next number, which has a spelling. After an error it has those that it had.
     fn take(&mut self, lemma: &LemmaView<'_>) -> Result<(), NotTaken>
+        requires next { IsNext (lemmas self.old) (lemma_viewed lemma.now) }
+        requires spelled { IsSpelled (lemma_viewed lemma.now) }
         ensures { MatchResult result
             (λ _. Gains (lemmas self.old) (lemmas self.new) (lemma_viewed lemma.now ∷ []))
             (λ _. lemmas self.new ≡ lemmas self.old) };

@@ -1,19 +1,18 @@
-use Rattle.std.proofs.Common.{◌≤◌, ◌∙◌, length, refl, sym, ap, arith}
+use Rattle.std.proofs.Common.{◌≤◌, ◌∙◌, length, sym, ap, arith}
 use Rattle.std.proofs.lemmas.Result.{err_from_is_err_and}
 use Rattle.proof_text.specs.Texts.{verdict_answer, Accepted, Refused}
 use Rattle.cert_checker.specs.Checking.{why_of}
-use Rattle.run_proof.specs.Steps.{AtHead, lines_read_until}
+use Rattle.run_proof.specs.Steps.{lines_read_until}
 use Rattle.run_proof.specs.declared.stop.ProofStop.TheVariants as stops
 use Rattle.run_frame.proofs.Taken.{from_fresh}
-use Rattle.run_proof.proofs.Judging.{stops_bare, refused_with, game_known, game_stops, game_lines, lines_stop, lines_known, judged_stop, judged_right}
+use Rattle.run_proof.proofs.Judging.{judged_bare, judged_unended, game_known, game_stops, game_lines, lines_stop, lines_known, judged_stop, judged_right}
 use Rattle.run_proof.proofs.reading.read_proof.Goals as goal
 
 pub returns-in_err-read_head : goal.returns-in_err-read_head
 returns-in_err-read_head g c =
     let same = err_from_is_err_and c.from_residual.result c.from_residual.ensures.1 in
     let head = from_fresh _ _ _ _ _ c.new-lines.ensures c.in_err-read_head.ensures.answer in
-    rw (same.1, same.2) (judged_stop _ _ _ _ _ 1 _ _ c.in_err-read_head.field-0.0
-    (stops_bare _ _ _ _ AtHead 1 _ _ _ refl head) c.in_err-read_head.ensures.stops (omega arith))
+    rw (same.1, same.2) (judged_bare _ _ _ _ 1 _ _ c.in_err-read_head.field-0.0 head c.in_err-read_head.ensures.stops (omega arith))
 
 pub returns-in_err-root : goal.returns-in_err-root
 returns-in_err-root g c =
@@ -21,8 +20,7 @@ returns-in_err-root g c =
     let why = c.in_err-root.field-0.0 in
     let head = from_fresh _ _ _ _ _ c.new-lines.ensures c.in_ok-read_head.ensures.answer in
     let stopped = game_stops _ _ _ head _ _ _ why c.in_ok-read_head.ensures.later c.in_err-root.ensures.answer in
-    rw (same.1, same.2) (judged_stop _ _ _ _ _ 3 _ _ (stops.Input why)
-    (stops_bare _ _ _ _ AtHead 3 (g.S.Source.faults c.args.source.now) (g.S.Source.faults c.read_game_lines.new.source) (stops.Input why) refl stopped) (game_lines why) (omega arith))
+    rw (same.1, same.2) (judged_bare _ _ _ _ 3 _ _ (stops.Input why) stopped (game_lines why) (omega arith))
 
 pub returns-in_err-end : goal.returns-in_err-end
 returns-in_err-end g c =
@@ -59,5 +57,4 @@ returns g c =
     let answer = ap (verdict_answer end (length t.known)) c.in-Err.ensures.0 ∙ ap (λ r. Refused r.at (why_of r.why)) (sym c.in-Err.ensures.1) in
     let stopped = lines_known _ _ _ _ _ c.in_ok-root.root c.new-checker.result t c.new-checker.ensures game end (omega (arith, few.0))
     c.in_ok-end.ensures.answer (Refused r.at (why_of r.why)) answer in
-    judged_stop _ _ _ _ _ end _ _ (stops.Refused r)
-    (refused_with _ _ _ _ end (g.S.Source.faults c.args.source.now) (g.S.Source.faults c.add_lines.new.source) r stopped) (omega (arith, ap (λ r. r.at) c.in-Err.ensures.1)) few.1
+    judged_unended _ _ _ _ _ end _ _ r stopped (omega (arith, ap (λ r. r.at) c.in-Err.ensures.1)) few.1
