@@ -9,6 +9,7 @@ import sys
 import boards
 from boards import LETTERS, WAYS, Fault, Game, name_of, square_of, zone_of
 from draw import grid_text
+from words import line_name, listed
 
 MOST_REACH = 1_000_000
 LONGEST_SHOWN = 20
@@ -133,9 +134,8 @@ def answer_text(game, white, black, reason):
     said = "White %s, Black %s%s." % (name_of(white), name_of(black), " (%s)" % reason if reason else "")
     line = closed_line(game, black)
     if line:
-        mine = [name_of(square) for square in line if game.men.get(square) == "W"]
-        said += " White, with %s, gets no line %s to %s now." % (
-            " and ".join([", ".join(mine[:-1]), mine[-1]] if mine[1:] else mine), name_of(line[0]), name_of(line[-1]))
+        mine = [square for square in line if game.men.get(square) == "W"]
+        said += "\nSo the %s, in which White has %s, never gets whole." % (line_name(line), listed(mine))
     return said
 
 

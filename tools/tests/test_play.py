@@ -31,8 +31,8 @@ class PlayTest(ToolTest):
         out = self.plays("c\nC\n4\n 3 \r\n1\na\nB\n2\n", "--board", "4x4")
         self.assertIn("Black answers by a plan: %s\n" % PLAN, out)
         self.assertIn(" 4 . . . .\n 3 . . B .\n 2 . . W .\n 1 . . W B\n   a b c d\n", out)
-        self.assertIn("White c2, Black c3 (Lowinverse, the zone of LI:c2-c4,d2-d4). "
-                      "White, with c1 and c2, gets no line c1 to c4 now.", out)
+        self.assertIn("White c2, Black c3 (Lowinverse, the zone of LI:c2-c4,d2-d4).\n"
+                      "So the column c1 to c4, in which White has c1 and c2, never gets whole.", out)
         self.assertIn("White's column (a-d; u takes back, q ends): C\n", out)
         self.assertNotIn("\033", out)
         self.ends(out, "The board is full and no side has a line: a draw.", "cdccddcdaaaabbbb")
