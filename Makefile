@@ -8,7 +8,7 @@ docs = share/doc/victor
 texts = README.md CHANGELOG.md CONTRIBUTING.md examples/runs $(wildcard docs/*.md docs/img/*.png examples/*.* \
     examples/*/*.* examples/*/*/*.* tools/boards.py tools/proof.html tools/tests/*.py tools/solve/Makefile \
     tools/solve/usual.book tools/solve/*.h tools/solve/*.cpp)
-tools = $(addprefix tools/,ask.py batch check.py draw.py pictures play.py test why words.py)
+tools = $(addprefix tools/,ask.py batch check.py draw.py pictures play.py sheet test why words.py)
 
 all:
 	./victor check <examples/usual-board.proof >/dev/null
