@@ -6,8 +6,8 @@ to = $(DESTDIR)$(PREFIX)
 docs = share/doc/victor
 # What the documents speak of, but for the sources and what is made.
 texts = README.md CHANGELOG.md CONTRIBUTING.md examples/runs $(wildcard docs/*.md docs/img/*.png examples/*.* \
-    examples/*/*.* examples/*/*/*.* tools/boards.py tools/proof.html tools/tests/*.py tools/solve/Makefile \
-    tools/solve/usual.book tools/solve/*.h tools/solve/*.cpp)
+    examples/*/*.* examples/*/*/*.* tools/boards.py tools/victor.py tools/proof.html tools/tests/*.py \
+    tools/solve/Makefile tools/solve/usual.book tools/solve/*.h tools/solve/*.cpp)
 tools = $(addprefix tools/,ask.py batch check.py draw.py pictures play.py sheet test why words.py)
 
 all:

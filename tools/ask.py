@@ -6,195 +6,15 @@
 
 import argparse
 import os
-import re
 import shutil
-import subprocess
 import sys
 import tempfile
 
 import boards
-from boards import LETTERS, Fault, Game
+import victor
+from victor import LETTERS, MOST_NODES, MOST_REACH, Fault, read_question
 
-MOST_NODES = 10_000_000
-MOST_REACH = 1_000_000
-MOST_TRIED = 2_000_000
 SIDES = {"W": "White", "B": "Black"}
-MAYBE_SCORE = "%r may be a score and no move: moves as digits stand in one word, or with commas between them"
-
-
-# ---------------------------------------------------------------------------------------------------------------------
-# Positions as people write them.
-
-
-def read_question(text, size=None):
-    """The game that a text asks about. The board is 7 by 6 where neither the text nor a size says another."""
-    text = text.replace("\r\n", "\n").replace("\r", "\n").strip()
-    if not text:
-        raise Fault("there is no position: write - for the empty board")
-    if text.startswith("board "):
-        game = boards.read_game(text + "\n")
-        if size and size != (game.cols, game.rows):
-            raise Fault("the text has another board, of %d by %d" % (game.cols, game.rows))
-        return game
-    rows = diagram_rows(text)
-    if rows:
-        return read_diagram(rows, size)
-    return Game(*(size or (7, 6)), read_moves(text, *(size or (7, 6))))
-
-
-def read_moves(text, cols, rows):
-    """The columns of a list of moves: letters of either case, digits from 1 with 0 as the tenth, or squares as d1."""
-    bare = re.sub(r"[0-9]+\.", " ", text)
-    if bare.strip() in ("", "-"):
-        return []
-    if re.fullmatch(r"[-+0-9\s,;]+", bare):
-        columns = [(int(digit) - 1) % 10 for digit in digits_of(text)]
-        for n, column in enumerate(columns, 1):
-            if column >= cols:
-                raise Fault("move %d: the board has no column %d (columns count from 1%s)"
-                            % (n, column + 1, ", and 0 is the tenth" if column == 9 else ""))
-        return columns
-    columns = []
-    heights = [0] * cols
-    last = re.search(r"(?<![A-Za-z0-9])[-+]?[0-9]+\s*$", bare)
-    if last:
-        raise Fault(MAYBE_SCORE % last.group().strip())
-    for found in re.finditer(r"([A-Za-z])([0-9]*)|([0-9]+)|([^\s,;])", bare):
-        letter, row, number, other = found.groups()
-        if other:
-            raise Fault("%r is nothing that stands in a list of moves" % other)
-        if number:
-            continue  # the number of a move
-        letter = letter.lower()
-        if letter not in LETTERS[:cols]:
-            raise Fault("move %d: %r is no column of this board (a to %s)"
-                        % (len(columns) + 1, letter, LETTERS[cols - 1]))
-        column = LETTERS.index(letter)
-        heights[column] += 1
-        if row and heights[column] <= rows and int(row) != heights[column]:
-            raise Fault("move %d: %s%s hangs or is taken, the column's next square is %s%d"
-                        % (len(columns) + 1, letter, row, letter, heights[column]))
-        columns.append(column)
-    return columns
-
-
-def digits_of(text):
-    """The digits of a list of columns: of one word, or of words of a digit each. A score, which some files have behind
-    a list, isn't taken for a move: where there are two words with a space between them, the second may be one."""
-    parts = re.split(r"[0-9]+\.", text)
-    for part in parts:
-        words = re.findall(r"[^\s,;]+", part)
-        is_pair = len(words) == 2 and len(parts) == 1 and not re.search("[,;]", part)
-        for n, word in enumerate(words):
-            if not word.isdigit() or n and (is_pair or len(word) > 1 or len(words[0]) > 1):
-                raise Fault(MAYBE_SCORE % word)
-    return re.findall("[0-9]", "".join(parts))
-
-
-def diagram_rows(text):
-    """The rows of a diagram from the top, as texts of X, O and `.`, or None where the text is none. What draw.py writes
-    below a position says nothing more than its men."""
-    rows = []
-    for line in text.split("\n"):
-        if re.match(r"\s*[0-9]+ by [0-9]+ after ", line):
-            continue
-        bare = re.sub(r"^\s*[0-9]{1,2}(?=\s)|[|\s]", "", line)
-        if not bare or re.fullmatch(r"[a-jA-J]+|[0-9]+|[-+=]+", bare) and not re.fullmatch(r"[Bb]+", bare):
-            continue
-        if re.fullmatch(r"[RYry.]*\.[RYry.]*", bare) and bare.strip("."):
-            raise Fault("a diagram has X and O, or W and B: which of R and Y moved first can't be known")
-        if not re.fullmatch(r"[XOxoWB.]+", bare):
-            return None
-        rows.append(bare.upper().replace("W", "X").replace("B", "O"))
-    return rows if len(rows) >= 4 and all(len(row) >= 4 for row in rows) else None
-
-
-def read_diagram(rows, size):
-    """A game that leads to the men of a diagram. X moves first."""
-    for n, row in enumerate(rows, 1):
-        if len(row) != len(rows[0]):
-            raise Fault("row %d of the diagram, from the top, has %d squares and the first has %d"
-                        % (n, len(row), len(rows[0])))
-    cols, height = len(rows[0]), len(rows)
-    if size and size != (cols, height):
-        raise Fault("the diagram has %d columns and %d rows" % (cols, height))
-    Game(cols, height)
-    stacks = []
-    for i in range(cols):
-        column = "".join(row[i] for row in reversed(rows))
-        stack = column.rstrip(".")
-        if "." in stack:
-            raise Fault("a man hangs over the empty square %s%d" % (LETTERS[i], stack.index(".") + 1))
-        stacks.append(stack)
-    firsts = sum(stack.count("X") for stack in stacks)
-    seconds = sum(stack.count("O") for stack in stacks)
-    if firsts - seconds not in (0, 1):
-        raise Fault("the diagram has %d X and %d O: X moves first, so there have to be as many or one more"
-                    % (firsts, seconds))
-    return Game(cols, height, order_of(stacks, cols, height))
-
-
-def order_of(stacks, cols, rows):
-    """An order of moves that makes these columns, each from the bottom up, with no move after a line."""
-    total = sum(map(len, stacks))
-    men = {(i, r): "WB"[man == "O"] for i, stack in enumerate(stacks) for r, man in enumerate(stack, 1)}
-    last_side = "WB"[(total + 1) % 2]
-    lasts = [None]
-    if any(boards.line_through(men, square) for square in men):
-        # A line can only have been made by the last man, and without that man there is none.
-        lasts = []
-        for i, stack in enumerate(stacks):
-            square = (i, len(stack))
-            if stack and men[square] == last_side:
-                fewer = {other: man for other, man in men.items() if other != square}
-                if not any(boards.line_through(fewer, other) for other in fewer):
-                    lasts.append(i)
-        if not lasts:
-            raise Fault("no order of moves leads to this diagram: there are lines that no single last man made")
-    is_spent = False
-    for last in lasts:
-        lefts = [stack[:-1] if i == last else stack for i, stack in enumerate(stacks)]
-        order, tried = interleave(lefts)
-        if order is not None:
-            return order + ([] if last is None else [last])
-        is_spent |= tried >= MOST_TRIED
-    if is_spent:
-        raise Fault("no order of moves was found for this diagram in %d tries" % MOST_TRIED)
-    raise Fault("no order of moves leads to this diagram: X and O can't take turns in it")
-
-
-def interleave(stacks):
-    """An order in which X and O take turns, or None; and how many states were tried. No state is tried twice."""
-    total = sum(map(len, stacks))
-    heights = [0] * len(stacks)
-    order, failed, tried = [], set(), 0
-
-    def choices():
-        side = "XO"[len(order) % 2]
-        fit = [i for i, stack in enumerate(stacks) if heights[i] < len(stack) and stack[heights[i]] == side]
-        # The column with the most men left is tried first.
-        return iter(sorted(fit, key=lambda i: heights[i] - len(stacks[i])))
-
-    open_choices = [choices()]
-    while len(order) < total:
-        i = next(open_choices[-1], None)
-        if i is None:
-            open_choices.pop()
-            failed.add(tuple(heights))
-            if not order:
-                return None, tried
-            heights[order.pop()] -= 1
-            continue
-        heights[i] += 1
-        if tuple(heights) in failed:
-            heights[i] -= 1
-            continue
-        order.append(i)
-        tried += 1
-        if tried >= MOST_TRIED:
-            return None, tried
-        open_choices.append(choices())
-    return order, tried
 
 
 # ---------------------------------------------------------------------------------------------------------------------
@@ -205,30 +25,23 @@ class Unproved(Exception):
     """The program failed, or its proof wasn't accepted."""
 
 
-def prove(program, game, words, keep=None):
+def prove(program, game, budget, keep=None):
     """The verdict for the side to move and how many lemmas show it, after a proof that was checked."""
     with tempfile.TemporaryDirectory(prefix="ask-") as folder:
-        path = os.path.join(folder, "proof")
-        with open(path, "wb") as out:
-            made = subprocess.run([program, "prove"] + words, input=game.text().encode(), stdout=out,
-                                  stderr=subprocess.PIPE)
-        if made.returncode not in (0, 5):
-            raise Unproved("victor prove ended with status %d: %s"
-                           % (made.returncode, made.stderr.decode("ascii", "replace")))
-        with open(path, "rb") as proof:
-            if proof.read(len(game.text()) + 9) != b"victor 1\n" + game.text().encode():
-                raise Unproved("the proof is about another game than the one that was asked about")
-        with open(path, "rb") as proof:
-            judged = subprocess.run([program, "check"], stdin=proof, stdout=subprocess.PIPE, stderr=subprocess.PIPE)
-        answer = judged.stdout.decode("ascii", "replace").split()
-        if judged.returncode != 0 or len(answer) != 3 or answer[0] != "accepted":
-            raise Unproved("the proof wasn't accepted: %s" % judged.stderr.decode("ascii", "replace"))
-        if (answer[1] == "unknown") != (made.returncode == 5):
+        try:
+            proof = victor.prove(game, **budget, into=os.path.join(folder, "proof"), program=program)
+        except (victor.Failed, victor.OtherGame) as fault:
+            raise Unproved(str(fault)) from fault
+        try:
+            accepted = victor.check(proof, program=program)
+        except victor.Failed as fault:
+            raise Unproved("the proof wasn't accepted: %s" % fault.text) from fault
+        if (accepted.value == "unknown") != (proof.status == 5):
             raise Unproved("the proof's verdict isn't the one that the status of prove says")
         if keep:
-            with open(path, "rb") as proof, boards.output(keep) as out:
-                shutil.copyfileobj(proof, out)
-        return answer[1], int(answer[2])
+            with open(proof.path, "rb") as source, boards.output(keep) as out:
+                shutil.copyfileobj(source, out)
+        return accepted.value, accepted.lemmas
 
 
 def count_of(number, thing):
@@ -298,16 +111,15 @@ def ask(words):
         if words.position is not None and os.path.isfile(words.position):
             raise Fault("%s is a file, which --file reads, and no position" % words.position) from fault
         raise
-    options = ["--nodes", str(words.nodes), "--reach", str(words.reach)]
+    budget = {"nodes": words.nodes, "reach": words.reach}
     program = boards.program(words.victor)
-    verdict, lemmas = prove(program, game, options, words.keep)
+    verdict, lemmas = prove(program, game, budget, words.keep)
     moves = None
     if words.moves:
         moves = []
         turned = {"win": "loss", "loss": "win", "draw": "draw", "unknown": "unknown"}
         for column in [] if game.is_over else game.open_columns():
-            after = Game(game.cols, game.rows, game.moves + [column])
-            moves.append((column, turned[prove(program, after, options)[0]]))
+            moves.append((column, turned[prove(program, game.after(column), budget)[0]]))
     print(sentence(game, verdict, lemmas, words.nodes, words.reach, moves))
     sys.stdout.flush()
     return 5 if verdict == "unknown" else 0

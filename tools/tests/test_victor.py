@@ -1,0 +1,162 @@
+"""tools/victor.py: the session of docs/TOOLS.md, each command as a function, limits, and faults."""
+
+import doctest
+import os
+import stat
+import tempfile
+import time
+import unittest
+from pathlib import Path
+from unittest import mock
+
+from common import ToolTest, boards, example, program, read
+import victor
+
+USUAL = read(example("usual-board.proof"))
+
+
+def setUpModule():
+    """The program is the one that the tests compare with."""
+    found = victor.find_program
+    patch = mock.patch.object(victor, "find_program", lambda given=None: found(given) if given else program())
+    patch.start()
+    unittest.addModuleCleanup(patch.stop)
+
+
+class GameTest(ToolTest):
+    def test_forms(self):
+        """Each form gives the same game; test_ask.py has more of them."""
+        diagram = "\n".join((".......",) * 3 + ("..OX...",) * 3)
+        usual = "board 7 6\nmoves dcdcdc\n"
+        for text in ("dcdcdc", "434343", "1. d c 2. d c 3. d c", "d1 c1 d2 c2 d3 c3", usual, diagram):
+            self.assertEqual(victor.Game.read(text).text(), usual)
+        self.assertEqual(victor.Game.read("-", (4, 10)).text(), "board 4 10\nmoves -\n")
+        self.fails(lambda: victor.Game.read("dh"), "move 2: 'h' is no column")
+
+    def fails(self, call, said):
+        with self.assertRaises(victor.Fault) as caught:
+            call()
+        self.assertIn(said, str(caught.exception))
+
+    def test_after(self):
+        game = victor.Game.read("dcdcdc")
+        self.assertEqual(game.after(3).letters(), "dcdcdcd")
+        self.assertEqual(game.after(3).line, ((3, 1), (3, 2), (3, 3), (3, 4)))
+        self.assertEqual((game.letters(), game.is_over, game.after(3).is_over), ("dcdcdc", False, True))
+        self.fails(lambda: game.after(7), "move 7: the board has no column 8")
+        self.assertIs(boards.Game, victor.Game)
+
+
+class SessionTest(ToolTest):
+    def test_session(self):
+        """The session of docs/TOOLS.md, as it stands there."""
+        result = doctest.testfile(os.path.join(boards.TOP, "docs", "TOOLS.md"), module_relative=False)
+        self.assertGreater(result.attempted, 15)
+        self.assertEqual(result.failed, 0)
+
+
+class RunTest(ToolTest):
+    def setUp(self):
+        folder = tempfile.TemporaryDirectory(prefix="victor test-")
+        self.addCleanup(folder.cleanup)
+        self.folder = Path(folder.name)
+        self.game = victor.Game.read("dcdcdc")
+
+    def stub(self, script):
+        """A program that is this script of bash."""
+        path = self.folder / "stub"
+        path.write_text("#!/bin/bash\n" + script, encoding="ascii")
+        path.chmod(stat.S_IRWXU)
+        return str(path)
+
+    def fails(self, kind, call, *words, **more):
+        with self.assertRaises(kind) as caught:
+            call(*words, **more)
+        return caught.exception
+
+    def test_files(self):
+        path = self.folder / "a proof"
+        proof = victor.prove(self.game, into=path)
+        self.assertEqual((proof.text, proof.path, path.read_text(encoding="ascii")), ("", path, USUAL))
+        for given in (proof, path, USUAL, USUAL.encode()):
+            self.assertEqual(victor.check(given, self.game), victor.Accepted("win", 2, "accepted win 2\n", 0))
+        self.fails(victor.OtherGame, victor.check, path, self.game.after(0))
+
+    def test_unknown(self):
+        game = victor.Game.read("-", (4, 4))
+        proof = victor.prove(game, nodes=3, reach=0)
+        self.assertEqual((proof.value, proof.status, proof.lemmas), ("unknown", 5, proof.text.count("\n") - 4))
+        self.assertEqual(victor.check(proof).value, "unknown")
+        self.assertEqual(victor.explain(game, reach=0).plan, None)
+        self.assertEqual(victor.explain(game, reach=0).status, 5)
+
+    def test_play(self):
+        game = victor.Game.read("abbaabbaddceedee", (5, 4))
+        duel = victor.play(game, "BI:c2,d4 CE:c3 SB:b1u,d4,c2", [3])
+        self.assertEqual((duel.turns, duel.end, duel.status), ((("d4", "c2"),), "won", 0))
+        fault = self.fails(victor.Failed, victor.play, game, "BI:c2,d4 CE:c3", [3])
+        self.assertEqual((fault.status, fault.written), (4, ""))
+        game = victor.Game.read("-", (4, 4))
+        fault = self.fails(victor.Failed, victor.play, game, victor.explain(game).plan, [2, 2, 2, 2])
+        self.assertEqual((fault.status, fault.text), (3, "input fault: ColumnFull at line 7\n"))
+        self.assertEqual(fault.written, "c1 d1\nc2 c3\nc4 d2\n")
+
+    def test_win_by_a_move(self):
+        """A proof for the position behind a winning move becomes one of the position, of either side."""
+        for letters, size, column in (("dcdcdc", (7, 6), 3), ("dccbbdbbddcc", (4, 4), 0), ("dcdcbcb", (7, 6), 2)):
+            game = victor.Game.read(letters, size)
+            after = victor.prove(game.after(column), front=4)
+            for into in (None, self.folder / "lifted"):
+                proof = victor.prove_by_move(game, column, after, into)
+                self.assertEqual(victor.check(proof, game).value, "win")
+                self.assertEqual(proof.lemmas, after.lemmas + 1)
+        self.fails(victor.Fault, victor.prove_by_move, game, 0, after)
+        self.fails(victor.Fault, victor.prove_by_move, game, 3, victor.prove(game, reach=0))
+
+    def test_seconds(self):
+        """A program is ended when its seconds are spent, and who asked for it is told of the time."""
+        told = []
+        begin = time.monotonic()
+        with mock.patch.object(victor, "FIRST_TOLD", 0.1):
+            fault = self.fails(victor.OutOfTime, victor.prove, self.game, seconds=0.5, tell=told.append,
+                               program=self.stub("echo begun >&2; exec sleep 60"))
+        self.assertLess(time.monotonic() - begin, 20)
+        self.assertEqual((fault.status, fault.text), (-9, "begun\n"))
+        self.assertIn("its seconds were spent", str(fault))
+        self.assertEqual([round(spent, 1) for spent in told][:2], [0.1, 0.2])
+        self.assertEqual(victor.prove(self.game, seconds=60, tell=told.append).value, "win")
+
+    def test_memory(self):
+        stub = self.stub("exec python3 -c 'bytearray(400 << 20)'")
+        fault = self.fails(victor.Failed, victor.prove, self.game, program=stub, memory=200)
+        self.assertEqual((fault.status, fault.text.split("\n")[-2]), (1, "MemoryError"))
+
+    def test_faults(self):
+        for script, status, text in (("echo out of memory >&2; exit 8", 8, "out of memory\n"), ("kill -9 $$", -9, ""),
+                                     ("exit 1", 1, "")):
+            fault = self.fails(victor.Failed, victor.prove, self.game, program=self.stub(script))
+            self.assertEqual((fault.name, fault.status, fault.text), ("victor prove", status, text))
+        self.fails(victor.OtherGame, victor.prove, self.game, program=self.stub("echo victor 1"))
+        fault = self.fails(victor.Failed, victor.check, USUAL, program=self.stub("echo accepted all"))
+        self.assertEqual((fault.status, fault.written), (0, "accepted all\n"))
+        fault = self.fails(victor.Failed, victor.prove, self.game, nodes=0)
+        self.assertEqual(fault.status, 2)
+        self.assertIn("usage: ", fault.text)
+        self.fails(victor.Fault, victor.prove, self.game, program="/no/such")
+
+    def test_solve(self):
+        """The words that solve gets, and what its proof and its faults become."""
+        words = self.folder / "words"
+        stub = self.stub("echo \"$@\" >'%s'; cat '%s'" % (words, example("usual-board.proof")))
+        proof = victor.solve(self.game, seconds=61, memory=500, rounds=3, program=stub)
+        self.assertEqual((proof.value, proof.lemmas, proof.text, proof.status), ("win", 2, USUAL, 0))
+        self.assertEqual(words.read_text(encoding="ascii"), "--quiet --memory 500 --rounds 3 --seconds 30\n")
+        self.assertEqual(victor.check(proof).value, "win")
+        fault = self.fails(victor.Failed, victor.solve, self.game, program=self.stub("echo solve: no >&2; exit 2"))
+        self.assertEqual((fault.status, fault.text), (2, "solve: no\n"))
+        with mock.patch.object(victor, "SOLVER", "/no/such"):
+            self.assertIn("make -C tools/solve", str(self.fails(victor.Fault, victor.find_solver)))
+
+
+if __name__ == "__main__":
+    unittest.main()
