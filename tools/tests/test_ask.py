@@ -1,15 +1,21 @@
 """tools/ask.py: positions as people write them, and one sentence from a checked proof."""
 
+import json
 import os
 import random
+import re
 import stat
 import subprocess
 import tempfile
 import unittest
+from unittest import mock
 
 from common import TOOLS, ToolTest, boards, example, heard, program, read, tool
 import ask
 import mutants
+import victor
+
+TOLD = re.compile(r"(ask\.py: [a-z]+ has taken [0-9.]+( of [0-9.]+)? seconds for [-a-j]+\n)*")
 
 
 def diagram_of(game, men="XO"):
@@ -112,8 +118,9 @@ class QuestionTest(ToolTest):
 
 class SentenceTest(ToolTest):
     def says(self, wanted, *words, status=0, text=None):
-        got = tool("ask.py", *words, "--victor", program(), text=text)
-        self.assertEqual((got[0], got[2]), (status, ""), got)
+        got = tool("ask.py", *words, "--by", "prove", "--victor", program(), text=text)
+        self.assertEqual(got[0], status, got)
+        self.assertRegex(got[2], "^%s$" % TOLD.pattern)
         self.assertEqual(got[1].count("\n"), 1)
         for part in wanted if isinstance(wanted, tuple) else (wanted,):
             self.assertIn(part, got[1])
@@ -133,7 +140,7 @@ class SentenceTest(ToolTest):
 
     def test_pipe_from_draw(self):
         """The pipe of docs/TOOLS.md."""
-        line = "'%s/draw.py' position '%s' --text | '%s/ask.py' --victor '%s'" % (
+        line = "'%s/draw.py' position '%s' --text | '%s/ask.py' --by prove --victor '%s'" % (
             TOOLS, example("usual-board.txt"), TOOLS, program())
         run = subprocess.run(["bash", "-c", line], stdout=subprocess.PIPE, stderr=subprocess.PIPE, encoding="ascii")
         self.assertEqual((run.returncode, run.stderr), (0, ""))
@@ -175,6 +182,9 @@ class SentenceTest(ToolTest):
             (["--reach", "-1", "d"], "--reach"), (["d", "--file", "x"], "given twice"),
             (["--file", "/no/such"], "No such file"), ([example("usual-board.txt")], "is a file, which --file reads"),
             (["d", "--victor", "/no/such"], "is no program"), (["--nodes", "many", "d"], "--nodes"),
+            (["d", "--solver", "/no/such"], "is no program"), (["--by", "luck", "d"], "--by"),
+            (["--seconds", "0", "d"], "--seconds"), (["--seconds", "nan", "d"], "--seconds"),
+            (["--memory", "0", "d"], "--memory"),
         ):
             self.refuses("ask.py", *words, said=said)
 
@@ -194,10 +204,133 @@ class SentenceTest(ToolTest):
                 os.chmod(path, stat.S_IRWXU)
                 with open(path + ".proof", "w", encoding="ascii") as out:
                     out.write(proof)
-                status, out, err = tool("ask.py", "dcdcdc", "--victor", path)
+                status, out, err = tool("ask.py", "dcdcdc", "--by", "prove", "--victor", path)
                 self.assertEqual((status, out), (1, ""), err)
                 self.assertIn(said, err)
                 self.assertEqual(err.count("\n"), 1)
+
+
+class EngineTest(ToolTest):
+    """Both programs, where `tools/solve` or `victor prove` is a stand-in."""
+
+    def setUp(self):
+        folder = tempfile.TemporaryDirectory(prefix="ask test-")
+        self.addCleanup(folder.cleanup)
+        self.folder = folder.name
+        self.proof = read(example("usual-board.proof"))
+
+    def script(self, name, lines):
+        """A program of bash, which finds a proof beside itself."""
+        path = os.path.join(self.folder, name)
+        with open(path, "w", encoding="ascii") as out:
+            out.write("#!/bin/bash\n%s\n" % lines)
+        os.chmod(path, stat.S_IRWXU)
+        with open(path + ".proof", "w", encoding="ascii") as out:
+            out.write(self.proof)
+        return path
+
+    def asks(self, *words, solver=None, prover=None):
+        """The status, the answer, and what is said of the time."""
+        more = ["--victor", program() if prover is None else self.script(
+            "victor", "[ \"$1\" = check ] && exec '%s' check\n%s" % (program(), prover))]
+        more += ["--solver", self.script("solve", solver)] if solver else []
+        return tool("ask.py", *words, *more)
+
+    def says(self, wanted, *words, status=0, **more):
+        got = self.asks(*words, **more)
+        self.assertEqual(got[0], status, got)
+        for part in wanted if isinstance(wanted, tuple) else (wanted,):
+            self.assertIn(part, got[1])
+        return got
+
+    def test_who_found_it(self):
+        """solve is asked first, and prove where that fails; alone, prove needs no name."""
+        fails = "echo 'solve: a board of 7 by 6 is too large for this tool' >&2; exit 2"
+        there, never = 'cat "$0.proof"', "exit 1"
+        said = "White, who is to move, wins after dcdcdc on 7 by 6 (%s2 lemmas accepted).\n"
+        for words, solver, prover, found in (
+            ([], there, never, "found by solve, "), (["--by", "both"], there, never, "found by solve, "),
+            (["--by", "solve"], there, never, "found by solve, "), ([], fails, None, "found by prove, "),
+            (["--by", "prove"], never, None, ""),
+        ):
+            got = self.asks("dcdcdc", *words, solver=solver, prover=prover)
+            self.assertEqual(got[:2], (0, said % found), got)
+        status, out, err = self.asks("dcdcdc", "--by", "solve", solver=fails)
+        self.assertEqual((status, out), (1, ""))
+        self.assertIn("too large", err)
+
+    def test_what_is_asked(self):
+        """Where nothing else is said, both are asked where tools/solve was made, and else prove alone."""
+        with mock.patch.object(victor, "SOLVER", "/no/such"):
+            self.assertEqual(ask.engines_of(None, None), ("prove",))
+            self.assertEqual(ask.engines_of(None, "a path"), ("solve", "prove"))
+            self.assertEqual(ask.engines_of("both", None), ("solve", "prove"))
+            self.assertRaises(boards.Fault, victor.find_solver)
+        with mock.patch.object(victor, "SOLVER", program()):
+            self.assertEqual(ask.engines_of(None, None), ("solve", "prove"))
+            self.assertEqual(ask.engines_of("prove", None), ("prove",))
+
+    def test_refused(self):
+        """A proof of solve's that isn't accepted is told, whatever prove would say."""
+        for change, said in ((("one d 1", "one d 2"), "wasn't accepted: refused line 5"),
+                             (("dcdcdc", "d"), "another game"), (("value win 2", "value unknown"), "isn't the one")):
+            self.proof = read(example("usual-board.proof")).replace(*change)
+            status, out, err = self.asks("dcdcdc", solver='cat "$0.proof"')
+            self.assertEqual((status, out, err.count("\n")), (1, "", 1), err)
+            self.assertIn(said, err)
+
+    def test_out_of_time(self):
+        """Where the seconds are spent, more of them are advised; and what takes long says so."""
+        got = self.says("unknown, since solve didn't end within 2.3 seconds: try --seconds 11.5.", "dcdcdc", "--by",
+                        "solve", "--seconds", "2.3", solver="exec sleep 60", status=5)
+        self.assertEqual(got[2], "ask.py: solve has taken 2 of 2.3 seconds for dcdcdc\n")
+        small = ("--board", "4x4", "-", "--nodes", "3", "--reach", "0")
+        self.says(("since solve didn't end within its share of 1 second and prove's budget of 3 positions is below",
+                   "the cost: try --seconds 5."), *small, "--seconds", "1", solver="exec sleep 60", status=5)
+        self.says("since prove didn't end within 0.5 seconds: try --seconds 2.5.", *small, "--by", "prove", "--seconds",
+                  "0.5", prover="exec sleep 60", status=5)
+
+    def test_what_may_help(self):
+        """What is advised is what would help: more memory, or a greater budget for prove where solve can't be used."""
+        small = ("--board", "4x4", "-", "--nodes", "3", "--reach", "1000000")
+        memory = "echo 'solve: the strategy needs more memory than --memory allows' >&2; exit 2"
+        self.says(("solve needs more memory than 2000 MiB and prove's budget", "the cost: try --memory 4000."),
+                  *small, solver=memory, status=5)
+        self.says("solve failed (too large) and prove's budget of 3 positions is below the cost: try --nodes above 3.",
+                  *small, solver="echo 'solve: too large' >&2; exit 2", status=5)
+        self.says("prove needs more memory than 500 MiB: try --memory 1000.", "d", "--by", "prove", "--memory", "500",
+                  prover="exit 8", status=5)
+
+    def test_win_by_a_move(self):
+        """A move that wins proves the position, though prove alone can't within the budget; the proof is one of it."""
+        words = ("--by", "prove", "--board", "4x4", "dccbbdbbddcc", "--reach", "0", "--nodes", "3")
+        self.says("stays unknown", *words, status=5)
+        kept = os.path.join(self.folder, "kept")
+        # It has the budget for the position behind the move, and not for the position.
+        prover = ("game=$(cat)\n"
+                  "[ \"${game##*moves }\" = dccbbdbbddcc ] || set -- prove --reach 0\n"
+                  "exec '%s' \"$@\" <<<\"$game\"" % program())
+        self.says("White, who is to move, wins after dccbbdbbddcc on 4 by 4 (4 lemmas accepted); the best move is a.",
+                  *words, "--moves", "--keep", kept, prover=prover)
+        self.assertEqual(read(kept), read(example("forced-win.proof")))
+
+    def test_json(self):
+        status, out, err = self.asks("--json", "--moves", "--board", "4x4", "ababa", "--by", "prove")
+        data = json.loads(out)
+        self.assertEqual((status, out.count("\n"), data.pop("sentence").count("the best move is a")), (0, 1, 1), err)
+        self.assertEqual(data, {
+            "columns": 4, "rows": 4, "moves": "ababa", "side": "Black", "ended": False, "value": "draw", "by": "prove",
+            "lemmas": 361, "accepted": True, "best": ["a"],
+            "values": {"a": "draw", "b": "loss", "c": "loss", "d": "loss"},
+        })
+        status, out, err = self.asks("--json", "dcdcdc", "--seconds", "0.5", "--by", "solve", solver="exec sleep 60")
+        data = json.loads(out)
+        self.assertEqual((status, data["value"], data["by"], data["accepted"]), (5, "unknown", None, False), err)
+        self.assertEqual((data["why"], data["advice"]), (["solve didn't end within 0.5 seconds"], ["--seconds 2.5"]))
+
+    @unittest.skipUnless(os.access(victor.SOLVER, os.X_OK), "tools/solve isn't built: make -C tools/solve")
+    def test_solve_itself(self):
+        self.says("is a draw for White, who is to move (found by solve, ", "--board", "4x4", "-")
 
 
 class ValueTest(ToolTest):
@@ -208,8 +341,9 @@ class ValueTest(ToolTest):
             game = mutants.random_game(rng, 4, 4, 15)
             if len(game.moves) < 7:
                 continue
-            status, out, err = tool("ask.py", "--board", "4x4", game.letters(), "--victor", program())
-            self.assertEqual((status, err), (0, ""))
+            words = ("--by", "prove", "--victor", program())
+            status, out, err = tool("ask.py", "--board", "4x4", game.letters(), *words)
+            self.assertEqual(status, 0, err)
             best = worth(game)
             part = {1: "who is to move, wins", 0: "is a draw", -1: "wins after"}[best]
             self.assertIn(part, out)
