@@ -281,23 +281,22 @@ class EngineTest(ToolTest):
 
     def test_out_of_time(self):
         """Where the seconds are spent, more of them are advised; and what takes long says so."""
-        got = self.says("unknown, since solve didn't end within 2.3 seconds: try --seconds 11.5.", "dcdcdc", "--by",
-                        "solve", "--seconds", "2.3", solver="exec sleep 60", status=5)
-        self.assertEqual(got[2], "ask.py: solve has taken 2 of 2.3 seconds for dcdcdc\n")
         small = ("--board", "4x4", "-", "--nodes", "3", "--reach", "0")
-        self.says(("since solve didn't end within its share of 1 second and prove's budget of 3 positions is below",
-                   "the cost: try --seconds 5."), *small, "--seconds", "1", solver="exec sleep 60", status=5)
+        why = "since solve didn't end within its share of 4 seconds and prove's budget of 3 positions is below the cost"
+        got = self.says(why + ": try --seconds 20.", *small, "--seconds", "4", solver="exec sleep 60", status=5)
+        self.assertRegex(got[2], "^ask.py: solve has taken [23] of 3 seconds for -\n$")
         self.says("since prove didn't end within 0.5 seconds: try --seconds 2.5.", *small, "--by", "prove", "--seconds",
                   "0.5", prover="exec sleep 60", status=5)
 
     def test_what_may_help(self):
         """What is advised is what would help: more memory, or a greater budget for prove where solve can't be used."""
-        small = ("--board", "4x4", "-", "--nodes", "3", "--reach", "1000000")
+        small = ("--board", "4x4", "-", "--nodes", "3", "--reach", "0")
         memory = "echo 'solve: the strategy needs more memory than --memory allows' >&2; exit 2"
         self.says(("solve needs more memory than 2000 MiB and prove's budget", "the cost: try --memory 4000."),
                   *small, solver=memory, status=5)
-        self.says("solve failed (too large) and prove's budget of 3 positions is below the cost: try --nodes above 3.",
-                  *small, solver="echo 'solve: too large' >&2; exit 2", status=5)
+        self.says(("solve failed (too large) and prove's budget of 3 positions is below the cost",
+                   ": try --nodes above 3 or --reach above 0."), *small,
+                  solver="echo 'solve: too large' >&2; exit 2", status=5)
         self.says("prove needs more memory than 500 MiB: try --memory 1000.", "d", "--by", "prove", "--memory", "500",
                   prover="exit 8", status=5)
 

@@ -123,7 +123,7 @@ class RunTest(ToolTest):
         self.assertLess(time.monotonic() - begin, 20)
         self.assertEqual((fault.status, fault.text), (-9, "begun\n"))
         self.assertIn("its seconds were spent", str(fault))
-        self.assertEqual([round(spent, 1) for spent in told][:2], [0.1, 0.2])
+        self.assertTrue(0.1 <= told[0] <= told[-1] < 20, told)
         self.assertEqual(victor.prove(self.game, seconds=60, tell=told.append).value, "win")
 
     def test_memory(self):
