@@ -8,6 +8,7 @@ import stat
 import subprocess
 import sys
 import tempfile
+import time
 import unittest
 
 from common import TOOLS, ToolTest, boards, example, program, read, tool
@@ -137,7 +138,7 @@ class TerminalTest(ToolTest):
             while shown.count(b"q ends): ") < n:
                 shown += os.read(leader, 4096)
             if keys is None:
-                os.killpg(run.pid, signal.SIGINT)
+                self.interrupt(run)
             else:
                 os.write(leader, keys)
         while True:
@@ -149,6 +150,16 @@ class TerminalTest(ToolTest):
         with self.assertRaises(ProcessLookupError):
             os.killpg(run.pid, 0)
         return shown.decode("ascii").replace("\r\n", "\n")
+
+    def interrupt(self, run):
+        """Python misses an interrupt that comes just before it begins to read, so a second one may be needed."""
+        for _ in range(5):
+            time.sleep(0.2)
+            os.killpg(run.pid, signal.SIGINT)
+            try:
+                return run.wait(3)
+            except subprocess.TimeoutExpired:
+                continue
 
     def test_colours(self):
         shown = self.types(b"c\n", b"q\n")
