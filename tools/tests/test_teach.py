@@ -2,6 +2,7 @@
 
 import os
 import re
+import shutil
 import subprocess
 import tempfile
 import unittest
@@ -45,7 +46,9 @@ class TeachTest(unittest.TestCase):
         self.assertGreater(len(runs), 25)
         self.assertGreater(sum(bool(shown) for _, shown in runs), 5)
         with tempfile.TemporaryDirectory() as folder:
-            os.symlink(TOOLS, os.path.join(folder, "tools"))
+            # Copied, so that they take the program beside them.
+            others = shutil.ignore_patterns("tests", "solve", "wrong-bodies", "__pycache__")
+            shutil.copytree(TOOLS, os.path.join(folder, "tools"), ignore=others)
             os.symlink(program(), os.path.join(folder, "victor"))
             for command, shown in runs:
                 made = subprocess.run(["bash", "-c", command], cwd=folder, stdin=subprocess.DEVNULL,
