@@ -3,22 +3,22 @@
 
 import argparse
 import os
-import subprocess
 import sys
 
 import boards
+import victor
 from boards import LETTERS, WAYS, Fault, Game, name_of, square_of, zone_of
 from draw import grid_text
+from victor import MOST_REACH
 from words import line_name, listed
 
-MOST_REACH = 1_000_000
 LONGEST_SHOWN = 20
 INK = {"W": "\033[1;33m", "B": "\033[1;36m"}
 NEW, PLAIN = "\033[7m", "\033[0m"
 
 
-class Unplayed(Exception):
-    """The program failed, or its answer was none."""
+class Unplayed(Fault):
+    """The program's answer can't be played."""
 
 
 # ---------------------------------------------------------------------------------------------------------------------
@@ -32,28 +32,26 @@ class PlanPlayer:
     def __init__(self, program, start, members):
         self.program, self.start, self.members = program, start, members
         self.said = "Black answers by a plan: %s" % " ".join(members)
-        self.run([])
+        self.require_plan()
 
     def run(self, columns):
-        """What `victor play` writes for these moves of White's, line by line."""
-        moves = "".join(LETTERS[i] + "\n" for i in columns)
-        text = "%splan %s\n%s" % (self.start.text(), " ".join(self.members), moves)
-        made = subprocess.run([self.program, "play"], input=text.encode(), stdout=subprocess.PIPE,
-                              stderr=subprocess.PIPE)
-        if made.returncode in (3, 4) and not columns:
-            raise Fault("this is no plan there: %s" % made.stderr.decode("ascii", "replace"))
-        lines = made.stdout.decode("ascii", "replace").split("\n")[:-1]
-        if made.returncode != 0 or len(lines) != len(columns):
-            raise Unplayed("victor play ended with status %d: %s"
-                           % (made.returncode, made.stderr.decode("ascii", "replace")))
-        return lines
+        """What `victor play` answers to these moves of White's."""
+        return victor.play(self.start, " ".join(self.members), columns, program=self.program).turns
+
+    def require_plan(self):
+        try:
+            self.run([])
+        except victor.Failed as fault:
+            if fault.status not in (3, 4):
+                raise
+            raise Fault("this is no plan there: %s" % fault.text) from fault
 
     def answer(self, columns):
         """Black's square after these moves of White's."""
-        words = self.run(columns)[-1].split(" ")
-        square = square_of(words[1]) if len(words) > 1 else None
+        turns = self.run(columns)
+        square = square_of(turns[-1][1]) if len(turns) == len(columns) else None
         if square is None:
-            raise Unplayed("victor play has written no answer: %r" % " ".join(words))
+            raise Unplayed("victor play has written no answer to the last of %d moves" % len(columns))
         return square
 
     def reason(self, square):
@@ -71,22 +69,17 @@ def player_of(words, program, start, given):
 
 def explained_plan(program, start, reach):
     """The instances of the plan that `victor explain` gives."""
-    made = subprocess.run([program, "explain", "--reach", str(reach)], input=start.text().encode(),
-                          stdout=subprocess.PIPE, stderr=subprocess.PIPE)
-    line = made.stdout.decode("ascii", "replace").split("\n")[0]
-    if made.returncode == 0 and line.startswith("plan "):
-        return line.split(" ")[1:]
+    explained = victor.explain(start, reach=reach, program=program)
+    if explained.plan:
+        return explained.plan.split(" ")
     place = "after %s on %d by %d" % (start.letters(), start.cols, start.rows)
     if start.is_over:
         raise Fault("the game has ended %s" % place)
     if start.side == "B":
         raise Fault("Black is to move %s, and a plan answers moves of White's" % place)
-    if line == "no plan within reach":
+    if explained.text.startswith("no plan within reach"):
         raise Fault("explain finds no plan %s in its reach of %d: --reach takes up to %d" % (place, reach, MOST_REACH))
-    if line == "no plan":
-        raise Fault("there is no plan %s: play from another position, or on another board" % place)
-    raise Unplayed("victor explain ended with status %d: %s"
-                   % (made.returncode, made.stderr.decode("ascii", "replace")))
+    raise Fault("there is no plan %s: play from another position, or on another board" % place)
 
 
 # ---------------------------------------------------------------------------------------------------------------------
@@ -294,11 +287,11 @@ def main():
         start, given = read_start(words)
         table = Table(start, player_of(words, boards.program(words.victor), start, given))
         return sit(table, words.keep)
-    except Fault as fault:
-        return boards.complain("play.py", fault)
-    except Unplayed as fault:
+    except (Unplayed, victor.Failed) as fault:
         boards.complain("play.py", fault)
         return 1
+    except Fault as fault:
+        return boards.complain("play.py", fault)
     except OSError as fault:
         return boards.complain("play.py", fault.strerror or fault)
 

@@ -109,7 +109,8 @@ class PlayTest(ToolTest):
         for script, said in (
             ('[ $(wc -l) -eq 3 ] || echo "c1 c3"', "the answer c3 hangs or is taken"),
             ('[ $(wc -l) -eq 3 ] || echo "c1 g1"', "the answer g1 can't be played"),
-            ('[ $(wc -l) -eq 3 ] || echo "c1"', "has written no answer: 'c1'"),
+            ('[ $(wc -l) -eq 3 ] || echo "c1 d11"', "has written no answer to the last of 1 moves"),
+            ('cat >/dev/null', "has written no answer to the last of 1 moves"),
             ('[ $(wc -l) -eq 3 ] || { echo "c1 d1"; exit 7; }', "victor play ended with status 7"),
             ('[ $(wc -l) -eq 3 ]', "victor play ended with status 1"),
         ):

@@ -107,7 +107,8 @@ class SheetTest(ToolTest):
         """A program that fails, and a proof that isn't accepted or is about another game, are told, with status 1."""
         for script, said in (
             ("exit 7", "victor explain ended with status 7"),
-            ('[ "$1" = explain ] && exit 5; [ "$1" = check ] && exit 4; cat', "victor check ended with status 4"),
+            ('[ "$1" = explain ] && exit 5; [ "$1" = check ] && exit 4; echo victor 1; cat',
+             "victor check ended with status 4"),
             ('[ "$1" = explain ] && exit 5; [ "$1" = check ] && echo accepted win 2; true', "is about another game"),
         ):
             with tempfile.TemporaryDirectory() as folder:
