@@ -1,18 +1,21 @@
 -- Where each reader of a game text stops: what stands before the place, and what stands from it on.
 use Rattle.std.proofs.Common.{◌≡◌, ◌≢◌, ◌⊎◌, ℕ, suc, ◌+◌, ◌-◌, ◌<◌, ◌≤◌, Bool, true, false, ◌&&◌, ◌==◌, cond, nat_le, nat_lt, List, [], ◌∷◌, ◌++◌, map, length}
-use Rattle.std.proofs.Common.{take, drop, take_while, Option, Some, None, is_some, Result, Ok, Err, refl, sym, ap, ◌∙◌, inl, inr, arith}
+use Rattle.std.proofs.Common.{take, drop, take_while, Option, Some, None, is_some, Result, Ok, Err, refl, sym, ap, ◌∙◌, subst, inl, inr, arith}
 use Rattle.std.specs.List.{prefix_len}
 use Rattle.std.proofs.lemmas.Bool.{cases_Bool, and_parts, and_from, leb-true, le-leb, lt-ltb, ltb-true, eqb-true, eq-eqb, ne_eqb, false_from_ne_true, both_ways}
 use Rattle.std.proofs.lemmas.List.Folds.{length-prefix_len}
 use Rattle.game_rules.specs.Position.{Position, has_room, after_move, end_of, is_legal, played}
-use Rattle.game_rules.specs.Text.{stop, ◌>>=◌, after_text, is_digit, read_as, size_at, move_into, letter_read, letters_from, moves_at}
+use Rattle.game_rules.specs.Text.{stop, ◌>>=◌, after_text, is_digit, line_of, read_as, size_at, length_at, move_into, letter_read, letters_from, moves_at}
 use Rattle.game_rules.specs.Grammar.{letter_of}
 use Rattle.game_rules.specs.Faults.{IsOther, run_of}
 use Rattle.game_rules.specs.declared.Stop.{Stop}
 use Rattle.game_rules.specs.declared.End.{End}
 use Rattle.game_rules.specs.declared.InputKind.TheVariants.{BadHeader, BadSize, BadColumn, ColumnFull, GameOver}
 use Rattle.game_rules.proofs.Lists.{chosen}
-use Rattle.game_rules.proofs.Readers.{letter_of_move}
+use Rattle.game_rules.proofs.Readers.{size_gives, letter_of_move}
+use Rattle.game_rules.proofs.BoardLine.{long_lines, line_gives}
+use Rattle.game_rules.specs.declared.Length.{Length}
+use Rattle.game_rules.specs.declared.Length.TheVariants.{Four}
 
 -- a stop at the first of two readers, or at the second
 pub bind_err : {A B : Type 0} (r : Result A Stop) (f : A → Result B Stop) (s : Stop) → (r >>= f) ≡ Err s → (r ≡ Err s) ⊎ ((x : A) × (r ≡ Ok x) × (f x ≡ Err s))
@@ -74,7 +77,7 @@ text_stops [] byte later [] other = refl
 text_stops [] byte later (first ∷ behind) other = rw (ne_eqb first byte other) refl
 text_stops (x ∷ before) byte later behind other = rw (eq-eqb x x refl) (text_stops before byte later behind other)
 
--- ---- a number
+-- ---- a number or a length
 
 -- a run of digits ends where no digit stands
 pub run_none : (bytes : List ℕ) → run_of bytes ≡ [] → prefix_len is_digit bytes ≡ 0
@@ -90,26 +93,56 @@ run_after (byte ∷ bytes) = elim (cases_Bool (is_digit byte)) [
     past : (n : ℕ) → drop (1 + n) (byte ∷ bytes) ≡ drop n bytes
     past n = let same : 1 + n ≡ suc n = omega arith in ap (λ m. drop m (byte ∷ bytes)) same
 
-pub size_ends : (spelled : List ℕ → Option ℕ) (bytes : List ℕ) (x : ℕ × List ℕ) → size_at spelled bytes ≡ Ok x → run_of x.1 ≡ []
-size_ends spelled bytes x h = read (spelled (take_while is_digit bytes)) h
+pub size_ends : {X : Type 0} (spelled : List ℕ → Option X) (bytes : List ℕ) (x : X × List ℕ) → size_at spelled bytes ≡ Ok x → run_of x.1 ≡ []
+size_ends {X = X} spelled bytes x h = read (spelled (take_while is_digit bytes)) h
   where
     none : run_of (drop (length (run_of bytes)) bytes) ≡ []
     none = ap (λ n. run_of (drop n bytes)) (length-prefix_len is_digit bytes) ∙ ap (λ n. take n (drop (prefix_len is_digit bytes) bytes)) (run_after bytes)
 
-    read : (n : Option ℕ) → read_as n (drop (length (run_of bytes)) bytes) bytes ≡ Ok x → run_of x.1 ≡ []
+    read : (n : Option X) → read_as n (drop (length (run_of bytes)) bytes) bytes ≡ Ok x → run_of x.1 ≡ []
     read None h = cc
-    read (Some n) h = let pair : (n, drop (length (run_of bytes)) bytes) ≡ x = cc in sym (ap (λ (p : ℕ × List ℕ). run_of p.1) pair) ∙ none
+    read (Some n) h = let pair : (n, drop (length (run_of bytes)) bytes) ≡ x = cc in sym (ap (λ (p : X × List ℕ). run_of p.1) pair) ∙ none
 
-pub size_stop : (spelled : List ℕ → Option ℕ) (bytes : List ℕ) (s : Stop) → size_at spelled bytes ≡ Err s
+pub size_stop : {X : Type 0} (spelled : List ℕ → Option X) (bytes : List ℕ) (s : Stop) → size_at spelled bytes ≡ Err s
     → (spelled (run_of bytes) ≡ None) × (s ≡ record { kind = BadSize; left = length bytes })
-size_stop spelled bytes s h = read (spelled (run_of bytes)) h
+size_stop {X = X} spelled bytes s h = read (spelled (run_of bytes)) h
   where
-    read : (n : Option ℕ) → read_as n (drop (length (run_of bytes)) bytes) bytes ≡ Err s → (n ≡ None) × (s ≡ record { kind = BadSize; left = length bytes })
+    read : (n : Option X) → read_as n (drop (length (run_of bytes)) bytes) bytes ≡ Err s → (n ≡ None) × (s ≡ record { kind = BadSize; left = length bytes })
     read None h = (refl, cc)
     read (Some n) h = cc
 
-pub size_stops : (spelled : List ℕ → Option ℕ) (bytes : List ℕ) → spelled (run_of bytes) ≡ None → size_at spelled bytes ≡ stop BadSize (length bytes)
+pub size_stops : {X : Type 0} (spelled : List ℕ → Option X) (bytes : List ℕ) → spelled (run_of bytes) ≡ None → size_at spelled bytes ≡ stop BadSize (length bytes)
 size_stops spelled bytes h = ap (λ n. read_as n (drop (length (run_of bytes)) bytes) bytes) h
+
+-- behind a length no digit stands, and behind the rows no space
+pub length_ends : (bytes : List ℕ) (x : Length × List ℕ) → length_at bytes ≡ Ok x → run_of bytes ≡ [] → (run_of x.1 ≡ []) × (x.0 ≡ Four → IsOther 32 x.1)
+length_ends [] x h ends = let pair : (Four, []) ≡ x = cc in
+    subst (λ (x : Length × List ℕ). (run_of x.1 ≡ []) × (x.0 ≡ Four → IsOther 32 x.1)) pair (refl, λ four. tt)
+length_ends (byte ∷ bytes) x h ends = elim (chosen (byte == 32) (size_at line_of bytes) (Ok (Four, byte ∷ bytes)) (Ok x) h) [
+  | inl space ↦
+      let line = line_gives (run_of bytes) x.0 (size_gives 1 line_of long_lines bytes x space.1).0 in
+      (size_ends line_of bytes x space.1, λ (four : x.0 ≡ Four). absurd (cc (four, line.0)))
+  | inr other ↦
+      let pair : (Four, byte ∷ bytes) ≡ x = cc other.1 in
+      subst (λ (x : Length × List ℕ). (run_of x.1 ≡ []) × (x.0 ≡ Four → IsOther 32 x.1)) pair
+      (ends, λ four same. both_ways (byte == 32) other.0 (eq-eqb byte 32 same))
+]
+
+-- behind a space there is no length
+pub record LengthStop (bytes : List ℕ) (s : Stop) : Type 0 where
+  pub behind : List ℕ
+  pub whole : bytes ≡ 32 ∷ behind
+  pub none : line_of (run_of behind) ≡ None
+  pub is_stop : s ≡ record { kind = BadSize; left = length behind }
+
+pub length_stop : (bytes : List ℕ) (s : Stop) → length_at bytes ≡ Err s → LengthStop bytes s
+length_stop [] s h = cc
+length_stop (byte ∷ bytes) s h = elim (chosen (byte == 32) (size_at line_of bytes) (Ok (Four, byte ∷ bytes)) (Err s) h) [
+  | inl space ↦
+      let size = size_stop line_of bytes s space.1 in
+      record { behind = bytes; whole = ap (λ byte. byte ∷ bytes) (eqb-true byte 32 space.0); none = size.0; is_stop = size.1 }
+  | inr other ↦ absurd (cc other.1)
+]
 
 -- ---- a letter
 

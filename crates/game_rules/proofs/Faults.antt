@@ -5,11 +5,12 @@ use Rattle.std.specs.List.{prefix_len}
 use Rattle.std.specs.Fmt.{decimal}
 use Rattle.std.proofs.lemmas.Bool.{and_parts, and_from, eqb-true, eq-eqb, ne_eqb, both_ways}
 use Rattle.std.proofs.lemmas.List.{length-append, length-replicate, map-append}
-use Rattle.game_rules.specs.Board.{Board, is_cols, is_rows}
+use Rattle.game_rules.specs.Board.{Board, is_board, is_cols, is_rows}
 use Rattle.game_rules.specs.Position.{Position, empty_position, played}
-use Rattle.game_rules.specs.Text.{stop, ◌>>=◌, after_text, is_digit, cols_of, rows_of, size_at, letter_read, at_end, letters_from, after_dash, moves_at}
+use Rattle.game_rules.specs.Text.{stop, ◌>>=◌, after_text, is_digit, cols_of, rows_of, line_of, size_at, length_at, letter_read, at_end, letters_from}
+use Rattle.game_rules.specs.Text.{after_dash, moves_at}
 use Rattle.game_rules.specs.Text.{board_at, read_game, placed, game_at}
-use Rattle.game_rules.specs.Grammar.{letter_of, board_line, game_text, is_spelled}
+use Rattle.game_rules.specs.Grammar.{letter_of, board_line, length_text, game_text}
 use Rattle.game_rules.specs.Faults.{fault_at, IsAt, IsOther, run_of, IsBadHeader, IsBadSize, up_to, IsUpTo, IsMove, IsNoLetter, IsNoItem, IsBadColumn}
 use Rattle.game_rules.specs.Faults.{IsGameOver, IsColumnFull, IsTrailing}
 use Rattle.game_rules.specs.declared.Stop.{Stop}
@@ -18,12 +19,14 @@ use Rattle.game_rules.specs.declared.InputKind.{InputKind}
 use Rattle.game_rules.specs.declared.InputKind.TheVariants.{BadHeader, BadSize, BadColumn, ColumnFull, GameOver, Trailing}
 use Rattle.game_rules.proofs.Lists.{chosen}
 use Rattle.game_rules.proofs.Readers.{after_text_gives, after_text_of, size_gives, letter_moves}
-use Rattle.game_rules.proofs.BoardLine.{long_cols, long_rows, cols_give, rows_give, cols_spelled, rows_spelled, size_of, rest_of_line, rows_on, gap_on, cols_on}
-use Rattle.game_rules.proofs.BoardLine.{board_at_steps, board_gives, board_of_spelling, spelled_parts}
+use Rattle.game_rules.proofs.BoardLine.{long_cols, long_rows, cols_give, rows_give, line_gives, length_gives, cols_spelled, rows_spelled, size_of, length_of}
+use Rattle.game_rules.proofs.BoardLine.{length_ends_rows, line_parted, rest_of_line, length_on, rows_on, gap_on, cols_on, board_at_steps}
+use Rattle.game_rules.proofs.BoardLine.{board_gives, board_of_spelling}
+use Rattle.game_rules.specs.declared.Length.{Length}
 use Rattle.game_rules.specs.declared.Length.TheVariants.{Four}
 use Rattle.game_rules.proofs.Grammar.{board_along}
-use Rattle.game_rules.proofs.FaultReaders.{bind_err, text_stop, text_stops, run_none, size_ends, size_stop, size_stops, Letterless, LetterStop, no_letter, over}
-use Rattle.game_rules.proofs.FaultReaders.{full, letter_stop, letterless_stops, over_stops, full_stops, moves_read, played_push}
+use Rattle.game_rules.proofs.FaultReaders.{bind_err, text_stop, text_stops, run_none, size_ends, size_stop, size_stops, length_ends, length_stop}
+use Rattle.game_rules.proofs.FaultReaders.{Letterless, LetterStop, no_letter, over, full, letter_stop, letterless_stops, over_stops, full_stops, moves_read, played_push}
 
 -- what the table says of a kind
 abbrev pub FaultOf : InputKind → List ℕ → List ℕ → Type 0
@@ -64,6 +67,16 @@ no_size : (spelled : List ℕ → Option ℕ) (is : ℕ → Bool) → ((n : ℕ)
     → is n ≡ true → run ≢ decimal n
 no_size spelled is of run none n h e = cc (ap spelled e, of n h, none)
 
+no_line : (run : List ℕ) → line_of run ≡ None → run ≢ codes "5"
+no_line run none e = cc (e, none)
+
+line_none : (run : List ℕ) → run ≢ codes "5" → line_of run ≡ None
+line_none run other = at (line_of run) refl
+  where
+    at : (found : Option Length) → line_of run ≡ found → found ≡ None
+    at None e = refl
+    at (Some len) e = absurd (other (line_gives run len e).1)
+
 size_none : (spelled : List ℕ → Option ℕ) (is : ℕ → Bool) → ((run : List ℕ) (n : ℕ) → spelled run ≡ Some n → (is n ≡ true) × (run ≡ decimal n)) → (run : List ℕ)
     → ((n : ℕ) → is n ≡ true → run ≢ decimal n) → spelled run ≡ None
 size_none spelled is gives run none = at (spelled run) refl
@@ -72,57 +85,75 @@ size_none spelled is gives run none = at (spelled run) refl
     at None e = refl
     at (Some n) e = let given = gives run n e in absurd (none n given.0 given.1)
 
--- the parts of the line, put together
-line_whole : (cols rows rest : List ℕ) → codes "board " ++ (cols ++ (codes " " ++ (rows ++ rest))) ≡ (codes "board " ++ (cols ++ (codes " " ++ rows))) ++ rest
-line_whole cols rows rest = sym (append_assoc (codes "board ") (cols ++ (codes " " ++ rows)) rest ∙ ap (λ more. codes "board " ++ more)
-    (append_assoc cols (codes " " ++ rows) rest ∙ ap (λ more. cols ++ more) (append_assoc (codes " ") rows rest)))
-
+-- the parts of the line up to the rows, put together
 gap_whole : (cols rest : List ℕ) → codes "board " ++ (cols ++ (codes " " ++ rest)) ≡ (codes "board " ++ (cols ++ codes " ")) ++ rest
 gap_whole cols rest = sym (append_assoc (codes "board ") (cols ++ codes " ") rest ∙ ap (λ more. codes "board " ++ more) (append_assoc cols (codes " ") rest))
 
-rest_stop : (cols rows : ℕ) (rest bytes : List ℕ) (s : Stop) → is_cols cols ≡ true → is_rows rows ≡ true → run_of rest ≡ []
-    → bytes ≡ codes "board " ++ (decimal cols ++ (codes " " ++ (decimal rows ++ rest)))
-    → rest_of_line cols rows rest ≡ Err s → Stopped bytes s
-rest_stop cols rows rest bytes s has_cols has_rows ends whole h =
-    elim (bind_err (after_text (10 ∷ codes "moves ") rest) (λ rest. Ok (record { cols = cols; rows = rows; len = Four }, rest)) s h) [
+-- the whole line of a board
+rest_stop : (board : Board) (rest bytes : List ℕ) (s : Stop) → is_board board ≡ true → run_of rest ≡ [] → (board.len ≡ Four → IsOther 32 rest)
+    → bytes ≡ board_line board ++ rest → rest_of_line board.cols board.rows board.len rest ≡ Err s → Stopped bytes s
+rest_stop board rest bytes s has_board ends other whole h =
+    elim (bind_err (after_text (10 ∷ codes "moves ") rest) (λ rest. Ok (board, rest)) s h) [
       | inr read ↦ absurd (cc (read.2))
       | inl failed ↦
           let t = text_stop (10 ∷ codes "moves ") rest s failed in
-          let board : Board = record { cols = cols; rows = rows; len = Four } in
           stopped BadHeader bytes (board_line board ++ t.before) t.behind s t.is_stop
-          (whole ∙ line_whole (decimal cols) (decimal rows) rest ∙ ap (λ rest. board_line board ++ rest) t.whole
-          ∙ sym (append_assoc (board_line board) t.before t.behind))
+          (whole ∙ ap (λ rest. board_line board ++ rest) t.whole ∙ sym (append_assoc (board_line board) t.before t.behind))
           (inr (inr (record {
             board = board;
             part = t.before;
             byte = t.byte;
             later = t.later;
-            has_board = and_from _ _ (and_from _ _ has_cols has_rows) refl;
+            has_board = has_board;
             is_before = refl;
             fixed = t.fixed;
             run_ends = λ none. ap run_of (sym (t.whole ∙ ap (λ part. part ++ t.behind) none)) ∙ ends;
+            no_length = λ none four. subst (IsOther 32) (t.whole ∙ ap (λ part. part ++ t.behind) none) (other four);
             other = t.other;
           })))
     ]
 
+-- behind the rows
+length_fault : (board : Board) (rest bytes : List ℕ) (s : Stop) → is_board board ≡ true → board.len ≡ Four → run_of rest ≡ []
+    → bytes ≡ board_line board ++ rest → length_on board.cols board.rows rest ≡ Err s → Stopped bytes s
+length_fault board rest bytes s has_board untold ends whole h =
+    elim (bind_err (length_at rest) (λ len. rest_of_line board.cols board.rows len.0 len.1) s h) [
+      | inl failed ↦
+          let t = length_stop rest s failed in
+          stopped BadSize bytes (board_line board ++ codes " ") t.behind s t.is_stop
+          (whole ∙ ap (λ rest. board_line board ++ rest) t.whole ∙ sym (append_assoc (board_line board) (codes " ") t.behind))
+          (inr (inr (record { board = board; has_board = has_board; untold = untold; is_before = refl; none = no_line (run_of t.behind) t.none })))
+      | inr read ↦
+          let x = read.0 in
+          let behind = length_ends rest x read.1 ends in
+          rest_stop (record board { len = x.0 }) x.1 bytes s has_board behind.0 behind.1
+          (whole ∙ ap (λ rest. board_line board ++ rest) (length_gives rest x read.1) ∙ told x.0 x.1) read.2
+    ]
+  where
+    told : (len : Length) (rest : List ℕ) → board_line board ++ (length_text len ++ rest) ≡ board_line (record board { len = len }) ++ rest
+    told len rest = ap (λ (four : Length). board_line (record board { len = four }) ++ (length_text len ++ rest)) untold
+        ∙ sym (line_parted (decimal board.cols) (decimal board.rows) [] (length_text len ++ rest))
+        ∙ line_parted (decimal board.cols) (decimal board.rows) (length_text len) rest
+
 rows_stop : (cols : ℕ) (rest bytes : List ℕ) (s : Stop) → is_cols cols ≡ true → bytes ≡ codes "board " ++ (decimal cols ++ (codes " " ++ rest))
     → rows_on cols rest ≡ Err s → Stopped bytes s
-rows_stop cols rest bytes s has_cols whole h = elim (bind_err (size_at rows_of rest) (λ rows. rest_of_line cols rows.0 rows.1) s h) [
+rows_stop cols rest bytes s has_cols whole h = elim (bind_err (size_at rows_of rest) (λ rows. length_on cols rows.0 rows.1) s h) [
   | inl failed ↦
       let size = size_stop rows_of rest s failed in
       stopped BadSize bytes (codes "board " ++ (decimal cols ++ codes " ")) rest s size.1 (whole ∙ gap_whole (decimal cols) rest)
-      (inr (record {
+      (inr (inl (record {
         cols = cols;
         has_cols = has_cols;
         is_before = refl;
         none = no_size rows_of is_rows (λ n rows. (rows_spelled n rows).0) (run_of rest) size.0;
-      }))
+      })))
   | inr read ↦
       let x = read.0 in
-      let size = size_gives rows_of long_rows rest x read.1 in
+      let size = size_gives 2 rows_of long_rows rest x read.1 in
       let number = rows_give (run_of rest) x.0 size.0 in
-      rest_stop cols x.0 x.1 bytes s has_cols number.0 (size_ends rows_of rest x read.1)
-      (whole ∙ ap (λ rest. codes "board " ++ (decimal cols ++ (codes " " ++ rest))) (size.1 ∙ ap (λ run. run ++ x.1) number.1)) read.2
+      length_fault (record { cols = cols; rows = x.0; len = Four }) x.1 bytes s (and_from _ _ has_cols number.0) refl (size_ends rows_of rest x read.1)
+      (whole ∙ ap (λ rest. codes "board " ++ (decimal cols ++ (codes " " ++ rest))) (size.1 ∙ ap (λ run. run ++ x.1) number.1)
+      ∙ line_parted (decimal cols) (decimal x.0) [] x.1) read.2
 ]
 
 gap_stop : (cols : ℕ) (rest bytes : List ℕ) (s : Stop) → is_cols cols ≡ true → run_of rest ≡ [] → bytes ≡ codes "board " ++ (decimal cols ++ rest)
@@ -162,7 +193,7 @@ board_stop bytes s h = elim (bind_err (after_text (codes "board ") bytes) cols_o
           (inl (record { is_before = refl; none = no_size cols_of is_cols (λ n cols. (cols_spelled n cols).0) (run_of head) size.0 }))
       | inr read ↦
           let x = read.0 in
-          let size = size_gives cols_of long_cols head x read.1 in
+          let size = size_gives 2 cols_of long_cols head x read.1 in
           let number = cols_give (run_of head) x.0 size.0 in
           gap_stop x.0 x.1 bytes s number.0 (size_ends cols_of head x read.1)
           (whole ∙ ap (λ head. codes "board " ++ head) (size.1 ∙ ap (λ run. run ++ x.1) number.1)) read.2
@@ -200,7 +231,7 @@ cols_along : (board : Board) (columns : List ℕ) (p : Position) → played (emp
 cols_along board columns p h = ap (λ (b : Board). b.cols) (board_along columns (empty_position board) p h) ∙ length-replicate board.cols []
 
 -- a letter that isn't read
-letter_fault : (board : Board) (columns : List ℕ) (p : Position) (byte : ℕ) (more : List ℕ) (s : Stop) → is_spelled board ≡ true
+letter_fault : (board : Board) (columns : List ℕ) (p : Position) (byte : ℕ) (more : List ℕ) (s : Stop) → is_board board ≡ true
     → played (empty_position board) columns ≡ Some p
     → (IsNoLetter board byte → IsNoItem board columns (byte ∷ more)) → LetterStop p byte (length (byte ∷ more)) s
     → Stopped (up_to board columns ++ byte ∷ more) s
@@ -234,7 +265,7 @@ letter_fault board columns p byte more s has_board has_moves item why = at why
     at (full column is low goes_on none e) = stopped ColumnFull _ (up_to board columns) (byte ∷ more) s e refl
         (record { p = p; column = column; letter = letter column is low; goes_on = goes_on; full = none })
 
-letters_stop : (board : Board) (first : ℕ) (columns : List ℕ) (p : Position) (bytes : List ℕ) (s : Stop) → is_spelled board ≡ true
+letters_stop : (board : Board) (first : ℕ) (columns : List ℕ) (p : Position) (bytes : List ℕ) (s : Stop) → is_board board ≡ true
     → played (empty_position board) (first ∷ columns) ≡ Some p
     → letters_from p bytes ≡ Err s → Stopped (up_to board (first ∷ columns) ++ bytes) s
 letters_stop board first columns p [] s has_board has_moves h = cc
@@ -271,7 +302,7 @@ letters_stop board first columns p (byte ∷ bytes) s has_board has_moves h = el
         }))
 
 -- the list itself
-list_stop : (board : Board) (rest : List ℕ) (s : Stop) → is_spelled board ≡ true → moves_at (empty_position board) rest ≡ Err s
+list_stop : (board : Board) (rest : List ℕ) (s : Stop) → is_board board ≡ true → moves_at (empty_position board) rest ≡ Err s
     → Stopped (board_line board ++ (10 ∷ (codes "moves " ++ rest))) s
 list_stop board [] s has_board h = stopped BadColumn _ (up_to board []) [] s (cc) (sym (append-nil (up_to board [])))
     (record { board = board; columns = []; p = empty_position board; up_to = record { has_board = has_board; has_moves = refl; is_before = refl }; none = tt })
@@ -375,20 +406,28 @@ gap_next cols rest has_cols ends =
 rows_next : (cols : ℕ) (rest : List ℕ) → is_cols cols ≡ true → board_at (codes "board " ++ (decimal cols ++ (codes " " ++ rest))) ≡ rows_on cols rest
 rows_next cols rest has_cols = gap_next cols (codes " " ++ rest) has_cols refl ∙ ap (λ r. r >>= λ gap. rows_on cols gap) (after_text_of (codes " ") rest)
 
-rest_next : (board : Board) (rest : List ℕ) → is_spelled board ≡ true → prefix_len is_digit rest ≡ 0
-    → board_at (board_line board ++ rest) ≡ rest_of_line board.cols board.rows rest
-rest_next board rest has_board ends =
-    let both = and_parts (is_cols board.cols) (is_rows board.rows) (spelled_parts board has_board).0 in
+length_next : (board : Board) (rest : List ℕ) → is_board board ≡ true → prefix_len is_digit rest ≡ 0
+    → board_at (board_line board ++ rest) ≡ length_on board.cols board.rows (length_text board.len ++ rest)
+length_next board rest has_board ends =
+    let both = and_parts (is_cols board.cols) (is_rows board.rows) has_board in
     let spelled = rows_spelled board.rows both.1 in
-    ap board_at (sym (line_whole (decimal board.cols) (decimal board.rows) rest))
-    ∙ rows_next board.cols (decimal board.rows ++ rest) both.0
-    ∙ ap (λ r. r >>= λ rows. rest_of_line board.cols rows.0 rows.1) (size_of rows_of (decimal board.rows) rest board.rows spelled.0 spelled.1 ends)
+    let len : List ℕ = length_text board.len ++ rest in
+    ap board_at (sym (line_parted (decimal board.cols) (decimal board.rows) (length_text board.len) rest))
+    ∙ rows_next board.cols (decimal board.rows ++ len) both.0
+    ∙ ap (λ r. r >>= λ rows. length_on board.cols rows.0 rows.1)
+    (size_of rows_of (decimal board.rows) len board.rows spelled.0 spelled.1 (length_ends_rows board.len rest ends))
+
+rest_next : (board : Board) (rest : List ℕ) → is_board board ≡ true → prefix_len is_digit rest ≡ 0 → (board.len ≡ Four → IsOther 32 rest)
+    → board_at (board_line board ++ rest) ≡ rest_of_line board.cols board.rows board.len rest
+rest_next board rest has_board ends other =
+    length_next board rest has_board ends
+    ∙ ap (λ r. r >>= λ len. rest_of_line board.cols board.rows len.0 len.1) (length_of board.len rest ends other)
 
 game_next : (bytes : List ℕ) (s : Stop) → board_at bytes ≡ Err s → read_game bytes ≡ Err s
 unfolding read_game
 game_next bytes s h = ap (λ r. r >>= λ line. moves_at (empty_position line.0) line.1) h
 
-list_next : (board : Board) (columns behind : List ℕ) → is_spelled board ≡ true
+list_next : (board : Board) (columns behind : List ℕ) → is_board board ≡ true
     → read_game (up_to board columns ++ behind) ≡ moves_at (empty_position board) (map letter_of columns ++ behind)
 unfolding read_game
 list_next board columns behind has_board = ap (λ r. r >>= λ line. moves_at (empty_position line.0) line.1)
@@ -406,24 +445,35 @@ header_stops before behind (inr (inl h)) = game_next _ _
 header_stops before behind (inr (inr h)) = game_next _ _
     (ap (λ before. board_at (before ++ behind)) h.is_before
     ∙ ap board_at (append_assoc (board_line h.board) h.part behind)
-    ∙ rest_next h.board (h.part ++ behind) h.has_board (ends h.part h.fixed h.run_ends)
-    ∙ ap (λ r. r >>= λ rest. Ok (record { cols = h.board.cols; rows = h.board.rows; len = Four }, rest))
+    ∙ rest_next h.board (h.part ++ behind) h.has_board (ends h.part h.fixed h.run_ends) (other h.part h.fixed h.no_length)
+    ∙ ap (λ r. r >>= λ rest. Ok (h.board, rest))
     (ap (λ text. after_text text (h.part ++ behind)) h.fixed ∙ text_stops h.part h.byte h.later behind h.other))
   where
     ends : (part : List ℕ) → 10 ∷ codes "moves " ≡ part ++ h.byte ∷ h.later → (part ≡ [] → run_of behind ≡ []) → prefix_len is_digit (part ++ behind) ≡ 0
     ends [] fixed none = run_none behind (none refl)
     ends (b ∷ part) fixed none = let feed : b ≡ 10 = cc in rw feed refl
 
+    other : (part : List ℕ) → 10 ∷ codes "moves " ≡ part ++ h.byte ∷ h.later → (part ≡ [] → h.board.len ≡ Four → IsOther 32 behind) → h.board.len ≡ Four
+        → IsOther 32 (part ++ behind)
+    other [] fixed none four = none refl four
+    other (b ∷ part) fixed none four = let feed : b ≡ 10 = cc in λ (e : b ≡ 32). omega arith
+
 size_stopped : (before behind : List ℕ) → IsBadSize before behind → read_game (before ++ behind) ≡ stop BadSize (length behind)
 size_stopped before behind (inl h) = game_next _ _
     (ap (λ before. board_at (before ++ behind)) h.is_before
     ∙ cols_next behind
     ∙ ap (λ r. r >>= λ cols. gap_on cols.0 cols.1) (size_stops cols_of behind (size_none cols_of is_cols cols_give (run_of behind) h.none)))
-size_stopped before behind (inr h) = game_next _ _
+size_stopped before behind (inr (inl h)) = game_next _ _
     (ap (λ before. board_at (before ++ behind)) h.is_before
     ∙ ap board_at (sym (gap_whole (decimal h.cols) behind))
     ∙ rows_next h.cols behind h.has_cols
-    ∙ ap (λ r. r >>= λ rows. rest_of_line h.cols rows.0 rows.1) (size_stops rows_of behind (size_none rows_of is_rows rows_give (run_of behind) h.none)))
+    ∙ ap (λ r. r >>= λ rows. length_on h.cols rows.0 rows.1) (size_stops rows_of behind (size_none rows_of is_rows rows_give (run_of behind) h.none)))
+size_stopped before behind (inr (inr h)) = game_next _ _
+    (ap (λ before. board_at (before ++ behind)) h.is_before
+    ∙ ap board_at (append_assoc (board_line h.board) (codes " ") behind)
+    ∙ length_next h.board (codes " " ++ behind) h.has_board refl
+    ∙ ap (λ len. length_on h.board.cols h.board.rows (length_text len ++ (codes " " ++ behind))) h.untold
+    ∙ ap (λ r. r >>= λ len. rest_of_line h.board.cols h.board.rows len.0 len.1) (size_stops line_of behind (line_none (run_of behind) h.none)))
 
 -- a byte that isn't read as a letter stops the list; it is no `-` at its begin, and no line feed later
 abbrev NoEnd : List ℕ → ℕ → Type 0

@@ -6,7 +6,7 @@ use Rattle.std.proofs.lemmas.List.{length-replicate}
 use Rattle.game_rules.specs.Board.{Board, is_board}
 use Rattle.game_rules.specs.Position.{Position, board_of, empty_position, after_move, has_room, is_legal, played}
 use Rattle.game_rules.specs.Text.{board_at, game_at}
-use Rattle.game_rules.specs.Grammar.{letter_of, move_list, board_line, last_feed, game_text, is_spelled, IsGameText}
+use Rattle.game_rules.specs.Grammar.{letter_of, move_list, board_line, last_feed, game_text, IsGameText}
 use Rattle.game_rules.specs.Game.{Game, board_played, new_game, IsPlayed, IsTextOf, letters_in, moves_in, moves_behind, moves_of}
 use Rattle.game_rules.proofs.Moves.{board_moved}
 use Rattle.game_rules.proofs.Values.{empty_count_room}
@@ -69,7 +69,7 @@ text_of_game bytes game read moves =
     let board : board_played game ≡ text.board = board_along text.columns (empty_position text.board) game.position text.has_moves ∙ empty_board text.board in
     record {
       ended = text.ended;
-      has_board = ap is_spelled board ∙ text.has_board;
+      has_board = ap is_board board ∙ text.has_board;
       has_moves = ap (λ b. played (empty_position b) game.moves) board ∙ ap (played (empty_position text.board)) same ∙ text.has_moves;
       spelled = text.spelled ∙ sym (ap (λ b. game_text b game.moves text.ended) board ∙ ap (λ moves. game_text text.board moves text.ended) same);
     }

@@ -12,7 +12,7 @@ use Rattle.game_rules.proofs.Lists.{chosen}
 use Rattle.game_rules.proofs.Moves.{board_moved}
 use Rattle.game_rules.proofs.Ends.{kept_along, stacked_along}
 use Rattle.game_rules.proofs.Readers.{bind_ok, letter_moves, letter_of_move}
-use Rattle.game_rules.proofs.BoardLine.{spelled_parts, board_gives, board_of_spelling, empty_count_within}
+use Rattle.game_rules.proofs.BoardLine.{board_gives, board_of_spelling, empty_count_within}
 
 -- ---- what is read
 
@@ -135,14 +135,14 @@ board_along columns p q h = kept_along (λ r. board_of r ≡ board_of p) (λ r c
 -- the position of a text is one of legal moves from an empty board
 pub game_along : (bytes : List ℕ) (p : Position) → game_at bytes ≡ Ok p
     → (board : Board) × (columns : List ℕ) × (is_board board ≡ true) × (played (empty_position board) columns ≡ Some p)
-game_along bytes p h = let text = read_in_grammar bytes p h in (text.board, text.columns, (spelled_parts text.board text.has_board).0, text.has_moves)
+game_along bytes p h = let text = read_in_grammar bytes p h in (text.board, text.columns, text.has_board, text.has_moves)
 
 pub game_board : (bytes : List ℕ) (p : Position) → game_at bytes ≡ Ok p → is_board (board_of p) ≡ true
 game_board bytes p h =
     let text = read_in_grammar bytes p h in
     ap is_board (board_along text.columns (empty_position text.board) p text.has_moves
     ∙ ap (λ n. record { cols = n; rows = text.board.rows; len = text.board.len }) (length-replicate text.board.cols []))
-    ∙ (spelled_parts text.board text.has_board).0
+    ∙ text.has_board
 
 pub game_stacked : (bytes : List ℕ) (p : Position) → game_at bytes ≡ Ok p → IsStacked p
 game_stacked bytes p h = let text = read_in_grammar bytes p h in stacked_along text.board text.columns p text.has_moves

@@ -86,47 +86,48 @@ pub after_text_of : (text rest : List ℕ) → after_text text (text ++ rest) �
 after_text_of [] rest = refl
 after_text_of (x ∷ text) rest = rw (eq-eqb x x refl) (after_text_of text rest)
 
--- ---- a number
+-- ---- a number or a length
 
 -- how many bytes stand behind a value
 abbrev pub behind : {A : Type 0} → A × List ℕ → ℕ
 behind x = length x.1
 
-module _ (spelled : List ℕ → Option ℕ) (too_long : (run : List ℕ) → 3 ≤ length run → spelled run ≡ None) where
-  -- what was read spells the number, and is the longest run of digits
-  pub size_gives : (bytes : List ℕ) (x : ℕ × List ℕ) → size_at spelled bytes ≡ Ok x → (spelled (take_while is_digit bytes) ≡ Some x.0)
+-- what is spelled has at most so many digits
+module _ {X : Type 0} (most : ℕ) (spelled : List ℕ → Option X) (too_long : (run : List ℕ) → most < length run → spelled run ≡ None) where
+  -- what was read spells it, and is the longest run of digits
+  pub size_gives : (bytes : List ℕ) (x : X × List ℕ) → size_at spelled bytes ≡ Ok x → (spelled (take_while is_digit bytes) ≡ Some x.0)
       × (bytes ≡ take_while is_digit bytes ++ x.1)
   size_gives bytes x h = read (spelled (take_while is_digit bytes)) refl h
     where
       whole : take_while is_digit bytes ++ drop (length (take_while is_digit bytes)) bytes ≡ bytes
       whole = ap (λ n. take_while is_digit bytes ++ drop n bytes) (length-prefix_len is_digit bytes) ∙ take-append-drop (prefix_len is_digit bytes) bytes
 
-      read : (n : Option ℕ) → n ≡ spelled (take_while is_digit bytes) → read_as n (drop (length (take_while is_digit bytes)) bytes) bytes ≡ Ok x
+      read : (n : Option X) → n ≡ spelled (take_while is_digit bytes) → read_as n (drop (length (take_while is_digit bytes)) bytes) bytes ≡ Ok x
           → (spelled (take_while is_digit bytes) ≡ Some x.0) × (bytes ≡ take_while is_digit bytes ++ x.1)
       read None e h = cc
       read (Some n) e h =
           let pair : (n, drop (length (take_while is_digit bytes)) bytes) ≡ x = cc in
-          (sym e ∙ ap (λ (p : ℕ × List ℕ). Some p.0) pair, sym whole ∙ ap (λ (p : ℕ × List ℕ). take_while is_digit bytes ++ p.1) pair)
+          (sym e ∙ ap (λ (p : X × List ℕ). Some p.0) pair, sym whole ∙ ap (λ (p : X × List ℕ). take_while is_digit bytes ++ p.1) pair)
 
-  pub size_spends : (bytes : List ℕ) → Spends behind (length bytes) 2 (size_at spelled bytes)
+  pub size_spends : (bytes : List ℕ) → Spends behind (length bytes) most (size_at spelled bytes)
   size_spends bytes = read (size_at spelled bytes) refl
     where
-      read : (r : Result (ℕ × List ℕ) Stop) → r ≡ size_at spelled bytes → Spends behind (length bytes) 2 r
+      read : (r : Result (X × List ℕ) Stop) → r ≡ size_at spelled bytes → Spends behind (length bytes) most r
       read (Ok x) e =
           let given = size_gives bytes x (sym e) in
-          elim (cases_lt (length (take_while is_digit bytes)) 3) [
-            | inl short ↦ let size : length bytes ≡ length (take_while is_digit bytes) + length x.1 = ap length given.1
+          elim (cases_lt most (length (take_while is_digit bytes))) [
+            | inr short ↦ let size : length bytes ≡ length (take_while is_digit bytes) + length x.1 = ap length given.1
                 ∙ length-append (take_while is_digit bytes) x.1 in (omega arith, omega arith)
-            | inr long ↦ absurd (cc (given.0, too_long (take_while is_digit bytes) long))
+            | inl long ↦ absurd (cc (given.0, too_long (take_while is_digit bytes) long))
           ]
       read (Err s) e = stopped (spelled (take_while is_digit bytes)) e
         where
-          stopped : (n : Option ℕ) → Err s ≡ read_as n (drop (length (take_while is_digit bytes)) bytes) bytes
-              → Spends (behind {A = ℕ}) (length bytes) 2 (Err s)
+          stopped : (n : Option X) → Err s ≡ read_as n (drop (length (take_while is_digit bytes)) bytes) bytes
+              → Spends (behind {A = X}) (length bytes) most (Err s)
           stopped None e = let same : s ≡ record { kind = BadSize; left = length bytes } = cc in rw same (omega arith, omega arith)
           stopped (Some n) e = cc
 
-  pub size_more : (bytes ys : List ℕ) → 3 ≤ length bytes → size_at spelled (bytes ++ ys) ≡ with_more (λ x. (x.0, x.1 ++ ys)) (length ys) (size_at spelled bytes)
+  pub size_more : (bytes ys : List ℕ) → most < length bytes → size_at spelled (bytes ++ ys) ≡ with_more (λ x. (x.0, x.1 ++ ys)) (length ys) (size_at spelled bytes)
   size_more bytes ys h = elim (cases_lt (prefix_len is_digit bytes) (length bytes)) [
     | inl within ↦
         let same : prefix_len is_digit (bytes ++ ys) ≡ prefix_len is_digit bytes = prefix_len-append is_digit bytes ys
@@ -147,7 +148,7 @@ module _ (spelled : List ℕ → Option ℕ) (too_long : (run : List ℕ) → 3 
         (sym (too_long (take_while is_digit bytes) (omega (arith, length-prefix_len is_digit bytes))))
   ]
     where
-      read_more : (n : Option ℕ) (rest : List ℕ) → read_as n (rest ++ ys) (bytes ++ ys) ≡ with_more (λ x. (x.0, x.1 ++ ys)) (length ys) (read_as n rest bytes)
+      read_more : (n : Option X) (rest : List ℕ) → read_as n (rest ++ ys) (bytes ++ ys) ≡ with_more (λ x. (x.0, x.1 ++ ys)) (length ys) (read_as n rest bytes)
       read_more None rest = ap (stop BadSize) (length-append bytes ys)
       read_more (Some n) rest = refl
 

@@ -127,3 +127,37 @@ four_of_five = refl
 
 five_in_a_line : ended_by_five (0 ∷ 0 ∷ 1 ∷ 1 ∷ 2 ∷ 2 ∷ 3 ∷ 3 ∷ 4 ∷ []) ≡ Some (Some ends.White)
 five_in_a_line = refl
+
+-- what the line of a board may say behind its rows
+no_length_four : faults (game_at (codes "board 4 4 4")) ≡ Some (BadSize, 10)
+unfolding game_at read_game board_at
+no_length_four = refl
+
+no_length : faults (game_at (codes "board 4 4 " ++ (10 ∷ codes "moves -"))) ≡ Some (BadSize, 10)
+unfolding game_at read_game board_at
+no_length = refl
+
+two_digits : faults (game_at (codes "board 10 10 55" ++ (10 ∷ codes "moves -"))) ≡ Some (BadSize, 12)
+unfolding game_at read_game board_at
+two_digits = refl
+
+letter_behind_the_rows : faults (game_at (codes "board 4 4x" ++ (10 ∷ codes "moves -"))) ≡ Some (BadHeader, 9)
+unfolding game_at read_game board_at
+letter_behind_the_rows = refl
+
+space_behind_the_length : faults (game_at (codes "board 4 4 5 " ++ (10 ∷ codes "moves -"))) ≡ Some (BadHeader, 11)
+unfolding game_at read_game board_at
+space_behind_the_length = refl
+
+-- the same moves with lines of five, and of four
+five_by_text : played_out (game_at (codes "board 5 4 5" ++ (10 ∷ codes "moves aabbccdde"))) ≡ Some (Some ends.White, ends.White)
+unfolding game_at read_game board_at value value_within
+five_by_text = refl
+
+four_by_text : faults (game_at (codes "board 5 4" ++ (10 ∷ codes "moves aabbccdde"))) ≡ Some (GameOver, 23)
+unfolding game_at read_game board_at
+four_by_text = refl
+
+full_board_of_five : played_out (game_at (codes "board 4 4 5" ++ (10 ∷ codes "moves ababababcdcdcdcd"))) ≡ Some (Some ends.Draw, ends.Draw)
+unfolding game_at read_game board_at value value_within
+full_board_of_five = refl

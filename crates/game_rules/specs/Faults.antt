@@ -3,13 +3,14 @@
 -- byte is looked at, and which reader finds it, is no matter here.
 use Rattle.std.specs.Prelude.{◌≡◌, ◌≢◌, ◌⊎◌, ℕ, ◌<◌, true, false, List, [], ◌∷◌, ◌++◌, map, length, take_while, Some, None, codes, ⊤}
 use Rattle.std.specs.Fmt.{decimal}
-use Rattle.game_rules.specs.Board.{Board, is_cols, is_rows}
+use Rattle.game_rules.specs.Board.{Board, is_board, is_cols, is_rows}
 use Rattle.game_rules.specs.Position.{Position, empty_position, end_of, has_room, played}
 use Rattle.game_rules.specs.Text.{is_digit}
-use Rattle.game_rules.specs.Grammar.{letter_of, board_line, game_text, is_spelled}
+use Rattle.game_rules.specs.Grammar.{letter_of, board_line, game_text}
 use Rattle.game_rules.specs.declared.End.{End}
 use Rattle.game_rules.specs.declared.InputFault.{InputFault}
 use Rattle.game_rules.specs.declared.InputKind.{InputKind}
+use Rattle.game_rules.specs.declared.Length.TheVariants.{Four}
 
 -- a fault of this kind, at this byte place
 abbrev pub fault_at : InputKind → ℕ → InputFault
@@ -49,22 +50,25 @@ pub record BreaksGap (before behind : List ℕ) : Type 0 where
   pub run_ends : run_of behind ≡ []
   pub other : IsOther 32 behind
 
--- the line feed behind the number of rows, where its digits end, or a byte of `moves `
+-- the line feed behind the rows or behind the length of lines, where the digits end, or a byte of `moves `; behind the
+-- rows a space is no fault, since the length follows it
 pub record BreaksMoves (before behind : List ℕ) : Type 0 where
   pub board : Board
   pub part : List ℕ
   pub byte : ℕ
   pub later : List ℕ
-  pub has_board : is_spelled board ≡ true
+  pub has_board : is_board board ≡ true
   pub is_before : before ≡ board_line board ++ part
   pub fixed : 10 ∷ codes "moves " ≡ part ++ byte ∷ later
   pub run_ends : part ≡ [] → run_of behind ≡ []
+  pub no_length : part ≡ [] → board.len ≡ Four → IsOther 32 behind
   pub other : IsOther byte behind
 
 abbrev pub IsBadHeader : List ℕ → List ℕ → Type 0
 IsBadHeader before behind = BreaksBoard before behind ⊎ BreaksGap before behind ⊎ BreaksMoves before behind
 
--- ---- BadSize: the run of digits spells no number of columns or of rows that a board has, or is empty
+-- ---- BadSize: the run of digits spells no number of columns or of rows that a board has, or no length of lines, or is
+-- empty
 
 pub record HasNoCols (before behind : List ℕ) : Type 0 where
   pub is_before : before ≡ codes "board "
@@ -76,8 +80,16 @@ pub record HasNoRows (before behind : List ℕ) : Type 0 where
   pub is_before : before ≡ codes "board " ++ (decimal cols ++ codes " ")
   pub none : (n : ℕ) → is_rows n ≡ true → run_of behind ≢ decimal n
 
+-- behind the rows and a space: `5` is the one length that is told
+pub record HasNoLength (before behind : List ℕ) : Type 0 where
+  pub board : Board
+  pub has_board : is_board board ≡ true
+  pub untold : board.len ≡ Four
+  pub is_before : before ≡ board_line board ++ codes " "
+  pub none : run_of behind ≢ codes "5"
+
 abbrev pub IsBadSize : List ℕ → List ℕ → Type 0
-IsBadSize before behind = HasNoCols before behind ⊎ HasNoRows before behind
+IsBadSize before behind = HasNoCols before behind ⊎ HasNoRows before behind ⊎ HasNoLength before behind
 
 -- ---- the list of moves, up to a place
 
@@ -87,7 +99,7 @@ up_to board columns = board_line board ++ (10 ∷ (codes "moves " ++ map letter_
 
 -- that stands before the place, and the moves are legal one after the other; they lead from the empty board to p
 pub record IsUpTo (before : List ℕ) (board : Board) (columns : List ℕ) (p : Position) : Type 0 where
-  pub has_board : is_spelled board ≡ true
+  pub has_board : is_board board ≡ true
   pub has_moves : played (empty_position board) columns ≡ Some p
   pub is_before : before ≡ up_to board columns
 
@@ -146,7 +158,7 @@ pub record FollowsText (before behind : List ℕ) : Type 0 where
   pub p : Position
   pub byte : ℕ
   pub more : List ℕ
-  pub has_board : is_spelled board ≡ true
+  pub has_board : is_board board ≡ true
   pub has_moves : played (empty_position board) columns ≡ Some p
   pub is_before : before ≡ game_text board columns true
   pub is_behind : behind ≡ byte ∷ more
@@ -155,7 +167,7 @@ pub record FollowsDash (before behind : List ℕ) : Type 0 where
   pub board : Board
   pub byte : ℕ
   pub more : List ℕ
-  pub has_board : is_spelled board ≡ true
+  pub has_board : is_board board ≡ true
   pub is_before : before ≡ game_text board [] false
   pub is_behind : behind ≡ byte ∷ more
   pub no_feed : byte ≢ 10

@@ -1,9 +1,9 @@
 -- A game: the moves that were played from the start of a board, and the position behind them.
 use Rattle.std.specs.Prelude.{◌≡◌, ℕ, ◌-◌, Bool, true, ◌==◌, if◌then◌else◌, List, [], ◌∷◌, Some, Result, Ok, Err}
-use Rattle.game_rules.specs.Board.{Board}
+use Rattle.game_rules.specs.Board.{Board, is_board}
 use Rattle.game_rules.specs.Position.{Position, board_of, empty_position, played}
 use Rattle.game_rules.specs.Text.{board_at}
-use Rattle.game_rules.specs.Grammar.{is_spelled, game_text}
+use Rattle.game_rules.specs.Grammar.{game_text}
 use Rattle.game_rules.specs.declared.Stop.{Stop}
 
 pub record Game : Type 0 where
@@ -24,7 +24,7 @@ IsPlayed game = played (empty_position (board_played game)) game.moves ≡ Some 
 -- The bytes are the text of the game: its board, its moves, and a line feed behind them or none.
 pub record IsTextOf (bytes : List ℕ) (game : Game) : Type 0 where
   pub ended : Bool
-  pub has_board : is_spelled (board_played game) ≡ true
+  pub has_board : is_board (board_played game) ≡ true
   pub has_moves : IsPlayed game
   pub spelled : bytes ≡ game_text (board_played game) game.moves ended
 

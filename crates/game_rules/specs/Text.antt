@@ -1,5 +1,5 @@
--- The text of a game on a board with lines of four, this project's own: the line `board COLS ROWS`, and the line
--- `moves` with a letter for each move, or `-` for none. The last line feed may be missing. Reading goes from the left
+-- The text of a game, this project's own: the line `board COLS ROWS`, with ` 5` behind it where lines of five win, and the
+-- line `moves` with a letter for each move, or `-` for none. The last line feed may be missing. Reading goes from the left
 -- and gives the position, or the first fault.
 use Rattle.std.specs.Prelude.{ℕ, ◌-◌, Bool, ◌&&◌, ◌||◌, ◌==◌, nat_le, if◌then◌else◌, List, [], ◌∷◌, length, drop, take_while, Option, Some, None, is_some, Result, Ok, Err, codes}
 use Rattle.game_rules.specs.Board.{Board}
@@ -9,7 +9,8 @@ use Rattle.game_rules.specs.declared.InputKind.{InputKind}
 use Rattle.game_rules.specs.declared.InputKind.TheVariants.{BadHeader, BadSize, BadColumn, ColumnFull, GameOver, Trailing}
 use Rattle.game_rules.specs.declared.InputFault.{InputFault}
 use Rattle.game_rules.specs.declared.Stop.{Stop}
-use Rattle.game_rules.specs.declared.Length.TheVariants.{Four}
+use Rattle.game_rules.specs.declared.Length.{Length}
+use Rattle.game_rules.specs.declared.Length.TheVariants.{Four, Five}
 
 -- reading stops at a fault of this kind, with so many bytes left
 abbrev pub stop : {X : Type 0} → InputKind → ℕ → Result X Stop
@@ -42,14 +43,25 @@ rows_of (a ∷ []) = if a == 52 || a == 54 || a == 56 then Some (a - 48) else No
 rows_of (a ∷ b ∷ []) = if a == 49 && b == 48 then Some 10 else None
 rows_of (a ∷ b ∷ c ∷ run) = None
 
--- a number, and the bytes after it
+-- how long a line has to be, where a run of digits says it; lines of four have no digit
+abbrev pub line_of : List ℕ → Option Length
+line_of [] = None
+line_of (a ∷ []) = if a == 53 then Some Five else None
+line_of (a ∷ b ∷ run) = None
+
+-- a number or a length, and the bytes after it
 abbrev pub read_as : {X : Type 0} → Option X → List ℕ → List ℕ → Result (X × List ℕ) Stop
 read_as (Some n) rest bytes = Ok (n, rest)
 read_as None rest bytes = stop BadSize (length bytes)
 
 -- the longest run of digits at the start has to spell one
-abbrev pub size_at : (List ℕ → Option ℕ) → List ℕ → Result (ℕ × List ℕ) Stop
+abbrev pub size_at : {X : Type 0} → (List ℕ → Option X) → List ℕ → Result (X × List ℕ) Stop
 size_at spelled bytes = let run = take_while is_digit bytes in read_as (spelled run) (drop (length run) bytes) bytes
+
+-- the length of lines behind the rows: that of the digits behind a space, and else four
+abbrev pub length_at : List ℕ → Result (Length × List ℕ) Stop
+length_at [] = Ok (Four, [])
+length_at (byte ∷ bytes) = if byte == 32 then size_at line_of bytes else Ok (Four, byte ∷ bytes)
 
 -- the position after one more letter, where as many bytes are left as said, the letter too
 abbrev pub move_into : Position → ℕ → Option ℕ → Result Position Stop
@@ -86,8 +98,9 @@ board_at bytes = do
   cols ← size_at cols_of head
   gap ← after_text (codes " ") cols.1
   rows ← size_at rows_of gap
-  rest ← after_text (10 ∷ codes "moves ") rows.1
-  Ok (record { cols = cols.0; rows = rows.0; len = Four }, rest)
+  len ← length_at rows.1
+  rest ← after_text (10 ∷ codes "moves ") len.1
+  Ok (record { cols = cols.0; rows = rows.0; len = len.0 }, rest)
 
 unfoldable pub read_game : List ℕ → Result Position Stop
 read_game bytes = do

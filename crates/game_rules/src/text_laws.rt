@@ -16,7 +16,7 @@ pub fn what_is_read_is_in_the_grammar()
 
 /// A text has a fault of each of the six kinds at a place exactly where what stands before and behind the place is so,
 /// in words of the text and of the rules of the game: a byte of the fixed parts is another byte or is missing; the
-/// digits spell no number of columns or of rows that a board has; the list of moves has a byte that is neither a column
+/// digits spell no number of columns or of rows that a board has, or no length of lines; the list of moves has a byte that is neither a column
 /// letter nor its end, or has no byte; a letter stands after the end of the game; a letter names a full column while
 /// the game goes on; or a byte follows the text.
 pub fn a_text_that_is_no_game_has_its_fault()
@@ -37,16 +37,16 @@ pub fn the_position_of_a_text_is_one_of_moves()
     ensures empty { (bytes : List ℕ) (p : Position) → game_at bytes ≡ Ok p → empty_count p ≤ 100 }
 {}
 
-/// A game has at most 119 bytes. A longer text has its fault among its first 120, and what follows those decides
+/// A game has at most 121 bytes. A longer text has its fault among its first 122, and what follows those decides
 /// nothing: neither whether the text is a game, nor its fault.
 pub fn a_long_text_is_no_game()
-    ensures short { (bytes : List ℕ) (p : Position) → game_at bytes ≡ Ok p → length bytes ≤ 119 }
-    ensures fault { (bytes : List ℕ) → 120 ≤ length bytes → (fault : InputFault) × (game_at bytes ≡ Err fault) × (fault.at < 120) }
-    ensures prefix { (bytes : List ℕ) (n : ℕ) → 120 ≤ n → game_at (take n bytes) ≡ game_at bytes }
-    ensures behind { (bytes more : List ℕ) → 120 ≤ length bytes → game_at (bytes ++ more) ≡ game_at bytes }
+    ensures short { (bytes : List ℕ) (p : Position) → game_at bytes ≡ Ok p → length bytes ≤ 121 }
+    ensures fault { (bytes : List ℕ) → 122 ≤ length bytes → (fault : InputFault) × (game_at bytes ≡ Err fault) × (fault.at < 122) }
+    ensures prefix { (bytes : List ℕ) (n : ℕ) → 122 ≤ n → game_at (take n bytes) ≡ game_at bytes }
+    ensures behind { (bytes more : List ℕ) → 122 ≤ length bytes → game_at (bytes ++ more) ≡ game_at bytes }
 {}
 
-/// The place of a fault is within the text, or right behind its last byte, and always among the first 120 places.
+/// The place of a fault is within the text, or right behind its last byte, and always among the first 122 places.
 pub fn a_fault_is_near()
-    ensures { (bytes : List ℕ) (fault : InputFault) → game_at bytes ≡ Err fault → (fault.at ≤ length bytes) × (fault.at < 120) }
+    ensures { (bytes : List ℕ) (fault : InputFault) → game_at bytes ≡ Err fault → (fault.at ≤ length bytes) × (fault.at < 122) }
 {}
