@@ -15,7 +15,7 @@ pub fault_read : (bytes : List ℕ) (s : Stop) → read_game bytes ≡ Err s →
 unfolding game_at
 fault_read bytes s h = ap (placed (length bytes)) h
 
-pub place_near : (bytes : List ℕ) (s : Stop) → read_game bytes ≡ Err s → length bytes - s.left < 120
+pub place_near : (bytes : List ℕ) (s : Stop) → read_game bytes ≡ Err s → length bytes - s.left < 122
 place_near bytes s h = (fault_near bytes (record { kind = s.kind; at = length bytes - s.left }) (fault_read bytes s h)).1
 
 -- a fixed text that is not yet at its end stops where no byte is left

@@ -4,14 +4,14 @@ ghost use Rattle.std.specs.Prelude.{◌≡◌, ◌+◌, ◌-◌, ◌<◌, ◌≤
 ghost use Rattle.game_rules.specs.Position.{Position as Men, empty_position};
 ghost use Rattle.game_rules.specs.Game.{IsTextOf, letters_in, moves_in, moves_of};
 ghost use Rattle.game_rules.specs.Board.{is_cols, is_rows};
-ghost use Rattle.game_rules.specs.Text.{after_text, is_digit, cols_of, rows_of, size_at, board_at, letter_read, at_end, letters_from, after_dash, moves_at, read_game, game_at};
+ghost use Rattle.game_rules.specs.Text.{after_text, is_digit, cols_of, rows_of, line_of, size_at, length_at, board_at, letter_read, at_end, letters_from, after_dash, moves_at, read_game, game_at};
 ghost use Rattle.board_bits.specs.Reading.{Gives};
 
-use crate::{Game, InputFault, InputKind, MoveFault, Position, Size};
+use crate::{Game, InputFault, InputKind, Length, MoveFault, Position, Size};
 use game_rules::Stop;
 
-/// Reads the text of a game: the line `board COLS ROWS`, and the line `moves` with a letter for each move, or `-` for
-/// none; the last line feed may be missing. A text that isn't a game gets its first fault from the left, with its byte
+/// Reads the text of a game: the line `board COLS ROWS`, with ` 5` behind it where lines of five win, and the line `moves`
+/// with a letter for each move, or `-` for none; the last line feed may be missing. A text that isn't a game gets its first fault from the left, with its byte
 /// place counted from 0.
 pub fn read_game_moves(bytes: &[u8]) -> Result<Game, InputFault>
     ensures position { Gives (λ game. game.position) result (game_at bytes.now) }
@@ -53,8 +53,9 @@ fn board_at(bytes: &[u8]) -> Result<(Size, &[u8]), Stop>
     let (cols, rest) = cols_at(head)?;
     let gap = after_text(b" ", rest)?;
     let (rows, rest) = rows_at(gap)?;
+    let (len, rest) = length_at(rest)?;
     let rest = after_text(b"\nmoves ", rest)?;
-    Ok((Size::of(cols, rows), rest))
+    Ok((Size::of(cols, rows, len), rest))
 }
 
 /// The bytes after a fixed text.
@@ -144,6 +145,36 @@ fn rows_of(run: &[u8]) -> Option<u8>
     match run {
         [digit @ (b'4' | b'6' | b'8')] => Some(digit - b'0'),
         [b'1', b'0'] => Some(10),
+        _ => None,
+    }
+}
+
+/// The length of lines that is told behind the rows, and the bytes after it. It is four where no space follows the rows.
+fn length_at(bytes: &[u8]) -> Result<(Length, &[u8]), Stop>
+    ensures { Gives (λ found. (found.0, found.1.now)) result (length_at bytes.now) }
+{
+    match bytes {
+        [b' ', rest @ ..] => line_at(rest),
+        _ => Ok((Length::Four, bytes)),
+    }
+}
+
+/// The length of lines behind a space, and the bytes after it.
+fn line_at(bytes: &[u8]) -> Result<(Length, &[u8]), Stop>
+    ensures { Gives (λ found. (found.0, found.1.now)) result (size_at line_of bytes.now) }
+{
+    let (run, rest) = digit_run(bytes);
+    match line_of(run) {
+        Some(len) => Ok((len, rest)),
+        None => Err(stop(InputKind::BadSize, bytes)),
+    }
+}
+
+fn line_of(run: &[u8]) -> Option<Length>
+    ensures { result ≡ line_of run.now }
+{
+    match run {
+        [b'5'] => Some(Length::Five),
         _ => None,
     }
 }

@@ -6,7 +6,6 @@ ghost use Rattle.game_rules.specs.Letters.{column_named};
 ghost use Rattle.game_rules.specs.Squares.{squares_of_board, squares_in_column, widest, widest_with};
 ghost use Rattle.board_bits.specs.Size.{sized};
 ghost use Rattle.board_bits.specs.Words.{square_at};
-ghost use Rattle.game_rules.specs.declared.Length.TheVariants.{Four};
 ghost use Rattle.arrayvec.specs.ArrayVec.{array_vec_len};
 
 use crate::line::{MOST_IN_LINE, is_line, squares_in, step_of};
@@ -81,17 +80,13 @@ impl Size {
         Ok(Size { cols, rows, len })
     }
 
-    /// The size with these numbers, which a board has, and lines of four.
-    pub(crate) fn of(cols: u8, rows: u8) -> Size
+    /// The size with these numbers, which a board has, and lines of this length.
+    pub(crate) fn of(cols: u8, rows: u8, len: Length) -> Size
         requires cols { is_cols cols ≡ true }
         requires rows { is_rows rows ≡ true }
-        ensures { result ≡ record { cols = cols; rows = rows; len = Four } }
+        ensures { result ≡ record { cols = cols; rows = rows; len = len } }
     {
-        Size {
-            cols,
-            rows,
-            len: Length::Four,
-        }
+        Size { cols, rows, len }
     }
 
     /// Whether the sizes have as many columns, as many rows, and lines of the same length. `==` answers the same.

@@ -165,7 +165,7 @@ long_moves board moves (next ∷ more) h =
 -- a text whose prefix is long enough is read as its prefix
 prefix_decides : (line rest also : List ℕ) → game_prefix ≤ length line → game_at (take game_prefix line ++ rest) ≡ game_at (line ++ also)
 prefix_decides line rest also h =
-    let long : 120 ≤ length (take game_prefix line) = omega (arith, length-take-le game_prefix line h) in
+    let long : 122 ≤ length (take game_prefix line) = omega (arith, length-take-le game_prefix line h) in
     same_prefix (take game_prefix line) rest long
     ∙ sym (ap (λ whole. game_at (whole ++ also)) (sym (take-append-drop game_prefix line))
     ∙ ap game_at (append_assoc (take game_prefix line) (drop game_prefix line) also)
@@ -175,7 +175,7 @@ moves_decide : (board moves rest also : List ℕ) → game_prefix ≤ length mov
     → game_at (board ++ 10 ∷ (take game_prefix moves ++ rest)) ≡ game_at (board ++ 10 ∷ (moves ++ also))
 moves_decide board moves rest also h =
     let prefix = board ++ 10 ∷ take game_prefix moves in
-    let long : 120 ≤ length prefix = omega (arith, length-append board (10 ∷ take game_prefix moves), length-take-le game_prefix moves h) in
+    let long : 122 ≤ length prefix = omega (arith, length-append board (10 ∷ take game_prefix moves), length-take-le game_prefix moves h) in
     ap game_at (sym (append_assoc board (10 ∷ take game_prefix moves) rest)) ∙ same_prefix prefix rest long
     ∙ sym (ap (λ whole. game_at (board ++ 10 ∷ (whole ++ also))) (sym (take-append-drop game_prefix moves))
     ∙ ap (λ text. game_at (board ++ 10 ∷ text)) (append_assoc (take game_prefix moves) (drop game_prefix moves) also)

@@ -8,14 +8,15 @@ use Rattle.std.proofs.lemmas.List.{length-append, length-take, take_all, length-
 use Rattle.std.proofs.lemmas.List.Folds.{flat_map-map}
 use Rattle.std.proofs.lemmas.Slice.Eq.{bytes_eq-Decides}
 use Rattle.std.proofs.lemmas.Bool.{and_parts, leb-true, or_cases, eqb-true}
-use Rattle.game_rules.specs.Board.{Board, is_cols, is_rows}
+use Rattle.game_rules.specs.Board.{Board, is_board, is_cols, is_rows}
+use Rattle.game_rules.specs.declared.Length.{Length}
+use Rattle.game_rules.specs.declared.Length.TheVariants.{Four, Five}
 use Rattle.game_rules.specs.Position.{Position, empty_position, played, board_of}
 use Rattle.game_rules.specs.Text.{game_at}
-use Rattle.game_rules.specs.Grammar.{move_list, is_spelled, board_line, moves_line, last_feed, game_text}
+use Rattle.game_rules.specs.Grammar.{move_list, length_text, board_line, moves_line, last_feed, game_text}
 use Rattle.game_rules.proofs.Lists.{chosen}
 use Rattle.game_rules.proofs.Prefix.{game_short}
 use Rattle.game_rules.proofs.Grammar.{read_in_grammar, grammar_read, board_along}
-use Rattle.game_rules.proofs.BoardLine.{spelled_parts}
 use Rattle.game_rules.specs.declared.InputFault.{InputFault}
 use Rattle.proof_text.specs.Lemma.{Lemma, ALemma, ARemark, AVerdict}
 use Rattle.proof_text.specs.Right.{Shown, AreRight}
@@ -62,15 +63,21 @@ rows_small n h = elim (or_cases (n == 4 || n == 6 || n == 8) (n == 10) h) [
   ]
 ]
 
-feedless_board : (board : Board) → is_spelled board ≡ true → IsFeedless (board_line board)
+high_length : (len : Length) → IsHigh (length_text len)
+high_length Four = high_text [] refl
+high_length Five = high_text (codes " 5") refl
+
+feedless_board : (board : Board) → is_board board ≡ true → IsFeedless (board_line board)
 feedless_board board h =
-    let both = and_parts (is_cols board.cols) (is_rows board.rows) (spelled_parts board h).0 in
+    let both = and_parts (is_cols board.cols) (is_rows board.rows) h in
     let wide = and_parts (nat_le 4 board.cols) (nat_le board.cols 10) both.0 in
     let rows = rows_small board.rows both.1 in
     let low : 4 ≤ board.cols = leb-true 4 board.cols wide.0 in
-    feedless_high (board_line board) (high_append (codes "board ") (decimal board.cols ++ (codes " " ++ decimal board.rows)) (high_text (codes "board ") refl)
-    (high_append (decimal board.cols) (codes " " ++ decimal board.rows) (high_decimal board.cols (omega arith) (leb-true board.cols 10 wide.1))
-    (high_append (codes " ") (decimal board.rows) (high_text (codes " ") refl) (high_decimal board.rows rows.0 rows.1))))
+    let rows_on : List ℕ = decimal board.rows ++ length_text board.len in
+    feedless_high (board_line board) (high_append (codes "board ") (decimal board.cols ++ (codes " " ++ rows_on)) (high_text (codes "board ") refl)
+    (high_append (decimal board.cols) (codes " " ++ rows_on) (high_decimal board.cols (omega arith) (leb-true board.cols 10 wide.1))
+    (high_append (codes " ") rows_on (high_text (codes " ") refl)
+    (high_append (decimal board.rows) (length_text board.len) (high_decimal board.rows rows.0 rows.1) (high_length board.len)))))
 
 feedless_moves : (columns : List ℕ) → IsFeedless (moves_line columns)
 feedless_moves columns =
@@ -80,11 +87,11 @@ feedless_moves columns =
 -- the two lines that a game was read from are its lines, whole
 lines_of_game : (first second : List ℕ) (root : Position) → IsFeedless first → IsFeedless second
     → game_at (take game_prefix first ++ 10 ∷ as_line (take game_prefix second)) ≡ Ok root
-    → (board : Board) × (columns : List ℕ) × (is_spelled board ≡ true) × (played (empty_position board) columns ≡ Some root) × (first ≡ board_line board)
+    → (board : Board) × (columns : List ℕ) × (is_board board ≡ true) × (played (empty_position board) columns ≡ Some root) × (first ≡ board_line board)
     × (second ≡ moves_line columns)
 lines_of_game first second root one two h =
     let text = take game_prefix first ++ 10 ∷ as_line (take game_prefix second) in
-    let short : length text ≤ 119 = game_short text root h in
+    let short : length text ≤ 121 = game_short text root h in
     let size : length text ≡ length (take game_prefix first) + length (10 ∷ as_line (take game_prefix second)) = length-append (take game_prefix first)
     (10 ∷ as_line (take game_prefix second)) in
     let more : length (as_line (take game_prefix second)) ≡ length (take game_prefix second) + 1 = length-append (take game_prefix second) (10 ∷ []) in
@@ -111,14 +118,14 @@ lines_of_game first second root one two h =
         cc
 
 -- and the other way round
-game_of_lines : (board : Board) (columns : List ℕ) (root : Position) (next : List ℕ) (more : List (List ℕ)) → is_spelled board ≡ true
+game_of_lines : (board : Board) (columns : List ℕ) (root : Position) (next : List ℕ) (more : List (List ℕ)) → is_board board ≡ true
     → played (empty_position board) columns ≡ Some root
     → game_at (game_of (board_line board ∷ moves_line columns ∷ next ∷ more)) ≡ Ok root
 game_of_lines board columns root next more has_board has_moves =
     let text = game_text board columns true in
     let read : game_at text ≡ Ok root =
     grammar_read text root (record { board = board; columns = columns; ended = true; has_board = has_board; has_moves = has_moves; spelled = refl }) in
-    let short : length text ≤ 119 = game_short text root read in
+    let short : length text ≤ 121 = game_short text root read in
     let size : length text ≡ length (board_line board) + suc (length (moves_line columns ++ 10 ∷ [])) =
     length-append (board_line board) (10 ∷ (moves_line columns ++ 10 ∷ [])) in
     let rest : length (moves_line columns ++ 10 ∷ []) ≡ length (moves_line columns) + 1 = length-append (moves_line columns) (10 ∷ []) in
@@ -243,7 +250,7 @@ lines_behind board entries v ended fit verdict_fits =
         ∙ lines_append (map entry_text entries) (verdict_text v) ∙ ap (λ last. map entry_text entries ++ last) (some v)
 
 -- a text with a game is answered by the lines behind it
-pub text_answer : (board : Board) (columns : List ℕ) (root : Position) (text : List ℕ) → is_spelled board ≡ true
+pub text_answer : (board : Board) (columns : List ℕ) (root : Position) (text : List ℕ) → is_board board ≡ true
     → played (empty_position board) columns ≡ Some root
     → check_of (head_of board columns ++ text) ≡ check_from (start root) first_number (lines_in (pieces text))
 unfolding check_of

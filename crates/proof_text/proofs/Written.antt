@@ -8,13 +8,11 @@ use Rattle.std.proofs.lemmas.List.Folds.{flat_map-map}
 use Rattle.std.proofs.lemmas.List.Concat.{flat_map-cons}
 use Rattle.game_rules.specs.Board.{Board, is_board}
 use Rattle.game_rules.specs.Position.{Position, board_of, empty_position, played}
-use Rattle.game_rules.proofs.BoardLine.{spelled_parts}
 use Rattle.proof_text.specs.Lemma.{claim_side, Lemma}
 use Rattle.proof_text.specs.Right.{Shown, AreRight}
 use Rattle.proof_text.specs.Spelling.{verdict_line, as_line, lines_of, is_remark, greatest_number, Fits, IsShort}
 use Rattle.proof_text.specs.Texts.{Accepted, check_of, Entry, LemmaEntry, RemarkEntry, entry_text, entry_lines, lemmas_among, EntryFits, head_of, IsRightText}
 use Rattle.proof_text.specs.Written.{IsAskedInTurn, IsRemarkLine, remark_line, AreSided, HasWritten, MayStand, IsProof}
-use Rattle.game_rules.specs.Grammar.{is_spelled}
 use Rattle.game_rules.specs.declared.Side.{Side}
 use Rattle.game_rules.specs.declared.Side.TheVariants.{White, Black}
 use Rattle.plan_text.proofs.Spaced.{all_append, all_each, all_left, all_right}
@@ -124,13 +122,13 @@ all_short side ls sided = all_each (λ l. (claim_side l.claim ≡ side) × IsSho
 
 -- a verdict at the end of what is written, within the number of lemmas that have a spelling
 pub proof_right : (board : Board) (columns : List ℕ) (root : Position) (text : List ℕ) (v : Verdict) (proof : IsProof root (head_of board columns) text v)
-    → is_spelled board ≡ true → played (empty_position board) columns ≡ Some root → length proof.after ≤ greatest_number
+    → is_board board ≡ true → played (empty_position board) columns ≡ Some root → length proof.after ≤ greatest_number
     → IsRightText text v (length proof.after)
 proof_right board columns root text v proof has_board has_moves few =
     let w = proof.written in
     let right = AreRight_append root [] w.mid proof.after w.white w.black w.white_right w.black_right in
     let same : board_of root ≡ board = board_of_root board columns root has_moves in
-    let root_board : is_board (board_of root) ≡ true = ap is_board same ∙ (spelled_parts board has_board).0 in
+    let root_board : is_board (board_of root) ≡ true = ap is_board same ∙ has_board in
     let count : length proof.after ≡ length (w.white ++ w.black) = shown_count root (w.white ++ w.black) proof.after right in
     let both : length (w.white ++ w.black) ≡ length w.white + length w.black = length-append w.white w.black in
     let ls = w.white ++ w.black in
@@ -161,7 +159,7 @@ proof_right board columns root text v proof has_board has_moves few =
 
 -- so it is accepted, with its verdict and all its lemmas
 pub proof_accepted : (board : Board) (columns : List ℕ) (root : Position) (text : List ℕ) (v : Verdict) (proof : IsProof root (head_of board columns) text v)
-    → is_spelled board ≡ true → played (empty_position board) columns ≡ Some root → length proof.after ≤ greatest_number
+    → is_board board ≡ true → played (empty_position board) columns ≡ Some root → length proof.after ≤ greatest_number
     → check_of text ≡ Accepted v (length proof.after)
 proof_accepted board columns root text v proof has_board has_moves few =
     right_accepted text v (length proof.after) (proof_right board columns root text v proof has_board has_moves few)

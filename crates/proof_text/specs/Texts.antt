@@ -1,10 +1,10 @@
 -- Whole texts of proofs: which are right, and what is wrong with the others. A text is taken as a whole list of bytes.
 use Rattle.std.specs.Prelude.{◌≡◌, ◌≤◌, ℕ, ◌+◌, Bool, true, ◌==◌, nat_le, if◌then◌else◌, List, [], ◌∷◌, ◌++◌, length, take, filter_map, Option, Some, None, Result, Ok, Err, slice_index_or, codes, bytes_eq, flat_map}
 use Rattle.std.specs.List.{slice_split, AllByRecursion}
-use Rattle.game_rules.specs.Board.{Board, below}
+use Rattle.game_rules.specs.Board.{Board, is_board, below}
 use Rattle.game_rules.specs.Position.{Position, board_of, empty_position, played}
 use Rattle.game_rules.specs.Text.{game_at}
-use Rattle.game_rules.specs.Grammar.{is_spelled, game_text, last_feed}
+use Rattle.game_rules.specs.Grammar.{game_text, last_feed}
 use Rattle.game_rules.specs.declared.InputFault.{InputFault}
 use Rattle.proof_text.specs.Lemma.{Lemma, Line, ALemma, ARemark, AVerdict}
 use Rattle.proof_text.specs.Right.{Shown, AreRight, IsVerdict}
@@ -204,7 +204,7 @@ pub record IsRightText (bytes : List ℕ) (v : Verdict) (count : ℕ) : Type 0 w
   pub entries : List Entry
   pub after : List Shown
   pub ended : Bool
-  pub has_board : is_spelled board ≡ true
+  pub has_board : is_board board ≡ true
   pub has_moves : played (empty_position board) columns ≡ Some root
   pub fit : AllByRecursion (EntryFits board) entries
   pub right : AreRight root [] (lemmas_among entries) after

@@ -3,7 +3,6 @@
 ghost use Rattle.std.specs.Prelude.{◌≡◌, ◌≢◌, ◌↔◌, ◌⊎◌, ℕ, ◌+◌, ◌≤◌, ◌<◌, true, List, [], ◌∷◌, ◌++◌, length, false, Some, None, Ok, Err, flat_map};
 ghost use Rattle.std.specs.List.{AllByRecursion};
 ghost use Rattle.game_rules.specs.Board.{Board, is_board};
-ghost use Rattle.game_rules.specs.Grammar.{is_spelled};
 ghost use Rattle.game_rules.specs.Position.{Position, board_of, empty_position, played};
 ghost use Rattle.game_rules.specs.Value.{value};
 ghost use Rattle.game_rules.specs.Text.{game_at};
@@ -119,7 +118,7 @@ pub fn a_right_text_says_what_is_true()
 /// A proof that stands written whole behind the head of its game is a right text, and so it is accepted.
 pub fn what_is_written_whole_is_right()
     ensures right { (board : Board) (columns : List ℕ) (root : Position) (text : List ℕ) (v : Verdict) (proof : IsProof root (head_of board columns) text v)
-        → is_spelled board ≡ true → played (empty_position board) columns ≡ Some root → length proof.after ≤ greatest_number → IsRightText text v (length proof.after) }
+        → is_board board ≡ true → played (empty_position board) columns ≡ Some root → length proof.after ≤ greatest_number → IsRightText text v (length proof.after) }
     ensures accepted { (board : Board) (columns : List ℕ) (root : Position) (text : List ℕ) (v : Verdict) (proof : IsProof root (head_of board columns) text v)
-        → is_spelled board ≡ true → played (empty_position board) columns ≡ Some root → length proof.after ≤ greatest_number → check_of text ≡ Accepted v (length proof.after) }
+        → is_board board ≡ true → played (empty_position board) columns ≡ Some root → length proof.after ≤ greatest_number → check_of text ≡ Accepted v (length proof.after) }
 {}

@@ -26,12 +26,12 @@ heard_text old new n buffer room within bytes =
 -- the bytes that were read determine the game of the whole input
 module _ (old new : Option (List ℕ)) (heard : List ℕ) (taken : Consumes old new heard) where
   pub same_game : (length heard < 256 → IsAtEnd new) → IfSome old (λ bytes. game_at bytes ≡ game_at heard)
-  same_game ended = elim (cases_lt (length heard) 120) [
+  same_game ended = elim (cases_lt (length heard) 122) [
     | inl short ↦ Consumes-whole old new heard (λ bytes. game_at bytes ≡ game_at heard) taken (ended (omega arith)) refl
     | inr long ↦ behind old new taken long
   ]
     where
-      behind : (old new : Option (List ℕ)) → Consumes old new heard → 120 ≤ length heard → IfSome old (λ bytes. game_at bytes ≡ game_at heard)
+      behind : (old new : Option (List ℕ)) → Consumes old new heard → 122 ≤ length heard → IfSome old (λ bytes. game_at bytes ≡ game_at heard)
       behind None new h long = tt
       behind (Some xs) None h long = absurd h
       behind (Some xs) (Some ys) h long = ap game_at h ∙ same_prefix heard ys long

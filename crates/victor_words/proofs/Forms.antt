@@ -7,7 +7,6 @@ use Rattle.std.specs.Fmt.{decimal}
 use Rattle.std.proofs.lemmas.Bool.{and_parts, and_from}
 use Rattle.std.proofs.lemmas.Option.{cond_some}
 use Rattle.game_rules.specs.Board.{Board, is_board, same_length}
-use Rattle.game_rules.specs.Grammar.{is_spelled}
 use Rattle.game_rules.specs.Number.{number_between}
 use Rattle.game_rules.specs.declared.Length.{Length}
 use Rattle.game_rules.specs.declared.Length.TheVariants.{Four, Five}
@@ -16,7 +15,7 @@ use Rattle.game_rules.proofs.Lists.{chosen}
 use Rattle.game_rules.proofs.Numbers.{number_gives, number_spelled}
 use Rattle.plan_text.specs.Words.{◌>>=◌}
 use Rattle.plan_text.proofs.Spaced.{bind_some, is_text}
-use Rattle.victor_words.specs.Words.{OptionRow, Given, IsNumberOf, IsGiven, FormRow, form_row, row_of, AreGames, HasOwnRanges, HasRanges, nodes, reach, front}
+use Rattle.victor_words.specs.Words.{OptionRow, Given, IsNumberOf, IsGiven, FormRow, form_row, row_of, is_drilled, AreGames, HasOwnRanges, HasRanges, nodes, reach, front}
 use Rattle.victor_words.specs.Words.{table, options_of, has_only}
 use Rattle.victor_words.specs.Reading.{WordsFound, asked, number, own_with, with_none, with_five, board_with, size_from, form_with}
 use Rattle.victor_words.specs.Reading.{prove_form, bare_form, explain_form, drill_form}
@@ -77,15 +76,15 @@ is_four Four h = refl
 is_four Five h = cc
 
 size_told : (cols rows : List ℕ) (size : Board) → size_from cols rows ≡ Some size
-    → (is_spelled size ≡ true) × (cols ≡ decimal size.cols) × (rows ≡ decimal size.rows)
+    → (is_drilled size ≡ true) × (cols ≡ decimal size.cols) × (rows ≡ decimal size.rows)
 size_told cols rows size h =
     let c = bind_some (number_between 0 255 cols) _ size h in
     let r = bind_some (number_between 0 255 rows) _ size c.2 in
     let board = cond_some (is_board (board_with c.0 r.0)) (board_with c.0 r.0) size r.2 in
-    subst (λ (size : Board). (is_spelled size ≡ true) × (cols ≡ decimal size.cols) × (rows ≡ decimal size.rows)) board.1
+    subst (λ (size : Board). (is_drilled size ≡ true) × (cols ≡ decimal size.cols) × (rows ≡ decimal size.rows)) board.1
     (and_from _ true board.0 refl, (number_gives 0 255 cols c.0 c.1).2, (number_gives 0 255 rows r.0 r.1).2)
 
-size_found : (size : Board) → is_spelled size ≡ true → size_from (decimal size.cols) (decimal size.rows) ≡ Some size
+size_found : (size : Board) → is_drilled size ≡ true → size_from (decimal size.cols) (decimal size.rows) ≡ Some size
 size_found size h =
     let tests = and_parts (is_board size) (same_length size.len Four) h in
     let most = board_most size tests.0 in

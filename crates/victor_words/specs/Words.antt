@@ -5,9 +5,9 @@ use Rattle.std.specs.List.{list_all, list_any, AllByRecursion}
 use Rattle.std.specs.Int.{IsInRange}
 use Rattle.std.specs.Str.{bytes_eq}
 use Rattle.std.specs.Fmt.{decimal}
-use Rattle.game_rules.specs.Board.{Board}
-use Rattle.game_rules.specs.Grammar.{is_spelled}
+use Rattle.game_rules.specs.Board.{Board, is_board, same_length}
 use Rattle.victor_words.specs.declared.form.Form.{Form}
+use Rattle.game_rules.specs.declared.Length.TheVariants.{Four}
 use Rattle.victor_words.specs.declared.form.Form.TheVariants.{Prove, Check, Play, Explain, Drill}
 
 -- what is said of the written forms where the words are none
@@ -72,9 +72,13 @@ row_of (Explain k) = form_row (codes "explain") [] ((reach, Some k) ∷ [])
 row_of (Drill size moves seed games n k) =
     form_row (codes "drill") (map decimal (size.cols ∷ size.rows ∷ moves ∷ seed ∷ games ∷ [])) ((nodes, Some n) ∷ (reach, Some k) ∷ [])
 
+-- a drill's words tell no length of lines, so its boards have lines of four
+abbrev pub is_drilled : Board → Bool
+is_drilled board = is_board board && same_length board.len Four
+
 -- games on a board with lines of four, with their most moves, the number that they are made from, and how many they are
 pub record AreGames (board : Board) (most from count : ℕ) : Type 0 where
-  pub size : is_spelled board ≡ true
+  pub size : is_drilled board ≡ true
   pub moves : IsInRange 0 100 most
   pub seed : IsInRange 1 2147483646 from
   pub games : IsInRange 1 1000 count
