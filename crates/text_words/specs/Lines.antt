@@ -5,6 +5,6 @@ use Rattle.std.specs.Prelude.{ℕ}
 abbrev pub line_room : ℕ
 line_room = 256
 
--- no text of a game needs more room: words, two numbers as they are pushed, and a letter for each square
+-- no text of a game needs more room: words, two numbers as they are pushed, the length of lines, and a letter for each square
 abbrev pub most_game_text : ℕ
-most_game_text = 135
+most_game_text = 137

@@ -2,11 +2,11 @@
 ghost use Rattle.std.specs.Prelude.{◌≡◌, ◌+◌, ◌≤◌, ◌++◌, true, length, map};
 ghost use Rattle.arrayvec.specs.ArrayVec.{array_vec_len};
 ghost use Rattle.game_rules.specs.Game.{board_played};
-ghost use Rattle.game_rules.specs.Grammar.{letter_of, move_list, game_text};
+ghost use Rattle.game_rules.specs.Grammar.{letter_of, length_text, move_list, game_text};
 ghost use Rattle.text_words.specs.Lines.{line_room, most_game_text};
 
 use crate::{LineText, letter_of, push_number, push_text};
-use board_bits::{Column, Game};
+use board_bits::{Column, Game, Length};
 
 /// Puts the two lines of a game behind what is there, each with its line feed.
 pub fn push_game(line: &mut LineText, game: &Game)
@@ -18,9 +18,22 @@ pub fn push_game(line: &mut LineText, game: &Game)
     push_number(line, u32::from(size.cols()));
     push_text(line, b" ");
     push_number(line, u32::from(size.rows()));
+    push_length(line, size.length());
     push_text(line, b"\nmoves ");
     push_moves(line, game.moves());
     push_text(line, b"\n");
+}
+
+/// Puts how long the board's lines are behind what is there: nothing where they have four squares.
+fn push_length(line: &mut LineText, length: Length)
+    requires { array_vec_len line.old + 2 ≤ line_room }
+    ensures items { line.new.items ≡ line.old.items ++ length_text length }
+    ensures bound { array_vec_len line.new ≤ array_vec_len line.old + 2 }
+{
+    match length {
+        Length::Four => {}
+        Length::Five => push_text(line, b" 5"),
+    }
 }
 
 /// Puts the letters of moves behind what is there, or `-` where there is none.
