@@ -66,7 +66,7 @@ class Asker:
     def answer(self, game, name="proof"):
         """What the first program says that decides a position; else why each did not, and what may help."""
         begin, answers = time.monotonic(), []
-        for engine in self.engines:
+        for engine in self.engines_for(game):
             asked = {"solve": self.by_solve, "prove": self.by_prove}[engine]
             left = None if self.seconds is None else max(0.1, self.seconds - (time.monotonic() - begin))
             answers.append(asked(game, os.path.join(self.folder, name), left))
@@ -74,6 +74,13 @@ class Asker:
                 return answers[-1]
         wishes = next((one.wishes for one in answers if one.wishes), ())
         return dataclasses.replace(answers[-1], whys=sum((one.whys for one in answers), ()), wishes=wishes)
+
+    def engines_for(self, game):
+        """The programs that take its board: solve has lines of four alone."""
+        engines = tuple(engine for engine in self.engines if engine != "solve" or game.length == 4)
+        if not engines:
+            raise Fault("solve takes boards with lines of four: --by prove asks about lines of five")
+        return engines
 
     def by_solve(self, game, path, seconds):
         """What `tools/solve` says, by the first proof that it finds."""
@@ -178,16 +185,17 @@ def join(parts):
 def sentence(game, answer, engines, moves=None):
     """What is said. `moves` has the columns with the verdict of each for the side that moves."""
     side, other = (SIDES[game.side], SIDES["WB"[game.side == "W"]])
-    place = "after %s on %d by %d" % (game.letters(), game.cols, game.rows)
+    place = "after %s on %s" % (game.letters(), game.size)
     if game.letters() == "-":
-        place = "on the empty board of %d by %d" % (game.cols, game.rows)
+        place = "on the empty board of %s" % game.size
     found = "found by %s, " % answer.by if "solve" in engines else ""
     shown = "%s%s accepted" % (found, count_of(answer.lemmas, "lemma"))
     if answer.value == "unknown":
         said = "What the position %s is worth stays unknown, since %s: %s" % (
             place, join(answer.whys), advice(answer, engines))
     elif game.line:
-        said = "%s has four in a line %s, so %s has lost (%s)" % (other, place, side, shown)
+        many = boards.NUMBERS[game.length]
+        said = "%s has %s in a line %s, so %s has lost (%s)" % (other, many, place, side, shown)
     elif answer.value == "draw":
         said = "The position %s is a draw%s (%s)" % (
             place, ", since the board is full" if game.is_over else " for %s, who is to move" % side, shown)
@@ -238,7 +246,7 @@ def said_of_moves(moves):
 def data_of(game, answer, engines, moves=None):
     """The same as data."""
     data = {
-        "columns": game.cols, "rows": game.rows, "moves": game.letters(), "side": SIDES[game.side],
+        "columns": game.cols, "rows": game.rows, "length": game.length, "moves": game.letters(), "side": SIDES[game.side],
         "ended": game.is_over, "value": answer.value, "by": answer.by or None, "lemmas": answer.lemmas,
         "accepted": answer.proof is not None, "sentence": sentence(game, answer, engines, moves),
     }
@@ -290,7 +298,7 @@ def parse():
     )
     parser.add_argument("position", nargs="?", help="the position; without it, it is read from standard input")
     parser.add_argument("--file", metavar="FILE", help="the file to read it from")
-    parser.add_argument("--board", metavar="7x6", help="the board of a list of moves (7x6)")
+    parser.add_argument("--board", metavar="7x6", help="the board of a list of moves (7x6), as 8x6x5 for lines of five")
     parser.add_argument("--moves", action="store_true", help="say also which moves are best, each by its own proof")
     parser.add_argument("--by", choices=("solve", "prove", "both"),
                         help="what looks for a proof; both is solve, and then prove (both where tools/solve is built)")

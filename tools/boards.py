@@ -6,10 +6,11 @@ import shutil
 import sys
 
 from victor import (  # noqa: F401, some for those who import them from here
-    COLUMNS, LETTERS, ROWS, TOP, WAYS, Fault, Game, board_size, columns_of, line_through, read_game,
+    COLUMNS, LETTERS, ROWS, TOP, WAYS, Fault, Game, Size, board_size, columns_of, line_through, read_game,
     find_program as program,
 )
 
+NUMBERS = {4: "four", 5: "five"}
 RULES = {
     "CE": "Claimeven", "BI": "Baseinverse", "LI": "Lowinverse", "HI": "Highinverse", "BC": "Baseclaim",
     "VE": "Vertical", "AE": "Aftereven", "BE": "Before", "SB": "Specialbefore",
@@ -51,13 +52,13 @@ def square_of(name):
     return None
 
 
-def group_of(name):
-    """The four squares of a group's name, or None."""
+def group_of(name, length=4):
+    """The squares of a group's name, so many as the board's lines have, or None."""
     anchor = square_of(name[:-1])
     if anchor is None or name[-1] not in WAYS:
         return None
     right, up = WAYS[name[-1]]
-    squares = [(anchor[0] + k * right, anchor[1] + k * up) for k in range(4)]
+    squares = [(anchor[0] + k * right, anchor[1] + k * up) for k in range(length)]
     return squares if squares[-1][0] < 10 and squares[-1][1] > 0 else None
 
 

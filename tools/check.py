@@ -35,8 +35,8 @@ class ReadFault(Exception):
 
 
 class Board:
-    def __init__(self, cols, rows):
-        self.cols, self.rows = cols, rows
+    def __init__(self, cols, rows, length=4):
+        self.cols, self.rows, self.length = cols, rows, length
         self.step = rows + 1
         self.size = cols * self.step
         self.letters = "abcdefghij"[:cols]
@@ -52,9 +52,9 @@ class Board:
         for way, right, up in WAYS:
             for i in range(cols):
                 for r in range(1, rows + 1):
-                    last_i, last_r = i + 3 * right, r + 3 * up
+                    last_i, last_r = i + (length - 1) * right, r + (length - 1) * up
                     if last_i < cols and 1 <= last_r <= rows:
-                        squares = [self.bit(i + k * right, r + k * up) for k in range(4)]
+                        squares = [self.bit(i + k * right, r + k * up) for k in range(length)]
                         name = "%s%d%s" % (self.letters[i], r, way)
                         self.groups.append((sum(squares), name))
                         self.group_named[name] = sum(squares)
@@ -65,7 +65,8 @@ class Board:
     def has_line(self, men):
         for s in self.shifts:
             pair = men & (men >> s)
-            if pair & (pair >> 2 * s):
+            four = pair & (pair >> 2 * s)
+            if four and (self.length == 4 or four & (four >> s)):
                 return True
         return False
 
@@ -82,6 +83,7 @@ class Board:
 
 SIZES = {b"4": 4, b"5": 5, b"6": 6, b"7": 7, b"8": 8, b"9": 9, b"10": 10}
 ROWS = {b"4": 4, b"6": 6, b"8": 8, b"10": 10}
+LENGTHS = {b"5": 5}  # lines of four are those of a board that tells no length
 
 
 def read_game(text):
@@ -107,8 +109,12 @@ def read_game(text):
     cols = number(SIZES)
     fixed(b" ")
     rows = number(ROWS)
+    length = 4
+    if text[place:place + 1] == b" ":
+        place += 1
+        length = number(LENGTHS)
     fixed(b"\nmoves ")
-    board = Board(cols, rows)
+    board = Board(cols, rows, length)
     letters = board.letters.encode()
     men = [0, 0]
     end = None

@@ -106,7 +106,8 @@ def grid_text(cols, rows, entry, width=1):
 def sentence_of(game):
     """Who is to move, or how the game has ended."""
     if game.line:
-        return "%s has four in a line" % ("Black" if game.side == "W" else "White")
+        side = "Black" if game.side == "W" else "White"
+        return "%s has %s in a line" % (side, boards.NUMBERS[game.length])
     if game.is_over:
         return "the board is full"
     return "%s is to move" % ("White" if game.side == "W" else "Black")
@@ -117,7 +118,7 @@ def sentence_of(game):
 
 
 def draw_position(game, is_text):
-    said = "%d by %d after %s: %s" % (game.cols, game.rows, game.letters(), sentence_of(game))
+    said = "%s after %s: %s" % (game.size, game.letters(), sentence_of(game))
     if is_text:
         return "\n".join(grid_text(game.cols, game.rows, lambda s: game.men.get(s, ".")) + [said]) + "\n"
     picture = Picture()
@@ -143,6 +144,8 @@ class Explained:
             raise Fault("there is no plan to draw: the text begins with %r" % (lines[0] if lines else ""))
         self.members = lines[0].split(" ")[1:]
         self.zones, self.answers = [], []
+        # Which lines win the text doesn't tell: those of the game where one is named, and else four.
+        self.length = game.length if game else 4
         for n, line in enumerate(lines[1:], 2):
             words = line.split(" ")
             if len(self.zones) < len(self.members):
@@ -152,7 +155,7 @@ class Explained:
                     raise Fault("line %d isn't what `explain` writes of an instance: %r" % (n, line))
                 self.zones.append(squares)
             else:
-                squares = group_of(words[0]) if len(words[0]) > 2 else None
+                squares = group_of(words[0], self.length) if len(words[0]) > 2 else None
                 if len(words) != 3 or words[1] != "by" or squares is None or words[2] not in self.members:
                     raise Fault("line %d isn't what `explain` writes of a line: %r" % (n, line))
                 self.answers.append((words[0], squares, words[2]))
@@ -204,7 +207,7 @@ def draw_plan(plan, is_text):
         picture.write(x, y - 2, plan.members[n - 1][:2], "small", "middle")
         picture.write(x, y + 12, str(n), "small", "middle")
     for n, member in enumerate(plan.members, 1):
-        draw_standing(picture, grid, member, n)
+        draw_standing(picture, grid, member, n, plan.length)
     low = picture.height
     x = grid.x + grid.cols * CELL + 18
     y = draw_legend(picture, plan, x)
@@ -214,14 +217,14 @@ def draw_plan(plan, is_text):
     return picture.text(title)
 
 
-def draw_standing(picture, grid, member, n):
+def draw_standing(picture, grid, member, n, length):
     """The line of a standing rule, with its number at the first square."""
     rule, parts = member[:2], member[3:].split(",")
     if rule == "VE":
         square = square_of(parts[0])
         squares = [square, (square[0], square[1] + 1)]
     elif rule in ("AE", "BE", "SB"):
-        squares = group_of(parts[0])
+        squares = group_of(parts[0], length)
     else:
         return
     # Lines of several instances lie beside one another.
@@ -293,9 +296,9 @@ def plan_text(plan, title):
 
 
 def read_duel(text, game, size):
-    """The boards of a duel: men, the two new ones, and a caption.
+    """The size of a duel's board, and its boards: men, the two new ones, and a caption.
 
-    Without a game the men below the first squares are `?`.
+    Without a game the men below the first squares are `?`, and lines of four win where no size says another length.
     """
     turns = []
     for n, line in enumerate(text.replace("\r", "").rstrip("\n").split("\n"), 1):
@@ -306,31 +309,32 @@ def read_duel(text, game, size):
         turns.append((squares, words))
     all_squares = [square for squares, _ in turns for square in squares]
     if game is not None:
-        cols, rows, men = game.cols, game.rows, dict(game.men)
+        size, men = game.size, dict(game.men)
     else:
         cols = max([4] + [i + 1 for i, _ in all_squares])
         rows = min(r for r in boards.ROWS if r >= max(row for _, row in all_squares))
         if size:
-            if cols > size[0] or rows > size[1]:
+            if cols > size.cols or rows > size.rows:
                 raise Fault("a square of the duel isn't on this board")
-            cols, rows = size
+        size = size or boards.Size(cols, rows)
         men = {}
-        for i in range(cols):
+        for i in range(size.cols):
             lowest = min((r for k, r in all_squares if k == i), default=1)
             men.update({(i, r): "?" for r in range(1, lowest)})
     shown = [(dict(men), (), "the start")]
     for n, (squares, words) in enumerate(turns, 1):
         for square, side in zip(squares, "WB"):
             i, r = square
-            if i >= cols or r > rows or square in men or (r > 1 and (i, r - 1) not in men):
+            if i >= size.cols or r > size.rows or square in men or (r > 1 and (i, r - 1) not in men):
                 raise Fault("turn %d: %s isn't playable there%s"
                             % (n, name_of(square), "" if game else " (--game names the game)"))
             men[square] = side
         shown.append((dict(men), tuple(squares), "%d.  %s" % (n, "  ".join(words))))
-    return cols, rows, shown
+    return size, shown
 
 
-def draw_duel(cols, rows, shown, is_text):
+def draw_duel(size, shown, is_text):
+    cols, rows = size.cols, size.rows
     title = "a duel of %d turns by a plan" % (len(shown) - 1)
     if is_text:
         wide = 3 + 2 * cols
@@ -351,7 +355,7 @@ def draw_duel(cols, rows, shown, is_text):
         line_up, across = divmod(k, many)
         x, y = across * (cols * cell + EDGE + 20) + 4, line_up * (rows * cell + 56) + 34
         grid = Grid(cols, rows, x, y, cell)
-        line = boards.line_through(men, new[1]) if new else ()
+        line = boards.line_through(men, new[1], size.length) if new else ()
         grid.draw(picture, men, {}, new, line)
         picture.write(grid.x, y + rows * cell + 34, caption, "note")
     return picture.text(title)
@@ -416,7 +420,8 @@ def shown_lemmas(lemmas, verdict, most):
 def draw_proof(game, lemmas, verdict, most):
     numbers = shown_lemmas(lemmas, verdict, most)
     data = {
-        "cols": game.cols, "rows": game.rows, "moves": game.letters(), "verdict": verdict, "count": len(lemmas),
+        "size": str(game.size), "cols": game.cols, "rows": game.rows, "moves": game.letters(), "verdict": verdict,
+        "count": len(lemmas),
         "lemmas": [lemmas[n - 1] for n in numbers],
     }
     with open(os.path.join(os.path.dirname(os.path.abspath(__file__)), "proof.html"), encoding="ascii") as source:
@@ -442,7 +447,8 @@ def main():
     form.add_argument("--html", action="store_true", help="a page, for a proof alone")
     parser.add_argument("--game", metavar="FILE",
                         help="a plan's or a duel's game: a file whose first two lines are one")
-    parser.add_argument("--board", metavar="7x6", help="the board of a duel, where no game is named")
+    parser.add_argument("--board", metavar="7x6",
+                        help="the board of a duel, where no game is named (8x6x5 for lines of five)")
     parser.add_argument("--most", type=int, default=MOST_SHOWN, metavar="N",
                         help="how many lemmas a page shows at most (%d)" % MOST_SHOWN)
     parser.add_argument("-o", "--out", metavar="FILE", help="where to write; without it, standard output")

@@ -72,7 +72,7 @@ def explained_plan(program, start, reach):
     explained = victor.explain(start, reach=reach, program=program)
     if explained.plan:
         return explained.plan.split(" ")
-    place = "after %s on %d by %d" % (start.letters(), start.cols, start.rows)
+    place = "after %s on %s" % (start.letters(), start.size)
     if start.is_over:
         raise Fault("the game has ended %s" % place)
     if start.side == "B":
@@ -177,7 +177,7 @@ class Table:
 
     def replay(self):
         moves = self.start.moves + [column for turn in self.turns for column in turn]
-        self.game = Game(self.start.cols, self.start.rows, moves)
+        self.game = Game.on(self.start.size, moves)
 
     def show(self, new=()):
         print(board_text(self.game, self.colours, new))
@@ -256,7 +256,7 @@ def read_start(words):
     """The game, and the instances of a plan where one is given."""
     given = plan_line(boards.read_input(words.plan)) if words.plan else None
     if not words.game:
-        return Game(*boards.board_size(words.board or "6x6"), boards.columns_of(words.moves or "-")), given
+        return Game.on(boards.board_size(words.board or "6x6"), boards.columns_of(words.moves or "-")), given
     if words.board or words.moves:
         raise Fault("the file names the game, so --board and --moves can't")
     text = boards.read_input(words.game)
@@ -272,7 +272,8 @@ def main():
     )
     parser.add_argument("game", nargs="?", metavar="FILE",
                         help="the text of a game, where one begins; a plan may be its third line")
-    parser.add_argument("--board", metavar="6x6", help="the board, where no file is named (6x6)")
+    parser.add_argument("--board", metavar="6x6",
+                        help="the board, where no file is named (6x6), as 8x6x5 for lines of five")
     parser.add_argument("--moves", metavar="LETTERS", help="the moves so far, where no file is named (none)")
     parser.add_argument("--plan", metavar="FILE", help="a file with the plan; else `victor explain` gives one")
     parser.add_argument("--reach", type=int, default=1_000, metavar="K", help="how many sets explain tries (1000)")

@@ -24,11 +24,12 @@ import subprocess
 import tempfile
 import time
 from dataclasses import dataclass
-from typing import BinaryIO, Callable, Iterable, Iterator, Optional, Union
+from typing import BinaryIO, Callable, Iterable, Iterator, NamedTuple, Optional, Union
 
 LETTERS = "abcdefghij"
 COLUMNS = range(4, 11)
 ROWS = (4, 6, 8, 10)
+LENGTHS = (4, 5)
 WAYS = {"h": (1, 0), "v": (0, 1), "u": (1, 1), "d": (1, -1)}
 TOP = os.path.dirname(os.path.dirname(os.path.abspath(__file__)))
 SOLVER = os.path.join(os.path.dirname(os.path.abspath(__file__)), "solve", "solve")
@@ -72,12 +73,15 @@ class OutOfTime(Failed):
 
 
 class Game:
-    """A board, the moves so far, and the position after them. `line` has the squares of a line, where one was made."""
+    """A board, the moves so far, and the position after them. `length` is how many men in a line win, four or five, and
+    `line` has the squares of a line, where one was made."""
 
-    def __init__(self, cols: int, rows: int, moves: Iterable[int] = ()) -> None:
+    def __init__(self, cols: int, rows: int, moves: Iterable[int] = (), length: int = 4) -> None:
         if cols not in COLUMNS or rows not in ROWS:
             raise Fault("no board has %d columns and %d rows: 4 to 10 columns, and 4, 6, 8 or 10 rows" % (cols, rows))
-        self.cols, self.rows = cols, rows
+        if length not in LENGTHS:
+            raise Fault("no board has lines of %d: four in a line win, or five" % length)
+        self.cols, self.rows, self.length = cols, rows, length
         self.moves = []
         self.men = {}
         self.heights = [0] * cols
@@ -86,12 +90,21 @@ class Game:
             self.play(column)
 
     @classmethod
-    def read(cls, text: str, size: Optional[tuple[int, int]] = None) -> "Game":
+    def on(cls, size: "Size", moves: Iterable[int] = ()) -> "Game":
+        """The game of these moves on a board of this size."""
+        return cls(size.cols, size.rows, moves, size.length)
+
+    @classmethod
+    def read(cls, text: str, size: Optional[tuple[int, ...]] = None) -> "Game":
         """The game that people write so: letters, digits, squares, numbered moves, the text of a game or a diagram."""
         return read_question(text, size)
 
     def __repr__(self) -> str:
-        return "Game.read(%r, (%d, %d))" % (self.letters(), self.cols, self.rows)
+        return "Game.read(%r, %r)" % (self.letters(), tuple(self.size) if self.length != 4 else tuple(self.size)[:2])
+
+    @property
+    def size(self) -> "Size":
+        return Size(self.cols, self.rows, self.length)
 
     @property
     def side(self) -> str:
@@ -114,12 +127,12 @@ class Game:
         self.heights[column] += 1
         square = (column, self.heights[column])
         self.men[square] = self.side
-        self.line = line_through(self.men, square)
+        self.line = line_through(self.men, square, self.length)
         self.moves.append(column)
 
     def after(self, column: int) -> "Game":
         """The game with one move more."""
-        return Game(self.cols, self.rows, self.moves + [column])
+        return Game.on(self.size, self.moves + [column])
 
     def open_columns(self) -> list[int]:
         return [i for i in range(self.cols) if self.heights[i] < self.rows]
@@ -134,11 +147,23 @@ class Game:
 
     def text(self) -> str:
         """The text of the game, as the program reads it."""
-        return "board %d %d\nmoves %s\n" % (self.cols, self.rows, self.letters())
+        told = "" if self.length == 4 else " %d" % self.length
+        return "board %d %d%s\nmoves %s\n" % (self.cols, self.rows, told, self.letters())
 
 
-def line_through(men, square):
-    """The squares of the lines through this square that one side owns."""
+class Size(NamedTuple):
+    """How many columns and rows a board has, and how many men in a line win."""
+
+    cols: int
+    rows: int
+    length: int = 4
+
+    def __str__(self) -> str:
+        return "%d by %d%s" % (self.cols, self.rows, "" if self.length == 4 else " with lines of five")
+
+
+def line_through(men, square, length=4):
+    """The squares of the lines through this square that one side owns, of so many squares or more."""
     side = men[square]
     found = set()
     for right, up in WAYS.values():
@@ -148,7 +173,7 @@ def line_through(men, square):
             while men.get((i + sign * right, r + sign * up)) == side:
                 i, r = i + sign * right, r + sign * up
                 run.add((i, r))
-        if len(run) >= 4:
+        if len(run) >= length:
             found |= run
     return tuple(sorted(found))
 
@@ -157,11 +182,12 @@ def read_game(text: str) -> Game:
     """The game of a text as `victor prove` reads it."""
     lines = text.replace("\r", "").rstrip("\n").split("\n")
     words = [line.split(" ") for line in lines]
-    if len(lines) != 2 or len(words[0]) != 3 or words[0][0] != "board" or len(words[1]) != 2 or words[1][0] != "moves":
+    is_game = len(lines) == 2 and len(words[0]) in (3, 4) and words[0][0] == "board"
+    if not is_game or len(words[1]) != 2 or words[1][0] != "moves":
         raise Fault("this is no text of a game: two lines, `board COLUMNS ROWS` and `moves LETTERS`")
-    if not (words[0][1].isascii() and words[0][1].isdigit() and words[0][2].isascii() and words[0][2].isdigit()):
-        raise Fault("this is no text of a game: the board's numbers")
-    return Game(int(words[0][1]), int(words[0][2]), columns_of(words[1][1]))
+    if not all(word.isascii() and word.isdigit() for word in words[0][1:]) or words[0][3:] not in ([], ["5"]):
+        raise Fault("this is no text of a game: the board's numbers, and 5 behind them where lines of five win")
+    return Game.on(Size(*map(int, words[0][1:])), columns_of(words[1][1]))
 
 
 def columns_of(letters: str) -> list[int]:
@@ -173,33 +199,33 @@ def columns_of(letters: str) -> list[int]:
     return [LETTERS.index(letter) for letter in letters]
 
 
-def board_size(word: str) -> tuple[int, int]:
-    """The columns and rows of a word as 7x6."""
-    cols, mark, rows = word.lower().partition("x")
-    if not mark or not cols.isascii() or not rows.isascii() or not cols.isdigit() or not rows.isdigit():
-        raise Fault("%r is no board: write it as 7x6" % word)
-    Game(int(cols), int(rows))
-    return int(cols), int(rows)
+def board_size(word: str) -> Size:
+    """The size that a word as 7x6 names, or as 8x6x5 where lines of five win."""
+    numbers = word.lower().split("x")
+    if len(numbers) not in (2, 3) or not all(number.isascii() and number.isdigit() for number in numbers):
+        raise Fault("%r is no board: write it as 7x6, or as 8x6x5 where lines of five win" % word)
+    return Game.on(Size(*map(int, numbers))).size
 
 
 # ---------------------------------------------------------------------------------------------------------------------
 # Positions as people write them.
 
 
-def read_question(text: str, size: Optional[tuple[int, int]] = None) -> Game:
+def read_question(text: str, size: Optional[tuple[int, ...]] = None) -> Game:
     """The game that a text asks about. The board is 7 by 6 where neither the text nor a size says another."""
     text = text.replace("\r\n", "\n").replace("\r", "\n").strip()
     if not text:
         raise Fault("there is no position: write - for the empty board")
     if text.startswith("board "):
         game = read_game(text + "\n")
-        if size and size != (game.cols, game.rows):
-            raise Fault("the text has another board, of %d by %d" % (game.cols, game.rows))
+        if size and Size(*size) != game.size:
+            raise Fault("the text has another board, of %s" % game.size)
         return game
     rows = diagram_rows(text)
     if rows:
         return read_diagram(rows, size)
-    return Game(*(size or (7, 6)), read_moves(text, *(size or (7, 6))))
+    board = Size(*(size or (7, 6)))
+    return Game.on(board, read_moves(text, board.cols, board.rows))
 
 
 def read_moves(text: str, cols: int, rows: int) -> list[int]:
@@ -256,7 +282,7 @@ def diagram_rows(text):
     below a position says nothing more than its men."""
     rows = []
     for line in text.split("\n"):
-        if re.match(r"\s*[0-9]+ by [0-9]+ after ", line):
+        if re.match(r"\s*[0-9]+ by [0-9]+ (with lines of five )?after ", line):
             continue
         bare = re.sub(r"^\s*[0-9]{1,2}(?=\s)|[|\s]", "", line)
         if not bare or re.fullmatch(r"[a-jA-J]+|[0-9]+|[-+=]+", bare) and not re.fullmatch(r"[Bb]+", bare):
@@ -276,9 +302,10 @@ def read_diagram(rows, size):
             raise Fault("row %d of the diagram, from the top, has %d squares and the first has %d"
                         % (n, len(row), len(rows[0])))
     cols, height = len(rows[0]), len(rows)
-    if size and size != (cols, height):
+    board = Size(*size) if size else Size(cols, height)
+    if (board.cols, board.rows) != (cols, height):
         raise Fault("the diagram has %d columns and %d rows" % (cols, height))
-    Game(cols, height)
+    Game.on(board)
     stacks = []
     for i in range(cols):
         column = "".join(row[i] for row in reversed(rows))
@@ -291,23 +318,23 @@ def read_diagram(rows, size):
     if firsts - seconds not in (0, 1):
         raise Fault("the diagram has %d X and %d O: X moves first, so there have to be as many or one more"
                     % (firsts, seconds))
-    return Game(cols, height, order_of(stacks, cols, height))
+    return Game.on(board, order_of(stacks, board))
 
 
-def order_of(stacks, cols, rows):
+def order_of(stacks, board):
     """An order of moves that makes these columns, each from the bottom up, with no move after a line."""
     total = sum(map(len, stacks))
     men = {(i, r): "WB"[man == "O"] for i, stack in enumerate(stacks) for r, man in enumerate(stack, 1)}
     last_side = "WB"[(total + 1) % 2]
     lasts = [None]
-    if any(line_through(men, square) for square in men):
+    if any(line_through(men, square, board.length) for square in men):
         # A line can only have been made by the last man, and without that man there is none.
         lasts = []
         for i, stack in enumerate(stacks):
             square = (i, len(stack))
             if stack and men[square] == last_side:
                 fewer = {other: man for other, man in men.items() if other != square}
-                if not any(line_through(fewer, other) for other in fewer):
+                if not any(line_through(fewer, other, board.length) for other in fewer):
                     lasts.append(i)
         if not lasts:
             raise Fault("no order of moves leads to this diagram: there are lines that no single last man made")
@@ -525,7 +552,9 @@ def solve(game: Game, *, book: Optional[Path] = None, into: Optional[Path] = Non
           seconds: Optional[float] = None, memory: Optional[int] = None, tell: Optional[Tell] = None,
           **numbers: int) -> Proof:
     """The proof that `tools/solve` writes, with its other options as numbers. Behind half of the seconds it makes the
-    proof no smaller."""
+    proof no smaller. It takes boards with lines of four alone."""
+    if game.length != 4:
+        raise Fault("solve takes boards with lines of four, and this one has lines of five")
     words = [find_solver(program), "--quiet"] + options_of(memory=memory, book=book, **numbers)
     words += ["--seconds", str(int(seconds / 2))] if seconds is not None else []
     return written_proof("solve", words, game, into, seconds=seconds, tell=tell)

@@ -140,7 +140,7 @@ class Sentences:
     def of_line(self, member):
         """Why a line of Black's is whole once White has a man above each of its empty squares."""
         parts = parts_of(member)
-        squares = group_of(member[3:].split(",")[0])
+        squares = group_of(member[3:].split(",")[0], self.plan.length)
         empty = self.empties(squares)
         own = [square for square in squares if square not in empty]
         said = ["Black may get the %s%s." % (line_name(squares), ", and has %s" % listed(own) if own else "")]
@@ -168,7 +168,7 @@ class Sentences:
 
     def needs(self, squares, member):
         """What White needs for a line that a line of Black's answers."""
-        line = group_of(member[3:].split(",")[0])
+        line = group_of(member[3:].split(",")[0], self.plan.length)
         above = []
         for square in self.empties(line):
             over = [other for other in squares if other[0] == square[0] and other[1] > square[1]]

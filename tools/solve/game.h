@@ -38,6 +38,7 @@ inline bool read_game(const std::string& text, Game& game, std::string& kind, si
     if (!size(game.columns, 4, false)) return fails("BadSize", at);
     if (!reads(" ")) return fails("BadHeader", at);
     if (!size(game.rows, 4, true)) return fails("BadSize", at);
+    if (!text.compare(at, 3, " 5\n")) throw Fault("the board has lines of five, and solve takes lines of four");
     if (!reads("\nmoves ")) return fails("BadHeader", at);
     auto is_letter = [&] { return at < text.size() && text[at] >= 'a' && text[at] < 'a' + game.columns; };
     if (at < text.size() && text[at] == '-') {

@@ -20,12 +20,12 @@ ALPHABET = b"abcdefghijWB+-0123456789 :,\n\rCEBILHVASenolhuvd#~\x7f\x00\xff"
 INSTANCE_SIZES = ((4, 4), (4, 4), (4, 6), (5, 4), (6, 4), (6, 6), (7, 6), (4, 8), (4, 10), (10, 4))
 
 
-def random_game(rng, cols, rows, most):
+def random_game(rng, cols, rows, most, length=4):
     """The moves of a random game that goes on, of at most so many."""
-    game = boards.Game(cols, rows)
+    game = boards.Game(cols, rows, length=length)
     for _ in range(rng.randrange(most + 1)):
         column = rng.choice(game.open_columns())
-        longer = boards.Game(cols, rows, game.moves + [column])
+        longer = game.after(column)
         if longer.is_over:
             break
         game = longer
@@ -86,10 +86,10 @@ def near_plan(rng, cols=None, rows=None):
     if cols is None:
         cols, rows = rng.choice(INSTANCE_SIZES) if rng.random() < 0.98 else (10, 10)
     most = cols * rows - 2
-    game = random_game(rng, cols, rows, rng.choice((0, most // 3, most, most)))
+    game = random_game(rng, cols, rows, rng.choice((0, most // 3, most, most)), rng.choice((4, 4, 5)))
     board, white, black, _ = check.read_game(game.text().encode())
     if game.side == "B" and rng.random() < 0.95:
-        game = boards.Game(cols, rows, game.moves[:-1])
+        game = boards.Game.on(game.size, game.moves[:-1])
         board, white, black, _ = check.read_game(game.text().encode())
     fitting = fitting_instances(board, white, black)
     zones = [pair for pair in fitting if pair[1].zone]
@@ -251,7 +251,7 @@ def proofs_of(program, rng, count):
     while len(proofs) < count:
         cols, rows = rng.choice(((4, 4), (4, 4), (5, 4), (4, 6), (6, 4), (7, 6), (4, 10), (10, 4)))
         most = cols * rows
-        game = random_game(rng, cols, rows, most)
+        game = random_game(rng, cols, rows, most, rng.choice((4, 4, 5)))
         if len(game.moves) < most - 12 and (cols, rows) != (4, 4):
             continue
         nodes, reach = rng.choice((5, 100, 400, 400)), rng.choice((0, 20, 1000))

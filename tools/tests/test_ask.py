@@ -138,6 +138,14 @@ class SentenceTest(ToolTest):
         self.says("White wins after dccbbdbbddcca on 4 by 4 against Black, who is to move", "--board", "4x4",
                   "dccbbdbbddcca")
 
+    def test_lines_of_five(self):
+        self.says("White has five in a line after aabbccdde on 5 by 4 with lines of five, so Black has lost",
+                  "--board", "5x4x5", "aabbccdde")
+        self.says("White, who is to move, wins after aabbddee on 5 by 4 with lines of five", "--board", "5x4x5",
+                  "aabbddee")
+        self.refuses("ask.py", "--by", "solve", "--solver", "true", "--board", "5x4x5", "aabbddee",
+                     said="solve takes boards with lines of four")
+
     def test_pipe_from_draw(self):
         """The pipe of docs/TOOLS.md."""
         line = "'%s/draw.py' position '%s' --text | '%s/ask.py' --by prove --victor '%s'" % (

@@ -33,8 +33,7 @@ class CheckTest(ToolTest):
 
     def test_games(self):
         """The games that are refused, as games of proofs: the kind and the place."""
-        folder = example("refused")
-        for name in sorted(os.listdir(folder)):
+        for folder, name in [(example(part), name) for part in ("refused", "five") for name in os.listdir(example(part))]:
             if name.endswith(".txt"):
                 text = b"victor 1\n" + read(os.path.join(folder, name)).encode()
                 there = mutants.answer_of([program(), "check"], text)

@@ -89,6 +89,18 @@ class PlanTest(ToolTest):
             members = [member for member in made.split("\n")[0].split(" ")[1:] if member[:2] == rule]
             self.assertEqual(count_of(out, "line"), len(members) + 1)
 
+    def test_lines_of_five(self):
+        """The plan and the duel of a board with lines of five, which their texts don't tell."""
+        words = ("--text", "--game", example("five", "wider.txt"))
+        status, out, err = tool("draw.py", "plan", *words, example("five", "wider.explained"))
+        self.assertEqual((status, err), (0, ""))
+        self.assertIn("a2h by 1  CE:a1", out)
+        self.assertEqual(tool("draw.py", "duel", *words, example("five", "plan.played"))[0], 0)
+        status, out, err = tool("draw.py", "position", "--text", example("five", "won.txt"))
+        self.assertIn("5 by 4 with lines of five after aabbccdde: White has five in a line", out)
+        said = tool("words.py", "--game", example("five", "wider.txt"), example("five", "wider.explained"))[1]
+        self.assertIn("the row a3 to e3 never gets whole: White never gets d3 and e3 both", said)
+
     def test_with_and_without_the_game(self):
         """Boards of random plans: the owned squares are the empty ones, and the men are the game's."""
         rng = random.Random(4)

@@ -33,6 +33,17 @@ class GameTest(ToolTest):
         self.assertEqual(victor.Game.read("-", (4, 10)).text(), "board 4 10\nmoves -\n")
         self.fails(lambda: victor.Game.read("dh"), "move 2: 'h' is no column")
 
+    def test_lines_of_five(self):
+        for text in ("aabbccdde", "112233445", "board 5 4 5\nmoves aabbccdde\n"):
+            game = victor.Game.read(text, (5, 4, 5))
+            self.assertEqual(game.text(), "board 5 4 5\nmoves aabbccdde\n")
+            self.assertEqual(game.line, ((0, 1), (1, 1), (2, 1), (3, 1), (4, 1)))
+        self.assertEqual(victor.board_size("8x6x5"), (8, 6, 5))
+        self.fails(lambda: victor.Game.read("aabbccdde", (5, 4)), "move 8: the game has ended before it")
+        self.fails(lambda: victor.Game.read("board 5 4 4\nmoves aa"), "5 behind them where lines of five win")
+        self.fails(lambda: victor.board_size("8x6x6"), "no board has lines of 6")
+        self.fails(lambda: victor.solve(victor.Game(5, 4, length=5), program="true"), "this one has lines of five")
+
     def fails(self, call, said):
         with self.assertRaises(victor.Fault) as caught:
             call()
