@@ -5,10 +5,10 @@ use io_ports::{StdSink, StdSource};
 use std::test::Fail;
 use victor_run::run;
 
-const TWO_SQUARES_LEFT: &str = "board 4 4\nmoves cdccddcdaaaabb";
+pub(crate) const TWO_SQUARES_LEFT: &str = "board 4 4\nmoves cdccddcdaaaabb";
 
 /// Two squares are left, and nobody wins.
-const TWO_SQUARES_PROOF: &str = "victor 1\n\
+pub(crate) const TWO_SQUARES_PROOF: &str = "victor 1\n\
     board 4 4\n\
     moves cdccddcdaaaabb\n\
     1 bb W- end\n\
@@ -26,15 +26,19 @@ const FIRST_LEMMA: &str = "victor 1\nboard 4 4\nmoves cdccddcdaaaabb\n1 bb W- en
 const CUT_LEMMA: &str = "victor 1\nboard 4 4\nmoves cdccddcdaaaabb\n1 bb W";
 
 /// A game by a plan up to a full board.
-const DUEL: &str = "board 4 4\nmoves -\nplan CE:a1 CE:a3 CE:b1 CE:b3 BI:c1,d1 LI:c2-c4,d2-d4\n\
+pub(crate) const DUEL: &str = "board 4 4\nmoves -\nplan CE:a1 CE:a3 CE:b1 CE:b3 BI:c1,d1 LI:c2-c4,d2-d4\n\
     c\nc\nd\nc\na\na\nb\nb\n";
 
+/// What is answered there.
+pub(crate) const DUEL_ANSWERS: &str =
+    "c1 d1\nc2 c3\nd2 d3\nc4 d4\na1 a2\na3 a4\nb1 b2\nb3 b4 full\n";
+
 /// With no plan looked for.
-const PROVE_BY_SEARCH: &[&str] = &["prove", "--reach", "0"];
+pub(crate) const PROVE_BY_SEARCH: &[&str] = &["prove", "--reach", "0"];
 
 const CHECK: &[&str] = &["check"];
 
-const PLAY: &[&str] = &["play"];
+pub(crate) const PLAY: &[&str] = &["play"];
 
 const DRILL: &[&str] = &["drill", "4", "4", "12", "1", "1"];
 
@@ -284,7 +288,7 @@ const CUT: [Cut; 9] = [
         PLAY,
         DUEL,
         0,
-        "c1 d1\nc2 c3\nd2 d3\nc4 d4\na1 a2\na3 a4\nb1 b2\nb3 b4 full\n",
+        DUEL_ANSWERS,
         "",
     ),
     (

@@ -8,6 +8,8 @@ mod callers;
 #[cfg(test)]
 mod devices;
 #[cfg(test)]
+mod failing_calls;
+#[cfg(test)]
 mod running;
 #[cfg(test)]
 mod terminal;
