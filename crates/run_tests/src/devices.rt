@@ -26,7 +26,8 @@ const FIRST_LEMMA: &str = "victor 1\nboard 4 4\nmoves cdccddcdaaaabb\n1 bb W- en
 const CUT_LEMMA: &str = "victor 1\nboard 4 4\nmoves cdccddcdaaaabb\n1 bb W";
 
 /// A game by a plan up to a full board.
-pub(crate) const DUEL: &str = "board 4 4\nmoves -\nplan CE:a1 CE:a3 CE:b1 CE:b3 BI:c1,d1 LI:c2-c4,d2-d4\n\
+pub(crate) const DUEL: &str =
+    "board 4 4\nmoves -\nplan CE:a1 CE:a3 CE:b1 CE:b3 BI:c1,d1 LI:c2-c4,d2-d4\n\
     c\nc\nd\nc\na\na\nb\nb\n";
 
 /// What is answered there.
@@ -284,13 +285,7 @@ const CUT: [Cut; 9] = [
         "",
         "refused line 4: EndedEarly\n",
     ),
-    (
-        PLAY,
-        DUEL,
-        0,
-        DUEL_ANSWERS,
-        "",
-    ),
+    (PLAY, DUEL, 0, DUEL_ANSWERS, ""),
     (
         PLAY,
         "board 4 4\nmoves cccdcd\nplan CE:a1 CE:a3 CE:b1 CE:b3 CE:d3 AE:a2h\na\nb\na\n",

@@ -1,5 +1,7 @@
 //! Each call of a device failed in turn, up to the first run that has no call of that number.
-use crate::devices::{DUEL, DUEL_ANSWERS, PLAY, PROVE_BY_SEARCH, TWO_SQUARES_LEFT, TWO_SQUARES_PROOF};
+use crate::devices::{
+    DUEL, DUEL_ANSWERS, PLAY, PROVE_BY_SEARCH, TWO_SQUARES_LEFT, TWO_SQUARES_PROOF,
+};
 use crate::running::{Devices, SOUND, run_over};
 use std::test::Fail;
 
@@ -30,8 +32,15 @@ fn each_failing_call_of_the_sink_leaves_a_prefix(rt: HostRuntime) -> Result<(), 
                 break;
             }
             assert_eq!(rt; got.status, 7, "{words:?} {call}");
-            assert!(rt; whole.as_bytes().starts_with(got.out.as_slice()), "{words:?} {call}");
-            assert_eq!(rt; got.err.as_slice(), b"write fault\n", "{words:?} {call}");
+            assert!(rt;
+                whole.as_bytes().starts_with(got.out.as_slice()),
+                "{words:?} {call}"
+            );
+            assert_eq!(rt;
+                got.err.as_slice(),
+                b"write fault\n".as_slice(),
+                "{words:?} {call}"
+            );
             written = got.out.len();
         }
         // The last call is the flush behind the whole text.
@@ -58,8 +67,15 @@ fn each_failing_call_of_the_source_leaves_whole_lines(rt: HostRuntime) -> Result
             let answered = got.out.as_slice();
             let lines = answered.is_empty() || (words == PLAY && answered.ends_with(b"\n"));
             assert_eq!(rt; got.status, 6, "{words:?} {call}");
-            assert!(rt; lines && whole.as_bytes().starts_with(answered), "{words:?} {call}");
-            assert_eq!(rt; got.err.as_slice(), b"read fault\n", "{words:?} {call}");
+            assert!(rt;
+                lines && whole.as_bytes().starts_with(answered),
+                "{words:?} {call}"
+            );
+            assert_eq!(rt;
+                got.err.as_slice(),
+                b"read fault\n".as_slice(),
+                "{words:?} {call}"
+            );
         }
         assert!(rt; ended, "{words:?}");
     }
@@ -72,7 +88,12 @@ fn a_report_that_fails_leaves_the_status(rt: HostRuntime) -> Result<(), Fail> {
         err_fails: &[1, 2, 3, 4],
         ..SOUND
     };
-    let got = run_over(rt.alloc(), &["prove"], b"board 4 4\nmoves abababab\n", devices)?;
+    let got = run_over(
+        rt.alloc(),
+        &["prove"],
+        b"board 4 4\nmoves abababab\n",
+        devices,
+    )?;
     assert_eq!(rt; got.status, 3);
     assert!(rt; got.out.is_empty() && got.err.is_empty());
     Ok(())
