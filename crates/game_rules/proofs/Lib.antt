@@ -8,6 +8,8 @@ pub mod Values
 pub mod Costs
 pub mod Ends
 pub mod Played
+pub mod Images
+pub mod ImageValues
 pub mod Readers
 pub mod BoardLine
 pub mod Prefix

@@ -3,6 +3,7 @@ use Rattle.std.proofs.Common.{◌≡◌, ℕ, List, [], ◌∷◌, ◌++◌, Som
 use Rattle.std.specs.Option.{option_map}
 use Rattle.game_rules.specs.Position.{Position, empty_position, played, end_of}
 use Rattle.game_rules.specs.Squares.{squares_of_board}
+use Rattle.game_rules.specs.Mirror.{mirror}
 use Rattle.game_rules.specs.Groups.{groups_of}
 use Rattle.game_rules.specs.Value.{value, value_within}
 use Rattle.game_rules.specs.Cost.{cost, count, count_within, none_closed, centre_out}
@@ -161,3 +162,10 @@ four_by_text = refl
 full_board_of_five : played_out (game_at (codes "board 4 4 5" ++ (10 ∷ codes "moves ababababcdcdcdcd"))) ≡ Some (Some ends.Draw, ends.Draw)
 unfolding game_at read_game board_at value value_within
 full_board_of_five = refl
+
+-- ---- mirror images
+
+-- the game that each move answers from the other side
+seen_from_the_other_side : option_map mirror (played (empty_position (record { cols = 5; rows = 4; len = Five })) (0 ∷ 1 ∷ 1 ∷ 4 ∷ 2 ∷ []))
+    ≡ played (empty_position (record { cols = 5; rows = 4; len = Five })) (4 ∷ 3 ∷ 3 ∷ 0 ∷ 2 ∷ [])
+seen_from_the_other_side = refl

@@ -1,5 +1,6 @@
 pub mod Board
 pub mod Position
+pub mod Mirror
 pub mod Value
 pub mod Cost
 pub mod Text

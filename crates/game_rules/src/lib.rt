@@ -14,6 +14,7 @@ ghost use Rattle.game_rules.specs.Words.{kind_word};
 
 pub mod board_laws;
 pub mod laws;
+pub mod mirror_laws;
 pub mod text_laws;
 
 /// No board has more groups, of either length.
