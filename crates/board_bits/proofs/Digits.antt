@@ -1,5 +1,5 @@
 -- Numbers by their digits to a base that is a power of two.
-use Rattle.std.proofs.Common.{◌≡◌, ℕ, zero, suc, ◌+◌, ◌*◌, ◌/◌, ◌%◌, ◌^◌, ◌<◌, sum_by, refl, sym, ap, ◌∙◌, subst, arith}
+use Rattle.std.proofs.Common.{◌≡◌, ℕ, zero, suc, ◌+◌, ◌*◌, ◌/◌, ◌%◌, ◌^◌, ◌<◌, sum_by, refl, sym, ap, ◌∙◌, subst, arith, add-one}
 use Rattle.std.specs.List.{range_with_len}
 use Rattle.std.proofs.Math.Nat.{mul-zero, mul-suc, mul-add, add-mul, mul_assoc}
 use Rattle.std.proofs.lemmas.Nat.{pow-add, pow_pos, shr-shr, mul-add-lt, div-mul-add, mod-mul-add, ones_cat}
@@ -14,6 +14,24 @@ ones_of_zero = refl
 pub number : (k : ℕ) → (ℕ → ℕ) → ℕ → ℕ → ℕ
 number k d a zero = 0
 number k d a (suc m) = number k d (a + 1) m * 2 ^ k + d a
+
+pub number_none : (k : ℕ) (d : ℕ → ℕ) (a : ℕ) → number k d a 0 ≡ 0
+unfolding number
+number_none k d a = refl
+
+pub number_more : (k : ℕ) (d : ℕ → ℕ) (a m : ℕ) → number k d a (m + 1) ≡ number k d (a + 1) m * 2 ^ k + d a
+unfolding number
+number_more k d a m = rw (add-one m) refl
+
+-- where the digits are the same from two places on, so are the numbers
+pub number_same : (k : ℕ) (d e : ℕ → ℕ) (m a b : ℕ) → ((i : ℕ) → i < m → d (a + i) ≡ e (b + i)) → number k d a m ≡ number k e b m
+unfolding number
+number_same k d e zero a b same = refl
+number_same k d e (suc m) a b same =
+    let first : d a ≡ e b = ap d (let f : a ≡ a + 0 = omega arith in f) ∙ same 0 (omega arith) ∙ ap e (let f : b + 0 ≡ b = omega arith in f) in
+    ap (λ n. n * 2 ^ k + d a) (number_same k d e m (a + 1) (b + 1) (λ i low.
+    ap d (let f : a + 1 + i ≡ a + suc i = omega arith in f) ∙ same (suc i) (omega arith) ∙ ap e (let f : b + suc i ≡ b + 1 + i = omega arith in f)))
+    ∙ ap (λ n. number k e (b + 1) m * 2 ^ k + n) first
 
 pub sum_number : (k : ℕ) (d : ℕ → ℕ) (m a : ℕ) → sum_by (λ i. d i * 2 ^ (k * i)) (range_with_len a m) ≡ number k d a m * 2 ^ (k * a)
 unfolding number

@@ -17,3 +17,4 @@ pub mod Rows
 pub mod Takes
 pub mod WholeColumns
 pub mod ReadMen
+pub mod Turns

@@ -9,3 +9,4 @@ pub mod Reading
 pub mod Words
 pub mod Runs
 pub mod WholeColumns
+pub mod Turned

@@ -12,6 +12,7 @@ mod order;
 mod position;
 mod run;
 mod size;
+mod turned;
 mod word;
 
 pub use game::Game;

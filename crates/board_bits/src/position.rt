@@ -3,6 +3,7 @@
 ghost use Rattle.std.specs.Prelude.{◌≡◌, ◌≢◌, ◌+◌, ◌*◌, ◌<◌, ◌≤◌, true, not, filter, length, IsTrue, bit_or};
 ghost use Rattle.game_rules.specs.Board.{is_board};
 ghost use Rattle.game_rules.specs.Position.{board_of, empty_position, height, has_man, side_to_move, has_room, lowest_empty, after_move, has_line, is_full, end_of, IsStacked, same_position};
+ghost use Rattle.game_rules.specs.Mirror.{mirror};
 ghost use Rattle.game_rules.specs.Squares.{IsSetOf, squares_of_board, is_empty, is_playable};
 ghost use Rattle.game_rules.specs.declared.Side.TheVariants as sides;
 ghost use Rattle.board_bits.specs.Move.{moved_into};
@@ -10,6 +11,7 @@ ghost use Rattle.board_bits.specs.MenWords.{side_word};
 
 use crate::mask::{board_word, place_of};
 use crate::run::has_run;
+use crate::turned::turned;
 use crate::{Column, End, MOST_COLS, Mask, Side, Size, Square};
 use arrayvec::ArrayVec;
 use std::hash::Hash;
@@ -213,6 +215,19 @@ impl Position {
             size: self.size,
             white,
             black,
+        }
+    }
+
+    /// The position seen from the other side of the board: each man stands in its row, in the column as far from the
+    /// other side. Its board is the same, and so is its value under perfect play.
+    pub fn mirror(&self) -> Position
+        ensures { result ≡ mirror self.now }
+    {
+        let cols = self.size.cols();
+        Position {
+            size: self.size,
+            white: turned(self.white, cols),
+            black: turned(self.black, cols),
         }
     }
 

@@ -10,7 +10,7 @@ use Rattle.std.proofs.lemmas.Grind.{reverse_onto}
 use Rattle.std.proofs.lemmas.List.Sums.{sum_by-append, sum_by-cons}
 use Rattle.game_rules.specs.Board.{Square, below, on_board, step_of, line_length}
 use Rattle.game_rules.specs.Position.{Position, board_of, men_in, height, man_in, man_at, has_man, is_man, man_count, side_to_move, has_room}
-use Rattle.game_rules.specs.Position.{after_move, has_line, is_full, end_of, is_legal, played, empty_count, moved, open_columns}
+use Rattle.game_rules.specs.Position.{after_move, has_line, is_full, end_of, is_legal, played, empty_count, moved, open_columns, IsStacked}
 use Rattle.game_rules.specs.Laws.{HasLine}
 use Rattle.game_rules.specs.Mirror.{mirror, mirror_column, mirror_square}
 use Rattle.game_rules.proofs.Lists.{Among, any_agree, any_from, Among-below, Among-below_gives, Among-map, Among-map_gives, Among-filter, Among-filter_gives}
@@ -85,6 +85,12 @@ count_mirrored p = sum_reversed length p.columns
 
 pub empty_mirrored : (p : Position) → empty_count (mirror p) ≡ empty_count p
 empty_mirrored p = sum_reversed (λ men. p.rows - length men) p.columns
+
+-- no column is higher than before
+pub stacked_mirrored : (p : Position) → IsStacked p → IsStacked (mirror p)
+stacked_mirrored p stacked i d low =
+    let within : i < length p.columns = omega (arith, low, cols_mirrored p) in
+    subst (λ (men : List Side). length men ≤ p.rows) (sym (get_or-reverse p.columns i d within)) (stacked (length p.columns - 1 - i) d (omega arith))
 
 pub turn_mirrored : (p : Position) → side_to_move (mirror p) ≡ side_to_move p
 turn_mirrored p = ap (λ n. cond ((n % 2) == 0) White Black) (count_mirrored p)
