@@ -1,0 +1,3 @@
+pub mod Threat
+pub mod Duel
+pub mod Refusal
