@@ -64,7 +64,7 @@ every_square_from : (board : Board) (test : Square → Bool) → ((u : Square) �
 every_square_from board test each = all_from (λ c. list_all (λ r. test (c, r + 1)) (below board.rows)) (below board.cols) (λ c _.
     all_from (λ r. test (c, r + 1)) (below board.rows) (λ r _. each (c, r + 1)))
 
-every_line_gives : (board : Board) (test : Group → Bool) → every_line board test ≡ true → (g : Group) → lies_on board g ≡ true → test g ≡ true
+pub every_line_gives : (board : Board) (test : Group → Bool) → every_line board test ≡ true → (g : Group) → lies_on board g ≡ true → test g ≡ true
 every_line_gives board test h g lies =
     let parts = lies_parts board g lies in
     let along = all_gives (λ way. every_square board (λ anchor. not (is_line board way anchor) || test (group_on board way anchor))) ways g.way h
@@ -76,7 +76,7 @@ every_line_gives board test h g lies =
       | inr passes ↦ subst (λ g. test g ≡ true) (group_as board g parts.0) passes
     ]
 
-every_line_from : (board : Board) (test : Group → Bool) → ((g : Group) → lies_on board g ≡ true → test g ≡ true) → every_line board test ≡ true
+pub every_line_from : (board : Board) (test : Group → Bool) → ((g : Group) → lies_on board g ≡ true → test g ≡ true) → every_line board test ≡ true
 every_line_from board test each =
     all_from (λ way. every_square board (λ anchor. not (is_line board way anchor) || test (group_on board way anchor))) ways (λ way _.
     every_square_from board (λ anchor. not (is_line board way anchor) || test (group_on board way anchor))
