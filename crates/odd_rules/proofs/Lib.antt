@@ -1,2 +1,3 @@
 mod Vectors
 pub mod Pairs
+pub mod Strategy
