@@ -1,3 +1,4 @@
 mod Vectors
 pub mod Pairs
 pub mod Strategy
+pub mod Wins

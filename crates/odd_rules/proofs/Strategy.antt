@@ -2,11 +2,11 @@
 use Rattle.std.proofs.Common.{◌≡◌, ◌≢◌, ◌⊎◌, ℕ, zero, suc, ◌+◌, ◌%◌, ◌<◌, ◌≤◌, Bool, true, false, not, ◌&&◌, ◌||◌, ◌==◌, nat_lt, cond, List, [], ◌∷◌, length, Option, Some, None, is_none, unwrap_or}
 use Rattle.std.proofs.Common.{refl, sym, ap, ◌∙◌, subst, inl, inr, arith}
 use Rattle.std.specs.List.{list_any, list_all, slice_get}
-use Rattle.std.proofs.lemmas.Bool.{cases_Bool, cases_eq, both_ways, and_parts, and_from, and_left, and_right, or_cases, or_from, or_left, or_right, not-true}
+use Rattle.std.proofs.lemmas.Bool.{cases_Bool, cases_eq, cases_order, both_ways, and_parts, and_from, and_left, and_right, or_cases, or_from, or_left, or_right, not-true}
 use Rattle.std.proofs.lemmas.Bool.{not_from_true, not_from_false, false_from_ne_true, eqb-true, eqb-false, eq-eqb, ne_eqb, le-ltb, cond-true, cond-false}
 use Rattle.std.proofs.lemmas.Option.{same_Some}
 use Rattle.game_rules.specs.Board.{Board, Square, is_board, on_board}
-use Rattle.game_rules.specs.Position.{Position, board_of, men_in, height, man_at, has_man, is_man, other, side_to_move, has_line, is_full, end_of, after_move}
+use Rattle.game_rules.specs.Position.{Position, board_of, men_in, height, man_at, has_man, is_man, other, side_to_move, has_line, is_full, end_of, is_legal, after_move}
 use Rattle.game_rules.specs.Squares.{same_square, has_square, is_empty, is_playable}
 use Rattle.game_rules.specs.Groups.{Group, squares_of, lies_on}
 use Rattle.game_rules.specs.declared.Side.{Side}
@@ -15,17 +15,17 @@ use Rattle.game_rules.specs.declared.End.{End}
 use Rattle.game_rules.specs.declared.End.TheVariants as ends
 use Rattle.game_rules.proofs.Lists.{any_from}
 use Rattle.game_rules.proofs.Moves.{man_past, board_moved}
-use Rattle.game_rules.proofs.Ends.{on_board_from, on_board_parts, ended_parts, filled_from_full, has_line_same, other_kept, disjoint}
+use Rattle.game_rules.proofs.Ends.{on_board_from, on_board_parts, ended_parts, filled_from_full, has_line_same, other_kept, disjoint, legal_parts}
 use Rattle.game_rules.proofs.Squares.{same_square_refl, same_square_is}
 use Rattle.plan_rules.specs.Squares.{above, is_even, is_odd}
 use Rattle.plan_rules.specs.Laws.{Owns}
 use Rattle.plan_rules.proofs.Fits.{even_rows}
 use Rattle.plan_rules.proofs.Squares.{get-Among, other_column, other_row, same_place}
-use Rattle.plan_rules.proofs.Strategy.{line_squares, group_gives_line}
+use Rattle.plan_rules.proofs.Strategy.{room_playable, line_squares, group_gives_line}
 use Rattle.plan_rules.proofs.Turns.{empty_height, man_from, has_man_from, playable_parts, playable_man, playable_room, empty_parts, placed, beside, stays}
 use Rattle.plan_rules.proofs.Turns.{height_here, height_beside, side_after, answer_at, low_above, low_kept}
 use Rattle.odd_rules.specs.Threat.{Pair, is_in_column, share_column, is_of_pair, is_safe, holds_pair, IsPairAt, SomePair, SomeSafe, IsThreat}
-use Rattle.odd_rules.specs.Duel.{partner, answer_of, IsPairKept, IsKept}
+use Rattle.odd_rules.specs.Duel.{partner, answer_of, top_of, answered_move, IsPairKept, IsKept, IsWon, Stands, IsAnswered}
 use Rattle.odd_rules.proofs.Pairs.{even_gives, odd_gives, even_from, odd_from, PairParts, pair_parts, apart_columns, ArePair, partner_gives, no_partner}
 
 module _ (p : Position) (g : Group) (pairs : List Pair) (t : Square) (board : is_board (board_of p) ≡ true) (threat : IsThreat p g pairs t) where
@@ -301,3 +301,271 @@ module _ (p : Position) (g : Group) (pairs : List Pair) (t : Square) (board : is
         (has_line_same now q White (board_moved q s.0) white_same ∙ (ended_parts q kept.going).0)
         no_line_now
         (not_full now (kept.board ∙ sym (board_moved q s.0)) (beside q s t playable target_beside ∙ kept.free))
+
+    -- ---- White's answer
+
+    -- the answer, and what is so after it; White's man stands on the target, or all is kept while the game goes on
+    record Answer : Type 0 where
+      to : Square
+      is_to : answer_of pairs s ≡ to
+      second : is_playable now to ≡ true
+      after : (man_at (after_move now to.0) t ≡ Some White)
+          ⊎ ((man_at (after_move now to.0) t ≡ None) × (end_of (after_move now to.0) ≡ None → IsKept p t pairs (after_move now to.0)))
+
+    module _ (to : Square) (second : is_playable now to ≡ true) where
+      abbrev then_at : Position
+      then_at = after_move now to.0
+
+      white_stays : (u : Square) → has_man q White u ≡ true → has_man then_at White u ≡ true
+      white_stays u white = has_man_from then_at White u (stays now to u White second (stays q s u White playable (man_from q White u white)))
+
+      black_same : (u : Square) → has_man then_at Black u ≡ has_man now Black u
+      black_same u =
+          ap (λ side. has_man then_at (other side) u) (sym white_now)
+          ∙ other_kept now to.0 (playable_room now to second) u
+          ∙ ap (λ side. has_man now (other side) u) white_now
+
+      height_same : (c : ℕ) → c ≢ s.0 → c ≢ to.0 → height then_at c ≡ height q c
+      height_same c from_s from_to = height_beside now to c from_to ∙ height_beside q s c from_s
+
+      target_then : same_square t to ≡ false → man_at then_at t ≡ None
+      target_then apart = beside now to t second apart ∙ beside q s t playable target_beside ∙ kept.free
+
+      -- a column of which the height is as it was, or even
+      column_kept : (c : ℕ) → (height then_at c ≡ height q c) ⊎ (is_even (height then_at c) ≡ true) → (is_even (height q c) ≡ true) ⊎ (height q c ≡ height p c)
+          → (is_even (height then_at c) ≡ true) ⊎ (height then_at c ≡ height p c)
+      column_kept c (inr even) old = inl even
+      column_kept c (inl same) (inl even) = inl (ap is_even same ∙ even)
+      column_kept c (inl same) (inr old) = inr (same ∙ old)
+
+      white_one : (x : Pair) → (has_man q White x.0 ≡ true) ⊎ (has_man q White x.1 ≡ true) → (has_man then_at White x.0 ≡ true) ⊎ (has_man then_at White x.1 ≡ true)
+      white_one x (inl white) = inl (white_stays x.0 white)
+      white_one x (inr white) = inr (white_stays x.1 white)
+
+      -- a pair in whose columns nothing came
+      pair_beside : (x : Pair) → height then_at x.0.0 ≡ height q x.0.0 → height then_at x.1.0 ≡ height q x.1.0 → IsPairKept p q x → IsPairKept p then_at x
+      pair_beside x left right (inl same) = inl (left ∙ same.0, right ∙ same.1)
+      pair_beside x left right (inr changed) = inr (ap is_even left ∙ changed.0, ap is_even right ∙ changed.1, white_one x changed.2)
+
+      kept_then : man_at then_at t ≡ None → is_odd (height then_at t.0) ≡ true
+          → ((c : ℕ) → c ≢ t.0 → (height then_at c ≡ height q c) ⊎ (is_even (height then_at c) ≡ true))
+          → ((i : ℕ) (x : Pair) → IsPairAt pairs i x → IsPairKept p then_at x) → end_of then_at ≡ None → IsKept p t pairs then_at
+      kept_then none odd heights pairs_then going = record {
+        board = kept.board ∙ sym (board_moved q s.0) ∙ sym (board_moved now to.0);
+        black = side_after now to second ∙ ap other white_now;
+        going = going;
+        stay = λ u m man. stays now to u m second (stays q s u m playable (kept.stay u m man));
+        free = none;
+        odd = odd;
+        columns = λ c apart. column_kept c (heights c apart) (kept.columns c apart);
+        pairs_kept = pairs_then;
+        safe = λ u safe. black_same u ∙ black_beside u (safe_beside u safe) ∙ kept.safe u safe;
+      }
+
+    -- in the pair: both columns get one man each, and one of the two squares is White's
+    pair_answer : (v : Square) → partner pairs s ≡ Some v → Answer
+    pair_answer v some = from (two v (partner_gives pairs s v some))
+      where
+        from : Two v → Answer
+        from both = record {
+          to = v;
+          is_to = ap (λ o. unwrap_or o (above s)) some;
+          second = answered;
+          after = inr (
+            none,
+            kept_then v answered none odd (λ c apart. elim (cases_eq c s.0) [
+              | inl here ↦ inr (ap (λ n. is_even (height (then_at v answered) n)) here ∙ s_even)
+              | inr from_s ↦ elim (cases_eq c v.0) [
+                | inl here ↦ inr (ap (λ n. is_even (height (then_at v answered) n)) here ∙ v_even)
+                | inr from_v ↦ inl (height_same v answered c from_s from_v)
+              ]
+            ]) pairs_then,
+          );
+        }
+          where
+            answered : is_playable now v ≡ true
+            answered = answer_at q s v playable both.v_on (other_column v s both.apart) (man_past (men_in q v.0) v.1 (omega (arith, both.v_row)))
+                (low_kept q s v playable (omega (arith, both.v_row)))
+
+            none : man_at (then_at v answered) t ≡ None
+            none = target_then v answered (other_column t v (λ same. both.v_apart (sym same)))
+
+            odd : is_odd (height (then_at v answered) t.0) ≡ true
+            odd = ap is_odd (height_same v answered t.0 (λ same. both.s_apart (sym same)) (λ same. both.v_apart (sym same))) ∙ kept.odd
+
+            s_even : is_even (height (then_at v answered) s.0) ≡ true
+            s_even = even_from (height (then_at v answered) s.0)
+                (omega (arith, height_beside now v s.0 (λ same. both.apart (sym same)), height_here q s playable, both.s_odd))
+
+            v_even : is_even (height (then_at v answered) v.0) ≡ true
+            v_even = even_from (height (then_at v answered) v.0)
+                (omega (arith, height_here now v answered, height_beside q s v.0 both.apart, both.v_odd))
+
+            even_at : (c : ℕ) → (c ≡ s.0) ⊎ (c ≡ v.0) → is_even (height (then_at v answered) c) ≡ true
+            even_at c (inl here) = ap (λ n. is_even (height (then_at v answered) n)) here ∙ s_even
+            even_at c (inr here) = ap (λ n. is_even (height (then_at v answered) n)) here ∙ v_even
+
+            v_white : has_man (then_at v answered) White v ≡ true
+            v_white = has_man_from (then_at v answered) White v (placed now v answered ∙ ap (λ side. Some side) white_now)
+
+            white_in : (x : Pair) → (x.0 ≡ v) ⊎ (x.1 ≡ v) → (has_man (then_at v answered) White x.0 ≡ true) ⊎ (has_man (then_at v answered) White x.1 ≡ true)
+            white_in x (inl here) = inl (ap (has_man (then_at v answered) White) here ∙ v_white)
+            white_in x (inr here) = inr (ap (has_man (then_at v answered) White) here ∙ v_white)
+
+            -- another pair has neither of the two columns
+            other_pair : (i : ℕ) (x : Pair) → IsPairAt pairs i x → i ≢ both.place → (c : ℕ) → is_in_column c both.pair ≡ true → is_in_column c x ≡ true → ⊥
+            other_pair i x at beside_i c in_pair in_x = elim (cases_order i both.place) [
+              | inl same ↦ beside_i same
+              | inr apart ↦ elim apart [
+                | inl before ↦ apart_columns x both.pair (threat.apart i both.place x both.pair before at both.is_at) c in_x in_pair
+                | inr behind ↦ apart_columns both.pair x (threat.apart both.place i both.pair x behind both.is_at at) c in_pair in_x
+              ]
+            ]
+
+            pairs_then : (i : ℕ) (x : Pair) → IsPairAt pairs i x → IsPairKept p (then_at v answered) x
+            pairs_then i x at = elim (cases_eq i both.place) [
+              | inl same ↦ let one : both.pair ≡ x = same_Some both.pair x (sym both.is_at ∙ ap (slice_get pairs) (sym same) ∙ at) in
+                  subst (IsPairKept p (then_at v answered)) one
+                  (inr (even_at both.pair.0.0 both.left_in, even_at both.pair.1.0 both.right_in, white_in both.pair both.v_one))
+              | inr beside_i ↦ pair_beside v answered x
+                  (height_same v answered x.0.0
+                  (λ same. other_pair i x at beside_i s.0 both.s_in (or_left _ _ (eq-eqb x.0.0 s.0 same)))
+                  (λ same. other_pair i x at beside_i v.0 both.v_in (or_left _ _ (eq-eqb x.0.0 v.0 same))))
+                  (height_same v answered x.1.0
+                  (λ same. other_pair i x at beside_i s.0 both.s_in (or_right _ _ (eq-eqb x.1.0 s.0 same)))
+                  (λ same. other_pair i x at beside_i v.0 both.v_in (or_right _ _ (eq-eqb x.1.0 v.0 same))))
+                  (kept.pairs_kept i x at)
+            ]
+
+    -- directly above: the column gets two men, which changes no parity
+    above_answer : partner pairs s ≡ None → Answer
+    above_answer alone = record {
+      to = above s;
+      is_to = ap (λ o. unwrap_or o (above s)) alone;
+      second = answered;
+      after = elim (cases_Bool (same_square t (above s))) [
+        | inl won ↦ let here = same_square_is t (above s) won in
+            inl (ap (man_at (then_at (above s) answered)) here ∙ placed now (above s) answered ∙ ap (λ side. Some side) white_now)
+        | inr apart ↦ inr (
+          target_then (above s) answered apart,
+          kept_then (above s) answered (target_then (above s) answered apart) odd heights pairs_then,
+        )
+      ];
+    }
+      where
+        answered : is_playable now (above s) ≡ true
+        answered = answer_at q s (above s) playable
+            (on_board_from (board_of q) s.0 (s.1 + 1) (playable_parts q s playable).0 (omega arith) (room_above alone))
+            (other_row (above s) s (λ row. omega (arith, row)))
+            (man_past (men_in q s.0) (s.1 + 1) (omega (arith, s_row)))
+            (low_above q s playable)
+
+        two_more : height (then_at (above s) answered) s.0 ≡ height q s.0 + 2
+        two_more = omega (arith, height_here now (above s) answered, height_here q s playable)
+
+        column_same : (c : ℕ) → c ≢ s.0 → height (then_at (above s) answered) c ≡ height q c
+        column_same c apart = height_same (above s) answered c apart apart
+
+        odd : is_odd (height (then_at (above s) answered) t.0) ≡ true
+        odd = elim (cases_eq t.0 s.0) [
+          | inl here ↦
+              let below : height q t.0 ≡ height q s.0 = ap (height q) here in
+              let over : height (then_at (above s) answered) t.0 ≡ height (then_at (above s) answered) s.0 = ap (height (then_at (above s) answered)) here in
+              odd_from (height (then_at (above s) answered) t.0) (omega (arith, odd_gives (height q t.0) kept.odd, two_more, below, over))
+          | inr apart ↦ ap is_odd (column_same t.0 apart) ∙ kept.odd
+        ]
+
+        even_at : (c : ℕ) → c ≢ t.0 → c ≡ s.0 → is_even (height (then_at (above s) answered) c) ≡ true
+        even_at c apart here =
+            let over : height (then_at (above s) answered) c ≡ height (then_at (above s) answered) s.0 = ap (height (then_at (above s) answered)) here in
+            even_from (height (then_at (above s) answered) c) (omega (arith, even_below alone (λ same. apart (here ∙ same)), two_more, over))
+
+        heights : (c : ℕ) → c ≢ t.0 → (height (then_at (above s) answered) c ≡ height q c) ⊎ (is_even (height (then_at (above s) answered) c) ≡ true)
+        heights c apart = elim (cases_eq c s.0) [
+          | inl here ↦ inr (even_at c apart here)
+          | inr beside_s ↦ inl (column_same c beside_s)
+        ]
+
+        -- an even height stays even
+        stays_even : (c : ℕ) → c ≢ t.0 → is_even (height q c) ≡ true → is_even (height (then_at (above s) answered) c) ≡ true
+        stays_even c apart even = elim (heights c apart) [
+          | inl same ↦ ap is_even same ∙ even
+          | inr now_even ↦ now_even
+        ]
+
+        -- a column with an odd number of men isn't Black's
+        odd_beside : (c : ℕ) → c ≢ t.0 → height q c % 2 ≡ 1 → height (then_at (above s) answered) c ≡ height q c
+        odd_beside c apart is = column_same c (λ here.
+            let below : height q c ≡ height q s.0 = ap (height q) here in
+            omega (arith, even_below alone (λ same. apart (here ∙ same)), below, is))
+
+        pair_then : (x : Pair) → PairParts p t x → IsPairKept p q x → IsPairKept p (then_at (above s) answered) x
+        pair_then x parts (inl same) = pair_beside (above s) answered x
+            (odd_beside x.0.0 parts.left_apart (ap (λ n. n % 2) same.0 ∙ parts.left_odd))
+            (odd_beside x.1.0 parts.right_apart (ap (λ n. n % 2) same.1 ∙ parts.right_odd))
+            (inl same)
+        pair_then x parts (inr changed) =
+            inr (stays_even x.0.0 parts.left_apart changed.0, stays_even x.1.0 parts.right_apart changed.1, white_one (above s) answered x changed.2)
+
+        pairs_then : (i : ℕ) (x : Pair) → IsPairAt pairs i x → IsPairKept p (then_at (above s) answered) x
+        pairs_then i x at = pair_then x (parts_at i x at) (kept.pairs_kept i x at)
+
+    answer : Answer
+    answer = by (partner pairs s) refl
+      where
+        by : (o : Option Square) → partner pairs s ≡ o → Answer
+        by None alone = above_answer alone
+        by (Some v) some = pair_answer v some
+
+    -- ---- after it
+
+    -- the line that lacked the target is whole
+    line_whole : (r : Position) → board_of p ≡ board_of r → ((u : Square) → has_man p White u ≡ true → has_man r White u ≡ true) → man_at r t ≡ Some White
+        → has_line r White ≡ true
+    line_whole r same stay there =
+        group_gives_line r White g (subst (λ b. lies_on b g ≡ true) same threat.lacks.line) (λ u in_line. elim (cases_Bool (same_square u t)) [
+          | inl here ↦ ap (has_man r White) (same_square_is u t here) ∙ has_man_from r White t there
+          | inr apart ↦ stay u (threat.lacks.others u in_line apart)
+        ])
+
+    -- White has a line, or all is kept
+    after_answer : (one : Answer) → Stands p t pairs (after_move now one.to.0)
+    after_answer one = by one.after
+      where
+        board_then : board_of p ≡ board_of (after_move now one.to.0)
+        board_then = kept.board ∙ sym (board_moved q s.0) ∙ sym (board_moved now one.to.0)
+
+        white_stay : (u : Square) → has_man p White u ≡ true → has_man (after_move now one.to.0) White u ≡ true
+        white_stay u white = white_stays one.to one.second u (has_man_from q White u (kept.stay u White (man_from p White u white)))
+
+        no_black : has_line (after_move now one.to.0) Black ≡ false
+        no_black = has_line_same (after_move now one.to.0) now Black (board_moved now one.to.0) (black_same one.to one.second) ∙ no_line_now
+
+        won : has_line (after_move now one.to.0) White ≡ true → IsWon (after_move now one.to.0)
+        won white = record { no_line = no_black; ended = rw white refl }
+
+        by : (man_at (after_move now one.to.0) t ≡ Some White)
+            ⊎ ((man_at (after_move now one.to.0) t ≡ None) × (end_of (after_move now one.to.0) ≡ None → IsKept p t pairs (after_move now one.to.0)))
+            → Stands p t pairs (after_move now one.to.0)
+        by (inl there) = inl (won (line_whole (after_move now one.to.0) board_then white_stay there))
+        by (inr kept_then) = elim (cases_Bool (has_line (after_move now one.to.0) White)) [
+          | inl white ↦ inl (won white)
+          | inr none ↦ inr (kept_then.1 (end_none (after_move now one.to.0) none no_black (not_full (after_move now one.to.0) board_then kept_then.0)))
+        ]
+
+  -- ---- the turn as a whole
+
+  -- a legal move of Black's is answered
+  pub take_turn : (q : Position) → IsKept p t pairs q → (column : ℕ) → is_legal q column ≡ true → IsAnswered p t pairs q column
+  take_turn q kept column legal = from (room_playable q column (legal_parts q column legal).1)
+    where
+      from : is_playable q (top_of q column) ≡ true → IsAnswered p t pairs q column
+      from playable = record {
+        no_line = no_line_now q kept (top_of q column) playable;
+        going = going_now q kept (top_of q column) playable;
+        playable = subst (λ u. is_playable (after_move q column) u ≡ true) (sym one.is_to) one.second;
+        after = subst (λ u. Stands p t pairs (after_move (after_move q column) u.0)) (sym one.is_to) (after_answer q kept (top_of q column) playable one);
+      }
+        where
+          one : Answer q kept (top_of q column) playable
+          one = answer q kept (top_of q column) playable

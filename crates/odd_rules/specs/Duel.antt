@@ -79,13 +79,22 @@ pub record IsKept (p : Position) (t : Square) (pairs : List Pair) (q : Position)
   -- Black has none of the safe squares
   pub safe : (u : Square) → is_safe p t pairs u ≡ true → has_man q Black u ≡ false
 
+-- White has a line, and Black has none
+pub record IsWon (q : Position) : Type 0 where
+  pub no_line : has_line q Black ≡ false
+  pub ended : end_of q ≡ Some ends.White
+
+-- The threat keeps everything, or has been carried out.
+abbrev pub Stands : Position → Square → List Pair → Position → Type 0
+Stands p t pairs q = IsWon q ⊎ IsKept p t pairs q
+
 -- Black's move into a column makes no line and doesn't end the game; White's answer is playable, and after it White has
--- a line, or the threat keeps everything
+-- a line, or the threat keeps everything.
 pub record IsAnswered (p : Position) (t : Square) (pairs : List Pair) (q : Position) (column : ℕ) : Type 0 where
   pub no_line : has_line (after_move q column) Black ≡ false
   pub going : end_of (after_move q column) ≡ None
   pub playable : is_playable (after_move q column) (answer_of pairs (top_of q column)) ≡ true
-  pub after : (end_of (answered_move pairs q column) ≡ Some ends.White) ⊎ IsKept p t pairs (answered_move pairs q column)
+  pub after : Stands p t pairs (answered_move pairs q column)
 
 -- one turn of a duel: the positions before it, after Black's move and after White's answer stand next to one another
 pub record IsTurn (p : Position) (t : Square) (pairs : List Pair) (positions : List Position) (i column : ℕ) : Type 0 where
