@@ -2,3 +2,4 @@ mod Vectors
 pub mod Pairs
 pub mod Strategy
 pub mod Wins
+pub mod Tests

@@ -60,18 +60,27 @@ pair_parts p t x h =
 
 -- ---- columns of two pairs
 
--- a column of one isn't a column of the other
-pub apart_columns : (x y : Pair) → share_column x y ≡ false → (c : ℕ) → is_in_column c x ≡ true → is_in_column c y ≡ true → ⊥
-apart_columns x y apart c in_x in_y = elim (in_gives c x in_x) [
-  | inl left ↦ both_ways (share_column x y) apart (or_left _ _ (ap (λ n. is_in_column n y) left ∙ in_y))
-  | inr right ↦ both_ways (share_column x y) apart (or_right _ _ (ap (λ n. is_in_column n y) right ∙ in_y))
+in_gives : (c : ℕ) (x : Pair) → is_in_column c x ≡ true → (x.0.0 ≡ c) ⊎ (x.1.0 ≡ c)
+in_gives c x h = elim (or_cases _ _ h) [
+  | inl left ↦ inl (eqb-true x.0.0 c left)
+  | inr right ↦ inr (eqb-true x.1.0 c right)
 ]
-  where
-    in_gives : (c : ℕ) (x : Pair) → is_in_column c x ≡ true → (x.0.0 ≡ c) ⊎ (x.1.0 ≡ c)
-    in_gives c x h = elim (or_cases _ _ h) [
-      | inl left ↦ inl (eqb-true x.0.0 c left)
-      | inr right ↦ inr (eqb-true x.1.0 c right)
-    ]
+
+-- two pairs share a column exactly where one column is in both
+pub share_gives : (x y : Pair) → share_column x y ≡ true → (c : ℕ) × (is_in_column c x ≡ true) × (is_in_column c y ≡ true)
+share_gives x y h = elim (or_cases _ _ h) [
+  | inl left ↦ (x.0.0, or_left _ _ (eq-eqb x.0.0 x.0.0 refl), left)
+  | inr right ↦ (x.1.0, or_right _ _ (eq-eqb x.1.0 x.1.0 refl), right)
+]
+
+pub share_from : (x y : Pair) (c : ℕ) → is_in_column c x ≡ true → is_in_column c y ≡ true → share_column x y ≡ true
+share_from x y c in_x in_y = elim (in_gives c x in_x) [
+  | inl left ↦ or_left _ _ (ap (λ n. is_in_column n y) left ∙ in_y)
+  | inr right ↦ or_right _ _ (ap (λ n. is_in_column n y) right ∙ in_y)
+]
+
+pub apart_columns : (x y : Pair) → share_column x y ≡ false → (c : ℕ) → is_in_column c x ≡ true → is_in_column c y ≡ true → ⊥
+apart_columns x y apart c in_x in_y = both_ways (share_column x y) apart (share_from x y c in_x in_y)
 
 -- ---- the other square of a pair
 
