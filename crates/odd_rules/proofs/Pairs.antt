@@ -60,7 +60,7 @@ pair_parts p t x h =
 
 -- ---- columns of two pairs
 
-in_gives : (c : ℕ) (x : Pair) → is_in_column c x ≡ true → (x.0.0 ≡ c) ⊎ (x.1.0 ≡ c)
+pub in_gives : (c : ℕ) (x : Pair) → is_in_column c x ≡ true → (x.0.0 ≡ c) ⊎ (x.1.0 ≡ c)
 in_gives c x h = elim (or_cases _ _ h) [
   | inl left ↦ inl (eqb-true x.0.0 c left)
   | inr right ↦ inr (eqb-true x.1.0 c right)
