@@ -4,3 +4,5 @@ pub mod Strategy
 pub mod Wins
 pub mod Tests
 pub mod First
+pub mod Refusals
+pub mod Theorems

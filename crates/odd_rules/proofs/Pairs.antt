@@ -1,15 +1,14 @@
 -- Even and odd numbers, what a pair is, and the other square of a pair.
-use Rattle.std.proofs.Common.{◌≡◌, ◌≢◌, ◌⊎◌, ℕ, zero, suc, ◌+◌, ◌%◌, ◌<◌, Bool, true, false, cond, List, [], ◌∷◌, Option, Some, None, refl, sym, ap, ◌∙◌, inl, inr}
+use Rattle.std.proofs.Common.{◌≡◌, ◌≢◌, ◌⊎◌, ℕ, zero, suc, ◌%◌, ◌<◌, true, false, cond, List, [], ◌∷◌, Some, None, refl, sym, ap, ◌∙◌, inl, inr}
 use Rattle.std.proofs.lemmas.Bool.{both_ways, and_parts, or_cases, or_left, or_right, not-true, eqb-true, eq-eqb, ltb-true}
 use Rattle.std.proofs.lemmas.Option.{same_Some}
-use Rattle.game_rules.specs.Board.{Square, on_board}
+use Rattle.game_rules.specs.Board.{Square}
 use Rattle.game_rules.specs.Position.{Position, board_of, height}
-use Rattle.game_rules.specs.Squares.{same_square, is_empty, is_playable}
+use Rattle.game_rules.specs.Squares.{same_square, is_playable}
 use Rattle.game_rules.proofs.Lists.{chosen}
 use Rattle.game_rules.proofs.Squares.{same_square_is}
 use Rattle.plan_rules.specs.Squares.{is_even, is_odd}
-use Rattle.plan_rules.specs.Rules.{baseinverse, is_shaped, zone_of, fits_besides}
-use Rattle.plan_rules.proofs.Grounds.{fits_more}
+use Rattle.plan_rules.specs.Rules.{baseinverse, is_shaped, fits_besides}
 use Rattle.odd_rules.specs.Threat.{Pair, is_in_column, share_column, is_pair, IsPairAt}
 use Rattle.odd_rules.specs.Duel.{partner}
 

@@ -1,18 +1,15 @@
 -- From an odd threat alone: whatever Black plays, White has an answer, Black has no line, and White has one at the end.
-use Rattle.std.proofs.Common.{◌≡◌, ◌≢◌, ◌⊎◌, ℕ, zero, suc, ◌+◌, ◌%◌, ◌<◌, ◌≤◌, Bool, true, false, not, ◌&&◌, ◌||◌, ◌==◌, nat_lt, cond, List, [], ◌∷◌, length, Option, Some, None, is_none, unwrap_or}
+use Rattle.std.proofs.Common.{◌≡◌, ◌≢◌, ◌⊎◌, ℕ, ◌+◌, ◌%◌, ◌<◌, ◌≤◌, true, false, not, ◌&&◌, ◌||◌, ◌==◌, nat_lt, List, length, Option, Some, None, unwrap_or}
 use Rattle.std.proofs.Common.{refl, sym, ap, ◌∙◌, subst, inl, inr, arith}
-use Rattle.std.specs.List.{list_any, list_all, slice_get}
-use Rattle.std.proofs.lemmas.Bool.{cases_Bool, cases_eq, cases_order, both_ways, and_parts, and_from, and_left, and_right, or_cases, or_from, or_left, or_right, not-true}
-use Rattle.std.proofs.lemmas.Bool.{not_from_true, not_from_false, false_from_ne_true, eqb-true, eqb-false, eq-eqb, ne_eqb, le-ltb, cond-true, cond-false}
+use Rattle.std.specs.List.{list_any, slice_get}
+use Rattle.std.proofs.lemmas.Bool.{cases_Bool, cases_eq, cases_order, both_ways, and_parts, and_left, and_right, or_cases, or_from, or_left, or_right}
+use Rattle.std.proofs.lemmas.Bool.{not_from_true, false_from_ne_true, eqb-true, eqb-false, eq-eqb, ne_eqb, le-ltb, cond-true, cond-false}
 use Rattle.std.proofs.lemmas.Option.{same_Some}
 use Rattle.game_rules.specs.Board.{Board, Square, is_board, on_board}
 use Rattle.game_rules.specs.Position.{Position, board_of, men_in, height, man_at, has_man, is_man, other, side_to_move, has_line, is_full, end_of, is_legal, after_move}
 use Rattle.game_rules.specs.Squares.{same_square, has_square, is_empty, is_playable}
 use Rattle.game_rules.specs.Groups.{Group, squares_of, lies_on}
-use Rattle.game_rules.specs.declared.Side.{Side}
 use Rattle.game_rules.specs.declared.Side.TheVariants.{White, Black}
-use Rattle.game_rules.specs.declared.End.{End}
-use Rattle.game_rules.specs.declared.End.TheVariants as ends
 use Rattle.game_rules.proofs.Lists.{any_from}
 use Rattle.game_rules.proofs.Moves.{man_past, board_moved}
 use Rattle.game_rules.proofs.Ends.{on_board_from, on_board_parts, ended_parts, filled_from_full, has_line_same, other_kept, disjoint, legal_parts}
@@ -22,10 +19,10 @@ use Rattle.plan_rules.specs.Laws.{Owns}
 use Rattle.plan_rules.proofs.Fits.{even_rows}
 use Rattle.plan_rules.proofs.Squares.{get-Among, other_column, other_row, same_place}
 use Rattle.plan_rules.proofs.Strategy.{room_playable, line_squares, group_gives_line}
-use Rattle.plan_rules.proofs.Turns.{empty_height, man_from, has_man_from, playable_parts, playable_man, playable_room, empty_parts, placed, beside, stays}
+use Rattle.plan_rules.proofs.Turns.{empty_height, man_from, has_man_from, playable_parts, playable_room, empty_parts, placed, beside, stays}
 use Rattle.plan_rules.proofs.Turns.{height_here, height_beside, side_after, answer_at, low_above, low_kept}
-use Rattle.odd_rules.specs.Threat.{Pair, is_in_column, share_column, is_of_pair, is_safe, holds_pair, IsPairAt, SomePair, SomeSafe, IsThreat}
-use Rattle.odd_rules.specs.Duel.{partner, answer_of, top_of, answered_move, IsPairKept, IsKept, IsWon, Stands, IsAnswered}
+use Rattle.odd_rules.specs.Threat.{Pair, is_in_column, is_of_pair, is_safe, IsPairAt, SomePair, IsThreat}
+use Rattle.odd_rules.specs.Duel.{partner, answer_of, top_of, IsPairKept, IsKept, IsWon, Stands, IsAnswered}
 use Rattle.odd_rules.proofs.Pairs.{even_gives, odd_gives, even_from, odd_from, PairParts, pair_parts, apart_columns, ArePair, partner_gives, no_partner}
 
 module _ (p : Position) (g : Group) (pairs : List Pair) (t : Square) (board : is_board (board_of p) ≡ true) (threat : IsThreat p g pairs t) where

@@ -1,13 +1,13 @@
 -- An odd threat in words of squares and lines, and the test of it.
-use Rattle.std.proofs.Common.{◌≡◌, ◌≢◌, ◌⊎◌, ℕ, zero, suc, ◌+◌, ◌<◌, Bool, true, false, not, ◌&&◌, ◌||◌, ◌==◌, cond, List, [], ◌∷◌, ◌++◌, length, Option, Some, None, is_none}
-use Rattle.std.proofs.Common.{refl, sym, ap, ◌∙◌, subst, inl, inr, arith}
+use Rattle.std.proofs.Common.{◌≡◌, ℕ, zero, suc, ◌+◌, ◌<◌, Bool, true, false, not, ◌&&◌, ◌||◌, ◌==◌, List, [], ◌∷◌, ◌++◌, length, Option, Some, None, is_none}
+use Rattle.std.proofs.Common.{refl, sym, ap, ◌∙◌, inl, inr, arith}
 use Rattle.std.specs.List.{list_any, list_all, slice_get, find}
 use Rattle.std.specs.Option.{option_map_or}
-use Rattle.std.proofs.lemmas.Bool.{cases_Bool, cases_eq, both_ways, and_parts, and_from, or_cases, or_left, or_right, not-true, not_from_false, false_from_ne_true}
-use Rattle.std.proofs.lemmas.Bool.{eqb-true, eq-eqb, cond-true}
+use Rattle.std.proofs.lemmas.Bool.{cases_Bool, both_ways, and_parts, and_from, or_cases, or_left, or_right, not-true, not_from_false, false_from_ne_true}
+use Rattle.std.proofs.lemmas.Bool.{cond-true}
 use Rattle.std.proofs.lemmas.Option.{same_Some}
 use Rattle.game_rules.specs.Board.{Square, below}
-use Rattle.game_rules.specs.Position.{Position, board_of, height, man_at, has_man, is_man, side_to_move, same_side, end_of}
+use Rattle.game_rules.specs.Position.{Position, board_of, height, has_man, is_man, side_to_move, same_side, end_of}
 use Rattle.game_rules.specs.Squares.{same_square, has_square, is_empty}
 use Rattle.game_rules.specs.Groups.{Group, squares_of, lies_on}
 use Rattle.game_rules.specs.declared.Side.TheVariants.{White, Black}
@@ -21,7 +21,7 @@ use Rattle.plan_rules.proofs.Plans.{every_line_gives, every_line_from, none_is}
 use Rattle.plan_rules.proofs.Squares.{Among-get, get-Among, find_one}
 use Rattle.plan_rules.proofs.Turns.{empty_parts}
 use Rattle.odd_rules.specs.Threat.{Pair, is_target, target, is_in_column, share_column, is_pair, bad_pair, is_unpaired, is_safe, holds_pair, is_answered, holds_with}
-use Rattle.odd_rules.specs.Threat.{is_threat, IsTarget, IsPairAt, SomePair, SomeSafe, IsThreat}
+use Rattle.odd_rules.specs.Threat.{is_threat, IsTarget, IsPairAt, SomePair, IsThreat}
 use Rattle.odd_rules.proofs.Pairs.{share_gives, share_from}
 
 -- what is found is of the list, and passes
@@ -125,7 +125,7 @@ good_from p t earlier n [] good = refl
 good_from p t earlier n (z ∷ zs) good =
     cond-true (is_pair p t z && not (list_any (share_column z) earlier)) (bad_pair p t (earlier ++ z ∷ []) (n + 1) zs) (Some n)
     (and_from _ _ (good.each 0 z refl) (not_from_false _ (false_from_ne_true _ (λ shared.
-        let found = any_gives (share_column z) earlier shared in both_ways (share_column z found.0) (good.new 0 z found.0 found.1 refl) found.2))))
+    let found = any_gives (share_column z) earlier shared in both_ways (share_column z found.0) (good.new 0 z found.0 found.1 refl) found.2))))
     ∙ good_from p t (earlier ++ z ∷ []) (n + 1) zs (record {
       each = λ i x at. good.each (suc i) x at;
       new = λ i x y among at. elim (Among-append_cases y earlier (z ∷ []) among) [

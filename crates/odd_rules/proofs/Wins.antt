@@ -1,5 +1,5 @@
 -- The whole play from an odd threat, and that White wins by it.
-use Rattle.std.proofs.Common.{◌≡◌, ◌⊎◌, ℕ, zero, suc, ◌+◌, ◌*◌, ◌<◌, ◌≤◌, Bool, true, false, cond, List, [], ◌∷◌, Option, Some, None, is_none, refl, sym, ap, ◌∙◌}
+use Rattle.std.proofs.Common.{◌≡◌, ℕ, zero, suc, ◌+◌, ◌*◌, ◌<◌, ◌≤◌, Bool, true, false, cond, List, [], ◌∷◌, Some, None, is_none, refl, sym, ap, ◌∙◌}
 use Rattle.std.proofs.Common.{subst, inl, inr, arith, length}
 use Rattle.std.specs.List.{slice_get}
 use Rattle.std.specs.Option.{option_map_or, option_and_then}
@@ -8,7 +8,6 @@ use Rattle.std.proofs.lemmas.Option.{same_Some}
 use Rattle.game_rules.specs.Board.{Square, below, is_board}
 use Rattle.game_rules.specs.Position.{Position, board_of, other, side_to_move, has_room, has_line, end_of, is_legal, after_move, empty_count, moved, open_columns}
 use Rattle.game_rules.specs.Value.{wins, same_end}
-use Rattle.game_rules.specs.Squares.{is_playable}
 use Rattle.game_rules.specs.Groups.{Group}
 use Rattle.game_rules.specs.declared.Side.TheVariants.{White, Black}
 use Rattle.game_rules.specs.declared.End.TheVariants as ends

@@ -1,7 +1,7 @@
 -- Why a group and a list of pairs are no odd threat: the first of six conditions that holds, with the member, the column
 -- or the group that it is about. And the first threat of a position. Both orders are this project's own choice.
 -- Members are counted from 1.
-use Rattle.std.specs.Prelude.{ℕ, zero, suc, ◌+◌, Bool, not, ◌&&◌, ◌==◌, if◌then◌else◌, List, [], ◌∷◌, map, length, filter, Option, Some, None, is_some, option_and_then}
+use Rattle.std.specs.Prelude.{ℕ, zero, suc, not, ◌&&◌, ◌==◌, if◌then◌else◌, List, [], ◌∷◌, map, length, filter, Option, Some, None, is_some, option_and_then}
 use Rattle.std.specs.List.{find, flat_map}
 use Rattle.std.specs.Option.{option_map, option_or}
 use Rattle.game_rules.specs.Board.{Square, below}
