@@ -5,8 +5,9 @@ use Rattle.std.proofs.lemmas.List.{length-append}
 use Rattle.std.proofs.lemmas.Option.{some_pair_parts}
 use Rattle.std.specs.List.{slice_get}
 use Rattle.game_rules.specs.Position.{Position}
+use Rattle.game_rules.specs.Mirror.{mirror}
 use Rattle.plan_text.proofs.Spaced.{all_each}
-use Rattle.proof_text.specs.Lemma.{Reason, ByEnd, ByOne, ByAll, ByPlan, Lemma}
+use Rattle.proof_text.specs.Lemma.{Reason, ByEnd, ByOne, ByAll, ByPlan, ByMirror, Lemma}
 use Rattle.proof_text.specs.Right.{Shown, Shows, IsCited, HasReason, IsRight, AreRight, IsVerdict}
 use Rattle.proof_text.specs.declared.Claim.{Claim}
 use Rattle.proof_text.specs.declared.Verdict.{Verdict}
@@ -58,6 +59,7 @@ HasReason_more known more p claim (ByAll cites) h =
       cited = all_each (IsCited known p claim) (IsCited (known ++ more) p claim) cites (λ cite cited. Shows_more known more cite.lemma _ claim cited) h.cited;
     }
 HasReason_more known more p claim (ByPlan ws) h = h
+HasReason_more known more p claim (ByMirror n) h = Shows_more known more n (mirror p) claim h
 
 pub IsVerdict_more : (root : Position) (known more : List Shown) (v : Verdict) → IsVerdict root known v → IsVerdict root (known ++ more) v
 IsVerdict_more root known more (Win n) h = Shows_more known more n root _ h

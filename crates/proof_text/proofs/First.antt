@@ -16,13 +16,15 @@ use Rattle.proof_text.specs.Spelling.{as_line}
 use Rattle.proof_text.specs.Reading.{read_line}
 use Rattle.proof_text.specs.Texts.{pieces, lines_in, longest_line, most_lines, game_prefix, first_number, game_of, whole_game_of, behind_game, said_refusal}
 use Rattle.proof_text.specs.Texts.{bytes_refusal, refusal_at, first_or, first_some, state_after, NoGame, Refused, verdict_answer, lines_answer, line_answer}
-use Rattle.proof_text.specs.Texts.{with_bytes, check_from, start, answer_of, game_answer, first_line, pieces_answer, check_of}
+use Rattle.proof_text.specs.Texts.{with_bytes, check_from, start, answer_of, game_answer, first_line, pieces_answer, check_in, named_by, version_of, check_of}
 use Rattle.proof_text.proofs.Pieces.{IsFeedless, pieces_some, lines_line, lines_last}
 use Rattle.proof_text.proofs.Fold.{answer_by_lines}
 use Rattle.proof_text.proofs.Fitting.{long_unread}
 use Rattle.std.proofs.lemmas.Option.{some_pair_parts}
 use Rattle.game_rules.proofs.Lists.{chosen}
 use Rattle.proof_text.specs.declared.Verdict.{Verdict}
+use Rattle.proof_text.specs.declared.Version.{Version}
+use Rattle.proof_text.specs.declared.Version.TheVariants.{One, Two}
 use Rattle.proof_text.specs.declared.Why.TheVariants.{BadLine, EndedEarly}
 
 -- ---- the first place
@@ -76,73 +78,6 @@ module _ {X : Type 0} (f : ℕ → Option X) where
         | inl same ↦ ap f same ∙ e
         | inr past ↦ later h i (omega arith) (omega arith)
       ]
-
--- the answer is the first line that fails
-pub first_refused : (root : Position) (lines : List (List ℕ)) (k : ℕ) (why : Why) → k < length lines → refusal_at root lines k ≡ Some why
-    → ((i : ℕ) → i < k → refusal_at root lines i ≡ None)
-    → answer_of root lines ≡ Refused (k + first_number) why
-first_refused root lines k why within here before =
-    ap (lines_answer root lines) (first_at (refusal_at root lines) (length lines) 0 k why (omega arith) (omega arith) here (λ i low high. before i high))
-
--- where none does, the verdict decides
-pub none_refused : (root : Position) (lines : List (List ℕ)) → ((i : ℕ) → i < length lines → refusal_at root lines i ≡ None)
-    → answer_of root lines ≡ verdict_answer (length lines + first_number) (length (state_after root lines).known) (state_after root lines).verdict
-none_refused root lines each = ap (lines_answer root lines) (first_none (refusal_at root lines) (length lines) 0 (λ i low high. each i (omega arith)))
-
--- What is refused is the first line that fails, or the end where no line does and there is no verdict.
-pub refused_first : (root : Position) (lines : List (List ℕ)) (at : ℕ) (why : Why) → answer_of root lines ≡ Refused at why
-    → ((k : ℕ) × (k < length lines) × (at ≡ k + first_number) × (refusal_at root lines k ≡ Some why) × ((i : ℕ) → i < k → refusal_at root lines i ≡ None))
-    ⊎ ((at ≡ length lines + first_number) × (why ≡ EndedEarly) × ((state_after root lines).verdict ≡ None)
-    × ((i : ℕ) → i < length lines → refusal_at root lines i ≡ None))
-refused_first root lines at why h = of_first (first_some (refusal_at root lines) (below (length lines))) refl h
-  where
-    ended : (verdict : Option Verdict) (next lemmas : ℕ) → verdict_answer next lemmas verdict ≡ Refused at why
-        → (verdict ≡ None) × (at ≡ next) × (why ≡ EndedEarly)
-    ended None next lemmas h = (refl, cc, cc)
-    ended (Some v) next lemmas h = cc
-
-    of_first : (found : Option (ℕ × Why)) → first_some (refusal_at root lines) (below (length lines)) ≡ found → lines_answer root lines found ≡ Refused at why
-        → ((k : ℕ) × (k < length lines) × (at ≡ k + first_number) × (refusal_at root lines k ≡ Some why) × ((i : ℕ) → i < k → refusal_at root lines i ≡ None))
-        ⊎ ((at ≡ length lines + first_number) × (why ≡ EndedEarly) × ((state_after root lines).verdict ≡ None)
-        × ((i : ℕ) → i < length lines → refusal_at root lines i ≡ None))
-    of_first (Some (k, found)) e h =
-        let given = first_given (refusal_at root lines) (length lines) 0 k found e in
-        let place : k + first_number ≡ at = cc in
-        let name : found ≡ why = cc in
-        inl (k, omega (arith, given.1), sym place, given.2 ∙ ap Some name, λ i high. given.3 i (omega arith) high)
-    of_first None e h =
-        let end = ended (state_after root lines).verdict (length lines + first_number) (length (state_after root lines).known) h in
-        inr (end.1, end.2, end.0, λ i high. none_given (refusal_at root lines) (length lines) 0 e i (omega arith) (omega arith))
-
--- ---- line by line
-
--- what is no line is refused so
-pub unread : (s : CheckerState) (at : ℕ) (bytes : List ℕ) → read_line (board_of s.root) bytes ≡ None → bytes_refusal s at bytes ≡ Some BadLine
-unread s at bytes h = rw h (either (nat_le at most_lines))
-  where
-    either : (b : Bool) → or_then (unless b BadLine) (Some BadLine) ≡ Some BadLine
-    either true = refl
-    either false = refl
-
--- a line that is too long or stands too far down is none
-pub out_of_bounds : (s : CheckerState) (at : ℕ) (bytes : List ℕ) → (most_lines < at) ⊎ (longest_line < length bytes) → bytes_refusal s at bytes ≡ Some BadLine
-out_of_bounds s at bytes (inl late) = failed (nat_le at most_lines) (lt-leb at most_lines late)
-  where
-    failed : (b : Bool) → b ≡ false → or_then (unless b BadLine) (said_refusal s (read_line (board_of s.root) bytes)) ≡ Some BadLine
-    failed b e = rw e refl
-out_of_bounds s at bytes (inr long) = unread s at bytes (long_unread (board_of s.root) bytes long)
-
--- a text goes on with its first line
-pub check_line : (s : CheckerState) (at : ℕ) (line rest : List ℕ) → IsFeedless line
-    → check_from s at (lines_in (pieces (line ++ 10 ∷ rest)))
-    ≡ line_answer (bytes_refusal s at line) at (check_from (with_bytes s line) (at + 1) (lines_in (pieces rest)))
-check_line s at line rest h = ap (check_from s at) (lines_line line rest h)
-
--- or ends with it
-pub check_last : (s : CheckerState) (at : ℕ) (byte : ℕ) (line : List ℕ) → IsFeedless (byte ∷ line)
-    → check_from s at (lines_in (pieces (byte ∷ line)))
-    ≡ line_answer (bytes_refusal s at (byte ∷ line)) at (check_from (with_bytes s (byte ∷ line)) (at + 1) [])
-check_last s at byte line h = ap (check_from s at) (lines_last byte line h)
 
 -- ---- long lines of a game
 
@@ -207,56 +142,163 @@ prefixes_decide (board ∷ moves ∷ next ∷ more) = elim (cases_lt (length boa
       ]
 ]
 
--- ---- the head of a text
+module _ (version : Version) where
+  -- the answer is the first line that fails
+  pub first_refused : (root : Position) (lines : List (List ℕ)) (k : ℕ) (why : Why) → k < length lines → refusal_at version root lines k ≡ Some why
+      → ((i : ℕ) → i < k → refusal_at version root lines i ≡ None)
+      → answer_of version root lines ≡ Refused (k + first_number) why
+  first_refused root lines k why within here before =
+      ap (lines_answer version root lines)
+      (first_at (refusal_at version root lines) (length lines) 0 k why (omega arith) (omega arith) here (λ i low high. before i high))
 
-pub no_head : (bytes first : List ℕ) (more : List (List ℕ)) → pieces bytes ≡ first ∷ more → (first ≡ first_line → ⊥) → check_of bytes ≡ Refused 1 BadLine
+  -- where none does, the verdict decides
+  pub none_refused : (root : Position) (lines : List (List ℕ)) → ((i : ℕ) → i < length lines → refusal_at version root lines i ≡ None)
+      → answer_of version root lines
+      ≡ verdict_answer (length lines + first_number) (length (state_after version root lines).known) (state_after version root lines).verdict
+  none_refused root lines each = ap (lines_answer version root lines)
+      (first_none (refusal_at version root lines) (length lines) 0 (λ i low high. each i (omega arith)))
+
+  -- What is refused is the first line that fails, or the end where no line does and there is no verdict.
+  pub refused_first : (root : Position) (lines : List (List ℕ)) (at : ℕ) (why : Why) → answer_of version root lines ≡ Refused at why
+      → ((k : ℕ) × (k < length lines) × (at ≡ k + first_number) × (refusal_at version root lines k ≡ Some why)
+      × ((i : ℕ) → i < k → refusal_at version root lines i ≡ None))
+      ⊎ ((at ≡ length lines + first_number) × (why ≡ EndedEarly) × ((state_after version root lines).verdict ≡ None)
+      × ((i : ℕ) → i < length lines → refusal_at version root lines i ≡ None))
+  refused_first root lines at why h = of_first (first_some (refusal_at version root lines) (below (length lines))) refl h
+    where
+      ended : (verdict : Option Verdict) (next lemmas : ℕ) → verdict_answer next lemmas verdict ≡ Refused at why
+          → (verdict ≡ None) × (at ≡ next) × (why ≡ EndedEarly)
+      ended None next lemmas h = (refl, cc, cc)
+      ended (Some v) next lemmas h = cc
+
+      of_first : (found : Option (ℕ × Why)) → first_some (refusal_at version root lines) (below (length lines)) ≡ found
+          → lines_answer version root lines found ≡ Refused at why
+          → ((k : ℕ) × (k < length lines) × (at ≡ k + first_number) × (refusal_at version root lines k ≡ Some why)
+          × ((i : ℕ) → i < k → refusal_at version root lines i ≡ None))
+          ⊎ ((at ≡ length lines + first_number) × (why ≡ EndedEarly) × ((state_after version root lines).verdict ≡ None)
+          × ((i : ℕ) → i < length lines → refusal_at version root lines i ≡ None))
+      of_first (Some (k, found)) e h =
+          let given = first_given (refusal_at version root lines) (length lines) 0 k found e in
+          let place : k + first_number ≡ at = cc in
+          let name : found ≡ why = cc in
+          inl (k, omega (arith, given.1), sym place, given.2 ∙ ap Some name, λ i high. given.3 i (omega arith) high)
+      of_first None e h =
+          let end = ended (state_after version root lines).verdict (length lines + first_number) (length (state_after version root lines).known) h in
+          inr (end.1, end.2, end.0, λ i high. none_given (refusal_at version root lines) (length lines) 0 e i (omega arith) (omega arith))
+
+  -- ---- line by line
+
+  -- what is no line is refused so
+  pub unread : (s : CheckerState) (at : ℕ) (bytes : List ℕ) → read_line version (board_of s.root) bytes ≡ None → bytes_refusal version s at bytes ≡ Some BadLine
+  unread s at bytes h = rw h (either (nat_le at most_lines))
+    where
+      either : (b : Bool) → or_then (unless b BadLine) (Some BadLine) ≡ Some BadLine
+      either true = refl
+      either false = refl
+
+  -- a line that is too long or stands too far down is none
+  pub out_of_bounds : (s : CheckerState) (at : ℕ) (bytes : List ℕ) → (most_lines < at) ⊎ (longest_line < length bytes)
+      → bytes_refusal version s at bytes ≡ Some BadLine
+  out_of_bounds s at bytes (inl late) = failed (nat_le at most_lines) (lt-leb at most_lines late)
+    where
+      failed : (b : Bool) → b ≡ false → or_then (unless b BadLine) (said_refusal s (read_line version (board_of s.root) bytes)) ≡ Some BadLine
+      failed b e = rw e refl
+  out_of_bounds s at bytes (inr long) = unread s at bytes (long_unread version (board_of s.root) bytes long)
+
+  -- a text goes on with its first line
+  pub check_line : (s : CheckerState) (at : ℕ) (line rest : List ℕ) → IsFeedless line
+      → check_from version s at (lines_in (pieces (line ++ 10 ∷ rest)))
+      ≡ line_answer (bytes_refusal version s at line) at (check_from version (with_bytes version s line) (at + 1) (lines_in (pieces rest)))
+  check_line s at line rest h = ap (check_from version s at) (lines_line line rest h)
+
+  -- or ends with it
+  pub check_last : (s : CheckerState) (at : ℕ) (byte : ℕ) (line : List ℕ) → IsFeedless (byte ∷ line)
+      → check_from version s at (lines_in (pieces (byte ∷ line)))
+      ≡ line_answer (bytes_refusal version s at (byte ∷ line)) at (check_from version (with_bytes version s (byte ∷ line)) (at + 1) [])
+  check_last s at byte line h = ap (check_from version s at) (lines_last byte line h)
+
+  -- ---- the head of a text
+
+  pub no_head : (bytes first : List ℕ) (more : List (List ℕ)) → pieces bytes ≡ first ∷ more → (first ≡ first_line version → ⊥)
+      → check_in version bytes ≡ Refused 1 BadLine
+  unfolding check_in
+  no_head bytes first more cut other = ap (pieces_answer version) cut
+      ∙ named (bytes_eq first (first_line version))
+      (false_from_ne_true (bytes_eq first (first_line version)) (λ same. other ((bytes_eq-Decides first (first_line version)).0 same)))
+    where
+      named : (b : Bool) → b ≡ false → cond b (game_answer version (game_at (game_of more)) (behind_game more)) (Refused 1 BadLine) ≡ Refused 1 BadLine
+      named b e = rw e refl
+
+  pub with_head : (bytes : List ℕ) (more : List (List ℕ)) → pieces bytes ≡ first_line version ∷ more
+      → check_in version bytes ≡ game_answer version (game_at (game_of more)) (behind_game more)
+  unfolding check_in
+  with_head bytes more cut = ap (pieces_answer version) cut
+      ∙ ap (λ named. cond named (game_answer version (game_at (game_of more)) (behind_game more)) (Refused 1 BadLine))
+      ((bytes_eq-Decides (first_line version) (first_line version)).1 refl)
+
+  pub no_game : (bytes : List ℕ) (more : List (List ℕ)) (fault : InputFault) → pieces bytes ≡ first_line version ∷ more → game_at (game_of more) ≡ Err fault
+      → check_in version bytes ≡ NoGame fault
+  no_game bytes more fault cut h = with_head bytes more cut ∙ ap (λ r. game_answer version r (behind_game more)) h
+
+  pub with_game : (bytes : List ℕ) (more : List (List ℕ)) (root : Position) → pieces bytes ≡ first_line version ∷ more → game_at (game_of more) ≡ Ok root
+      → check_in version bytes ≡ check_from version (start root) first_number (behind_game more)
+  with_game bytes more root cut h = with_head bytes more cut ∙ ap (λ r. game_answer version r (behind_game more)) h
+      ∙ answer_by_lines version root (behind_game more)
+
+  -- the fault of a game is the answer only where there is a head and no game
+  pub only_no_game : (bytes : List ℕ) (fault : InputFault) → check_in version bytes ≡ NoGame fault → (more : List (List ℕ))
+      × (pieces bytes ≡ first_line version ∷ more)
+      × (game_at (game_of more) ≡ Err fault)
+  unfolding check_in
+  only_no_game bytes fault h = let some = pieces_some bytes in of_pieces some.0 some.1 some.2 (sym (ap (pieces_answer version) some.2) ∙ h)
+    where
+      not_ended : (verdict : Option Verdict) (next lemmas : ℕ) → verdict_answer next lemmas verdict ≡ NoGame fault → ⊥
+      not_ended None next lemmas h = cc
+      not_ended (Some v) next lemmas h = cc
+
+      not_lines : (root : Position) (lines : List (List ℕ)) (found : Option (ℕ × Why)) → lines_answer version root lines found ≡ NoGame fault → ⊥
+      not_lines root lines (Some (k, why)) h = cc
+      not_lines root lines None h = not_ended (state_after version root lines).verdict (length lines + first_number)
+          (length (state_after version root lines).known) h
+
+      of_game : (r : Result Position InputFault) (lines : List (List ℕ)) → game_answer version r lines ≡ NoGame fault → r ≡ Err fault
+      of_game (Err other) lines h = let same : other ≡ fault = cc in ap Err same
+      of_game (Ok root) lines h = absurd (not_lines root lines (first_some (refusal_at version root lines) (below (length lines))) h)
+
+      of_pieces : (first : List ℕ) (more : List (List ℕ)) → pieces bytes ≡ first ∷ more → pieces_answer version (first ∷ more) ≡ NoGame fault
+          → (more : List (List ℕ)) × (pieces bytes ≡ first_line version ∷ more) × (game_at (game_of more) ≡ Err fault)
+      of_pieces first more cut h = elim
+          (chosen (bytes_eq first (first_line version)) (game_answer version (game_at (game_of more)) (behind_game more)) (Refused 1 BadLine)
+          (NoGame fault) h) [
+            | inr other ↦ absurd (cc other.1)
+            | inl named ↦ (
+              more,
+              cut ∙ ap (λ first. first ∷ more) ((bytes_eq-Decides first (first_line version)).0 named.0),
+              of_game (game_at (game_of more)) (behind_game more)
+                  named.1,
+            )
+          ]
+
+-- ---- the version that a text names
+
+-- the answer to a text is that of the version that it names
+pub by_version : (bytes : List ℕ) → check_of bytes ≡ check_in (version_of bytes) bytes
 unfolding check_of
-no_head bytes first more cut other = ap pieces_answer cut
-    ∙ named (bytes_eq first first_line) (false_from_ne_true (bytes_eq first first_line) (λ same. other ((bytes_eq-Decides first first_line).0 same)))
+by_version bytes = refl
+
+pub answer_named : (version : Version) (bytes : List ℕ) (more : List (List ℕ)) → pieces bytes ≡ first_line version ∷ more
+    → check_of bytes ≡ check_in version bytes
+answer_named version bytes more cut = by_version bytes ∙ ap (λ named. check_in named bytes) (ap named_by cut ∙ names version)
   where
-    named : (b : Bool) → b ≡ false → cond b (game_answer (game_at (game_of more)) (behind_game more)) (Refused 1 BadLine) ≡ Refused 1 BadLine
-    named b e = rw e refl
+    names : (version : Version) → named_by (first_line version ∷ more) ≡ version
+    names One = refl
+    names Two = refl
 
-pub with_head : (bytes : List ℕ) (more : List (List ℕ)) → pieces bytes ≡ first_line ∷ more
-    → check_of bytes ≡ game_answer (game_at (game_of more)) (behind_game more)
-unfolding check_of
-with_head bytes more cut = ap pieces_answer cut
-
-pub no_game : (bytes : List ℕ) (more : List (List ℕ)) (fault : InputFault) → pieces bytes ≡ first_line ∷ more → game_at (game_of more) ≡ Err fault
-    → check_of bytes ≡ NoGame fault
-no_game bytes more fault cut h = with_head bytes more cut ∙ ap (λ r. game_answer r (behind_game more)) h
-
-pub with_game : (bytes : List ℕ) (more : List (List ℕ)) (root : Position) → pieces bytes ≡ first_line ∷ more → game_at (game_of more) ≡ Ok root
-    → check_of bytes ≡ check_from (start root) first_number (behind_game more)
-with_game bytes more root cut h = with_head bytes more cut ∙ ap (λ r. game_answer r (behind_game more)) h ∙ answer_by_lines root (behind_game more)
-
--- the fault of a game is the answer only where there is a head and no game
-pub only_no_game : (bytes : List ℕ) (fault : InputFault) → check_of bytes ≡ NoGame fault → (more : List (List ℕ)) × (pieces bytes ≡ first_line ∷ more)
-    × (game_at (game_of more) ≡ Err fault)
-unfolding check_of
-only_no_game bytes fault h = let some = pieces_some bytes in of_pieces some.0 some.1 some.2 (sym (ap pieces_answer some.2) ∙ h)
+-- one that names none is refused
+pub unnamed : (bytes first : List ℕ) (more : List (List ℕ)) → pieces bytes ≡ first ∷ more → (first ≡ first_line One → ⊥) → (first ≡ first_line Two → ⊥)
+    → check_of bytes ≡ Refused 1 BadLine
+unnamed bytes first more cut one two = by_version bytes ∙ no_head (version_of bytes) bytes first more cut (other (version_of bytes))
   where
-    not_ended : (verdict : Option Verdict) (next lemmas : ℕ) → verdict_answer next lemmas verdict ≡ NoGame fault → ⊥
-    not_ended None next lemmas h = cc
-    not_ended (Some v) next lemmas h = cc
-
-    not_lines : (root : Position) (lines : List (List ℕ)) (found : Option (ℕ × Why)) → lines_answer root lines found ≡ NoGame fault → ⊥
-    not_lines root lines (Some (k, why)) h = cc
-    not_lines root lines None h = not_ended (state_after root lines).verdict (length lines + first_number) (length (state_after root lines).known) h
-
-    of_game : (r : Result Position InputFault) (lines : List (List ℕ)) → game_answer r lines ≡ NoGame fault → r ≡ Err fault
-    of_game (Err other) lines h = let same : other ≡ fault = cc in ap Err same
-    of_game (Ok root) lines h = absurd (not_lines root lines (first_some (refusal_at root lines) (below (length lines))) h)
-
-    of_pieces : (first : List ℕ) (more : List (List ℕ)) → pieces bytes ≡ first ∷ more → pieces_answer (first ∷ more) ≡ NoGame fault
-        → (more : List (List ℕ)) × (pieces bytes ≡ first_line ∷ more) × (game_at (game_of more) ≡ Err fault)
-    of_pieces first more cut h = elim
-        (chosen (bytes_eq first first_line) (game_answer (game_at (game_of more)) (behind_game more)) (Refused 1 BadLine) (NoGame fault) h) [
-          | inr other ↦ absurd (cc other.1)
-          | inl named ↦ (
-            more,
-            cut ∙ ap (λ first. first ∷ more) ((bytes_eq-Decides first first_line).0 named.0),
-            of_game (game_at (game_of more)) (behind_game more)
-                named.1,
-          )
-        ]
+    other : (version : Version) → first ≡ first_line version → ⊥
+    other One = one
+    other Two = two

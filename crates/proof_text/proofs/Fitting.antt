@@ -10,22 +10,24 @@ use Rattle.std.proofs.lemmas.Bool.{cases_Bool, and_parts, leb-true}
 use Rattle.game_rules.specs.Board.{Board, is_board, is_cols, is_rows, below}
 use Rattle.game_rules.specs.Position.{Position, board_of, has_room, after_move, end_of, empty_count, is_legal, played, open_columns, height}
 use Rattle.game_rules.specs.Grammar.{letter_of, move_list}
+use Rattle.game_rules.specs.Mirror.{mirror}
 use Rattle.game_rules.proofs.Lists.{Among, any_gives, Among-filter, Among-filter_gives, Among-below_gives, chosen}
 use Rattle.game_rules.proofs.Moves.{empty_count_moved, cols_moved, room_column}
 use Rattle.game_rules.proofs.Values.{goes_on_room}
 use Rattle.game_rules.proofs.Ends.{legal_parts}
 use Rattle.game_rules.proofs.BoardLine.{empty_count_within}
 use Rattle.game_rules.proofs.Grammar.{board_along}
-use Rattle.proof_text.specs.Lemma.{Cite, Reason, ByEnd, ByOne, ByAll, ByPlan, Lemma, Line, ALemma, ARemark, AVerdict}
+use Rattle.proof_text.specs.Lemma.{Cite, Reason, ByEnd, ByOne, ByAll, ByPlan, ByMirror, Lemma, Line, ALemma, ARemark, AVerdict}
 use Rattle.proof_text.specs.Right.{Shown, IsCited, HasReason, IsRight, AreRight, IsVerdict}
 use Rattle.proof_text.specs.Spelling.{claim_word, cite_word, reason_words, lemma_text, verdict_text, greatest_number, longest_path, most_cites, IsNumber}
-use Rattle.proof_text.specs.Spelling.{CiteFits, ReasonFits, Fits, VerdictFits, longest_line, is_printable, IsLine, members_in, IsShort}
+use Rattle.proof_text.specs.Spelling.{CiteFits, ReasonFits, Fits, VerdictFits, longest_line, is_printable, IsAnyLine, members_in, IsShort}
 use Rattle.proof_text.specs.Reading.{read_line}
 use Rattle.proof_text.proofs.Append.{Shows_number}
 use Rattle.proof_text.proofs.Spelled.{line_read}
 use Rattle.proof_text.specs.declared.Claim.{Claim}
 use Rattle.proof_text.specs.declared.Claim.TheVariants.{WhiteWins, WhiteFails, BlackWins, BlackFails}
 use Rattle.proof_text.specs.declared.Verdict.{Verdict}
+use Rattle.proof_text.specs.declared.Version.{Version}
 use Rattle.proof_text.specs.declared.Verdict.TheVariants.{Win, Loss, Draw, Unknown}
 use Rattle.plan_text.specs.Words.{spaced}
 use Rattle.plan_text.specs.Items.{instance_text, is_named}
@@ -127,6 +129,7 @@ reason_fits : (known : List Shown) (p : Position) (claim : Claim) (reason : Reas
     → HasReason known p claim reason → ReasonFits (board_of p) reason
 reason_fits known p claim ByEnd board few short h = tt
 reason_fits known p claim (ByPlan ws) board few short h = plan_fits p ws board short h.plan
+reason_fits known p claim (ByMirror n) board few short h = let number = Shows_number known n (mirror p) claim h in (number.0, omega arith)
 reason_fits known p claim (ByOne cite) board few short h =
     let number = Shows_number known cite.lemma (after_move p cite.column) claim h.cited in
     (room_column p cite.column h.playable, (number.0, omega arith))
@@ -215,6 +218,7 @@ reason_length board ByEnd h = omega arith
 reason_length board (ByOne cite) h = let number : length (decimal cite.lemma) ≤ 8 = number_length cite.lemma h.1 in omega arith
 reason_length board (ByAll cites) h = let rest : further (map cite_word cites) ≤ length cites * 11 = cites_length board.cols cites h.2 in omega (arith, h.1)
 reason_length board (ByPlan ws) h = omega (arith, members_length board ws h, further_is (map instance_text ws), h.1)
+reason_length board (ByMirror n) h = let number : length (decimal n) ≤ 8 = number_length n h in omega arith
 
 -- a lemma's text has at most 5,217 bytes, and a verdict's at most 28
 pub lemma_length : (board : Board) (l : Lemma) → Fits board l → length (lemma_text l) ≤ 5217
@@ -237,7 +241,7 @@ verdict_length (Draw n m) h =
 verdict_length Unknown h = omega arith
 
 -- no line has more bytes than a line may have
-pub line_short : (board : Board) (bytes : List ℕ) (line : Line) → IsLine board bytes line → length bytes ≤ longest_line
+pub line_short : (board : Board) (bytes : List ℕ) (line : Line) → IsAnyLine board bytes line → length bytes ≤ longest_line
 line_short board bytes (ALemma l) h = omega (arith, ap length h.1, lemma_length board l h.0)
 line_short board bytes (AVerdict v) h = omega (arith, ap length h.1, verdict_length v h.0)
 line_short board [] ARemark h = omega arith
@@ -245,9 +249,9 @@ line_short board (byte ∷ bytes) ARemark h =
     leb-true (length (byte ∷ bytes)) longest_line (and_parts (byte == 35 && list_all is_printable bytes) (nat_le (length (byte ∷ bytes)) longest_line) h).1
 
 -- so what is longer isn't read
-pub long_unread : (board : Board) (bytes : List ℕ) → longest_line < length bytes → read_line board bytes ≡ None
-long_unread board bytes long = of (read_line board bytes) refl
+pub long_unread : (version : Version) (board : Board) (bytes : List ℕ) → longest_line < length bytes → read_line version board bytes ≡ None
+long_unread version board bytes long = of (read_line version board bytes) refl
   where
-    of : (found : Option Line) → read_line board bytes ≡ found → found ≡ None
+    of : (found : Option Line) → read_line version board bytes ≡ found → found ≡ None
     of None e = refl
-    of (Some line) e = absurd (omega (arith, line_short board bytes line (line_read board bytes line e)))
+    of (Some line) e = absurd (omega (arith, line_short board bytes line (line_read version board bytes line e).1))

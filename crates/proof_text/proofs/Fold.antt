@@ -14,6 +14,7 @@ use Rattle.proof_text.specs.Texts.{most_lines, first_number, shown_by, state_aft
 use Rattle.proof_text.specs.Texts.{verdict_answer, lines_answer, with_said, with_bytes, line_answer, check_from, start, answer_of}
 use Rattle.proof_text.proofs.Refusals.{or_none, line_of_none}
 use Rattle.proof_text.specs.declared.Verdict.{Verdict}
+use Rattle.proof_text.specs.declared.Version.{Version}
 use Rattle.proof_text.specs.declared.Why.TheVariants.{BadLine}
 
 -- ---- what stands after one more line
@@ -48,82 +49,89 @@ said_push root said line h =
     of_line ARemark = ap (λ known. stand root known None) (append-nil (shown_by root said)) ∙ ap (λ verdict. stand root (shown_by root said) verdict) (sym h)
     of_line (AVerdict v) = ap (λ known. stand root known (Some v)) (append-nil (shown_by root said))
 
--- a line that isn't refused is one, within the bounds, and stands behind no verdict
-pub bytes_of_none : (s : CheckerState) (at : ℕ) (bytes : List ℕ) → bytes_refusal s at bytes ≡ None
-    → (line : Line) × (read_line (board_of s.root) bytes ≡ Some line) × (line_refusal s line ≡ None) × (nat_le at most_lines ≡ true)
-bytes_of_none s at bytes h =
-    let both = or_none (unless (nat_le at most_lines) BadLine) (said_refusal s (read_line (board_of s.root) bytes)) h in
-    said (read_line (board_of s.root) bytes) refl both.1 (bound (nat_le at most_lines) both.0)
-  where
-    bound : (b : Bool) → unless b BadLine ≡ None → b ≡ true
-    bound true h = refl
-    bound false h = cc
-
-    said : (line : Option Line) → read_line (board_of s.root) bytes ≡ line → said_refusal s line ≡ None → nat_le at most_lines ≡ true
-        → (line : Line) × (read_line (board_of s.root) bytes ≡ Some line) × (line_refusal s line ≡ None) × (nat_le at most_lines ≡ true)
-    said None e h bounds = cc
-    said (Some line) e h bounds = (line, e, h, bounds)
-
--- what stands after one more line that isn't refused
-pub state_after_push : (root : Position) (before : List (List ℕ)) (at : ℕ) (bytes : List ℕ) → bytes_refusal (state_after root before) at bytes ≡ None
-    → state_after root (before ++ bytes ∷ []) ≡ with_bytes (state_after root before) bytes
-state_after_push root before at bytes h =
-    let found = bytes_of_none (state_after root before) at bytes h in
-    let board = board_of root in
-    let said = filter_map (read_line board) before in
-    let more : filter_map (read_line board) (before ++ bytes ∷ []) ≡ said ++ found.0 ∷ [] = filter_map-append (read_line board) before (bytes ∷ [])
-    ∙ ap (λ more. said ++ more) (one (read_line board bytes) found.0 found.1) in
-    ap (λ said. stand root (shown_by root said) (first_verdict said)) more
-    ∙ said_push root said found.0 (line_of_none (state_after root before) found.0 found.2).0
-    ∙ ap (with_said (state_after root before)) (sym found.1)
-  where
-    one : (read : Option Line) (line : Line) → read ≡ Some line → filter_map (λ (bytes : List ℕ). read) (bytes ∷ []) ≡ line ∷ []
-    one read line e = rw e refl
-
 -- ---- the first line that fails
 
 pub index_seam : (before : List (List ℕ)) (line : List ℕ) (rest : List (List ℕ)) → slice_index_or (before ++ line ∷ rest) (length before) [] ≡ line
 index_seam [] line rest = refl
 index_seam (first ∷ before) line rest = index_seam before line rest
 
-fold_from : (root : Position) (rest before : List (List ℕ))
-    → lines_answer root (before ++ rest) (first_some (refusal_at root (before ++ rest)) (range_with_len (length before) (length rest)))
-    ≡ check_from (state_after root before) (length before + first_number) rest
-fold_from root [] before = ap (λ lines. verdict_answer (length lines + first_number) (length (state_after root lines).known) (state_after root lines).verdict)
-    (append-nil before)
-fold_from root (line ∷ rest) before = of_refusal (bytes_refusal (state_after root before) (length before + first_number) line) refl
-    (fold_from root rest (before ++ line ∷ []))
-  where
-    whole : List (List ℕ)
-    whole = before ++ line ∷ rest
+module _ (version : Version) where
+  -- a line that isn't refused is one, within the bounds, and stands behind no verdict
+  pub bytes_of_none : (s : CheckerState) (at : ℕ) (bytes : List ℕ) → bytes_refusal version s at bytes ≡ None
+      → (line : Line) × (read_line version (board_of s.root) bytes ≡ Some line) × (line_refusal s line ≡ None) × (nat_le at most_lines ≡ true)
+  bytes_of_none s at bytes h =
+      let both = or_none (unless (nat_le at most_lines) BadLine) (said_refusal s (read_line version (board_of s.root) bytes)) h in
+      said (read_line version (board_of s.root) bytes) refl both.1 (bound (nat_le at most_lines) both.0)
+    where
+      bound : (b : Bool) → unless b BadLine ≡ None → b ≡ true
+      bound true h = refl
+      bound false h = cc
 
-    here : refusal_at root (before ++ line ∷ rest) (length before) ≡ bytes_refusal (state_after root before) (length before + first_number) line
-    here = ap (λ prefix. bytes_refusal (state_after root prefix) (length before + first_number) (slice_index_or (before ++ line ∷ rest) (length before) []))
-        (take-append_seam before (line ∷ rest))
-        ∙ ap (bytes_refusal (state_after root before) (length before + first_number)) (index_seam before line rest)
+      said : (line : Option Line) → read_line version (board_of s.root) bytes ≡ line → said_refusal s line ≡ None → nat_le at most_lines ≡ true
+          → (line : Line) × (read_line version (board_of s.root) bytes ≡ Some line) × (line_refusal s line ≡ None) × (nat_le at most_lines ≡ true)
+      said None e h bounds = cc
+      said (Some line) e h bounds = (line, e, h, bounds)
 
-    longer : length (before ++ line ∷ []) ≡ length before + 1
-    longer = length-append before (line ∷ [])
+  -- what stands after one more line that isn't refused
+  pub state_after_push : (root : Position) (before : List (List ℕ)) (at : ℕ) (bytes : List ℕ)
+      → bytes_refusal version (state_after version root before) at bytes ≡ None
+      → state_after version root (before ++ bytes ∷ []) ≡ with_bytes version (state_after version root before) bytes
+  state_after_push root before at bytes h =
+      let found = bytes_of_none (state_after version root before) at bytes h in
+      let board = board_of root in
+      let said = filter_map (read_line version board) before in
+      let more : filter_map (read_line version board) (before ++ bytes ∷ [])
+      ≡ said ++ found.0 ∷ [] = filter_map-append (read_line version board) before (bytes ∷ [])
+      ∙ ap (λ more. said ++ more) (one (read_line version board bytes) found.0 found.1) in
+      ap (λ said. stand root (shown_by root said) (first_verdict said)) more
+      ∙ said_push root said found.0 (line_of_none (state_after version root before) found.0 found.2).0
+      ∙ ap (with_said (state_after version root before)) (sym found.1)
+    where
+      one : (read : Option Line) (line : Line) → read ≡ Some line → filter_map (λ (bytes : List ℕ). read) (bytes ∷ []) ≡ line ∷ []
+      one read line e = rw e refl
 
-    of_refusal : (r : Option Why) → bytes_refusal (state_after root before) (length before + first_number) line ≡ r
-        → lines_answer root ((before ++ line ∷ []) ++ rest)
-        (first_some (refusal_at root ((before ++ line ∷ []) ++ rest)) (range_with_len (length (before ++ line ∷ [])) (length rest)))
-        ≡ check_from (state_after root (before ++ line ∷ [])) (length (before ++ line ∷ []) + first_number) rest
-        → lines_answer root (before ++ line ∷ rest)
-        (first_or (refusal_at root (before ++ line ∷ rest) (length before)) (length before)
-        (first_some (refusal_at root (before ++ line ∷ rest)) (range_with_len (length before + 1) (length rest))))
-        ≡ line_answer (bytes_refusal (state_after root before) (length before + first_number) line) (length before + first_number)
-        (check_from (with_bytes (state_after root before) line) (length before + first_number + 1) rest)
-    of_refusal (Some why) e later = rw (here, e) refl
-    of_refusal None e later = rw (here, e) (
-        ap (λ lines. lines_answer root lines (first_some (refusal_at root lines) (range_with_len (length before + 1) (length rest))))
-        (sym (append_assoc before (line ∷ []) rest))
-        ∙ ap (λ n. lines_answer root ((before ++ line ∷ []) ++ rest)
-        (first_some (refusal_at root ((before ++ line ∷ []) ++ rest)) (range_with_len n (length rest)))) (sym longer)
-        ∙ later
-        ∙ ap (λ s. check_from s (length (before ++ line ∷ []) + first_number) rest) (state_after_push root before (length before + first_number) line e)
-        ∙ ap (λ n. check_from (with_bytes (state_after root before) line) n rest) (omega (arith, longer)))
+  fold_from : (root : Position) (rest before : List (List ℕ))
+      → lines_answer version root (before ++ rest) (first_some (refusal_at version root (before ++ rest)) (range_with_len (length before) (length rest)))
+      ≡ check_from version (state_after version root before) (length before + first_number) rest
+  fold_from root [] before = ap
+      (λ lines. verdict_answer (length lines + first_number) (length (state_after version root lines).known) (state_after version root lines).verdict)
+      (append-nil before)
+  fold_from root (line ∷ rest) before = of_refusal (bytes_refusal version (state_after version root before) (length before + first_number) line) refl
+      (fold_from root rest (before ++ line ∷ []))
+    where
+      whole : List (List ℕ)
+      whole = before ++ line ∷ rest
 
--- the answer to the lines behind a game is that of going through them
-pub answer_by_lines : (root : Position) (lines : List (List ℕ)) → answer_of root lines ≡ check_from (start root) first_number lines
-answer_by_lines root lines = fold_from root lines []
+      here : refusal_at version root (before ++ line ∷ rest) (length before)
+          ≡ bytes_refusal version (state_after version root before) (length before + first_number) line
+      here = ap (λ prefix. bytes_refusal version (state_after version root prefix) (length before + first_number)
+          (slice_index_or (before ++ line ∷ rest) (length before) []))
+          (take-append_seam before (line ∷ rest))
+          ∙ ap (bytes_refusal version (state_after version root before) (length before + first_number)) (index_seam before line rest)
+
+      longer : length (before ++ line ∷ []) ≡ length before + 1
+      longer = length-append before (line ∷ [])
+
+      of_refusal : (r : Option Why) → bytes_refusal version (state_after version root before) (length before + first_number) line ≡ r
+          → lines_answer version root ((before ++ line ∷ []) ++ rest)
+          (first_some (refusal_at version root ((before ++ line ∷ []) ++ rest)) (range_with_len (length (before ++ line ∷ [])) (length rest)))
+          ≡ check_from version (state_after version root (before ++ line ∷ [])) (length (before ++ line ∷ []) + first_number) rest
+          → lines_answer version root (before ++ line ∷ rest)
+          (first_or (refusal_at version root (before ++ line ∷ rest) (length before)) (length before)
+          (first_some (refusal_at version root (before ++ line ∷ rest)) (range_with_len (length before + 1) (length rest))))
+          ≡ line_answer (bytes_refusal version (state_after version root before) (length before + first_number) line) (length before + first_number)
+          (check_from version (with_bytes version (state_after version root before) line) (length before + first_number + 1) rest)
+      of_refusal (Some why) e later = rw (here, e) refl
+      of_refusal None e later = rw (here, e) (
+          ap (λ lines. lines_answer version root lines (first_some (refusal_at version root lines) (range_with_len (length before + 1) (length rest))))
+          (sym (append_assoc before (line ∷ []) rest))
+          ∙ ap (λ n. lines_answer version root ((before ++ line ∷ []) ++ rest)
+          (first_some (refusal_at version root ((before ++ line ∷ []) ++ rest)) (range_with_len n (length rest)))) (sym longer)
+          ∙ later
+          ∙ ap (λ s. check_from version s (length (before ++ line ∷ []) + first_number) rest)
+          (state_after_push root before (length before + first_number) line e)
+          ∙ ap (λ n. check_from version (with_bytes version (state_after version root before) line) n rest) (omega (arith, longer)))
+
+  -- the answer to the lines behind a game is that of going through them
+  pub answer_by_lines : (root : Position) (lines : List (List ℕ)) → answer_of version root lines ≡ check_from version (start root) first_number lines
+  answer_by_lines root lines = fold_from root lines []

@@ -10,5 +10,6 @@ pub mod Accepted
 pub mod Whole
 pub mod Fitting
 pub mod Written
+pub mod Upgraded
 pub mod First
 pub mod Checking

@@ -7,8 +7,9 @@ use Rattle.std.proofs.lemmas.Slice.Eq.{bytes_eq-Decides}
 use Rattle.std.proofs.lemmas.Bool.{and_parts, and_from, not-true, not_from_false, eqb-true, eq-eqb}
 use Rattle.game_rules.specs.Position.{Position, has_room, after_move, end_of, played, open_columns, same_position}
 use Rattle.game_rules.proofs.Moves.{same_position_Decides}
+use Rattle.game_rules.specs.Mirror.{mirror}
 use Rattle.game_rules.specs.declared.End.{End}
-use Rattle.proof_text.specs.Lemma.{same_claim, claim_of_end, Cite, Reason, ByEnd, ByOne, ByAll, ByPlan, Lemma, Line}
+use Rattle.proof_text.specs.Lemma.{same_claim, claim_of_end, Cite, Reason, ByEnd, ByOne, ByAll, ByPlan, ByMirror, Lemma, Line}
 use Rattle.proof_text.specs.Right.{Shown, lemma_at, goes_by_one, IsCited, HasReason, IsRight, IsVerdict}
 use Rattle.proof_text.specs.Checked.{Why, unless, or_then, end_refusal, shown_refusal, cite_refusal, cites_refusal, move_refusal, reason_refusal, path_refusal}
 use Rattle.proof_text.specs.Checked.{lemma_refusal, is_shown, verdict_stands, CheckerState, content_refusal, line_refusal}
@@ -136,6 +137,7 @@ reason_of_none known p claim (ByPlan ws) h =
     none : (fault : Option PlanFault) → option_map BadPlan fault ≡ None → is_none fault ≡ true
     none None h = refl
     none (Some fault) h = cc
+reason_of_none known p claim (ByMirror n) h = cited_of_none (mirror p) claim (lemma_at known n) h
 
 pub none_of_reason : (known : List Shown) (p : Position) (claim : Claim) (reason : Reason) → HasReason known p claim reason
     → reason_refusal known p claim reason ≡ None
@@ -154,6 +156,7 @@ none_of_reason known p claim (ByPlan ws) h =
     none_or (unless (same_claim claim WhiteFails) WrongClaim) (option_map BadPlan (plan_refusal p ws))
     (none_unless (same_claim claim WhiteFails) WrongClaim ((same_claim_Decides claim WhiteFails).1 h.claimed))
     (ap (option_map BadPlan) (none_is (plan_refusal p ws) (refusal_is p ws ∙ h.plan)))
+none_of_reason known p claim (ByMirror n) h = none_of_cited (mirror p) claim (lemma_at known n) h
 
 -- ---- lemmas
 
@@ -177,13 +180,13 @@ none_of_right root known l p right =
 
 -- ---- verdicts
 
-shown_is : (p : Position) (claim : Claim) (shown : Option Shown) → is_shown p claim shown ≡ true → shown ≡ Some (p, claim)
+pub shown_is : (p : Position) (claim : Claim) (shown : Option Shown) → is_shown p claim shown ≡ true → shown ≡ Some (p, claim)
 shown_is p claim None h = cc
 shown_is p claim (Some (at, said)) h =
     let both = and_parts (same_position at p) (same_claim said claim) h in
     ap (λ at. Some (at, said)) ((same_position_Decides at p).0 both.0) ∙ ap (λ said. Some (p, said)) ((same_claim_Decides said claim).0 both.1)
 
-is_shown_from : (p : Position) (claim : Claim) (shown : Option Shown) → shown ≡ Some (p, claim) → is_shown p claim shown ≡ true
+pub is_shown_from : (p : Position) (claim : Claim) (shown : Option Shown) → shown ≡ Some (p, claim) → is_shown p claim shown ≡ true
 is_shown_from p claim shown h = rw h (and_from _ _ ((same_position_Decides p p).1 refl) ((same_claim_Decides claim claim).1 refl))
 
 pub verdict_Decides : (root : Position) (known : List Shown) (v : Verdict) → Decides (verdict_stands root known v) (IsVerdict root known v)

@@ -8,17 +8,20 @@ use Rattle.game_rules.specs.Value.{win_of, same_end, value, wins}
 use Rattle.game_rules.proofs.Lists.{Among, any_from, any_gives, all_gives, all_from, Among-map, Among-below, Among-filter}
 use Rattle.game_rules.proofs.Moves.{same_side_is, other_side, room_column}
 use Rattle.game_rules.proofs.Values.{value_at_end, wins_own, wins_other}
+use Rattle.game_rules.specs.Mirror.{mirror}
+use Rattle.game_rules.proofs.ImageValues.{value_mirrored}
 use Rattle.game_rules.specs.declared.Side.{Side}
 use Rattle.game_rules.specs.declared.Side.TheVariants as sides
 use Rattle.game_rules.specs.declared.End.{End}
 use Rattle.game_rules.specs.declared.End.TheVariants.{White, Black, Draw}
-use Rattle.proof_text.specs.Lemma.{claim_for, claim_of_end, claim_holds, Cite, Reason, ByEnd, ByOne, ByAll, Lemma, ByPlan}
+use Rattle.proof_text.specs.Lemma.{claim_for, claim_of_end, claim_holds, Cite, Reason, ByEnd, ByOne, ByAll, ByPlan, ByMirror, Lemma}
 use Rattle.proof_text.specs.Right.{Shown, goes_by_one, IsCited, HasReason, AreRight, IsVerdict, AreTrue, IsTrueVerdict}
 use Rattle.proof_text.specs.Texts.{lemmas_among, IsRightText}
 use Rattle.proof_text.proofs.Append.{Shows_push}
 use Rattle.proof_text.specs.declared.Claim.{Claim}
 use Rattle.proof_text.specs.declared.Claim.TheVariants.{WhiteWins, WhiteFails, BlackWins, BlackFails}
 use Rattle.proof_text.specs.declared.Verdict.{Verdict}
+use Rattle.proof_text.specs.declared.Version.{Version}
 use Rattle.proof_text.specs.declared.Verdict.TheVariants as verdicts
 use Rattle.plan_rules.proofs.Theorems.{plan_wins}
 
@@ -88,6 +91,7 @@ true_reason known p claim (ByAll cites) true_before h = by_all claim p h.goes_on
         let first : cite.column ≡ column = cc in
         ap (claim_holds claim) (sym here ∙ ap (after_move p) (sym first)) ∙ true_before cite.lemma (after_move p cite.column) claim cited.0
 true_reason known p claim (ByPlan ws) true_before h = ap (λ c. claim_holds c p) h.claimed ∙ not_from_false _ (plan_wins p ws h.plan)
+true_reason known p claim (ByMirror n) true_before h = ap (claim_of_end claim) (sym (value_mirrored p)) ∙ true_before n (mirror p) claim h
 
 pub AreTrue_none : AreTrue []
 AreTrue_none zero p claim h = cc
@@ -158,7 +162,8 @@ claims_say p = (white (value p), not_white (value p), black (value p), not_black
     not_black Draw = (λ h e. cc, λ h. refl)
 
 -- in a right text everything is true
-pub true_text : (bytes : List ℕ) (v : Verdict) (count : ℕ) (text : IsRightText bytes v count) → AreTrue text.after × IsTrueVerdict text.root v
-true_text bytes v count text =
+pub true_text : (version : Version) (bytes : List ℕ) (v : Verdict) (count : ℕ) (text : IsRightText version bytes v count)
+    → AreTrue text.after × IsTrueVerdict text.root v
+true_text version bytes v count text =
     let shown = true_lemmas text.root [] (lemmas_among text.entries) text.after text.right AreTrue_none in
     (shown, true_verdict text.root text.after v shown text.verdict_right)

@@ -18,10 +18,11 @@ use Rattle.plan_text.specs.Words.{◌>>=◌}
 use Rattle.plan_text.specs.PlanLine.{members_of}
 use Rattle.plan_text.proofs.Spaced.{bind_some, map_some, is_text, letter_read, letter_spelled}
 use Rattle.plan_text.proofs.PlanLines.{members_read, members_spelled}
-use Rattle.proof_text.specs.Lemma.{Cite, Reason, ByEnd, ByOne, ByAll, ByPlan, Lemma}
+use Rattle.proof_text.specs.Lemma.{Cite, Reason, ByEnd, ByOne, ByAll, ByPlan, ByMirror, Lemma}
 use Rattle.proof_text.specs.Spelling.{claim_word, cite_word, reason_words, lemma_words, verdict_words, greatest_number, longest_path, most_cites, IsNumber}
 use Rattle.proof_text.specs.Spelling.{CiteFits, ReasonFits, Fits, VerdictFits}
-use Rattle.proof_text.specs.Reading.{number_of, path_of, claim_of, letter_word, cite_of, cites_of, one_of, all_of, plan_of, only, reason_of, lemma_of, with_one}
+use Rattle.proof_text.specs.Reading.{number_of, path_of, claim_of, letter_word, cite_of, cites_of, one_of, all_of, plan_of, mirror_of, only, reason_of}
+use Rattle.proof_text.specs.Reading.{lemma_of, with_one}
 use Rattle.proof_text.specs.Reading.{with_two, verdict_of}
 use Rattle.proof_text.specs.declared.Claim.{Claim}
 use Rattle.proof_text.specs.declared.Claim.TheVariants.{WhiteWins, WhiteFails, BlackWins, BlackFails}
@@ -231,6 +232,16 @@ plan_read board words reason h =
     let read = members_read board words found.0 found.1 in
     subst (λ reason. (codes "plan" ∷ words ≡ reason_words reason) × ReasonFits board reason) found.2 (ap (λ words. codes "plan" ∷ words) read.0, read.1)
 
+mirror_read : (board : Board) (words : List (List ℕ)) (reason : Reason) → mirror_of words ≡ Some reason
+    → (codes "mirror" ∷ words ≡ reason_words reason) × ReasonFits board reason
+mirror_read board [] reason h = cc
+mirror_read board (number ∷ more ∷ words) reason h = cc
+mirror_read board (number ∷ []) reason h =
+    let found = map_some ByMirror (number_of number) reason h in
+    let n = number_read number found.0 found.1 in
+    subst (λ reason. (codes "mirror" ∷ number ∷ [] ≡ reason_words reason) × ReasonFits board reason) found.2
+    (ap (λ word. codes "mirror" ∷ word ∷ []) n.0, n.1)
+
 only_read : {X : Type 0} (x y : X) (words : List (List ℕ)) → only x words ≡ Some y → (words ≡ []) × (x ≡ y)
 only_read x y [] h = (refl, cc)
 only_read x y (word ∷ words) h = cc
@@ -246,9 +257,12 @@ reason_read board (word ∷ words) reason h = elim (chosen (bytes_eq word (codes
     | inl one ↦ let read = one_read board words reason one.1 in (ap (λ first. first ∷ words) (is_text word _ one.0) ∙ read.0, read.1)
     | inr b ↦ elim (chosen (bytes_eq word (codes "all")) (all_of board.cols words) _ (Some reason) b.1) [
       | inl all ↦ let read = all_read board words reason all.1 in (ap (λ first. first ∷ words) (is_text word _ all.0) ∙ read.0, read.1)
-      | inr c ↦ elim (chosen (bytes_eq word (codes "plan")) (plan_of board words) None (Some reason) c.1) [
+      | inr c ↦ elim (chosen (bytes_eq word (codes "plan")) (plan_of board words) _ (Some reason) c.1) [
         | inl plan ↦ let read = plan_read board words reason plan.1 in (ap (λ first. first ∷ words) (is_text word _ plan.0) ∙ read.0, read.1)
-        | inr none ↦ absurd (cc none.1)
+        | inr d ↦ elim (chosen (bytes_eq word (codes "mirror")) (mirror_of words) None (Some reason) d.1) [
+          | inl image ↦ let read = mirror_read board words reason image.1 in (ap (λ first. first ∷ words) (is_text word _ image.0) ∙ read.0, read.1)
+          | inr none ↦ absurd (cc none.1)
+        ]
       ]
     ]
   ]
@@ -271,6 +285,7 @@ reason_spelled board (ByAll cites) h =
         → all_of board.cols (map cite_word cites) ≡ Some (ByAll cites)
     found e = rw e (ap (option_map ByAll) (cites_spelled board.cols cites h.2))
 reason_spelled board (ByPlan ws) h = ap (option_map ByPlan) (members_spelled board ws h)
+reason_spelled board (ByMirror n) h = ap (option_map ByMirror) (number_spelled n h)
 
 -- ---- lemmas
 

@@ -8,7 +8,7 @@ use Rattle.std.proofs.lemmas.List.Folds.{flat_map-map}
 use Rattle.std.proofs.lemmas.List.Concat.{flat_map-cons}
 use Rattle.game_rules.specs.Board.{Board, is_board}
 use Rattle.game_rules.specs.Position.{Position, board_of, empty_position, played}
-use Rattle.proof_text.specs.Lemma.{claim_side, Lemma}
+use Rattle.proof_text.specs.Lemma.{claim_side, Lemma, has_reason}
 use Rattle.proof_text.specs.Right.{Shown, AreRight}
 use Rattle.proof_text.specs.Spelling.{verdict_line, as_line, lines_of, is_remark, greatest_number, Fits, IsShort}
 use Rattle.proof_text.specs.Texts.{Accepted, check_of, Entry, LemmaEntry, RemarkEntry, entry_text, entry_lines, lemmas_among, EntryFits, head_of, IsRightText}
@@ -18,8 +18,9 @@ use Rattle.game_rules.specs.declared.Side.TheVariants.{White, Black}
 use Rattle.plan_text.proofs.Spaced.{all_append, all_each, all_left, all_right}
 use Rattle.proof_text.proofs.Append.{AreRight_append}
 use Rattle.proof_text.proofs.Fitting.{right_all_fit, right_verdict_fits}
-use Rattle.proof_text.proofs.Whole.{board_of_root, shown_count, right_accepted}
+use Rattle.proof_text.proofs.Whole.{board_of_root, shown_count, named_accepted}
 use Rattle.proof_text.specs.declared.Verdict.{Verdict}
+use Rattle.proof_text.specs.declared.Version.{Version}
 
 -- ---- lines as entries
 
@@ -117,95 +118,114 @@ each_entry P white_remark white black_remark black each one two ls =
     (all_lemmas P white (all_left (λ l. P (LemmaEntry l)) white black ls))
     (all_remark P black_remark (map LemmaEntry black) each two (all_lemmas P black (all_right (λ l. P (LemmaEntry l)) white black ls))))
 
-all_short : (side : Side) (ls : List Lemma) → AreSided side ls → AllByRecursion IsShort ls
-all_short side ls sided = all_each (λ l. (claim_side l.claim ≡ side) × IsShort l) IsShort ls (λ l one. one.1) sided
+-- two properties of each element are one
+all_both : {X : Type 0} (P Q : X → Type 0) (xs : List X) → AllByRecursion P xs → AllByRecursion Q xs → AllByRecursion (λ x. P x × Q x) xs
+all_both P Q [] h g = tt
+all_both P Q (x ∷ xs) h g = ((h.0, g.0), all_both P Q xs h.1 g.1)
 
--- a verdict at the end of what is written, within the number of lemmas that have a spelling
-pub proof_right : (board : Board) (columns : List ℕ) (root : Position) (text : List ℕ) (v : Verdict) (proof : IsProof root (head_of board columns) text v)
-    → is_board board ≡ true → played (empty_position board) columns ≡ Some root → length proof.after ≤ greatest_number
-    → IsRightText text v (length proof.after)
-proof_right board columns root text v proof has_board has_moves few =
-    let w = proof.written in
-    let right = AreRight_append root [] w.mid proof.after w.white w.black w.white_right w.black_right in
-    let same : board_of root ≡ board = board_of_root board columns root has_moves in
-    let root_board : is_board (board_of root) ≡ true = ap is_board same ∙ has_board in
-    let count : length proof.after ≡ length (w.white ++ w.black) = shown_count root (w.white ++ w.black) proof.after right in
-    let both : length (w.white ++ w.black) ≡ length w.white + length w.black = length-append w.white w.black in
-    let ls = w.white ++ w.black in
-    let short : AllByRecursion IsShort ls = all_append IsShort w.white w.black (all_short White w.white w.white_sided) (all_short Black w.black w.black_sided)
-    in
-    let fits : AllByRecursion (Fits board) ls = subst (λ board. AllByRecursion (Fits board) ls) same
-    (right_all_fit root [] ls proof.after root_board (omega arith) short right) in
-    let among : lemmas_among (written_entries w.white_remark w.white w.black_remark w.black) ≡ ls = lemmas_of w.white_remark w.white w.black_remark w.black in
-    let sizes : length (written_entries w.white_remark w.white w.black_remark w.black) ≤ length w.white + length w.black + 2 =
-    size_of w.white_remark w.white w.black_remark w.black in
-    record {
-      board = board;
-      columns = columns;
-      root = root;
-      entries = written_entries w.white_remark w.white w.black_remark w.black;
-      after = proof.after;
-      ended = true;
-      has_board = has_board;
-      has_moves = has_moves;
-      fit = each_entry (EntryFits board) w.white_remark w.white w.black_remark w.black (λ bytes one. one) w.white_remarked w.black_remarked fits;
-      right = subst (λ ls. AreRight root [] ls proof.after) (sym among) right;
-      verdict_fits = right_verdict_fits root proof.after v few proof.verdict;
-      verdict_right = proof.verdict;
-      counted = count ∙ ap length (sym among);
-      few = omega arith;
-      spelled = w.spelled ∙ ap (λ rest. head_of board columns ++ rest) (sym (text_of w.white_remark w.white w.black_remark w.black (verdict_line v)));
+module _ (version : Version) where
+  abbrev IsSided : Side → Lemma → Type 0
+  IsSided side l = (claim_side l.claim ≡ side) × IsShort l × (has_reason version l.reason ≡ true)
+
+  all_short : (side : Side) (ls : List Lemma) → AreSided version side ls → AllByRecursion IsShort ls
+  all_short side ls sided = all_each (IsSided side) IsShort ls (λ l one. one.1) sided
+
+  all_had : (side : Side) (ls : List Lemma) → AreSided version side ls → AllByRecursion (λ l. has_reason version l.reason ≡ true) ls
+  all_had side ls sided = all_each (IsSided side) (λ l. has_reason version l.reason ≡ true) ls (λ l one. one.2) sided
+
+  -- a verdict at the end of what is written, within the number of lemmas that have a spelling
+  pub proof_right : (board : Board) (columns : List ℕ) (root : Position) (text : List ℕ) (v : Verdict)
+      (proof : IsProof version root (head_of version board columns) text v)
+      → is_board board ≡ true → played (empty_position board) columns ≡ Some root → length proof.after ≤ greatest_number
+      → IsRightText version text v (length proof.after)
+  proof_right board columns root text v proof has_board has_moves few =
+      let w = proof.written in
+      let right = AreRight_append root [] w.mid proof.after w.white w.black w.white_right w.black_right in
+      let same : board_of root ≡ board = board_of_root board columns root has_moves in
+      let root_board : is_board (board_of root) ≡ true = ap is_board same ∙ has_board in
+      let count : length proof.after ≡ length (w.white ++ w.black) = shown_count root (w.white ++ w.black) proof.after right in
+      let both : length (w.white ++ w.black) ≡ length w.white + length w.black = length-append w.white w.black in
+      let ls = w.white ++ w.black in
+      let short : AllByRecursion IsShort ls = all_append IsShort w.white w.black (all_short White w.white w.white_sided) (all_short Black w.black w.black_sided)
+      in
+      let fits : AllByRecursion (Fits board) ls = subst (λ board. AllByRecursion (Fits board) ls) same
+      (right_all_fit root [] ls proof.after root_board (omega arith) short right) in
+      let had : AllByRecursion (λ l. has_reason version l.reason ≡ true) ls = all_append (λ l. has_reason version l.reason ≡ true) w.white w.black
+      (all_had White w.white w.white_sided) (all_had Black w.black w.black_sided) in
+      let among : lemmas_among (written_entries w.white_remark w.white w.black_remark w.black) ≡ ls = lemmas_of w.white_remark w.white w.black_remark w.black in
+      let sizes : length (written_entries w.white_remark w.white w.black_remark w.black) ≤ length w.white + length w.black + 2 =
+      size_of w.white_remark w.white w.black_remark w.black in
+      record {
+        board = board;
+        columns = columns;
+        root = root;
+        entries = written_entries w.white_remark w.white w.black_remark w.black;
+        after = proof.after;
+        ended = true;
+        has_board = has_board;
+        has_moves = has_moves;
+        fit = each_entry (EntryFits version board) w.white_remark w.white w.black_remark w.black (λ bytes one. one) w.white_remarked w.black_remarked
+            (all_both (λ l. has_reason version l.reason ≡ true) (Fits board) ls had fits);
+        right = subst (λ ls. AreRight root [] ls proof.after) (sym among) right;
+        verdict_fits = right_verdict_fits root proof.after v few proof.verdict;
+        verdict_right = proof.verdict;
+        counted = count ∙ ap length (sym among);
+        few = omega arith;
+        spelled = w.spelled ∙ ap (λ rest. head_of version board columns ++ rest) (sym (text_of w.white_remark w.white w.black_remark w.black (verdict_line v)));
+      }
+
+  -- so it is accepted, with its verdict and all its lemmas
+  pub proof_accepted : (board : Board) (columns : List ℕ) (root : Position) (text : List ℕ) (v : Verdict)
+      (proof : IsProof version root (head_of version board columns) text v)
+      → is_board board ≡ true → played (empty_position board) columns ≡ Some root → length proof.after ≤ greatest_number
+      → check_of text ≡ Accepted v (length proof.after)
+  proof_accepted board columns root text v proof has_board has_moves few =
+      named_accepted version text v (length proof.after) (proof_right board columns root text v proof has_board has_moves few)
+
+  -- ---- texts that are being written
+
+  module _ (root : Position) (head text : List ℕ) (remark : Option (List ℕ)) (white : List Lemma) (mid : List Shown) (also : Option (List ℕ))
+      (black : List Lemma)
+      (after : List Shown) where
+    -- both questions' remarks and lemmas, and what follows them
+    abbrev pub both_written : (last : List ℕ) → AreRight root [] white mid → AreRight root mid black after → AreSided version White white
+        → AreSided version Black black
+        → IsAskedInTurn root mid black
+        → IsRemarkLine remark → IsRemarkLine also → text ≡ head ++ (remark_line remark ++ (lines_of white ++ (remark_line also ++ (lines_of black ++ last))))
+        → HasWritten version root head text after last
+    both_written last first second white_sided black_sided asked remarked also_remarked spelled = record {
+      white_remark = remark;
+      white = white;
+      black_remark = also;
+      black = black;
+      mid = mid;
+      white_right = first;
+      black_right = second;
+      asked = asked;
+      white_sided = white_sided;
+      black_sided = black_sided;
+      white_remarked = remarked;
+      black_remarked = also_remarked;
+      spelled = spelled;
     }
 
--- so it is accepted, with its verdict and all its lemmas
-pub proof_accepted : (board : Board) (columns : List ℕ) (root : Position) (text : List ℕ) (v : Verdict) (proof : IsProof root (head_of board columns) text v)
-    → is_board board ≡ true → played (empty_position board) columns ≡ Some root → length proof.after ≤ greatest_number
-    → check_of text ≡ Accepted v (length proof.after)
-proof_accepted board columns root text v proof has_board has_moves few =
-    right_accepted text v (length proof.after) (proof_right board columns root text v proof has_board has_moves few)
+    -- nothing follows them yet
+    abbrev pub lemmas_stand : AreRight root [] white mid → AreRight root mid black after → AreSided version White white → AreSided version Black black
+        → IsAskedInTurn root mid black
+        → IsRemarkLine remark → IsRemarkLine also → text ≡ head ++ (remark_line remark ++ (lines_of white ++ (remark_line also ++ lines_of black)))
+        → MayStand version root head text
+    lemmas_stand first second white_sided black_sided asked remarked also_remarked spelled = record {
+      after = after;
+      last = [];
+      written = both_written [] first second white_sided black_sided asked remarked also_remarked
+          (spelled ∙ ap (λ lines. head ++ (remark_line remark ++ (lines_of white ++ (remark_line also ++ lines)))) (sym (append-nil (lines_of black))));
+      ends = inl refl;
+    }
 
--- ---- texts that are being written
+  -- the head alone
+  abbrev pub head_stands : (root : Position) (head : List ℕ) → MayStand version root head head
+  head_stands root head = lemmas_stand root head head None [] [] None [] [] refl refl tt tt (λ some. absurd (some refl)) tt tt (sym (append-nil head))
 
-module _ (root : Position) (head text : List ℕ) (remark : Option (List ℕ)) (white : List Lemma) (mid : List Shown) (also : Option (List ℕ)) (black : List Lemma)
-    (after : List Shown) where
-  -- both questions' remarks and lemmas, and what follows them
-  abbrev pub both_written : (last : List ℕ) → AreRight root [] white mid → AreRight root mid black after → AreSided White white → AreSided Black black
-      → IsAskedInTurn root mid black
-      → IsRemarkLine remark → IsRemarkLine also → text ≡ head ++ (remark_line remark ++ (lines_of white ++ (remark_line also ++ (lines_of black ++ last))))
-      → HasWritten root head text after last
-  both_written last first second white_sided black_sided asked remarked also_remarked spelled = record {
-    white_remark = remark;
-    white = white;
-    black_remark = also;
-    black = black;
-    mid = mid;
-    white_right = first;
-    black_right = second;
-    asked = asked;
-    white_sided = white_sided;
-    black_sided = black_sided;
-    white_remarked = remarked;
-    black_remarked = also_remarked;
-    spelled = spelled;
-  }
-
-  -- nothing follows them yet
-  abbrev pub lemmas_stand : AreRight root [] white mid → AreRight root mid black after → AreSided White white → AreSided Black black
-      → IsAskedInTurn root mid black
-      → IsRemarkLine remark → IsRemarkLine also → text ≡ head ++ (remark_line remark ++ (lines_of white ++ (remark_line also ++ lines_of black)))
-      → MayStand root head text
-  lemmas_stand first second white_sided black_sided asked remarked also_remarked spelled = record {
-    after = after;
-    last = [];
-    written = both_written [] first second white_sided black_sided asked remarked also_remarked
-        (spelled ∙ ap (λ lines. head ++ (remark_line remark ++ (lines_of white ++ (remark_line also ++ lines)))) (sym (append-nil (lines_of black))));
-    ends = inl refl;
-  }
-
--- the head alone
-abbrev pub head_stands : (root : Position) (head : List ℕ) → MayStand root head head
-head_stands root head = lemmas_stand root head head None [] [] None [] [] refl refl tt tt (λ some. absurd (some refl)) tt tt (sym (append-nil head))
-
--- a whole proof may stand
-abbrev pub proof_stands : (root : Position) (head text : List ℕ) (v : Verdict) → IsProof root head text v → MayStand root head text
-proof_stands root head text v proof = record { after = proof.after; last = verdict_line v; written = proof.written; ends = inr (v, proof.verdict, refl) }
+  -- a whole proof may stand
+  abbrev pub proof_stands : (root : Position) (head text : List ℕ) (v : Verdict) → IsProof version root head text v → MayStand version root head text
+  proof_stands root head text v proof = record { after = proof.after; last = verdict_line v; written = proof.written; ends = inr (v, proof.verdict, refl) }

@@ -2,8 +2,9 @@
 -- fails giving the name.
 use Rattle.std.specs.Prelude.{◌≡◌, ℕ, ◌+◌, Bool, true, false, not, ◌==◌, List, [], ◌∷◌, ◌++◌, map, length, Option, Some, None, is_none, option_map, bytes_eq, ◌&&◌, Result, Ok, Err}
 use Rattle.game_rules.specs.Position.{Position, other, side_to_move, has_room, after_move, end_of, played, open_columns, same_position}
+use Rattle.game_rules.specs.Mirror.{mirror}
 use Rattle.game_rules.specs.declared.End.{End}
-use Rattle.proof_text.specs.Lemma.{claim_for, same_claim, claim_of_end, Cite, Reason, ByEnd, ByOne, ByAll, ByPlan, Lemma, Line, ALemma, ARemark, AVerdict}
+use Rattle.proof_text.specs.Lemma.{claim_for, same_claim, claim_of_end, Cite, Reason, ByEnd, ByOne, ByAll, ByPlan, ByMirror, Lemma, Line, ALemma, ARemark, AVerdict}
 use Rattle.proof_text.specs.Right.{Shown, lemma_at, goes_by_one, AreRight, IsVerdict}
 use Rattle.proof_text.specs.declared.Claim.{Claim}
 use Rattle.proof_text.specs.declared.Claim.TheVariants.{WhiteFails, BlackFails}
@@ -59,6 +60,7 @@ reason_refusal known p claim (ByOne cite) = or_then (move_refusal p (goes_by_one
 reason_refusal known p claim (ByAll cites) =
     or_then (move_refusal p (not (goes_by_one claim p)) (bytes_eq (map (λ cite. cite.column) cites) (open_columns p))) (cites_refusal known p claim cites)
 reason_refusal known p claim (ByPlan ws) = list_refusal p claim ws
+reason_refusal known p claim (ByMirror n) = shown_refusal (mirror p) claim (lemma_at known n)
 
 -- where the path leads, the reason is looked at
 abbrev pub path_refusal : List Shown → Lemma → Option Position → Option Why

@@ -9,6 +9,8 @@ use Rattle.plan_rules.specs.Rules.{RuleInstance}
 use Rattle.proof_text.specs.declared.Claim.{Claim}
 use Rattle.proof_text.specs.declared.Claim.TheVariants.{WhiteWins, WhiteFails, BlackWins, BlackFails}
 use Rattle.proof_text.specs.declared.Verdict.{Verdict}
+use Rattle.proof_text.specs.declared.Version.{Version}
+use Rattle.proof_text.specs.declared.Version.TheVariants.{One, Two}
 
 -- the side that a claim speaks of, and whether it says that this side wins
 abbrev pub claim_side : Claim → Side
@@ -53,12 +55,14 @@ pub record Cite : Type 0 where
   pub column : ℕ
   pub lemma : ℕ
 
--- why a claim holds: the game has ended so, one move shows it, all moves together do, or a plan keeps White from a line
+-- why a claim holds: the game has ended so, one move shows it, all moves together do, a plan keeps White from a line, or the
+-- lemma with this number shows it of the mirror image
 pub data Reason : Type 0 where
   ByEnd : Reason
   ByOne : Cite → Reason
   ByAll : List Cite → Reason
   ByPlan : List RuleInstance → Reason
+  ByMirror : ℕ → Reason
 
 -- a lemma's number, its position as the moves from the root, what it claims there, and why that holds
 pub record Lemma : Type 0 where
@@ -72,3 +76,17 @@ pub data Line : Type 0 where
   ALemma : Lemma → Line
   ARemark : Line
   AVerdict : Verdict → Line
+
+-- ---- versions
+
+-- mirror images came with the second version
+abbrev pub has_reason : Version → Reason → Bool
+has_reason One (ByMirror n) = false
+has_reason One reason = true
+has_reason Two reason = true
+
+-- whether a text of the version may say this
+abbrev pub allows : Version → Line → Bool
+allows version (ALemma l) = has_reason version l.reason
+allows version ARemark = true
+allows version (AVerdict v) = true

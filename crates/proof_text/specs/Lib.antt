@@ -5,4 +5,5 @@ pub mod Spelling
 pub mod Reading
 pub mod Texts
 pub mod Written
+pub mod Upgrade
 pub mod Words

@@ -7,11 +7,12 @@ use Rattle.game_rules.specs.Board.{Board}
 pub use Rattle.plan_text.specs.Words.{◌>>=◌, words_of}
 use Rattle.game_rules.specs.Letters.{is_letter, column_of, column_named}
 use Rattle.plan_text.specs.PlanLine.{members_of}
-use Rattle.proof_text.specs.Lemma.{Cite, Reason, ByEnd, ByOne, ByAll, ByPlan, Lemma, Line, ALemma, ARemark, AVerdict}
+use Rattle.proof_text.specs.Lemma.{Cite, Reason, ByEnd, ByOne, ByAll, ByPlan, ByMirror, Lemma, Line, ALemma, ARemark, AVerdict, allows}
 use Rattle.proof_text.specs.Spelling.{greatest_number, longest_path, most_cites, is_remark}
 use Rattle.proof_text.specs.declared.Claim.{Claim}
 use Rattle.proof_text.specs.declared.Claim.TheVariants.{WhiteWins, WhiteFails, BlackWins, BlackFails}
 use Rattle.proof_text.specs.declared.Verdict.{Verdict}
+use Rattle.proof_text.specs.declared.Version.{Version}
 use Rattle.proof_text.specs.declared.Verdict.TheVariants.{Win, Loss, Draw, Unknown}
 
 -- the number that a word spells
@@ -60,13 +61,18 @@ only x (word ∷ words) = None
 abbrev pub plan_of : Board → List (List ℕ) → Option Reason
 plan_of board words = option_map ByPlan (members_of board words)
 
+abbrev pub mirror_of : List (List ℕ) → Option Reason
+mirror_of (number ∷ []) = option_map ByMirror (number_of number)
+mirror_of words = None
+
 abbrev pub reason_of : Board → List (List ℕ) → Option Reason
 reason_of board [] = None
 reason_of board (word ∷ words) =
     if bytes_eq word (codes "end") then only ByEnd words
     else (if bytes_eq word (codes "one") then one_of board.cols words
     else (if bytes_eq word (codes "all") then all_of board.cols words
-    else (if bytes_eq word (codes "plan") then plan_of board words else None)))
+    else (if bytes_eq word (codes "plan") then plan_of board words
+    else (if bytes_eq word (codes "mirror") then mirror_of words else None))))
 
 abbrev pub lemma_of : Board → List (List ℕ) → Option Lemma
 lemma_of board (number ∷ path ∷ claim ∷ reason) = do
@@ -98,6 +104,15 @@ abbrev pub line_of_words : Board → List (List ℕ) → Option Line
 line_of_words board [] = None
 line_of_words board (word ∷ words) = if bytes_eq word (codes "value") then option_map AVerdict (verdict_of words) else option_map ALemma (lemma_of board (word ∷ words))
 
--- what a line of a proof behind the game says on a board
-abbrev pub read_line : Board → List ℕ → Option Line
-read_line board bytes = if is_remark bytes then Some ARemark else line_of_words board (words_of bytes)
+-- what a line of a proof behind the game says on a board, in some version
+abbrev pub read_any : Board → List ℕ → Option Line
+read_any board bytes = if is_remark bytes then Some ARemark else line_of_words board (words_of bytes)
+
+-- what the version doesn't have is no line of it
+abbrev pub in_version : Version → Option Line → Option Line
+in_version version None = None
+in_version version (Some line) = if allows version line then Some line else None
+
+-- what a line says in this version
+abbrev pub read_line : Version → Board → List ℕ → Option Line
+read_line version board bytes = in_version version (read_any board bytes)

@@ -3,11 +3,12 @@ use Rattle.std.specs.Prelude.{◌≡◌, ℕ, zero, suc, ◌+◌, Bool, true, fa
 use Rattle.std.specs.List.{AllByRecursion}
 use Rattle.game_rules.specs.Position.{Position, other, same_side, side_to_move, has_room, after_move, end_of, played, open_columns}
 use Rattle.game_rules.specs.Value.{win_of, value}
+use Rattle.game_rules.specs.Mirror.{mirror}
 use Rattle.game_rules.specs.declared.End.{End}
 use Rattle.game_rules.specs.declared.End.TheVariants as ends
 use Rattle.plan_rules.specs.Rules.{RuleInstance}
 use Rattle.plan_rules.specs.Plan.{is_plan}
-use Rattle.proof_text.specs.Lemma.{claim_side, claims_win, claim_for, agrees, claim_of_end, claim_holds, Cite, Reason, ByEnd, ByOne, ByAll, ByPlan, Lemma}
+use Rattle.proof_text.specs.Lemma.{claim_side, claims_win, claim_for, agrees, claim_of_end, claim_holds, Cite, Reason, ByEnd, ByOne, ByAll, ByPlan, ByMirror, Lemma}
 use Rattle.proof_text.specs.declared.Claim.{Claim}
 use Rattle.proof_text.specs.declared.Claim.TheVariants.{WhiteFails, BlackFails}
 use Rattle.proof_text.specs.declared.Verdict.{Verdict}
@@ -65,6 +66,7 @@ HasReason known p claim ByEnd = HoldsAtEnd p claim
 HasReason known p claim (ByOne cite) = FollowsFromOne known p claim cite
 HasReason known p claim (ByAll cites) = FollowsFromAll known p claim cites
 HasReason known p claim (ByPlan ws) = FollowsFromPlan p claim ws
+HasReason known p claim (ByMirror n) = Shows known n (mirror p) claim
 
 -- The lemma has the next number, its path leads from the root to p, and its reason is right there.
 pub record IsRight (root : Position) (known : List Shown) (l : Lemma) (p : Position) : Type 0 where

@@ -6,10 +6,11 @@ use Rattle.game_rules.specs.Grammar.{letter_of, move_list}
 use Rattle.plan_rules.specs.Rules.{RuleInstance}
 pub use Rattle.plan_text.specs.Words.{spaced}
 use Rattle.plan_text.specs.PlanLine.{plan_words, PlanFits}
-use Rattle.proof_text.specs.Lemma.{Cite, Reason, ByEnd, ByOne, ByAll, ByPlan, Lemma, Line, ALemma, ARemark, AVerdict}
+use Rattle.proof_text.specs.Lemma.{Cite, Reason, ByEnd, ByOne, ByAll, ByPlan, ByMirror, Lemma, Line, ALemma, ARemark, AVerdict, allows}
 use Rattle.proof_text.specs.declared.Claim.{Claim}
 use Rattle.proof_text.specs.declared.Claim.TheVariants.{WhiteWins, WhiteFails, BlackWins, BlackFails}
 use Rattle.proof_text.specs.declared.Verdict.{Verdict}
+use Rattle.proof_text.specs.declared.Version.{Version}
 use Rattle.proof_text.specs.declared.Verdict.TheVariants.{Win, Loss, Draw, Unknown}
 use Rattle.plan_rules.specs.declared.TheConstants.{MOST_MEMBERS}
 
@@ -28,6 +29,7 @@ reason_words ByEnd = codes "end" ∷ []
 reason_words (ByOne cite) = codes "one" ∷ (letter_of cite.column ∷ []) ∷ decimal cite.lemma ∷ []
 reason_words (ByAll cites) = codes "all" ∷ map cite_word cites
 reason_words (ByPlan ws) = plan_words ws
+reason_words (ByMirror n) = codes "mirror" ∷ decimal n ∷ []
 
 abbrev pub lemma_words : Lemma → List (List ℕ)
 lemma_words l = decimal l.number ∷ move_list l.path ∷ claim_word l.claim ∷ reason_words l.reason
@@ -94,6 +96,7 @@ ReasonFits board ByEnd = ⊤
 ReasonFits board (ByOne cite) = CiteFits board.cols cite
 ReasonFits board (ByAll cites) = (1 ≤ length cites) × (length cites ≤ most_cites) × AllByRecursion (CiteFits board.cols) cites
 ReasonFits board (ByPlan ws) = PlanFits board ws
+ReasonFits board (ByMirror n) = IsNumber n
 
 pub record Fits (board : Board) (l : Lemma) : Type 0 where
   pub number : IsNumber l.number
@@ -116,9 +119,13 @@ VerdictFits (Loss n) = IsNumber n
 VerdictFits (Draw n m) = IsNumber n × IsNumber m
 VerdictFits Unknown = ⊤
 
--- The bytes are a line on a board, and say this. That no line is longer than `longest_line` is said of remarks; lemmas and
--- verdicts are shorter by themselves.
-abbrev pub IsLine : Board → List ℕ → Line → Type 0
-IsLine board bytes (ALemma l) = Fits board l × (bytes ≡ lemma_text l)
-IsLine board bytes ARemark = is_remark bytes ≡ true
-IsLine board bytes (AVerdict v) = VerdictFits v × (bytes ≡ verdict_text v)
+-- The bytes are a line on a board in some version, and say this. That no line is longer than `longest_line` is said of
+-- remarks; lemmas and verdicts are shorter by themselves.
+abbrev pub IsAnyLine : Board → List ℕ → Line → Type 0
+IsAnyLine board bytes (ALemma l) = Fits board l × (bytes ≡ lemma_text l)
+IsAnyLine board bytes ARemark = is_remark bytes ≡ true
+IsAnyLine board bytes (AVerdict v) = VerdictFits v × (bytes ≡ verdict_text v)
+
+-- and this version may say it
+abbrev pub IsLine : Version → Board → List ℕ → Line → Type 0
+IsLine version board bytes line = (allows version line ≡ true) × IsAnyLine board bytes line

@@ -5,11 +5,12 @@ use Rattle.std.specs.List.{AllByRecursion}
 use Rattle.game_rules.specs.Position.{Position}
 use Rattle.game_rules.specs.declared.Side.{Side}
 use Rattle.game_rules.specs.declared.Side.TheVariants.{White, Black}
-use Rattle.proof_text.specs.Lemma.{claim_side, Lemma}
+use Rattle.proof_text.specs.Lemma.{claim_side, Lemma, has_reason}
 use Rattle.proof_text.specs.Right.{Shown, Shows, AreRight, IsVerdict}
 use Rattle.proof_text.specs.Spelling.{as_line, lines_of, verdict_line, is_remark, IsShort}
 use Rattle.proof_text.specs.declared.Claim.TheVariants.{WhiteFails}
 use Rattle.proof_text.specs.declared.Verdict.{Verdict}
+use Rattle.proof_text.specs.declared.Version.{Version}
 
 -- a remark that may stand as a line, and its line; where there is none, nothing
 abbrev pub IsRemarkLine : Option (List ℕ) → Type 0
@@ -20,9 +21,10 @@ abbrev pub remark_line : Option (List ℕ) → List ℕ
 remark_line None = []
 remark_line (Some bytes) = as_line bytes
 
--- the lemmas claim something of this side, and where one rests on a plan, a line has room for its instances
-abbrev pub AreSided : Side → List Lemma → Type 0
-AreSided side ls = AllByRecursion (λ l. (claim_side l.claim ≡ side) × IsShort l) ls
+-- the lemmas claim something of this side, where one rests on a plan, a line has room for its instances, and the version
+-- has their reasons
+abbrev pub AreSided : Version → Side → List Lemma → Type 0
+AreSided version side ls = AllByRecursion (λ l. (claim_side l.claim ≡ side) × IsShort l × (has_reason version l.reason ≡ true)) ls
 
 -- There are lemmas of the question whether Black wins only where it is shown at the root that White doesn't.
 abbrev pub IsAskedInTurn : Position → List Shown → List Lemma → Type 0
@@ -31,7 +33,7 @@ IsAskedInTurn root known black = black ≢ [] → (n : ℕ) × Shows known n roo
 -- Behind its head the text has, for the question whether White wins and then for the one whether Black does, a remark or
 -- none and lemmas of that side. Those for White are right from the head on and show what stands in the middle; those for
 -- Black are right behind them and show what stands after. Behind them comes the last line.
-pub record HasWritten (root : Position) (head : List ℕ) (text : List ℕ) (after : List Shown) (last : List ℕ) : Type 0 where
+pub record HasWritten (version : Version) (root : Position) (head : List ℕ) (text : List ℕ) (after : List Shown) (last : List ℕ) : Type 0 where
   pub white_remark : Option (List ℕ)
   pub white : List Lemma
   pub black_remark : Option (List ℕ)
@@ -40,8 +42,8 @@ pub record HasWritten (root : Position) (head : List ℕ) (text : List ℕ) (aft
   pub white_right : AreRight root [] white mid
   pub black_right : AreRight root mid black after
   pub asked : IsAskedInTurn root mid black
-  pub white_sided : AreSided White white
-  pub black_sided : AreSided Black black
+  pub white_sided : AreSided version White white
+  pub black_sided : AreSided version Black black
   pub white_remarked : IsRemarkLine white_remark
   pub black_remarked : IsRemarkLine black_remark
   pub spelled : text ≡ head ++ (remark_line white_remark ++ (lines_of white ++ (remark_line black_remark ++ (lines_of black ++ last))))
@@ -51,14 +53,14 @@ abbrev pub IsLastLine : Position → List Shown → List ℕ → Type 0
 IsLastLine root after last = (last ≡ []) ⊎ ((v : Verdict) × IsVerdict root after v × (last ≡ verdict_line v))
 
 -- a text as it may stand while it is being written
-pub record MayStand (root : Position) (head : List ℕ) (text : List ℕ) : Type 0 where
+pub record MayStand (version : Version) (root : Position) (head : List ℕ) (text : List ℕ) : Type 0 where
   pub after : List Shown
   pub last : List ℕ
-  pub written : HasWritten root head text after last
+  pub written : HasWritten version root head text after last
   pub ends : IsLastLine root after last
 
 -- a whole proof with this verdict
-pub record IsProof (root : Position) (head : List ℕ) (text : List ℕ) (v : Verdict) : Type 0 where
+pub record IsProof (version : Version) (root : Position) (head : List ℕ) (text : List ℕ) (v : Verdict) : Type 0 where
   pub after : List Shown
-  pub written : HasWritten root head text after (verdict_line v)
+  pub written : HasWritten version root head text after (verdict_line v)
   pub verdict : IsVerdict root after v

@@ -13,6 +13,15 @@ pub mod laws;
 
 use game_rules::{End, Side};
 
+/// The format of a proof's text, which its first line names. Texts of the first are read as they always were.
+#[derive(Clone, Copy, Debug, PartialEq, Eq)]
+pub enum Version {
+    /// Named by `victor 1`.
+    One,
+    /// Named by `victor 2`: a lemma may also rest on an earlier one at the mirror image of its position.
+    Two,
+}
+
 /// What a lemma says of its position: that a side wins under perfect play, or that it doesn't.
 #[derive(Clone, Copy, PartialEq, Eq)]
 pub enum Claim {
