@@ -14,9 +14,9 @@ use Rattle.std.proofs.Math.Bool.{and-false}
 use Rattle.std.proofs.lemmas.Bool.Decides.{nat_tests}
 use Rattle.bstr.specs.Find.{IsFirstByte, is_byte}
 use Rattle.io_ports.proofs.FirstByte.{first_none, first_found}
-use Rattle.proof_text.specs.Lemma.{Cite, Reason, ByEnd, ByOne, ByAll}
+use Rattle.proof_text.specs.Lemma.{Cite, Reason, ByEnd, ByOne, ByAll, ByMirror}
 use Rattle.proof_text.specs.Spelling.{spaced, most_cites}
-use Rattle.proof_text.specs.Reading.{◌>>=◌, words_of, number_of, letter_word, cites_of, one_of, all_of, reason_of, with_one, with_two, verdict_of}
+use Rattle.proof_text.specs.Reading.{◌>>=◌, words_of, number_of, letter_word, cites_of, one_of, all_of, mirror_of, reason_of, with_one, with_two, verdict_of}
 use Rattle.proof_text.specs.declared.Claim.TheVariants.{WhiteWins, WhiteFails, BlackWins, BlackFails}
 use Rattle.proof_text.specs.declared.Verdict.{Verdict}
 use Rattle.proof_text.specs.declared.Verdict.TheVariants.{Win, Loss, Draw, Unknown}
@@ -199,37 +199,50 @@ claim_none bytes a b c d word next more cut =
 
 -- ---- the kind of a reason
 
+-- the number of the lemma at the image
+pub reason_mirror : (board : Board) (bytes rest : List ℕ) (n : Option ℕ) → bytes ≡ codes "mirror " ++ rest → number_of rest ≡ n
+    → reason_of board (words_of bytes) ≡ option_map ByMirror n
+reason_mirror board bytes rest n h is = ap (λ bytes. reason_of board (words_of bytes)) h ∙ elim (last_word rest) [
+  | inl last ↦ ap mirror_of last ∙ ap (option_map ByMirror) is
+  | inr more ↦ ap mirror_of more.words ∙ ap (option_map ByMirror) (sym more.none ∙ is)
+]
+
 -- bytes that aren't `end`, and don't begin with another kind and a space
 pub reason_none : (board : Board) (bytes : List ℕ) → bytes_eq bytes (codes "end") ≡ false → ((rest : List ℕ) → bytes ≢ codes "one " ++ rest)
-    → ((rest : List ℕ) → bytes ≢ codes "all " ++ rest)
-    → ((rest : List ℕ) → bytes ≢ codes "plan " ++ rest) → reason_of board (words_of bytes) ≡ None
-reason_none board bytes end one all plan = by_words (words_of bytes) refl
+    → ((rest : List ℕ) → bytes ≢ codes "all " ++ rest) → ((rest : List ℕ) → bytes ≢ codes "plan " ++ rest)
+    → ((rest : List ℕ) → bytes ≢ codes "mirror " ++ rest) → reason_of board (words_of bytes) ≡ None
+reason_none board bytes end one all plan image = by_words (words_of bytes) refl
   where
-    alone : (e o a p : Bool) → e ≡ false → cond e (Some ByEnd) (cond o None (cond a None (cond p None None))) ≡ None
-    alone true o a p h = cc
-    alone false true a p h = refl
-    alone false false true p h = refl
-    alone false false false true h = refl
-    alone false false false false h = refl
+    alone : (e o a p m : Bool) → e ≡ false → cond e (Some ByEnd) (cond o None (cond a None (cond p None (cond m None None)))) ≡ None
+    alone true o a p m h = cc
+    alone false true a p m h = refl
+    alone false false true p m h = refl
+    alone false false false true m h = refl
+    alone false false false false true h = refl
+    alone false false false false false h = refl
 
-    first : (e o a p : Bool) (x y z : Option Reason) → (o ≡ true → ⊥) → (a ≡ true → ⊥) → (p ≡ true → ⊥)
-        → cond e None (cond o x (cond a y (cond p z None))) ≡ None
-    first true o a p x y z one all plan = refl
-    first false true a p x y z one all plan = absurd (one refl)
-    first false false true p x y z one all plan = absurd (all refl)
-    first false false false true x y z one all plan = absurd (plan refl)
-    first false false false false x y z one all plan = refl
+    first : (e o a p m : Bool) (x y z w : Option Reason) → (o ≡ true → ⊥) → (a ≡ true → ⊥) → (p ≡ true → ⊥) → (m ≡ true → ⊥)
+        → cond e None (cond o x (cond a y (cond p z (cond m w None)))) ≡ None
+    first true o a p m x y z w one all plan image = refl
+    first false true a p m x y z w one all plan image = absurd (one refl)
+    first false false true p m x y z w one all plan image = absurd (all refl)
+    first false false false true m x y z w one all plan image = absurd (plan refl)
+    first false false false false true x y z w one all plan image = absurd (image refl)
+    first false false false false false x y z w one all plan image = refl
 
     by_words : (words : List (List ℕ)) → words_of bytes ≡ words → reason_of board (words_of bytes) ≡ None
     by_words [] h = ap (reason_of board) h
     by_words (word ∷ []) h =
         let same : bytes ≡ word = sym (join_with_byte-slice_split 32 bytes) ∙ ap spaced h in
-        ap (reason_of board) h ∙ alone (bytes_eq word (codes "end")) (bytes_eq word (codes "one")) (bytes_eq word (codes "all")) (bytes_eq word (codes "plan"))
-        (ap (λ word. bytes_eq word (codes "end")) (sym same) ∙ end)
+        ap (reason_of board) h
+        ∙ alone (bytes_eq word (codes "end")) (bytes_eq word (codes "one")) (bytes_eq word (codes "all")) (bytes_eq word (codes "plan"))
+        (bytes_eq word (codes "mirror")) (ap (λ word. bytes_eq word (codes "end")) (sym same) ∙ end)
     by_words (word ∷ next ∷ more) h =
-        ap (reason_of board) h ∙ first (bytes_eq word (codes "end")) (bytes_eq word (codes "one")) (bytes_eq word (codes "all")) (bytes_eq word (codes "plan"))
-        _ _ _ (other_first (codes "one") bytes word next more one h)
+        ap (reason_of board) h
+        ∙ first (bytes_eq word (codes "end")) (bytes_eq word (codes "one")) (bytes_eq word (codes "all")) (bytes_eq word (codes "plan"))
+        (bytes_eq word (codes "mirror")) _ _ _ _ (other_first (codes "one") bytes word next more one h)
         (other_first (codes "all") bytes word next more all h) (other_first (codes "plan") bytes word next more plan h)
+        (other_first (codes "mirror") bytes word next more image h)
 
 -- ---- the kind of a verdict
 

@@ -3,7 +3,7 @@ use Rattle.std.specs.Prelude.{◌≡◌, ℕ, List, [], ◌∷◌, ◌++◌, map
 use Rattle.std.specs.Borrow.{Bor}
 use Rattle.arrayvec.specs.ArrayVec.{ArrayVec}
 use Rattle.plan_rules.specs.Rules.{RuleInstance}
-use Rattle.proof_text.specs.Lemma.{Cite as PlainCite, Reason as PlainReason, ByEnd, ByOne, ByAll, ByPlan, Lemma as PlainLemma, Line as PlainLine, ALemma, ARemark, AVerdict}
+use Rattle.proof_text.specs.Lemma.{Cite as PlainCite, Reason as PlainReason, ByEnd, ByOne, ByAll, ByPlan, ByMirror, Lemma as PlainLemma, Line as PlainLine, ALemma, ARemark, AVerdict}
 use Rattle.proof_text.specs.Spelling.{cite_word, lemma_line, verdict_line}
 use Rattle.cert_format.specs.Items.{members_text}
 use Rattle.cert_format.specs.declared.lines.Cite.{Cite}
@@ -28,6 +28,7 @@ reason_by cites_in members_in reasons.Ended = ByEnd
 reason_by cites_in members_in (reasons.One cite) = ByOne (cite_of cite)
 reason_by cites_in members_in (reasons.All cites) = ByAll (cites_in cites)
 reason_by cites_in members_in (reasons.Plan members) = ByPlan (members_in members)
+reason_by cites_in members_in (reasons.Mirror lemma) = ByMirror lemma
 
 abbrev pub reason_of : Reason (ArrayVec Cite) (ArrayVec Instance) → PlainReason
 reason_of reason = reason_by (λ cites. map cite_of cites.items) (λ members. written_list members.items) reason

@@ -87,7 +87,18 @@ impl BackLine {
             Reason::One(cite) => self.put_one(*cite),
             Reason::All(cites) => self.put_all(cites.as_slice()),
             Reason::Plan(_) => self.put_text(b" plan"),
+            Reason::Mirror(lemma) => self.put_mirror(*lemma),
         }
+    }
+
+    fn put_mirror(&mut self, lemma: u32)
+        requires { self.old ≡ [] }
+        ensures line { self.new ≡ codes " mirror " ++ (decimal lemma ++ 10 ∷ []) }
+        ensures bound { length self.new ≤ 19 }
+    {
+        self.put_byte(b'\n');
+        self.put_number(lemma);
+        self.put_text(b" mirror ");
     }
 
     fn put_one(&mut self, cite: Cite)

@@ -16,10 +16,10 @@ mod verdict_line;
 
 pub use items::{Item, print_item, push_group, push_plan_fault, push_square};
 pub use lines::{
-    Cite, FIRST_LINE, Lemma, LemmaView, Line, LineFault, LineView, Reason, ReasonView,
+    Cite, Lemma, LemmaView, Line, LineFault, LineView, Reason, ReasonView, first_line,
 };
 pub use output::{LemmaOut, print_line};
 pub use plan_line::{print_plan, read_plan};
-pub use proof_text::{Claim, Verdict};
+pub use proof_text::{Claim, Verdict, Version};
 pub use reading::read_line;
 pub use room::LineBuffer;

@@ -3,16 +3,14 @@
 ghost use Rattle.std.specs.Prelude.{◌≡◌, List};
 ghost use Rattle.plan_rules.specs.Rules.{RuleInstance};
 ghost use Rattle.proof_text.specs.Lemma.{Cite as PlainCite};
+ghost use Rattle.proof_text.specs.Texts.{first_line};
 ghost use Rattle.cert_format.specs.Shape.{reason_by, reason_of, reason_viewed, lemma_of, lemma_viewed};
 
 use arrayvec::ArrayVec;
 use board_bits::Column;
 use plan_rules::MOST_MEMBERS;
-use proof_text::{Claim, Verdict};
+use proof_text::{Claim, Verdict, Version};
 use rule_compat::Instance;
-
-/// The first line of each proof, which names the format.
-pub const FIRST_LINE: &[u8] = b"victor 1";
 
 /// No line has more bytes, without its line feed.
 pub(crate) const LONGEST_LINE: usize = 8192;
@@ -22,6 +20,16 @@ pub(crate) const LONGEST_PATH: usize = 100;
 
 /// No reason cites more lemmas: a board has at most ten columns.
 pub(crate) const MOST_CITES: usize = 10;
+
+/// The first line of a proof of this version, which names the format.
+pub fn first_line(version: Version) -> &'static [u8]
+    ensures { result.now ≡ first_line version }
+{
+    match version {
+        Version::One => b"victor 1",
+        Version::Two => b"victor 2",
+    }
+}
 
 /// A move, and the number of the lemma that stands at the position after it.
 #[derive(Clone, Copy, Default)]
@@ -41,6 +49,9 @@ pub enum Reason<C = ArrayVec<Cite, MOST_CITES>, P = ArrayVec<Instance, MOST_MEMB
     All(C),
     /// The instances are a plan of Black's, by which White doesn't win.
     Plan(P),
+    /// The lemma with this number shows it of the mirror image of the position. Proofs of the first version have no such
+    /// reason.
+    Mirror(u32),
 }
 
 /// A reason whose cites and instances stay where they are, so that a reason is small to hand on.
@@ -62,6 +73,7 @@ impl Reason {
             Reason::One(cite) => Reason::One(*cite),
             Reason::All(cites) => Reason::All(cites),
             Reason::Plan(members) => Reason::Plan(members),
+            Reason::Mirror(lemma) => Reason::Mirror(*lemma),
         }
     }
 }
@@ -78,6 +90,7 @@ impl ReasonKind {
             Reason::One(cite) => Reason::One(cite),
             Reason::All(()) => Reason::All(cites),
             Reason::Plan(()) => Reason::Plan(members),
+            Reason::Mirror(lemma) => Reason::Mirror(lemma),
         }
     }
 }

@@ -3,13 +3,13 @@
 ghost use Rattle.std.specs.Prelude.{◌≡◌, ◌≢◌, ℕ, ◌<◌, List, ◌∷◌, ◌++◌, [], Some, None, IfSome, MatchOption, length, map, option_map, position, ◌==◌};
 ghost use Rattle.std.specs.Str.{bytes_eq};
 ghost use Rattle.std.specs.List.{list_all};
-ghost use Rattle.proof_text.specs.Lemma.{ByOne, ByAll};
+ghost use Rattle.proof_text.specs.Lemma.{ByOne, ByAll, allows};
 ghost use Rattle.proof_text.specs.Spelling.{is_printable, is_remark, claim_word};
 ghost use Rattle.proof_text.specs.declared.Verdict.TheVariants.{Draw};
-ghost use Rattle.proof_text.specs.Reading.{words_of, number_of, path_of, letter_word, cite_of, one_of, all_of, reason_of, lemma_of, with_two, verdict_of, read_line};
+ghost use Rattle.proof_text.specs.Reading.{words_of, number_of, path_of, letter_word, cite_of, one_of, all_of, reason_of, lemma_of, with_two, verdict_of, read_any, read_line};
 ghost use Rattle.cert_format.specs.Shape as shape;
 ghost use Rattle.cert_format.specs.Shape.{Reads};
-ghost use Rattle.cert_format.specs.Rooms.{reason_in, lemma_in, ReadsInto};
+ghost use Rattle.cert_format.specs.Rooms.{reason_in, lemma_in, kept_in, ReadsInto};
 ghost use Rattle.cert_format.specs.Words.{HasNoClaim};
 
 use crate::lines::{Cite, LONGEST_LINE, LONGEST_PATH, Line, LineFault, MOST_CITES, Reason};
@@ -19,28 +19,56 @@ use crate::room::{Kind, LemmaRoom, ReasonRoom};
 use arrayvec::ArrayVec;
 use board_bits::{Column, Size};
 use bstr::ByteSlice;
-use proof_text::{Claim, Verdict};
+use proof_text::{Claim, Verdict, Version};
 use text_words::number_between;
 
 /// No number of a proof is greater.
 const GREATEST_NUMBER: u32 = 10_000_000;
 
-/// What the bytes say as a line of a proof on a board of this size, without their line feed. `LineFault` comes exactly
-/// where they are no line: where no lemma, remark or verdict is spelled so, or they are more than 8,192 bytes.
-pub fn read_line(bytes: &[u8], size: Size) -> Result<Line, LineFault>
-    ensures { Reads result (read_line size bytes.now) }
+/// What the bytes say as a line of a proof of this version on a board of this size, without their line feed. `LineFault`
+/// comes exactly where they are no line: where no lemma, remark or verdict of the version is spelled so, or they are more
+/// than 8,192 bytes.
+pub fn read_line(bytes: &[u8], size: Size, version: Version) -> Result<Line, LineFault>
+    ensures { Reads result (read_line version size bytes.now) }
 {
     let mut room = LemmaRoom::new();
-    match read_into(&mut room, bytes, size)? {
+    match read_into(&mut room, bytes, size, version)? {
         Kind::Lemma => Ok(Line::Lemma(room.into_lemma())),
         Kind::Remark => Ok(Line::Remark),
         Kind::Verdict(verdict) => Ok(Line::Verdict(verdict)),
     }
 }
 
-/// Reads a line, a lemma into this room.
-pub(crate) fn read_into(room: &mut LemmaRoom, bytes: &[u8], size: Size) -> Result<Kind, LineFault>
-    ensures { ReadsInto room.new result (read_line size bytes.now) }
+/// Reads a line of a version, a lemma into this room.
+pub(crate) fn read_into(
+    room: &mut LemmaRoom,
+    bytes: &[u8],
+    size: Size,
+    version: Version,
+) -> Result<Kind, LineFault>
+    ensures { ReadsInto room.new result (read_line version size bytes.now) }
+{
+    let kind = read_any(room, bytes, size)?;
+    if allows(version, room, kind) {
+        Ok(kind)
+    } else {
+        Err(LineFault)
+    }
+}
+
+/// Whether the version has what was read.
+fn allows(version: Version, room: &LemmaRoom, kind: Kind) -> bool
+    ensures { result ≡ allows version (kept_in room.now kind) }
+{
+    match (version, kind) {
+        (Version::One, Kind::Lemma) => !matches!(room.reason.kind, Reason::Mirror(_)),
+        _ => true,
+    }
+}
+
+/// Reads a line of any version, a lemma into this room.
+fn read_any(room: &mut LemmaRoom, bytes: &[u8], size: Size) -> Result<Kind, LineFault>
+    ensures { ReadsInto room.new result (read_any size bytes.now) }
 {
     if is_remark(bytes) {
         return Ok(Kind::Remark);
@@ -160,6 +188,10 @@ fn read_reason(room: &mut ReasonRoom, bytes: &[u8], size: Size) -> Option<()>
     if let Some(rest) = behind(bytes, b"plan ") {
         room.kind = Reason::Plan(());
         return members_of(rest, size, &mut room.members);
+    }
+    if let Some(rest) = behind(bytes, b"mirror ") {
+        room.kind = Reason::Mirror(number_of(rest)?);
+        return Some(());
     }
     None
 }

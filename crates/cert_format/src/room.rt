@@ -13,7 +13,7 @@ use crate::reading::read_into;
 use arrayvec::ArrayVec;
 use board_bits::{Column, Size};
 use plan_rules::MOST_MEMBERS;
-use proof_text::{Claim, Verdict};
+use proof_text::{Claim, Verdict, Version};
 use rule_compat::Instance;
 
 /// Room for one line.
@@ -31,10 +31,15 @@ impl LineBuffer {
     }
 
     /// What `read_line` answers of the bytes, read into this room.
-    pub fn read(&mut self, bytes: &[u8], size: Size) -> Result<LineView<'_>, LineFault>
-        ensures { Views result (read_line size bytes.now) }
+    pub fn read(
+        &mut self,
+        bytes: &[u8],
+        size: Size,
+        version: Version,
+    ) -> Result<LineView<'_>, LineFault>
+        ensures { Views result (read_line version size bytes.now) }
     {
-        match read_into(&mut self.room, bytes, size)? {
+        match read_into(&mut self.room, bytes, size, version)? {
             Kind::Lemma => Ok(LineView::Lemma(self.room.view())),
             Kind::Remark => Ok(LineView::Remark),
             Kind::Verdict(verdict) => Ok(LineView::Verdict(verdict)),
