@@ -33,6 +33,7 @@ pub(crate) fn check_reason(
         Reason::One(cite) => check_one(known, reached, claim, *cite),
         Reason::All(cites) => check_all(known, reached, claim, cites.as_slice()),
         Reason::Plan(members) => check_plan(reached, claim, members.as_slice()),
+        Reason::Mirror(lemma) => check_cited(known, &reached.position().mirror(), claim, *lemma),
     }
 }
 
