@@ -6,11 +6,12 @@ use Rattle.game_rules.specs.Text.{game_at}
 use Rattle.proof_text.specs.Checked.{CheckerState}
 use Rattle.proof_text.specs.Lemma.{Lemma}
 use Rattle.proof_text.specs.Texts as answers
-use Rattle.proof_text.specs.Texts.{pieces, lines_in, game_of, behind_game, first_number, start, check_of, CheckAnswer, verdict_answer}
+use Rattle.proof_text.specs.Texts.{pieces, lines_in, game_of, behind_game, first_number, start, CheckAnswer, verdict_answer}
 use Rattle.cert_checker.specs.Checking.{why_of}
 use Rattle.cert_checker.specs.declared.stops.Accepted.{Accepted}
 use Rattle.cert_checker.specs.declared.stops.Refusal.{Refusal}
-use Rattle.run_proof.specs.Whole.{most_lines_read, most_taken}
+use Rattle.proof_text.specs.declared.Version.{Version}
+use Rattle.run_proof.specs.Whole.{judged, most_lines_read, most_taken}
 use Rattle.run_proof.specs.Stops.{IsStopped}
 use Rattle.run_frame.specs.Streams.{Streams}
 use Rattle.run_proof.specs.Taken.{text_lemmas, Gains, BeginWith}
@@ -39,8 +40,8 @@ goes_then one two three bytes mid rest ls ms first next = record {
 }
 
 -- the next line was added, or there was none
-abbrev pub AddsLine : Pending → Pending → Option (List Lemma) → Option (List Lemma) → CheckerState → CheckerState → ℕ → Bool → Type 0
-AddsLine a b had has s t at more = Gets a b had has (λ lemmas bytes rest. PassesLines 1 bytes rest × Adds s t at more lemmas bytes rest)
+abbrev pub AddsLine : Version → Pending → Pending → Option (List Lemma) → Option (List Lemma) → CheckerState → CheckerState → ℕ → Bool → Type 0
+AddsLine version a b had has s t at more = Gets a b had has (λ lemmas bytes rest. PassesLines 1 bytes rest × Adds version s t at more lemmas bytes rest)
 
 -- the lemmas of the rest begin with some, so those of all begin with those passed and these
 pub begin_earlier : (one two : Place) (bytes mid : List ℕ) (ls ms : List Lemma) → GoesOn one bytes two mid ls → BeginWith (lemmas_at two mid) ms
@@ -56,33 +57,33 @@ stops_earlier one two bytes mid ls a b c (stops.Refused r) goes later h = goes.a
 stops_earlier one two bytes mid ls a b c stops.Memory goes later h = goes.reaches h
 
 -- the head and the game
-module _ (a b c : Pending) (head : Reads a b (λ bytes rest. PassesLines 1 bytes rest × GoesOn AtHead bytes AtGame rest [])) where
+module _ (asked : Option Version) (version : Version) (a b c : Pending) (head : Reads a b (λ bytes rest. PassesLines 1 bytes rest × GoesOn (AtHead asked) bytes (AtGame version) rest [])) where
   pub game_known : (root : Position)
       → Reads b c (λ bytes rest. PassesLines 2 bytes rest
       × ((game_at (game_of (pieces bytes)) ≡ Ok root) × (behind_game (pieces bytes) ≡ lines_in (pieces rest))))
-      → Reads a c (λ bytes rest. PassesLines 3 bytes rest × GoesOn AtHead bytes (AtLine (start root) first_number) rest [])
+      → Reads a c (λ bytes rest. PassesLines 3 bytes rest × GoesOn (AtHead asked) bytes (AtLine version (start root) first_number) rest [])
   game_known root game =
       Reads_then a b c _ _ _ head game (λ bytes mid rest p q. (
         passes_then 1 2 bytes mid rest p.0 q.0,
-        goes_then AtHead AtGame _ bytes mid rest [] [] p.1 (record {
-          answer = game_read mid rest root q.1.0 q.1.1;
-          reaches = game_reaches mid rest root q.1.0 q.1.1;
-          says = game_says mid rest root q.1.0 q.1.1;
+        goes_then (AtHead asked) (AtGame version) _ bytes mid rest [] [] p.1 (record {
+          answer = game_read version mid rest root q.1.0 q.1.1;
+          reaches = game_reaches version mid rest root q.1.0 q.1.1;
+          says = game_says version mid rest root q.1.0 q.1.1;
         }),
       ))
 
   pub game_stops : (before mid after : ℕ) (why : InputStop) → before ≤ mid
       → Reads b c (λ bytes rest. PassesLines 2 bytes rest × StopsGame (game_at (game_of (pieces bytes))) mid after why)
-      → Reads a c (λ bytes rest. PassesLines 3 bytes rest × StopsBy AtHead bytes before after (stops.Input why))
+      → Reads a c (λ bytes rest. PassesLines 3 bytes rest × StopsBy (AtHead asked) bytes before after (stops.Input why))
   game_stops before mid after why later game =
       Reads_then a b c _ _ _ head game (λ bytes m rest p q. (
         passes_then 1 2 bytes m rest p.0 q.0,
-        stops_earlier AtHead AtGame bytes m [] before mid after (stops.Input why) p.1 later (by_game m mid after why q.1),
+        stops_earlier (AtHead asked) (AtGame version) bytes m [] before mid after (stops.Input why) p.1 later (by_game m mid after why q.1),
       ))
     where
       by_game : (bytes : List ℕ) (before after : ℕ) (why : InputStop) → StopsGame (game_at (game_of (pieces bytes))) before after why
-          → StopsBy AtGame bytes before after (stops.Input why)
-      by_game bytes before after (inputs.NoGame fault) h = game_fault bytes fault h
+          → StopsBy (AtGame version) bytes before after (stops.Input why)
+      by_game bytes before after (inputs.NoGame fault) h = game_fault version bytes fault h
       by_game bytes before after inputs.Read h = h
 
 -- the game is what three lines end
@@ -91,48 +92,48 @@ game_lines (inputs.NoGame fault) = omega arith
 game_lines inputs.Read = omega arith
 
 -- and the lines behind them
-module _ (a b c : Pending) (x y : Option (List Lemma)) (root : Position) (s t : CheckerState) (began : s ≡ start root)
-    (game : Reads a b (λ bytes rest. PassesLines 3 bytes rest × GoesOn AtHead bytes (AtLine (start root) first_number) rest [])) where
+module _ (asked : Option Version) (version : Version) (a b c : Pending) (x y : Option (List Lemma)) (root : Position) (s t : CheckerState) (began : s ≡ start root)
+    (game : Reads a b (λ bytes rest. PassesLines 3 bytes rest × GoesOn (AtHead asked) bytes (AtLine version (start root) first_number) rest [])) where
   gets_behind : (P Q : List Lemma → List ℕ → List ℕ → Type 0)
-      → ((ls : List Lemma) (bytes mid rest : List ℕ) → PassesLines 3 bytes mid × GoesOn AtHead bytes (AtLine (start root) first_number) mid [] → P ls mid rest
+      → ((ls : List Lemma) (bytes mid rest : List ℕ) → PassesLines 3 bytes mid × GoesOn (AtHead asked) bytes (AtLine version (start root) first_number) mid [] → P ls mid rest
       → Q ls bytes rest)
       → Gets b c x y P → Gets a c x y Q
   gets_behind P Q more lines = record { lemmas = lines.lemmas; gains = lines.gains; reads = Reads_then a b c _ _ _ game lines.reads (more lines.lemmas) }
 
   pub lines_stop : (n before mid after : ℕ) (stop : ProofStop) → before ≤ mid → 3 ≤ n
-      → Gets b c x y (λ ls bytes rest. PassesLines (n - 3) bytes rest × StopsWith (AtLine s first_number) ls bytes mid after stop)
-      → Gets a c x y (λ ls bytes rest. PassesLines n bytes rest × StopsWith AtHead ls bytes before after stop)
+      → Gets b c x y (λ ls bytes rest. PassesLines (n - 3) bytes rest × StopsWith (AtLine version s first_number) ls bytes mid after stop)
+      → Gets a c x y (λ ls bytes rest. PassesLines n bytes rest × StopsWith (AtHead asked) ls bytes before after stop)
   lines_stop n before mid after stop later from lines =
       gets_behind _ _ (λ ls bytes m rest p q.
-      let goes = subst (λ s. GoesOn AtHead bytes (AtLine s first_number) m []) (sym began) p.1 in (
+      let goes = subst (λ s. GoesOn (AtHead asked) bytes (AtLine version s first_number) m []) (sym began) p.1 in (
         passes_most (3 + (n - 3)) n bytes rest (omega (arith, from)) (passes_then 3 (n - 3) bytes m rest p.0 q.0),
         (
-          stops_earlier AtHead (AtLine s first_number) bytes m [] before mid after stop goes later q.1.0,
-          begin_earlier AtHead (AtLine s first_number) bytes m [] ls goes q.1.1,
+          stops_earlier (AtHead asked) (AtLine version s first_number) bytes m [] before mid after stop goes later q.1.0,
+          begin_earlier (AtHead asked) (AtLine version s first_number) bytes m [] ls goes q.1.1,
         ),
       )) lines
 
   pub lines_known : (end : ℕ) → 3 ≤ end
       → Gets b c x y (λ ls bytes rest. PassesLines (end - 3) bytes rest
-      × ((lines_from s first_number bytes ≡ verdict_answer end (length t.known) t.verdict) × (lemmas_at (AtLine s first_number) bytes ≡ ls)))
+      × ((lines_from version s first_number bytes ≡ verdict_answer end (length t.known) t.verdict) × (lemmas_at (AtLine version s first_number) bytes ≡ ls)))
       → (answer : CheckAnswer) → verdict_answer end (length t.known) t.verdict ≡ answer
-      → Gets a c x y (λ ls bytes rest. PassesLines end bytes rest × ((check_of bytes ≡ answer) × (text_lemmas bytes ≡ ls)))
+      → Gets a c x y (λ ls bytes rest. PassesLines end bytes rest × ((judged asked bytes ≡ answer) × (text_lemmas asked bytes ≡ ls)))
   lines_known end from lines answer is =
       gets_behind _ _ (λ ls bytes m rest p q. (
         passes_most (3 + (end - 3)) end bytes rest (omega (arith, from)) (passes_then 3 (end - 3) bytes m rest p.0 q.0),
         (
-          p.1.answer ∙ ap (λ s. lines_from s first_number m) (sym began) ∙ q.1.0 ∙ is,
-          p.1.says ∙ ap (λ s. lemmas_at (AtLine s first_number) m) (sym began) ∙ q.1.1,
+          p.1.answer ∙ ap (λ s. lines_from version s first_number m) (sym began) ∙ q.1.0 ∙ is,
+          p.1.says ∙ ap (λ s. lemmas_at (AtLine version s first_number) m) (sym began) ∙ q.1.1,
         ),
       )) lines
 
 -- ---- how it was judged
 
-pub judged_stop : (old : Option (List ℕ)) (begun : ℕ) (last : Pending) (had has : Option (List Lemma)) (n before after : ℕ) (stop : ProofStop)
-    → Gets (fresh old begun) last had has (λ ls bytes rest. PassesLines n bytes rest × StopsWith AtHead ls bytes before after stop)
-    → n ≤ lines_read_until stop → n ≤ most_lines_read → Judges old last.left last.last_read before after had has (Err stop)
-judged_stop old begun last had has n before after stop gets few all =
-    let Stopped : List ℕ → Type 0 = λ bytes. StopsWith AtHead gets.lemmas bytes before after stop in
+pub judged_stop : (asked : Option Version) (old : Option (List ℕ)) (begun : ℕ) (last : Pending) (had has : Option (List Lemma)) (n before after : ℕ) (stop : ProofStop)
+    → Gets (fresh old begun) last had has (λ ls bytes rest. PassesLines n bytes rest × StopsWith (AtHead asked) ls bytes before after stop)
+    → n ≤ lines_read_until stop → n ≤ most_lines_read → Judges asked old last.left last.last_read before after had has (Err stop)
+judged_stop asked old begun last had has n before after stop gets few all =
+    let Stopped : List ℕ → Type 0 = λ bytes. StopsWith (AtHead asked) gets.lemmas bytes before after stop in
     let taken = of_taken old begun last n most_lines_read Stopped gets.reads in
     record {
       taken = gets.reads.taken;
@@ -147,50 +148,50 @@ judged_stop old begun last had has n before after stop gets few all =
     }
 
 -- it stopped before the first lemma
-pub judged_bare : (old : Option (List ℕ)) (begun : ℕ) (last : Pending) (told : Option (List Lemma)) (n before after : ℕ) (stop : ProofStop)
-    → Reads (fresh old begun) last (λ bytes rest. PassesLines n bytes rest × StopsBy AtHead bytes before after stop)
-    → n ≤ lines_read_until stop → n ≤ most_lines_read → Judges old last.left last.last_read before after told told (Err stop)
-judged_bare old begun last told n before after stop reads few all =
-    judged_stop old begun last told told n before after stop (stops_bare (fresh old begun) last told told AtHead n before after stop refl reads) few all
+pub judged_bare : (asked : Option Version) (old : Option (List ℕ)) (begun : ℕ) (last : Pending) (told : Option (List Lemma)) (n before after : ℕ) (stop : ProofStop)
+    → Reads (fresh old begun) last (λ bytes rest. PassesLines n bytes rest × StopsBy (AtHead asked) bytes before after stop)
+    → n ≤ lines_read_until stop → n ≤ most_lines_read → Judges asked old last.left last.last_read before after told told (Err stop)
+judged_bare asked old begun last told n before after stop reads few all =
+    judged_stop asked old begun last told told n before after stop (stops_bare (fresh old begun) last told told (AtHead asked) n before after stop refl reads) few all
 
 -- no line is left, and there was no verdict
-pub judged_unended : (old : Option (List ℕ)) (begun : ℕ) (last : Pending) (had has : Option (List Lemma)) (n before after : ℕ) (r : Refusal)
+pub judged_unended : (asked : Option Version) (old : Option (List ℕ)) (begun : ℕ) (last : Pending) (had has : Option (List Lemma)) (n before after : ℕ) (r : Refusal)
     → Gets (fresh old begun) last had has
-    (λ ls bytes rest. PassesLines n bytes rest × ((check_of bytes ≡ answers.Refused r.at (why_of r.why)) × (text_lemmas bytes ≡ ls)))
-    → n ≤ r.at → n ≤ most_lines_read → Judges old last.left last.last_read before after had has (Err (stops.Refused r))
-judged_unended old begun last had has n before after r gets few all =
-    let stopped : Gets (fresh old begun) last had has (λ ls bytes rest. PassesLines n bytes rest × StopsWith AtHead ls bytes before after (stops.Refused r)) =
+    (λ ls bytes rest. PassesLines n bytes rest × ((judged asked bytes ≡ answers.Refused r.at (why_of r.why)) × (text_lemmas asked bytes ≡ ls)))
+    → n ≤ r.at → n ≤ most_lines_read → Judges asked old last.left last.last_read before after had has (Err (stops.Refused r))
+judged_unended asked old begun last had has n before after r gets few all =
+    let stopped : Gets (fresh old begun) last had has (λ ls bytes rest. PassesLines n bytes rest × StopsWith (AtHead asked) ls bytes before after (stops.Refused r)) =
     record {
       lemmas = gets.lemmas;
       gains = gets.gains;
       reads = Reads_more _ _ _ _ gets.reads (λ bytes rest p. (p.0, (p.1.0, ([], p.1.1 ∙ sym (append-nil gets.lemmas)))));
     } in
-    judged_stop old begun last had has n before after (stops.Refused r) stopped few all
+    judged_stop asked old begun last had has n before after (stops.Refused r) stopped few all
 
-pub judged_right : (old : Option (List ℕ)) (begun : ℕ) (last : Pending) (had has : Option (List Lemma)) (n before after : ℕ) (accepted : Accepted)
+pub judged_right : (asked : Option Version) (old : Option (List ℕ)) (begun : ℕ) (last : Pending) (had has : Option (List Lemma)) (n before after : ℕ) (accepted : Accepted)
     → Gets (fresh old begun) last had has
-    (λ ls bytes rest. PassesLines n bytes rest × ((check_of bytes ≡ answers.Accepted accepted.verdict accepted.lemmas) × (text_lemmas bytes ≡ ls)))
-    → last.ended ≡ true → n ≤ most_lines_read → Judges old last.left last.last_read before after had has (Ok accepted)
-judged_right old begun last had has n before after accepted gets ended all =
-    let Right : List ℕ → Type 0 = λ bytes. (check_of bytes ≡ answers.Accepted accepted.verdict accepted.lemmas) × (text_lemmas bytes ≡ gets.lemmas) in
+    (λ ls bytes rest. PassesLines n bytes rest × ((judged asked bytes ≡ answers.Accepted accepted.verdict accepted.lemmas) × (text_lemmas asked bytes ≡ ls)))
+    → last.ended ≡ true → n ≤ most_lines_read → Judges asked old last.left last.last_read before after had has (Ok accepted)
+judged_right asked old begun last had has n before after accepted gets ended all =
+    let Right : List ℕ → Type 0 = λ bytes. (judged asked bytes ≡ answers.Accepted accepted.verdict accepted.lemmas) × (text_lemmas asked bytes ≡ gets.lemmas) in
     let taken = of_taken old begun last n most_lines_read Right gets.reads in
     record {
       taken = gets.reads.taken;
       gave = gets.reads.gave;
-      answer = right_input gets.reads.taken last.left accepted.verdict accepted.lemmas taken.0 (gets.reads.last (λ never. absurd (cc never)) ended);
+      answer = right_input asked gets.reads.taken last.left accepted.verdict accepted.lemmas taken.0 (gets.reads.last (λ never. absurd (cc never)) ended);
       lemmas = subst (Gains had has) (sym taken.1) gets.gains;
       lines = of_lines old begun last n most_lines_read Right gets.reads all;
     }
 
 -- what stopped the reading is what is said of it
-pub stopped : (s : Streams) (before after : ℕ) (had has : Option (List Lemma)) (stop : ProofStop)
-    → (judged : Judges s.input s.left s.last_read before after had has (Err stop)) → IsStopped judged.taken s stop
-stopped s before after had has (stops.Input (inputs.NoGame fault)) judged = ((judged.answer.0, judged.answer.1), judged.answer.2)
-stopped s before after had has (stops.Input inputs.Read) judged = tt
-stopped s before after had has (stops.Refused r) judged = ((judged.answer.0, judged.answer.1), judged.answer.2)
-stopped s before after had has stops.Memory judged = (judged.answer.0, judged.answer.1)
+pub stopped : (asked : Option Version) (s : Streams) (before after : ℕ) (had has : Option (List Lemma)) (stop : ProofStop)
+    → (judged : Judges asked s.input s.left s.last_read before after had has (Err stop)) → IsStopped asked judged.taken s stop
+stopped asked s before after had has (stops.Input (inputs.NoGame fault)) judged = ((judged.answer.0, judged.answer.1), judged.answer.2)
+stopped asked s before after had has (stops.Input inputs.Read) judged = tt
+stopped asked s before after had has (stops.Refused r) judged = ((judged.answer.0, judged.answer.1), judged.answer.2)
+stopped asked s before after had has stops.Memory judged = (judged.answer.0, judged.answer.1)
 
 -- no more was taken than the lines that a proof may have, and what came with the last of them
-pub judged_few : (s : Streams) (before after : ℕ) (had has : Option (List Lemma)) (result : Result Accepted ProofStop)
-    → (judged : Judges s.input s.left s.last_read before after had has result) → length judged.taken ≤ most_taken
-judged_few s before after had has result judged = takes_bytes most_lines_read s.last_read judged.taken judged.lines
+pub judged_few : (asked : Option Version) (s : Streams) (before after : ℕ) (had has : Option (List Lemma)) (result : Result Accepted ProofStop)
+    → (judged : Judges asked s.input s.left s.last_read before after had has result) → length judged.taken ≤ most_taken
+judged_few asked s before after had has result judged = takes_bytes most_lines_read s.last_read judged.taken judged.lines

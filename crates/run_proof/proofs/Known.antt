@@ -9,16 +9,17 @@ use Rattle.io_ports.specs.declared.line_reader.LineGot.TheVariants.{Line, Long, 
 use Rattle.game_rules.specs.Board.{Board}
 use Rattle.game_rules.specs.Position.{board_of}
 use Rattle.proof_text.specs.Checked.{unless, or_then, line_refusal, with_line, lemmas_in, CheckerState}
-use Rattle.proof_text.specs.Texts.{first_line, most_lines, check_of, Refused, Accepted, said_refusal, bytes_refusal, with_bytes, with_said, verdict_answer}
+use Rattle.proof_text.specs.Texts.{most_lines, Refused, Accepted, said_refusal, bytes_refusal, with_bytes, with_said, verdict_answer}
 use Rattle.proof_text.proofs.Sound.{true_text}
-use Rattle.proof_text.proofs.Whole.{whole_accepted}
+use Rattle.proof_text.proofs.Whole.{whole_accepted, accepted_right}
+use Rattle.proof_text.specs.declared.Version.{Version}
 use Rattle.proof_text.specs.declared.Verdict.{Verdict}
 use Rattle.proof_text.specs.declared.Why.TheVariants.{BadLine}
 use Rattle.proof_text.specs.Reading.{read_line}
 use Rattle.proof_text.specs.Lemma.{Lemma, Line as Said, ALemma, ARemark, AVerdict}
 use Rattle.cert_checker.specs.Checking.{why_of, IsLemma}
 use Rattle.run_proof.specs.Taken.{lemmas_said, lemmas_from_lines, Gains, InStep}
-use Rattle.run_proof.specs.Whole.{IsRightInput}
+use Rattle.run_proof.specs.Whole.{judged, version_named, IsRightInput, SaysTruth}
 use Rattle.run_proof.specs.Steps.{lines_from, IsNextLemma, LinesReach, AtHead, AtGame, AtLine, GoesOn, Gets, StopsBy, StopsWith, StopsAtLine}
 use Rattle.io_ports.specs.Reading.{Pending, Reads, PassesLines}
 use Rattle.device_rules.specs.Devices.{Rose}
@@ -32,21 +33,27 @@ use Rattle.run_proof.specs.declared.stop.ProofStop.TheVariants as stops
 
 -- ---- the head
 
-module _ (a b : Pending) (got : LineGot) (text : List ℕ) (fed : Bool) (gives : Reads a b (λ bytes rest. Gives bytes rest got text fed)) where
-  pub head_known : (got ≡ Failed → ⊥) → text ≡ first_line → Reads a b (λ bytes rest. PassesLines 1 bytes rest × GoesOn AtHead bytes AtGame rest [])
-  head_known other named = by_line a b got text fed gives _ (λ bytes rest h.
+module _ (a b : Pending) (got : LineGot) (text : List ℕ) (fed : Bool) (gives : Reads a b (λ bytes rest. Gives bytes rest got text fed))
+    (asked : Option Version) where
+  pub head_known : (version : Version) → (got ≡ Failed → ⊥) → version_named asked text ≡ Some version
+      → Reads a b (λ bytes rest. PassesLines 1 bytes rest × GoesOn (AtHead asked) bytes (AtGame version) rest [])
+  head_known version other named = by_line a b got text fed gives _ (λ bytes rest h.
       let line : Cut = record { got = got; text = text; fed = fed; rest = rest } in
       let is = given bytes rest text got fed h other in
-      record { answer = head_named bytes line is named; reaches = head_reaches bytes line is named; says = head_says bytes line is named })
+      record {
+        answer = head_named asked version bytes line is named;
+        reaches = head_reaches asked version bytes line is named;
+        says = head_says asked version bytes line is named;
+      })
 
-  pub head_stops : (got ≡ Failed → ⊥) → (text ≡ first_line → ⊥) → Reads a b (λ bytes rest. PassesLines 1 bytes rest × (check_of bytes ≡ Refused 1 BadLine))
+  pub head_stops : (got ≡ Failed → ⊥) → version_named asked text ≡ None → Reads a b (λ bytes rest. PassesLines 1 bytes rest × (judged asked bytes ≡ Refused 1 BadLine))
   head_stops other unnamed = by_line a b got text fed gives _
-      (λ bytes rest h. head_other bytes (record { got = got; text = text; fed = fed; rest = rest }) (given bytes rest text got fed h other) unnamed)
+      (λ bytes rest h. head_other asked bytes (record { got = got; text = text; fed = fed; rest = rest }) (given bytes rest text got fed h other) unnamed)
 
 -- ---- the lines
 
-pub with_bytes_root : (s : CheckerState) (bytes : List ℕ) → (with_bytes s bytes).root ≡ s.root
-with_bytes_root s bytes = of_line (read_line (board_of s.root) bytes)
+pub with_bytes_root : (version : Version) (s : CheckerState) (bytes : List ℕ) → (with_bytes version s bytes).root ≡ s.root
+with_bytes_root version s bytes = of_line (read_line version (board_of s.root) bytes)
   where
     of_line : (line : Option Said) → (with_said s line).root ≡ s.root
     of_line None = refl
@@ -54,74 +61,74 @@ with_bytes_root s bytes = of_line (read_line (board_of s.root) bytes)
     of_line (Some ARemark) = refl
     of_line (Some (AVerdict v)) = refl
 
-module _ (a b : Pending) (text : List ℕ) (fed : Bool) (s : CheckerState) (at : ℕ) (had has : Option (List Lemma)) where
-  pub line_known : Reads a b (λ bytes rest. Gives bytes rest Line text fed) → bytes_refusal s at text ≡ None → (t : CheckerState) → t ≡ with_bytes s text
-      → Gains had has (lemmas_said (board_of s.root) (text ∷ []))
-      → Gets a b had has (λ lemmas bytes rest. PassesLines 1 bytes rest × GoesOn (AtLine s at) bytes (AtLine t (at + 1)) rest lemmas)
+module _ (version : Version) (a b : Pending) (text : List ℕ) (fed : Bool) (s : CheckerState) (at : ℕ) (had has : Option (List Lemma)) where
+  pub line_known : Reads a b (λ bytes rest. Gives bytes rest Line text fed) → bytes_refusal version s at text ≡ None → (t : CheckerState) → t ≡ with_bytes version s text
+      → Gains had has (lemmas_said version (board_of s.root) (text ∷ []))
+      → Gets a b had has (λ lemmas bytes rest. PassesLines 1 bytes rest × GoesOn (AtLine version s at) bytes (AtLine version t (at + 1)) rest lemmas)
   line_known gives stands t next gains = record {
-    lemmas = lemmas_said (board_of s.root) (text ∷ []);
+    lemmas = lemmas_said version (board_of s.root) (text ∷ []);
     gains = gains;
     reads = by_line a b Line text fed gives _ (λ bytes rest is.
         let line : Cut = record { got = Line; text = text; fed = fed; rest = rest } in
         record {
-          answer = line_stands s at bytes line is refl stands ∙ ap (λ t. lines_from t (at + 1) rest) (sym next);
-          reaches = λ later. line_reaches s at bytes line is refl stands (subst (λ t. LinesReach t (at + 1) rest) next later);
-          says = line_says (board_of s.root) bytes line is refl
-              ∙ ap (λ root. lemmas_said (board_of s.root) (text ∷ []) ++ lemmas_from_lines (board_of root) rest)
-              (sym (ap (λ t. t.root) next ∙ with_bytes_root s text));
+          answer = line_stands version s at bytes line is refl stands ∙ ap (λ t. lines_from version t (at + 1) rest) (sym next);
+          reaches = λ later. line_reaches version s at bytes line is refl stands (subst (λ t. LinesReach version t (at + 1) rest) next later);
+          says = line_says version (board_of s.root) bytes line is refl
+              ∙ ap (λ root. lemmas_said version (board_of s.root) (text ∷ []) ++ lemmas_from_lines version (board_of root) rest)
+              (sym (ap (λ t. t.root) next ∙ with_bytes_root version s text));
         });
   }
 
   pub none_known : Reads a b (λ bytes rest. Gives bytes rest Done text fed) → has ≡ had
       → Gets a b had has (λ lemmas bytes rest. PassesLines 1 bytes rest
-      × ((lines_from s at bytes ≡ verdict_answer at (length s.known) s.verdict) × (lemmas_from_lines (board_of s.root) bytes ≡ lemmas)))
+      × ((lines_from version s at bytes ≡ verdict_answer at (length s.known) s.verdict) × (lemmas_from_lines version (board_of s.root) bytes ≡ lemmas)))
   none_known gives same = record {
     lemmas = [];
     gains = same ∙ gains_none had;
     reads = by_line a b Done text fed gives _ (λ bytes rest is.
         let line : Cut = record { got = Done; text = text; fed = fed; rest = rest } in
-        (none_got s at bytes line is refl, none_says (board_of s.root) bytes line is refl));
+        (none_got version s at bytes line is refl, none_says version (board_of s.root) bytes line is refl));
   }
 
   -- what stops at a line, and hands on none
   at_line : (before after : ℕ) (stop : ProofStop) (got : LineGot) → Reads a b (λ bytes rest. Gives bytes rest got text fed) → has ≡ had
-      → ((bytes rest : List ℕ) → Gives bytes rest got text fed → StopsBy (AtLine s at) bytes before after stop)
-      → Gets a b had has (λ lemmas bytes rest. PassesLines 1 bytes rest × StopsWith (AtLine s at) lemmas bytes before after stop)
-  at_line before after stop got gives same stops = stops_bare a b had has (AtLine s at) 1 before after stop same (by_line a b got text fed gives _ stops)
+      → ((bytes rest : List ℕ) → Gives bytes rest got text fed → StopsBy (AtLine version s at) bytes before after stop)
+      → Gets a b had has (λ lemmas bytes rest. PassesLines 1 bytes rest × StopsWith (AtLine version s at) lemmas bytes before after stop)
+  at_line before after stop got gives same stops = stops_bare a b had has (AtLine version s at) 1 before after stop same (by_line a b got text fed gives _ stops)
 
-  pub line_stops : Reads a b (λ bytes rest. Gives bytes rest Line text fed) → has ≡ had → (before after : ℕ) (stop : ProofStop) → StopsAtLine s at text stop
-      → Gets a b had has (λ lemmas bytes rest. PassesLines 1 bytes rest × StopsWith (AtLine s at) lemmas bytes before after stop)
+  pub line_stops : Reads a b (λ bytes rest. Gives bytes rest Line text fed) → has ≡ had → (before after : ℕ) (stop : ProofStop) → StopsAtLine version s at text stop
+      → Gets a b had has (λ lemmas bytes rest. PassesLines 1 bytes rest × StopsWith (AtLine version s at) lemmas bytes before after stop)
   line_stops gives same before after stop h = at_line before after stop Line gives same (λ bytes rest is. by_stop bytes rest is stop h)
     where
       by_stop : (bytes rest : List ℕ) → record { got = Line; text = text; fed = fed; rest = rest } ≡ next_line bytes
-          → (stop : ProofStop) → StopsAtLine s at text stop → StopsBy (AtLine s at) bytes before after stop
-      by_stop bytes rest is (stops.Refused r) h = line_refused s at bytes (record { got = Line; text = text; fed = fed; rest = rest }) (why_of r.why) is refl
+          → (stop : ProofStop) → StopsAtLine version s at text stop → StopsBy (AtLine version s at) bytes before after stop
+      by_stop bytes rest is (stops.Refused r) h = line_refused version s at bytes (record { got = Line; text = text; fed = fed; rest = rest }) (why_of r.why) is refl
           h.0 ∙ ap (λ at. Refused at (why_of r.why)) (sym h.1)
-      by_stop bytes rest is stops.Memory h = lemma_reached s at bytes (record { got = Line; text = text; fed = fed; rest = rest }) is refl h
+      by_stop bytes rest is stops.Memory h = lemma_reached version s at bytes (record { got = Line; text = text; fed = fed; rest = rest }) is refl h
       by_stop bytes rest is (stops.Input why) h = absurd h
 
   pub long_stops : Reads a b (λ bytes rest. Gives bytes rest Long text fed) → has ≡ had → (before after : ℕ)
       → Gets a b had has (λ lemmas bytes rest. PassesLines 1 bytes rest
-      × StopsWith (AtLine s at) lemmas bytes before after (stops.Refused (record { at = at; why = BadLine })))
+      × StopsWith (AtLine version s at) lemmas bytes before after (stops.Refused (record { at = at; why = BadLine })))
   long_stops gives same before after = at_line before after (stops.Refused (record { at = at; why = BadLine })) Long gives same
-      (λ bytes rest is. long_got s at bytes (record { got = Long; text = text; fed = fed; rest = rest }) is refl)
+      (λ bytes rest is. long_got version s at bytes (record { got = Long; text = text; fed = fed; rest = rest }) is refl)
 
   pub unread_stops : Reads a b (λ bytes rest. Gives bytes rest Failed text fed) → has ≡ had → (before after : ℕ) → Rose before after
-      → Gets a b had has (λ lemmas bytes rest. PassesLines 1 bytes rest × StopsWith (AtLine s at) lemmas bytes before after (stops.Input inputs.Read))
+      → Gets a b had has (λ lemmas bytes rest. PassesLines 1 bytes rest × StopsWith (AtLine version s at) lemmas bytes before after (stops.Input inputs.Read))
   unread_stops gives same before after rose = at_line before after (stops.Input inputs.Read) Failed gives same (λ bytes rest failed. rose)
 
 -- a line that is read and not refused
-module _ (s : CheckerState) (at : ℕ) (bytes : List ℕ) (size : Board) (line : Said) (board : board_of s.root ≡ size) (within : at ≤ most_lines)
-    (said : read_line size bytes ≡ Some line) (stands : line_refusal s line ≡ None) where
-  here : read_line (board_of s.root) bytes ≡ Some line
-  here = ap (λ board. read_line board bytes) board ∙ said
+module _ (version : Version) (s : CheckerState) (at : ℕ) (bytes : List ℕ) (size : Board) (line : Said) (board : board_of s.root ≡ size) (within : at ≤ most_lines)
+    (said : read_line version size bytes ≡ Some line) (stands : line_refusal s line ≡ None) where
+  here : read_line version (board_of s.root) bytes ≡ Some line
+  here = ap (λ board. read_line version board bytes) board ∙ said
 
-  none : bytes_refusal s at bytes ≡ None
-  none = ap (λ few. or_then (unless few BadLine) (said_refusal s (read_line (board_of s.root) bytes))) (le-leb at most_lines within)
+  none : bytes_refusal version s at bytes ≡ None
+  none = ap (λ few. or_then (unless few BadLine) (said_refusal s (read_line version (board_of s.root) bytes))) (le-leb at most_lines within)
       ∙ ap (said_refusal s) here ∙ stands
 
   -- being a lemma
-  pub next_lemma : IsLemma line → IsNextLemma s at bytes
+  pub next_lemma : IsLemma line → IsNextLemma version s at bytes
   next_lemma lemma = let found = lemma_of line lemma in (none, found.0, here ∙ ap (λ line. Some line) found.1)
     where
       lemma_of : (line : Said) → IsLemma line → (l : Lemma) × (line ≡ ALemma l)
@@ -132,20 +139,27 @@ module _ (s : CheckerState) (at : ℕ) (bytes : List ℕ) (size : Board) (line :
   -- being handed to the taker, which may not take it
   pub handed : {A : Type 0} → (t : CheckerState) (had has : Option (List Lemma)) (result : Result A ProofStop) → t ≡ with_line s line → InStep had s
       → MatchResult result (λ _. Gains had has (lemmas_in (line ∷ []))) (λ stop. (stop ≡ stops.Memory) × IsLemma line × (has ≡ had))
-      → MatchResult result (λ _. (bytes_refusal s at bytes ≡ None) × (t ≡ with_bytes s bytes)) (StopsAtLine s at bytes)
-      × MatchResult result (λ _. Gains had has (lemmas_said (board_of s.root) (bytes ∷ []))) (λ _. has ≡ had) × OnOk result (InStep has t)
-  handed t had has (Err stop) added step h = (subst (StopsAtLine s at bytes) (sym h.0) (next_lemma h.1), h.2, tt)
+      → MatchResult result (λ _. (bytes_refusal version s at bytes ≡ None) × (t ≡ with_bytes version s bytes)) (StopsAtLine version s at bytes)
+      × MatchResult result (λ _. Gains had has (lemmas_said version (board_of s.root) (bytes ∷ []))) (λ _. has ≡ had) × OnOk result (InStep has t)
+  handed t had has (Err stop) added step h = (subst (StopsAtLine version s at bytes) (sym h.0) (next_lemma h.1), h.2, tt)
   handed t had has (Ok x) added step h =
-      let next : t ≡ with_bytes s bytes = added ∙ ap (with_said s) (sym here) in
-      let gains : Gains had has (lemmas_said (board_of s.root) (bytes ∷ [])) = rw here h in
-      ((none, next), gains, step_more s bytes at t had has none next step gains)
+      let next : t ≡ with_bytes version s bytes = added ∙ ap (with_said s) (sym here) in
+      let gains : Gains had has (lemmas_said version (board_of s.root) (bytes ∷ [])) = rw here h in
+      ((none, next), gains, step_more version s bytes at t had has none next step gains)
 
 -- ---- a whole text
 
 -- what is accepted is right, and says what is true
-pub right_input : (taken : List ℕ) (left : Option (List ℕ)) (v : Verdict) (count : ℕ) → check_of taken ≡ Accepted v count → IsAtEnd left
-    → IsRightInput taken left v count
-right_input taken left v count accepted whole =
-    let text = whole_accepted taken v count accepted in
-    let says = true_text taken v count text in
-    record { accepted = accepted; says = record { text = text; lemmas = says.0; verdict = says.1 }; whole = whole }
+pub right_input : (asked : Option Version) (taken : List ℕ) (left : Option (List ℕ)) (v : Verdict) (count : ℕ) → judged asked taken ≡ Accepted v count
+    → IsAtEnd left → IsRightInput asked taken left v count
+right_input asked taken left v count accepted whole = record { accepted = accepted; says = says asked accepted; whole = whole }
+  where
+    says : (asked : Option Version) → judged asked taken ≡ Accepted v count → SaysTruth asked taken v count
+    says None accepted =
+        let right = accepted_right taken v count accepted in
+        let true_ones = true_text right.0 taken v count right.1 in
+        record { version = right.0; is_asked = tt; text = right.1; lemmas = true_ones.0; verdict = true_ones.1 }
+    says (Some version) accepted =
+        let text = whole_accepted version taken v count accepted in
+        let true_ones = true_text version taken v count text in
+        record { version = version; is_asked = refl; text = text; lemmas = true_ones.0; verdict = true_ones.1 }

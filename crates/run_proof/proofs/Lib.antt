@@ -4,3 +4,4 @@ pub mod Lines
 pub mod Taking
 pub mod Known
 pub mod Judging
+pub mod Named

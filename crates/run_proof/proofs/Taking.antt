@@ -7,6 +7,7 @@ use Rattle.proof_text.specs.Checked.{CheckerState, line_refusal, shown_at}
 use Rattle.proof_text.specs.Lemma.{Lemma, Line as Said, ALemma, ARemark, AVerdict}
 use Rattle.proof_text.specs.Reading.{read_line}
 use Rattle.proof_text.specs.Texts.{bytes_refusal, with_bytes}
+use Rattle.proof_text.specs.declared.Version.{Version}
 use Rattle.proof_text.proofs.Fold.{bytes_of_none}
 use Rattle.proof_text.proofs.Refusals.{right_of_none, line_of_none}
 use Rattle.proof_text.proofs.Spelled.{line_read}
@@ -47,27 +48,27 @@ stops_bare a b had has place n before after stop same reads = record {
 
 -- ---- the next lemma
 
-module _ (s : CheckerState) (bytes : List ℕ) where
+module _ (version : Version) (s : CheckerState) (bytes : List ℕ) where
   -- a line that isn't refused may be handed on
-  pub may_hand_on : (size : Board) (line : Said) (told : Option (List Lemma)) → InStep told s → read_line size bytes ≡ Some line → line_refusal s line ≡ None
+  pub may_hand_on : (size : Board) (line : Said) (told : Option (List Lemma)) → InStep told s → read_line version size bytes ≡ Some line → line_refusal s line ≡ None
       → MayHandOn told line
   may_hand_on size ARemark told step said stands = tt
   may_hand_on size (AVerdict v) told step said stands = tt
   may_hand_on size (ALemma l) told step said stands =
       let right = right_of_none s.root s.known l (line_of_none s (ALemma l) stands).1 in
-      (by told step right.1.next, (size, (line_read size bytes (ALemma l) said).0))
+      (by told step right.1.next, (size, (line_read version size bytes (ALemma l) said).1.0))
     where
       by : (told : Option (List Lemma)) → InStep told s → l.number ≡ length s.known + 1 → IsNext told l
       by None step next = tt
       by (Some got) step next = omega (arith, step, next)
 
   -- as many lemmas stand more as it says
-  known_more : (at : ℕ) → bytes_refusal s at bytes ≡ None
-      → length (with_bytes s bytes).known ≡ length s.known + length (lemmas_said (board_of s.root) (bytes ∷ []))
-  known_more at stands = let found = bytes_of_none s at bytes stands in of_line found.0 found.1 found.2
+  known_more : (at : ℕ) → bytes_refusal version s at bytes ≡ None
+      → length (with_bytes version s bytes).known ≡ length s.known + length (lemmas_said version (board_of s.root) (bytes ∷ []))
+  known_more at stands = let found = bytes_of_none version s at bytes stands in of_line found.0 found.1 found.2
     where
-      of_line : (line : Said) → read_line (board_of s.root) bytes ≡ Some line → line_refusal s line ≡ None
-          → length (with_bytes s bytes).known ≡ length s.known + length (lemmas_said (board_of s.root) (bytes ∷ []))
+      of_line : (line : Said) → read_line version (board_of s.root) bytes ≡ Some line → line_refusal s line ≡ None
+          → length (with_bytes version s bytes).known ≡ length s.known + length (lemmas_said version (board_of s.root) (bytes ∷ []))
       of_line ARemark e stands = rw e (omega arith)
       of_line (AVerdict v) e stands = rw e (omega arith)
       of_line (ALemma l) e stands =
@@ -75,13 +76,13 @@ module _ (s : CheckerState) (bytes : List ℕ) where
           rw e (length-append s.known (shown_at l.claim (played s.root l.path)) ∙ ap (λ p. length s.known + length (shown_at l.claim p)) right.1.along)
 
   -- the taker stays in step
-  pub step_more : (at : ℕ) (t : CheckerState) (had has : Option (List Lemma)) → bytes_refusal s at bytes ≡ None → t ≡ with_bytes s bytes → InStep had s
-      → Gains had has (lemmas_said (board_of s.root) (bytes ∷ [])) → InStep has t
+  pub step_more : (at : ℕ) (t : CheckerState) (had has : Option (List Lemma)) → bytes_refusal version s at bytes ≡ None → t ≡ with_bytes version s bytes → InStep had s
+      → Gains had has (lemmas_said version (board_of s.root) (bytes ∷ [])) → InStep has t
   step_more at t had has stands next step gains = rw (gains, next) (by had step)
     where
-      by : (had : Option (List Lemma)) → InStep had s → InStep (option_map (λ got. got ++ lemmas_said (board_of s.root) (bytes ∷ [])) had) (with_bytes s bytes)
+      by : (had : Option (List Lemma)) → InStep had s → InStep (option_map (λ got. got ++ lemmas_said version (board_of s.root) (bytes ∷ [])) had) (with_bytes version s bytes)
       by None step = tt
-      by (Some got) step = omega (arith, step, known_more at stands, length-append got (lemmas_said (board_of s.root) (bytes ∷ [])))
+      by (Some got) step = omega (arith, step, known_more at stands, length-append got (lemmas_said version (board_of s.root) (bytes ∷ [])))
 
 -- behind nothing, where none was got
 pub step_none : (told : Option (List Lemma)) (s : CheckerState) → HasNone told → s.known ≡ [] → InStep told s

@@ -8,66 +8,67 @@ use Rattle.game_rules.specs.Text.{game_at}
 use Rattle.proof_text.specs.Checked.{CheckerState}
 use Rattle.proof_text.specs.Lemma.{Lemma, ALemma}
 use Rattle.proof_text.specs.Reading.{read_line}
-use Rattle.proof_text.specs.Texts.{pieces, lines_in, first_number, game_of, behind_game, bytes_refusal, with_bytes, start, CheckAnswer, NoGame, Refused, game_answer, verdict_answer, check_from, check_of}
+use Rattle.proof_text.specs.Texts.{pieces, lines_in, first_number, game_of, behind_game, bytes_refusal, with_bytes, start, CheckAnswer, NoGame, Refused, game_answer, verdict_answer, check_from}
 use Rattle.cert_checker.specs.Checking.{why_of}
 use Rattle.cert_checker.specs.declared.stops.Accepted.{Accepted}
 use Rattle.io_ports.specs.Reading.{Pending, Reads}
 use Rattle.run_frame.specs.Streams.{TakesLines}
 use Rattle.run_frame.specs.declared.game_input.InputStop.TheVariants as inputs
 use Rattle.run_proof.specs.Taken.{text_lemmas, lemmas_from_game, lemmas_from_lines, Gains, BeginWith}
-use Rattle.run_proof.specs.Whole.{BeginsProof, IsRightInput, most_lines_read}
+use Rattle.run_proof.specs.Whole.{judged, BeginsProof, IsRightInput, most_lines_read}
+use Rattle.proof_text.specs.declared.Version.{Version}
 use Rattle.run_proof.specs.declared.stop.ProofStop.{ProofStop}
 use Rattle.run_proof.specs.declared.stop.ProofStop.TheVariants as stops
 
 -- the answer to the bytes behind the first line
-unfoldable pub game_from : List ℕ → CheckAnswer
-game_from bytes = game_answer (game_at (game_of (pieces bytes))) (behind_game (pieces bytes))
+unfoldable pub game_from : Version → List ℕ → CheckAnswer
+game_from version bytes = game_answer version (game_at (game_of (pieces bytes))) (behind_game (pieces bytes))
 
 -- the answer to the bytes behind the game, or behind some lines, the next of which has this number
-unfoldable pub lines_from : CheckerState → ℕ → List ℕ → CheckAnswer
-lines_from s at bytes = check_from s at (lines_in (pieces bytes))
+unfoldable pub lines_from : Version → CheckerState → ℕ → List ℕ → CheckAnswer
+lines_from version s at bytes = check_from version s at (lines_in (pieces bytes))
 
 -- behind what stands, the line isn't refused at this number, and is a lemma
-abbrev pub IsNextLemma : CheckerState → ℕ → List ℕ → Type 0
-IsNextLemma s at bytes = (bytes_refusal s at bytes ≡ None) × (l : Lemma) × (read_line (board_of s.root) bytes ≡ Some (ALemma l))
+abbrev pub IsNextLemma : Version → CheckerState → ℕ → List ℕ → Type 0
+IsNextLemma version s at bytes = (bytes_refusal version s at bytes ≡ None) × (l : Lemma) × (read_line version (board_of s.root) bytes ≡ Some (ALemma l))
 
 -- behind what stands, the lines aren't refused up to one that is a lemma; the first has this number
-abbrev pub ReachLemma : CheckerState → ℕ → List (List ℕ) → Type 0
-ReachLemma s at [] = ⊥
-ReachLemma s at (line ∷ lines) = IsNextLemma s at line ⊎ ((bytes_refusal s at line ≡ None) × ReachLemma (with_bytes s line) (at + 1) lines)
+abbrev pub ReachLemma : Version → CheckerState → ℕ → List (List ℕ) → Type 0
+ReachLemma version s at [] = ⊥
+ReachLemma version s at (line ∷ lines) = IsNextLemma version s at line ⊎ ((bytes_refusal version s at line ≡ None) × ReachLemma version (with_bytes version s line) (at + 1) lines)
 
 -- the same of the bytes behind the game, or behind some lines, the next of which has this number
-unfoldable pub LinesReach : CheckerState → ℕ → List ℕ → Type 0
-LinesReach s at bytes = ReachLemma s at (lines_in (pieces bytes))
+unfoldable pub LinesReach : Version → CheckerState → ℕ → List ℕ → Type 0
+LinesReach version s at bytes = ReachLemma version s at (lines_in (pieces bytes))
 
 -- and of those behind the first line
-unfoldable pub GameReaches : List ℕ → Type 0
-GameReaches bytes = (root : Position) × (game_at (game_of (pieces bytes)) ≡ Ok root) × ReachLemma (start root) first_number (behind_game (pieces bytes))
+unfoldable pub GameReaches : Version → List ℕ → Type 0
+GameReaches version bytes = (root : Position) × (game_at (game_of (pieces bytes)) ≡ Ok root) × ReachLemma version (start root) first_number (behind_game (pieces bytes))
 
--- Where the reading of a text stands: before the first line; behind it, before the game; and behind the game, with what
+-- Where the reading of a text stands: before the first line, which is to name a version that is asked for; behind it, before the game; and behind the game, with what
 -- stands after the lines and the number of the next.
 pub data Place : Type 0 where
-  AtHead : Place
-  AtGame : Place
-  AtLine : CheckerState → ℕ → Place
+  AtHead : Option Version → Place
+  AtGame : Version → Place
+  AtLine : Version → CheckerState → ℕ → Place
 
 -- the answer to the bytes behind a place
 abbrev pub answer_at : Place → List ℕ → CheckAnswer
-answer_at AtHead bytes = check_of bytes
-answer_at AtGame bytes = game_from bytes
-answer_at (AtLine s at) bytes = lines_from s at bytes
+answer_at (AtHead asked) bytes = judged asked bytes
+answer_at (AtGame version) bytes = game_from version bytes
+answer_at (AtLine version s at) bytes = lines_from version s at bytes
 
 -- the bytes behind a place stand up to some lemma
 abbrev pub Reaches : Place → List ℕ → Type 0
-Reaches AtHead bytes = BeginsProof bytes
-Reaches AtGame bytes = GameReaches bytes
-Reaches (AtLine s at) bytes = LinesReach s at bytes
+Reaches (AtHead asked) bytes = BeginsProof asked bytes
+Reaches (AtGame version) bytes = GameReaches version bytes
+Reaches (AtLine version s at) bytes = LinesReach version s at bytes
 
 -- the lemmas that the bytes behind a place say
 abbrev pub lemmas_at : Place → List ℕ → List Lemma
-lemmas_at AtHead bytes = text_lemmas bytes
-lemmas_at AtGame bytes = lemmas_from_game bytes
-lemmas_at (AtLine s at) bytes = lemmas_from_lines (board_of s.root) bytes
+lemmas_at (AtHead asked) bytes = text_lemmas asked bytes
+lemmas_at (AtGame version) bytes = lemmas_from_game version bytes
+lemmas_at (AtLine version s at) bytes = lemmas_from_lines version (board_of s.root) bytes
 
 -- From a place to a later one, what was passed stood: the answer is that to the rest, and where that reaches a lemma, so do
 -- the bytes. What was passed says these lemmas, and the rest the others.
@@ -83,9 +84,9 @@ pub record Gets (old new : Pending) (had has : Option (List Lemma)) (Fact : List
   pub reads : Reads old new (Fact lemmas)
 
 -- A line was added, or there was none, and the verdict decides.
-abbrev pub Adds : CheckerState → CheckerState → ℕ → Bool → List Lemma → List ℕ → List ℕ → Type 0
-Adds s t at true lemmas bytes rest = GoesOn (AtLine s at) bytes (AtLine t (at + 1)) rest lemmas
-Adds s t at false lemmas bytes rest = (lines_from s at bytes ≡ verdict_answer at (length t.known) t.verdict) × (lemmas_at (AtLine s at) bytes ≡ lemmas)
+abbrev pub Adds : Version → CheckerState → CheckerState → ℕ → Bool → List Lemma → List ℕ → List ℕ → Type 0
+Adds version s t at true lemmas bytes rest = GoesOn (AtLine version s at) bytes (AtLine version t (at + 1)) rest lemmas
+Adds version s t at false lemmas bytes rest = (lines_from version s at bytes ≡ verdict_answer at (length t.known) t.verdict) × (lemmas_at (AtLine version s at) bytes ≡ lemmas)
 
 -- The answer is that of what stopped the reading; a fault comes only where the source's count rose, and want of memory
 -- only at a lemma.
@@ -100,10 +101,10 @@ abbrev pub StopsWith : Place → List Lemma → List ℕ → ℕ → ℕ → Pro
 StopsWith place lemmas bytes before after stop = StopsBy place bytes before after stop × BeginWith (lemmas_at place bytes) lemmas
 
 -- behind what stands, the line at a number is refused by this name, or is a lemma for which memory runs out
-abbrev pub StopsAtLine : CheckerState → ℕ → List ℕ → ProofStop → Type 0
-StopsAtLine s at bytes (stops.Refused r) = (bytes_refusal s at bytes ≡ Some (why_of r.why)) × (r.at ≡ at)
-StopsAtLine s at bytes stops.Memory = IsNextLemma s at bytes
-StopsAtLine s at bytes (stops.Input why) = ⊥
+abbrev pub StopsAtLine : Version → CheckerState → ℕ → List ℕ → ProofStop → Type 0
+StopsAtLine version s at bytes (stops.Refused r) = (bytes_refusal version s at bytes ≡ Some (why_of r.why)) × (r.at ≡ at)
+StopsAtLine version s at bytes stops.Memory = IsNextLemma version s at bytes
+StopsAtLine version s at bytes (stops.Input why) = ⊥
 
 -- the number of the last line that is read, at most, by what stops the reading
 abbrev pub lines_read_until : ProofStop → ℕ
@@ -115,13 +116,13 @@ lines_read_until stops.Memory = most_lines_read
 -- What was read of a proof, to its end or to what stopped the reading: the bytes that were taken are right, or they stopped
 -- it; and so did all of the input, where the source tells it. A taker that tells its lemmas has got all that the bytes say, where
 -- they are right, and else some first ones.
-pub record Judges (input left : Option (List ℕ)) (last_read before after : ℕ) (had has : Option (List Lemma)) (result : Result Accepted ProofStop)
+pub record Judges (asked : Option Version) (input left : Option (List ℕ)) (last_read before after : ℕ) (had has : Option (List Lemma)) (result : Result Accepted ProofStop)
     : Type 0 where
   pub taken : List ℕ
   pub gave : Consumes input left taken
-  pub answer : MatchResult result (λ accepted. IsRightInput taken left accepted.verdict accepted.lemmas)
-      (λ stop. StopsBy AtHead taken before after stop × IfSome input (λ bytes. StopsBy AtHead bytes before after stop)
+  pub answer : MatchResult result (λ accepted. IsRightInput asked taken left accepted.verdict accepted.lemmas)
+      (λ stop. StopsBy (AtHead asked) taken before after stop × IfSome input (λ bytes. StopsBy (AtHead asked) bytes before after stop)
       × TakesLines (lines_read_until stop) last_read taken)
-  pub lemmas : MatchResult result (λ _. Gains had has (text_lemmas taken))
-      (λ _. (got : List Lemma) × Gains had has got × BeginWith (text_lemmas taken) got)
+  pub lemmas : MatchResult result (λ _. Gains had has (text_lemmas asked taken))
+      (λ _. (got : List Lemma) × Gains had has got × BeginWith (text_lemmas asked taken) got)
   pub lines : TakesLines most_lines_read last_read taken

@@ -1,8 +1,9 @@
 -- What stops the reading of a proof: its exit status, its text for the error stream, and what holds of the bytes then.
-use Rattle.std.specs.Prelude.{ℕ, ⊤, List, ◌++◌, IfSome, codes, decimal}
+use Rattle.std.specs.Prelude.{ℕ, ⊤, List, ◌++◌, Option, IfSome, codes, decimal}
 use Rattle.proof_text.specs.Spelling.{as_line}
 use Rattle.proof_text.specs.Texts as answers
 use Rattle.proof_text.specs.Words.{why_text}
+use Rattle.proof_text.specs.declared.Version.{Version}
 use Rattle.cert_checker.specs.Checking.{why_of}
 use Rattle.cert_checker.specs.declared.stops.Refusal.{Refusal}
 use Rattle.run_frame.specs.Streams.{Streams, TakesLines}
@@ -30,8 +31,8 @@ stop_text Memory = memory_line
 -- What holds of the bytes that were taken, and of all of the input, where the source tells it. Where a line is refused, no more
 -- was taken than the lines up to it, and where the game is none, than the first three; and behind them what came with them.
 -- Memory runs out only at a lemma that isn't refused, behind lines that aren't.
-abbrev pub IsStopped : List ℕ → Streams → ProofStop → Type 0
-IsStopped taken s (Input (NoGame fault)) = IsAnswer taken s.input (answers.NoGame fault) × TakesLines 3 s.last_read taken
-IsStopped taken s (Input Read) = ⊤
-IsStopped taken s (Refused r) = IsAnswer taken s.input (answers.Refused r.at (why_of r.why)) × TakesLines r.at s.last_read taken
-IsStopped taken s Memory = BeginsProof taken × IfSome s.input BeginsProof
+abbrev pub IsStopped : Option Version → List ℕ → Streams → ProofStop → Type 0
+IsStopped asked taken s (Input (NoGame fault)) = IsAnswer asked taken s.input (answers.NoGame fault) × TakesLines 3 s.last_read taken
+IsStopped asked taken s (Input Read) = ⊤
+IsStopped asked taken s (Refused r) = IsAnswer asked taken s.input (answers.Refused r.at (why_of r.why)) × TakesLines r.at s.last_read taken
+IsStopped asked taken s Memory = BeginsProof asked taken × IfSome s.input (BeginsProof asked)

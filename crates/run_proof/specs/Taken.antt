@@ -1,5 +1,5 @@
 -- The lemmas that the text of a proof says, and those that a taker of lemmas has got.
-use Rattle.std.specs.Prelude.{◌≡◌, ℕ, ◌+◌, List, [], ◌∷◌, ◌++◌, filter_map, length, Option, option_map, IfSome, Result, Ok, Err, ⊤}
+use Rattle.std.specs.Prelude.{◌≡◌, ℕ, ◌+◌, List, [], ◌∷◌, ◌++◌, filter_map, length, Option, Some, None, option_map, IfSome, Result, Ok, Err, ⊤}
 use Rattle.game_rules.specs.Board.{Board}
 use Rattle.game_rules.specs.Position.{Position, board_of}
 use Rattle.game_rules.specs.Text.{game_at}
@@ -9,31 +9,37 @@ use Rattle.proof_text.specs.Lemma.{Lemma, Line, ALemma, ARemark, AVerdict}
 use Rattle.proof_text.specs.Reading.{read_line}
 use Rattle.proof_text.specs.Spelling.{Fits}
 use Rattle.proof_text.specs.Texts.{pieces, lines_in, game_of, behind_game}
+use Rattle.proof_text.specs.declared.Version.{Version}
+use Rattle.run_proof.specs.Whole.{version_named}
 
 -- the lemmas that some lines say, in their order; each line is given by its bytes
-abbrev pub lemmas_said : Board → List (List ℕ) → List Lemma
-lemmas_said board lines = lemmas_in (filter_map (read_line board) lines)
+abbrev pub lemmas_said : Version → Board → List (List ℕ) → List Lemma
+lemmas_said version board lines = lemmas_in (filter_map (read_line version board) lines)
 
 -- those that the lines behind a game say; where there is no game, there is none
-abbrev pub game_lemmas : Result Position InputFault → List (List ℕ) → List Lemma
-game_lemmas (Err fault) lines = []
-game_lemmas (Ok root) lines = lemmas_said (board_of root) lines
+abbrev pub game_lemmas : Version → Result Position InputFault → List (List ℕ) → List Lemma
+game_lemmas version (Err fault) lines = []
+game_lemmas version (Ok root) lines = lemmas_said version (board_of root) lines
 
-abbrev pub pieces_lemmas : List (List ℕ) → List Lemma
-pieces_lemmas [] = []
-pieces_lemmas (first ∷ more) = game_lemmas (game_at (game_of more)) (behind_game more)
+abbrev pub version_lemmas : Option Version → List (List ℕ) → List Lemma
+version_lemmas None more = []
+version_lemmas (Some version) more = game_lemmas version (game_at (game_of more)) (behind_game more)
 
--- the lemmas that a text says behind its game, in their order
-unfoldable pub text_lemmas : List ℕ → List Lemma
-text_lemmas bytes = pieces_lemmas (pieces bytes)
+abbrev pub pieces_lemmas : Option Version → List (List ℕ) → List Lemma
+pieces_lemmas asked [] = []
+pieces_lemmas asked (first ∷ more) = version_lemmas (version_named asked first) more
+
+-- the lemmas that a text of a version that is asked for says behind its game, in their order
+unfoldable pub text_lemmas : Option Version → List ℕ → List Lemma
+text_lemmas asked bytes = pieces_lemmas asked (pieces bytes)
 
 -- the same of the bytes behind the first line
-unfoldable pub lemmas_from_game : List ℕ → List Lemma
-lemmas_from_game bytes = game_lemmas (game_at (game_of (pieces bytes))) (behind_game (pieces bytes))
+unfoldable pub lemmas_from_game : Version → List ℕ → List Lemma
+lemmas_from_game version bytes = game_lemmas version (game_at (game_of (pieces bytes))) (behind_game (pieces bytes))
 
 -- and of those behind the game, or behind some lines
-unfoldable pub lemmas_from_lines : Board → List ℕ → List Lemma
-lemmas_from_lines board bytes = lemmas_said board (lines_in (pieces bytes))
+unfoldable pub lemmas_from_lines : Version → Board → List ℕ → List Lemma
+lemmas_from_lines version board bytes = lemmas_said version board (lines_in (pieces bytes))
 
 -- a taker that tells its lemmas has these behind those that it had
 abbrev pub Gains : Option (List Lemma) → Option (List Lemma) → List Lemma → Type 0

@@ -6,7 +6,7 @@ ghost use Rattle.cert_checker.specs.Checking.{IsLemma};
 ghost use Rattle.cert_format.specs.Shape.{viewed};
 ghost use Rattle.proof_text.specs.Checked.{lemmas_in};
 ghost use Rattle.proof_text.specs.Texts.{first_number, bytes_refusal, with_bytes, verdict_answer};
-ghost use Rattle.run_proof.specs.Whole.{most_lines_read};
+ghost use Rattle.run_proof.specs.Whole.{version_named, most_lines_read};
 ghost use Rattle.run_proof.specs.Taken.{lemmas_said, Gains, MayHandOn, InStep, HasNone};
 ghost use Rattle.run_proof.specs.Steps.{lines_from, lemmas_at, AtHead, AtGame, AtLine, GoesOn, Gets, Adds, StopsBy, StopsWith, StopsAtLine, lines_read_until, Judges};
 ghost use Rattle.io_ports.specs.Reading.{pending, Reads, PassesLines};
@@ -17,7 +17,7 @@ use crate::stop::ProofStop;
 use crate::taker::{LemmaTaker, NotTaken};
 use board_bits::Size;
 use cert_checker::{Accepted, AddStop, Checker, Refusal, Why};
-use cert_format::{FIRST_LINE, LineBuffer, LineView};
+use cert_format::{LineBuffer, LineView, Version, first_line};
 use io_ports::{LineGot, Lines, Source};
 use run_frame::{InputStop, read_game_lines};
 use std::alloc::Global;
@@ -30,44 +30,60 @@ const MOST_LINES: u64 = 20_000_000;
 
 /// Reads a proof to its end, or to what stops the reading: the first line that is refused, a game that is none, a source
 /// that failed, or a lemma for which memory ran out or which the taker didn't take. An accepted proof is right, and what it
-/// says is true. The taker, which has got no lemma before, gets each after it was accepted, in their order.
+/// says is true. It has to be of the version that is asked for, or of either. The taker, which has got no lemma before, gets each after it was accepted, in their order.
 pub fn read_proof<S: Source, T: LemmaTaker>(
     alloc: Global,
+    asked: Option<Version>,
     source: &mut S,
     taker: &mut T,
 ) -> Result<Accepted, ProofStop>
     requires { HasNone (T.lemmas taker.old) }
-    ensures { Judges (S.left source.old) (S.left source.new) (S.last_read source.new) (S.faults source.old) (S.faults source.new)
+    ensures { Judges asked (S.left source.old) (S.left source.new) (S.last_read source.new) (S.faults source.old) (S.faults source.new)
         (T.lemmas taker.old) (T.lemmas taker.new) result }
 {
     let mut lines = Lines::new();
-    read_head(&mut lines, source)?;
+    let version = read_head(asked, &mut lines, source)?;
     let root = read_game_lines(&mut lines, source)?;
     let size = root.size();
     let mut checker = Checker::new(alloc, root);
-    let end = add_lines(&mut checker, taker, size, &mut lines, source)?;
+    let end = add_lines(&mut checker, taker, size, version, &mut lines, source)?;
     match checker.finish(end) {
         Ok(accepted) => Ok(accepted),
         Err(refusal) => Err(ProofStop::Refused(refusal)),
     }
 }
 
-/// Reads the line that names the format.
-fn read_head<S: Source>(lines: &mut Lines, source: &mut S) -> Result<(), ProofStop>
+/// Reads the line that names the format, and answers the version, which is one that is asked for.
+fn read_head<S: Source>(
+    asked: Option<Version>,
+    lines: &mut Lines,
+    source: &mut S,
+) -> Result<Version, ProofStop>
     ensures answer { Reads (pending lines.old (S.left source.old) (S.last_read source.old))
         (pending lines.new (S.left source.new) (S.last_read source.new))
-        (λ bytes rest. PassesLines 1 bytes rest × MatchResult result (λ _. GoesOn AtHead bytes AtGame rest [])
-        (StopsBy AtHead bytes (S.faults source.old) (S.faults source.new))) }
+        (λ bytes rest. PassesLines 1 bytes rest × MatchResult result (λ version. GoesOn (AtHead asked) bytes (AtGame version) rest [])
+        (StopsBy (AtHead asked) bytes (S.faults source.old) (S.faults source.new))) }
     ensures stops { IfErr result (λ stop. 1 ≤ lines_read_until stop) }
     ensures later { S.faults source.old ≤ S.faults source.new }
 {
     if let LineGot::Failed = lines.next(source) {
         return Err(ProofStop::Input(InputStop::Read));
     }
-    if lines.text() == FIRST_LINE {
-        Ok(())
-    } else {
-        Err(bad_line(1))
+    match version_named(asked, lines.text()) {
+        Some(version) => Ok(version),
+        None => Err(bad_line(1)),
+    }
+}
+
+/// The version that a first line names, where it is one that is asked for.
+fn version_named(asked: Option<Version>, first: &[u8]) -> Option<Version>
+    ensures { result ≡ version_named asked first.now }
+{
+    match asked {
+        Some(version) if first == first_line(version) => Some(version),
+        None if first == first_line(Version::One) => Some(Version::One),
+        None if first == first_line(Version::Two) => Some(Version::Two),
+        Some(_) | None => None,
     }
 }
 
@@ -76,6 +92,7 @@ fn add_lines<S: Source, T: LemmaTaker>(
     checker: &mut Checker,
     taker: &mut T,
     size: Size,
+    version: Version,
     lines: &mut Lines,
     source: &mut S,
 ) -> Result<u64, ProofStop>
@@ -84,17 +101,17 @@ fn add_lines<S: Source, T: LemmaTaker>(
     ensures answer { Gets (pending lines.old (S.left source.old) (S.last_read source.old))
         (pending lines.new (S.left source.new) (S.last_read source.new)) (T.lemmas taker.old) (T.lemmas taker.new)
         (λ lemmas bytes rest. MatchResult result
-        (λ end. PassesLines (end - 3) bytes rest × ((lines_from checker.old first_number bytes ≡ verdict_answer end (length checker.new.known) checker.new.verdict)
-        × (lemmas_at (AtLine checker.old first_number) bytes ≡ lemmas)))
+        (λ end. PassesLines (end - 3) bytes rest × ((lines_from version checker.old first_number bytes ≡ verdict_answer end (length checker.new.known) checker.new.verdict)
+        × (lemmas_at (AtLine version checker.old first_number) bytes ≡ lemmas)))
         (λ stop. PassesLines (lines_read_until stop - 3) bytes rest
-        × StopsWith (AtLine checker.old first_number) lemmas bytes (S.faults source.old) (S.faults source.new) stop)) }
+        × StopsWith (AtLine version checker.old first_number) lemmas bytes (S.faults source.old) (S.faults source.new) stop)) }
     ensures few { MatchResult result (λ end. (FIRST_NUMBER ≤ end) × (end ≤ most_lines_read)) (λ stop. (3 ≤ lines_read_until stop) × (lines_read_until stop ≤ most_lines_read)) }
     ensures ended { OnOk result (lines.new.ended ≡ true) }
     ensures later { S.faults source.old ≤ S.faults source.new }
 {
     let mut room = LineBuffer::new();
     let mut at = FIRST_NUMBER;
-    while add_next(checker, taker, &mut room, size, at, lines, source)? {
+    while add_next(checker, taker, &mut room, size, version, at, lines, source)? {
         at += 1;
     }
     Ok(at)
@@ -106,6 +123,7 @@ fn add_next<S: Source, T: LemmaTaker>(
     taker: &mut T,
     room: &mut LineBuffer,
     size: Size,
+    version: Version,
     at: u64,
     lines: &mut Lines,
     source: &mut S,
@@ -114,8 +132,8 @@ fn add_next<S: Source, T: LemmaTaker>(
     requires in_step { InStep (T.lemmas taker.old) checker.old }
     ensures answer { Gets (pending lines.old (S.left source.old) (S.last_read source.old))
         (pending lines.new (S.left source.new) (S.last_read source.new)) (T.lemmas taker.old) (T.lemmas taker.new)
-        (λ lemmas bytes rest. PassesLines 1 bytes rest × MatchResult result (λ more. Adds checker.old checker.new at more lemmas bytes rest)
-        (StopsWith (AtLine checker.old at) lemmas bytes (S.faults source.old) (S.faults source.new))) }
+        (λ lemmas bytes rest. PassesLines 1 bytes rest × MatchResult result (λ more. Adds version checker.old checker.new at more lemmas bytes rest)
+        (StopsWith (AtLine version checker.old at) lemmas bytes (S.faults source.old) (S.faults source.new))) }
     ensures in_step { OnOk result (InStep (T.lemmas taker.new) checker.new) }
     ensures few { result ≡ Ok true → at ≤ MOST_LINES }
     ensures root { OnOk result (checker.new.root ≡ checker.old.root) }
@@ -125,7 +143,7 @@ fn add_next<S: Source, T: LemmaTaker>(
 {
     match lines.next(source) {
         LineGot::Line => {
-            add_line(checker, taker, room, size, at, lines.text())?;
+            add_line(checker, taker, room, size, version, at, lines.text())?;
             Ok(true)
         }
         LineGot::Long => Err(bad_line(at)),
@@ -140,16 +158,17 @@ fn add_line<T: LemmaTaker>(
     taker: &mut T,
     room: &mut LineBuffer,
     size: Size,
+    version: Version,
     at: u64,
     bytes: &[u8],
 ) -> Result<(), ProofStop>
     requires board { board_of checker.old.root ≡ size }
     requires in_step { InStep (T.lemmas taker.old) checker.old }
     ensures answer { MatchResult result
-        (λ _. (bytes_refusal checker.old at bytes.now ≡ None) × (checker.new ≡ with_bytes checker.old bytes.now))
-        (StopsAtLine checker.old at bytes.now) }
+        (λ _. (bytes_refusal version checker.old at bytes.now ≡ None) × (checker.new ≡ with_bytes version checker.old bytes.now))
+        (StopsAtLine version checker.old at bytes.now) }
     ensures taken { MatchResult result
-        (λ _. Gains (T.lemmas taker.old) (T.lemmas taker.new) (lemmas_said (board_of checker.old.root) (bytes.now ∷ [])))
+        (λ _. Gains (T.lemmas taker.old) (T.lemmas taker.new) (lemmas_said version (board_of checker.old.root) (bytes.now ∷ [])))
         (λ _. T.lemmas taker.new ≡ T.lemmas taker.old) }
     ensures in_step { OnOk result (InStep (T.lemmas taker.new) checker.new) }
     ensures few { OnOk result (at ≤ MOST_LINES) }
@@ -157,7 +176,7 @@ fn add_line<T: LemmaTaker>(
     if at > MOST_LINES {
         return Err(bad_line(at));
     }
-    let Ok(line) = room.read(bytes, size) else {
+    let Ok(line) = room.read(bytes, size, version) else {
         return Err(bad_line(at));
     };
     match checker.add_view(at, &line) {
