@@ -1,5 +1,5 @@
 -- How a run of `check` ends.
-use Rattle.std.proofs.Common.{◌≡◌, ℕ, false, List, Option, Ok, Err, refl, sym, ◌∙◌, inl, inr}
+use Rattle.std.proofs.Common.{◌≡◌, ℕ, false, List, Option, None, Ok, Err, refl, sym, ◌∙◌, inl, inr}
 use Rattle.std.specs.Io.KnownBytes.{Keeps, Appends}
 use Rattle.device_rules.specs.Devices.{AppendsPrefix}
 use Rattle.proof_text.specs.Lemma.{Lemma}
@@ -16,30 +16,30 @@ use Rattle.run_check.specs.declared.checked.Checked.{Checked}
 use Rattle.run_check.specs.declared.checked.Checked.TheVariants.{Accepted, Stopped, Write}
 
 module _ (s : Streams) (before after : ℕ) (had has : Option (List Lemma)) where
-  pub checks_done : (accepted : Right) → Judges s.input s.left s.last_read before after had has (Ok accepted)
+  pub checks_done : (accepted : Right) → Judges None s.input s.left s.last_read before after had has (Ok accepted)
       → Appends s.old s.new (accepted_line accepted.verdict accepted.lemmas) → Checks s Accepted
   checks_done accepted judged put = record {
     taken = judged.taken;
     gave = judged.gave;
-    few = judged_few s before after had has (Ok accepted) judged;
+    few = judged_few None s before after had has (Ok accepted) judged;
     holds = ((accepted.verdict, accepted.lemmas, judged.answer, put), judged.lines);
   }
 
-  pub checks_cut : (accepted : Right) → Judges s.input s.left s.last_read before after had has (Ok accepted)
+  pub checks_cut : (accepted : Right) → Judges None s.input s.left s.last_read before after had has (Ok accepted)
       → AppendsPrefix false s.old s.new (accepted_line accepted.verdict accepted.lemmas) → Checks s Write
   checks_cut accepted judged put = record {
     taken = judged.taken;
     gave = judged.gave;
-    few = judged_few s before after had has (Ok accepted) judged;
+    few = judged_few None s before after had has (Ok accepted) judged;
     holds = ((accepted.verdict, accepted.lemmas, judged.answer, put), judged.lines);
   }
 
-  pub checks_stop : (stop : ProofStop) → Judges s.input s.left s.last_read before after had has (Err stop) → Keeps s.old s.new → Checks s (Stopped stop)
+  pub checks_stop : (stop : ProofStop) → Judges None s.input s.left s.last_read before after had has (Err stop) → Keeps s.old s.new → Checks s (Stopped stop)
   checks_stop stop judged kept = record {
     taken = judged.taken;
     gave = judged.gave;
-    few = judged_few s before after had has (Err stop) judged;
-    holds = ((stopped s before after had has stop judged, kept), judged.lines);
+    few = judged_few None s before after had has (Err stop) judged;
+    holds = ((stopped None s before after had has stop judged, kept), judged.lines);
   }
 
 pub check_completes : (s : Streams) (end : Checked) → Checks s end → (end ≡ Stopped (stops.Input inputs.Read) → ⊥) → (end ≡ Write → ⊥)

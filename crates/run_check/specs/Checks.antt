@@ -1,6 +1,6 @@
 -- How `check` ends, what it writes, and what it promises of the bytes that it took and of its sink, by its end. What is said of
 -- what a sink holds is said of a sink that tells it.
-use Rattle.std.specs.Prelude.{◌≡◌, ◌⊎◌, ℕ, false, List, [], ◌∷◌, ◌++◌, Option, IfSome, codes, decimal}
+use Rattle.std.specs.Prelude.{◌≡◌, ◌⊎◌, ℕ, false, List, [], ◌∷◌, ◌++◌, Option, None, IfSome, codes, decimal}
 use Rattle.std.specs.Io.KnownBytes.{Keeps, Appends}
 use Rattle.device_rules.specs.Devices.{AppendsPrefix}
 use Rattle.proof_text.specs.Texts as answers
@@ -32,9 +32,9 @@ checked_text Write = write_line
 
 -- from the bytes that it took, by its end
 abbrev pub ChecksFrom : List ℕ → Streams → Checked → Type 0
-ChecksFrom taken s Accepted = (v : Verdict) × (count : ℕ) × IsRightInput taken s.left v count × Appends s.old s.new (accepted_line v count)
-ChecksFrom taken s Write = (v : Verdict) × (count : ℕ) × IsRightInput taken s.left v count × AppendsPrefix false s.old s.new (accepted_line v count)
-ChecksFrom taken s (Stopped stop) = IsStopped taken s stop × Keeps s.old s.new
+ChecksFrom taken s Accepted = (v : Verdict) × (count : ℕ) × IsRightInput None taken s.left v count × Appends s.old s.new (accepted_line v count)
+ChecksFrom taken s Write = (v : Verdict) × (count : ℕ) × IsRightInput None taken s.left v count × AppendsPrefix false s.old s.new (accepted_line v count)
+ChecksFrom taken s (Stopped stop) = IsStopped None taken s stop × Keeps s.old s.new
 
 -- `check`; it takes the lines of a proof at most, and behind the last of them what came with it
 abbrev pub Checks : Streams → Checked → Type 0

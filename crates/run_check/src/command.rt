@@ -15,7 +15,7 @@ use run_proof::{KeepsNone, read_proof};
 use std::alloc::Global;
 use text_words::{LineText, push_number, push_text};
 
-/// Reads a proof, and writes one line where it is right. It ends as the definitions answer the text, unless a stream
+/// Reads a proof of either version, and writes one line where it is right. It ends as the definitions answer the text, unless a stream
 /// failed, which comes only where its count of faults rose, or memory ran out.
 pub fn check<S: Source, O: Sink>(alloc: Global, source: &mut S, out: &mut O) -> Checked
     ensures outcome { Checks
@@ -36,7 +36,7 @@ fn check_input<S: Source, O: Sink>(alloc: Global, source: &mut S, out: &mut O) -
     ensures read_fault { result ≡ ends.Stopped (stops.Input inputs.Read) → Rose (S.faults source.old) (S.faults source.new) }
     ensures write_fault { result ≡ ends.Write → Rose (O.faults out.old) (O.faults out.new) }
 {
-    match read_proof(alloc, source, &mut KeepsNone) {
+    match read_proof(alloc, None, source, &mut KeepsNone) {
         Ok(accepted) => match put_accepted(out, accepted) {
             Ok(()) => Checked::Accepted,
             Err(Failed) => Checked::Write,
