@@ -1,14 +1,14 @@
 -- How a proof is gone through: at each step the answer to the bytes that were not given yet is that to those that
 -- are not given after it, or the step ends the reading with an answer, or for want of memory.
-use Rattle.std.specs.Prelude.{◌≡◌, ◌⊎◌, ℕ, ◌+◌, Bool, true, false, List, [], ◌∷◌, ◌++◌, length, Option, Some, None, Ok, IfSome, Result, MatchResult}
+use Rattle.std.specs.Prelude.{◌≡◌, ◌⊎◌, ℕ, ◌+◌, ◌≤◌, Bool, true, false, List, [], ◌∷◌, ◌++◌, length, Option, Some, None, Ok, IfSome, Result, MatchResult}
 use Rattle.std.specs.Io.KnownBytes.{Consumes}
 use Rattle.device_rules.specs.Devices.{Rose}
 use Rattle.game_rules.specs.Position.{Position, board_of}
 use Rattle.game_rules.specs.Text.{game_at}
-use Rattle.proof_text.specs.Checked.{CheckerState}
-use Rattle.proof_text.specs.Lemma.{Lemma, ALemma}
+use Rattle.proof_text.specs.Checked.{CheckerState, line_refusal, with_line}
+use Rattle.proof_text.specs.Lemma.{Lemma, Line, ALemma}
 use Rattle.proof_text.specs.Reading.{read_line}
-use Rattle.proof_text.specs.Texts.{pieces, lines_in, first_number, game_of, behind_game, bytes_refusal, with_bytes, start, CheckAnswer, NoGame, Refused, game_answer, verdict_answer, check_from}
+use Rattle.proof_text.specs.Texts.{most_lines, pieces, lines_in, first_number, game_of, behind_game, bytes_refusal, with_bytes, start, CheckAnswer, NoGame, Refused, game_answer, verdict_answer, check_from}
 use Rattle.cert_checker.specs.Checking.{why_of}
 use Rattle.cert_checker.specs.declared.stops.Accepted.{Accepted}
 use Rattle.io_ports.specs.Reading.{Pending, Reads}
@@ -105,6 +105,13 @@ abbrev pub StopsAtLine : Version → CheckerState → ℕ → List ℕ → Proof
 StopsAtLine version s at bytes (stops.Refused r) = (bytes_refusal version s at bytes ≡ Some (why_of r.why)) × (r.at ≡ at)
 StopsAtLine version s at bytes stops.Memory = IsNextLemma version s at bytes
 StopsAtLine version s at bytes (stops.Input why) = ⊥
+
+-- behind what stands, the bytes say a line at this number that isn't refused, and it is added
+pub record IsAccepted (version : Version) (s t : CheckerState) (at : ℕ) (bytes : List ℕ) (line : Line) : Type 0 where
+  pub few : at ≤ most_lines
+  pub said : read_line version (board_of s.root) bytes ≡ Some line
+  pub stands : line_refusal s line ≡ None
+  pub next : t ≡ with_line s line
 
 -- the number of the last line that is read, at most, by what stops the reading
 abbrev pub lines_read_until : ProofStop → ℕ

@@ -7,6 +7,6 @@ mod reading;
 mod stop;
 mod taker;
 
-pub use reading::read_proof;
+pub use reading::{accept_line, read_proof};
 pub use stop::ProofStop;
 pub use taker::{KeepsNone, LemmaTaker, NotTaken};

@@ -8,7 +8,7 @@ ghost use Rattle.proof_text.specs.Checked.{lemmas_in};
 ghost use Rattle.proof_text.specs.Texts.{first_number, bytes_refusal, with_bytes, verdict_answer};
 ghost use Rattle.run_proof.specs.Whole.{version_named, most_lines_read};
 ghost use Rattle.run_proof.specs.Taken.{lemmas_said, Gains, MayHandOn, InStep, HasNone};
-ghost use Rattle.run_proof.specs.Steps.{lines_from, lemmas_at, AtHead, AtGame, AtLine, GoesOn, Gets, Adds, StopsBy, StopsWith, StopsAtLine, lines_read_until, Judges};
+ghost use Rattle.run_proof.specs.Steps.{lines_from, lemmas_at, AtHead, AtGame, AtLine, GoesOn, Gets, Adds, IsAccepted, StopsBy, StopsWith, StopsAtLine, lines_read_until, Judges};
 ghost use Rattle.io_ports.specs.Reading.{pending, Reads, PassesLines};
 ghost use Rattle.run_proof.specs.declared.stop.ProofStop.TheVariants as stops;
 ghost use Rattle.proof_text.specs.declared.Why.TheVariants as whys;
@@ -173,6 +173,27 @@ fn add_line<T: LemmaTaker>(
     ensures in_step { OnOk result (InStep (T.lemmas taker.new) checker.new) }
     ensures few { OnOk result (at ≤ MOST_LINES) }
 {
+    match accept_line(checker, room, size, version, at, bytes) {
+        Ok(line) => hand_on(taker, &line),
+        Err(stop) => Err(stop),
+    }
+}
+
+/// Accepts the line at this number, given by its bytes, which is read into the room, and lends it from there.
+#[inline(always)]
+pub fn accept_line<'a>(
+    checker: &mut Checker,
+    room: &'a mut LineBuffer,
+    size: Size,
+    version: Version,
+    at: u64,
+    bytes: &[u8],
+) -> Result<LineView<'a>, ProofStop>
+    requires board { board_of checker.old.root ≡ size }
+    ensures { MatchResult result
+        (λ line. IsAccepted version checker.old checker.new at bytes.now (viewed line))
+        (StopsAtLine version checker.old at bytes.now) }
+{
     if at > MOST_LINES {
         return Err(bad_line(at));
     }
@@ -180,7 +201,7 @@ fn add_line<T: LemmaTaker>(
         return Err(bad_line(at));
     };
     match checker.add_view(at, &line) {
-        Ok(()) => hand_on(taker, &line),
+        Ok(()) => Ok(line),
         Err(AddStop::Refused(refusal)) => Err(ProofStop::Refused(refusal)),
         Err(AddStop::Memory(_)) => Err(ProofStop::Memory),
     }
