@@ -8,7 +8,7 @@ use Rattle.game_rules.specs.Value.{wins}
 use Rattle.game_rules.specs.Questions.{side_asked}
 use Rattle.game_rules.specs.declared.Question.{Question}
 use Rattle.position_table.specs.declared.table.Found.{Found}
-use Rattle.position_table.specs.Keys.{is_for}
+use Rattle.position_key.specs.Keys.{is_for}
 use Rattle.position_table.specs.Table.{Entries, used, entries_kept, whole_kept}
 use Rattle.position_table.proofs.Held.{lookup_used, lookup_kept, lookup_kept_from, lookup_kept_stays}
 use Rattle.proof_text.specs.Lemma.{claim_for}

@@ -5,7 +5,7 @@ use Rattle.game_rules.specs.Position.{Position, empty_count}
 use Rattle.game_rules.specs.Value.{wins}
 use Rattle.game_rules.specs.Questions.{side_asked}
 use Rattle.game_rules.specs.declared.Question.{Question}
-use Rattle.position_table.specs.Keys.{is_for}
+use Rattle.position_key.specs.Keys.{is_for}
 use Rattle.position_table.specs.Table.{Entries}
 use Rattle.position_table.specs.declared.table.Found.{Found}
 use Rattle.proof_text.specs.Lemma.{claim_for}

@@ -8,7 +8,7 @@ use Rattle.game_rules.specs.Position.{Position}
 use Rattle.game_rules.specs.declared.Question.{Question}
 use Rattle.lru.proofs.CallerLemmas.{Contains-lookup_entry}
 use Rattle.position_table.specs.declared.table.Found.{Found}
-use Rattle.position_table.specs.Keys.{Key, same_key, same_key_Decides, same_key_equiv}
+use Rattle.position_key.specs.Keys.{Key, same_key, same_key_Decides, same_key_equiv}
 use Rattle.position_table.specs.Table.{Entries, used, entries_kept}
 use Rattle.position_table.proofs.Kept.{lookup_of_entry}
 use Rattle.std.proofs.lemmas.Option.{same_Some, none-some}

@@ -10,7 +10,7 @@ use Rattle.game_rules.specs.declared.Question.{Question}
 use Rattle.lru.specs.LruCache.{lru_cache, put_entries, displaced}
 use Rattle.lru.proofs.CallerLemmas.{Contains-lookup_entry}
 use Rattle.position_table.specs.declared.table.Found.{Found}
-use Rattle.position_table.specs.Keys.{Key, same_key, same_key_Decides, same_key_equiv, is_for}
+use Rattle.position_key.specs.Keys.{Key, same_key, same_key_Decides, same_key_equiv, is_for}
 use Rattle.position_table.specs.Table.{entries_kept, whole_kept}
 use Rattle.std.proofs.lemmas.Option.{same_Some, none-some}
 

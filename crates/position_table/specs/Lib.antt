@@ -1,3 +1,1 @@
-pub mod KeyFields
-pub mod Keys
 pub mod Table

@@ -6,7 +6,7 @@ use Rattle.std.specs.Map.{keys_of, lookup, lookup_entry, remove_entry}
 use Rattle.game_rules.specs.Position.{Position}
 use Rattle.game_rules.specs.declared.Question.{Question}
 use Rattle.position_table.specs.declared.table.Found.{Found}
-use Rattle.position_table.specs.Keys.{Key, same_key, is_for}
+use Rattle.position_key.specs.Keys.{Key, same_key, is_for}
 
 -- Its entries, the most recently used first; how many it has room for; and whether, since it was made, all that was kept
 -- is still there.

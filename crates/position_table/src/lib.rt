@@ -2,7 +2,6 @@
 //! grows as it is used, and takes no memory for room that isn't used.
 #![tactic(auto)]
 
-mod key;
 mod table;
 
 pub use board_bits::Question;

@@ -1,13 +1,13 @@
 //! The table, over a cache that drops what was used longest ago.
 ghost use Rattle.std.specs.Prelude.{◌≡◌, ◌≤◌, [], None, true, is_ok, IfOk, OnOk, OnErr};
 ghost use Rattle.std.specs.Map.{lookup};
-ghost use Rattle.position_table.specs.Keys.{is_for};
+ghost use Rattle.position_key.specs.Keys.{is_for};
 ghost use Rattle.position_table.specs.declared.table.TheConstants.{MOST_ROOM};
 ghost use Rattle.position_table.specs.Table.{IsTable, used, entries_kept, whole_kept};
 
-use crate::key::Key;
 use board_bits::{Position, Question};
 use lru::LruCache;
+use position_key::Key;
 use std::alloc::{AllocError, Global};
 use std::marker::Model;
 use std::num::NonZeroUsize;

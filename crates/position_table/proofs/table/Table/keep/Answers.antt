@@ -1,6 +1,6 @@
 use Rattle.std.proofs.Common.{true, ◌&&◌, sym, ap, ◌∙◌}
 use Rattle.lru.specs.LruCache.{put_entries, displaced}
-use Rattle.position_table.specs.Keys.{same_key}
+use Rattle.position_key.specs.Keys.{same_key}
 use Rattle.position_table.specs.Table.{entries_kept, whole_kept}
 use Rattle.position_table.proofs.Kept.{put_is, whole_if_none, whole_if_some}
 use Rattle.position_table.proofs.table.Table.keep.Goals as goal

@@ -1,7 +1,7 @@
 use Rattle.std.proofs.Common.{sym, ap, ◌∙◌, subst}
 use Rattle.board_bits.specs.MenWords.{position_in, AreWords}
-use Rattle.position_table.specs.Keys.{Key}
-use Rattle.position_table.proofs.key.Key.of.Goals as goal
+use Rattle.position_key.specs.Keys.{Key}
+use Rattle.position_key.proofs.key.Key.of.Goals as goal
 
 pub invariant_of-result : goal.invariant_of-result
 invariant_of-result c = subst (λ b. AreWords b c.of.result) (sym c.size.ensures.value) c.of.ensures.words

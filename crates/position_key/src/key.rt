@@ -1,8 +1,7 @@
-//! What an entry of the table is for, in 40 bytes: the words of both sides' men, the board's size and the question. A
-//! contract sees the position and the question. The hash is fed the words and not the board's size, since the positions
-//! of one search are all of one board.
+//! The key, in 40 bytes: the words of both sides' men, the board's size and the question. A contract sees the position and
+//! the question. The hash is fed the words and not the board's size, since the positions of one map are all of one board.
 ghost use Rattle.std.specs.Prelude.{◌≡◌};
-ghost use Rattle.position_table.specs.Keys.{same_key, hashed, alike_keys, same_key_equiv, same_key_partial};
+ghost use Rattle.position_key.specs.Keys.{same_key, hashed, alike_keys, same_key_equiv, same_key_partial};
 
 use board_bits::{MenWords, Position, Question, Size};
 use std::hash::{Hash, Hasher};
@@ -10,18 +9,18 @@ use std::marker::Model;
 
 /// A position and what is asked of it. Two are equal where the positions are the same and the question is one.
 #[derive(Drop)]
-pub(crate) struct Key {
+pub struct Key {
     men: MenWords,
     size: Size,
     question: Question,
 }
 
 impl Model for Key {
-    ghost use Rattle.position_table.specs.Keys.{Key as Asked};
+    ghost use Rattle.position_key.specs.Keys.{Key as Asked};
 
     ghost Value = { Asked };
 
-    ghost use Rattle.position_table.specs.KeyFields.{key_of, IsKey};
+    ghost use Rattle.position_key.specs.KeyFields.{key_of, IsKey};
 
     ghost view = { key_of };
 
@@ -30,7 +29,7 @@ impl Model for Key {
 
 impl Key {
     /// The key of this position and this question.
-    pub(crate) fn of(position: &Position, question: Question) -> Key
+    pub fn of(position: &Position, question: Question) -> Key
         ensures { result ≡ record { position = position.now; question = question } }
     {
         Key {

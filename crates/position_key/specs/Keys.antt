@@ -1,4 +1,4 @@
--- What an entry of the table is for: a position and a question.
+-- What is kept for a key: a position and a question.
 use Rattle.std.specs.Prelude.{◌≡◌, ℕ, Bool, true, false, ◌&&◌, ◌++◌}
 use Rattle.std.specs.Hash as fed
 use Rattle.std.specs.Prelude.{Decides}
@@ -27,11 +27,11 @@ same_question BlackWins BlackWins = true
 abbrev pub same_key : Key → Key → Bool
 same_key a b = same_position a.position b.position && same_question a.question b.question
 
--- whether an entry is for this position and this question
+-- whether what is kept is for this position and this question
 abbrev pub is_for : Position → Question → Key → Bool
 is_for p q key = same_key (record { position = p; question = q }) key
 
--- ---- what a cache asks of its keys
+-- ---- what a map asks of its keys
 
 abbrev pub question_number : Question → ℕ
 question_number WhiteWins = 0
