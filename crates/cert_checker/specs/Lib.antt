@@ -1,4 +1,5 @@
 pub mod Checking
+pub mod Index
 pub mod KnownFields
 pub mod Shown
 pub mod Trail

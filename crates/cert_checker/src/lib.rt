@@ -5,6 +5,7 @@
 
 mod checker;
 mod claims;
+mod index;
 mod known;
 mod moves;
 mod reasons;
@@ -14,5 +15,6 @@ mod trail;
 
 pub use cert_format::{Line, LineView, Verdict};
 pub use checker::Checker;
+pub use index::MirrorIndex;
 pub use rule_compat::PlanFault;
 pub use stops::{Accepted, AddStop, Refusal, Why};
