@@ -1,0 +1,2 @@
+pub mod SafeSets
+pub mod Answering
