@@ -1,19 +1,19 @@
 -- The check of a threat part by part, and White's answers by it.
-use Rattle.std.proofs.Common.{◌≡◌, ℕ, suc, ◌+◌, ◌-◌, ◌<◌, Bool, true, false, not, cond, List, [], ◌∷◌, ◌++◌, length, Option, Some, None, is_none, is_some, ok_or, unwrap_or, Result, Ok, Err}
+use Rattle.std.proofs.Common.{◌≡◌, ℕ, suc, ◌+◌, ◌-◌, ◌<◌, Bool, true, false, List, [], ◌∷◌, ◌++◌, Option, Some, None, is_none, ok_or, unwrap_or, Ok}
 use Rattle.std.proofs.Common.{refl, sym, ap, ◌∙◌, subst, inl, inr, arith}
 use Rattle.std.specs.List.{find, range_with_len}
-use Rattle.std.specs.Option.{option_or, option_and_then}
+use Rattle.std.specs.Option.{option_or}
 use Rattle.std.proofs.lemmas.Bool.{cases_Bool, cond-true, cond-false}
 use Rattle.std.proofs.lemmas.Option.{option_and_then_some}
 use Rattle.game_rules.specs.Board.{Square, is_board}
-use Rattle.game_rules.specs.Position.{Position, board_of, height, has_room, lowest_empty, is_legal, end_of, after_move}
+use Rattle.game_rules.specs.Position.{Position, board_of, height, has_room, lowest_empty, is_legal, after_move}
 use Rattle.game_rules.specs.Squares.{is_playable}
 use Rattle.game_rules.specs.Groups.{Group}
 use Rattle.plan_rules.specs.Squares.{above}
 use Rattle.plan_rules.proofs.Turns.{playable_parts, playable_room}
 use Rattle.odd_rules.specs.Threat.{Pair, target, is_threat}
 use Rattle.odd_rules.specs.Duel.{partner, answer_of, top_of, answered_move, after_turn, after_turns, IsAnswered}
-use Rattle.odd_rules.specs.Refusal.{position_refusal, pairs_refusal, target_refusal, threat_refusal}
+use Rattle.odd_rules.specs.Refusal.{position_refusal, pairs_refusal, target_refusal}
 use Rattle.odd_rules.proofs.Refusals.{refusal_is}
 use Rattle.odd_rules.proofs.Tests.{threat_gives}
 use Rattle.odd_rules.proofs.Theorems.{threat_answers}

@@ -1,2 +1,3 @@
 pub mod SafeSets
 pub mod Answering
+pub mod Pairings

@@ -1,8 +1,8 @@
 -- The squares that Black never gets as a set, and the first group that is not answered among those without a White man.
-use Rattle.std.proofs.Common.{◌≡◌, ℕ, ◌+◌, ◌%◌, ◌<◌, ◌≤◌, Bool, true, false, not, ◌&&◌, ◌||◌, ◌==◌, nat_lt, nat_le, cond, List, [], ◌∷◌, filter, take, get_or, length, Option, Some, None}
+use Rattle.std.proofs.Common.{◌≡◌, ℕ, ◌+◌, ◌%◌, ◌<◌, ◌≤◌, Bool, true, false, not, ◌&&◌, ◌||◌, ◌==◌, nat_lt, nat_le, cond, List, [], ◌∷◌, filter, take, get_or, length, Some}
 use Rattle.std.proofs.Common.{refl, sym, ap, ◌∙◌, inl, inr, arith}
 use Rattle.std.specs.List.{list_all, list_any, find}
-use Rattle.std.proofs.lemmas.Bool.{cases_Bool, cases_eq, cases_lt, and_parts, eqb-true, eq-eqb, ne_eqb, lt-ltb, le-ltb, le-leb, lt-leb, cond-true, cond-false}
+use Rattle.std.proofs.lemmas.Bool.{cases_Bool, cases_eq, cases_lt, eq-eqb, ne_eqb, lt-ltb, le-ltb, le-leb, lt-leb}
 use Rattle.std.proofs.lemmas.List.{take_all}
 use Rattle.std.proofs.lemmas.List.Folds.{list_any_more}
 use Rattle.game_rules.specs.Board.{Square, is_board, on_board}
@@ -27,9 +27,9 @@ pub white_but : (p : Position) (t : Square) (us line white all : List Square) �
     → list_all (has_square all) line ≡ list_all (λ u. same_square u t || has_man p White u) us
 white_but p t us line white all squares men with_t = agree _ _
     (λ h. all_from (λ u. same_square u t || has_man p White u) us (λ u among.
-      sym (same u) ∙ all_gives (has_square all) line u h (has_gives line u (squares.has u ∙ has_from us u among))))
+    sym (same u) ∙ all_gives (has_square all) line u h (has_gives line u (squares.has u ∙ has_from us u among))))
     (λ h. all_from (has_square all) line (λ u among.
-      same u ∙ all_gives (λ u. same_square u t || has_man p White u) us u h (has_gives us u (sym (squares.has u) ∙ has_from line u among))))
+    same u ∙ all_gives (λ u. same_square u t || has_man p White u) us u h (has_gives us u (sym (squares.has u) ∙ has_from line u among))))
   where
     same : (u : Square) → has_square all u ≡ (same_square u t || has_man p White u)
     same u = with_t.has u ∙ ap (λ b. same_square u t || b) (men.has u)
@@ -150,7 +150,7 @@ covered_is pairs g safe squares line =
     ap (λ b. b || list_any (λ x. has_square squares x.0 && has_square squares x.1) pairs) (any_in_same (has_square safe) squares (squares_of g) line.has)
     ∙ ap (λ b. list_any (has_square safe) (squares_of g) || b)
     (any_same (λ x. has_square squares x.0 && has_square squares x.1) (holds_pair g) pairs (λ x among.
-      ap (λ b. b && has_square squares x.1) (line.has x.0) ∙ ap (λ b. has_square (squares_of g) x.0 && b) (line.has x.1)))
+    ap (λ b. b && has_square squares x.1) (line.has x.0) ∙ ap (λ b. has_square (squares_of g) x.0 && b) (line.has x.1)))
 
 pub bare_is : (p : Position) (t : Square) (pairs : List Pair) (g : Group) (safe : List Square) → IsSetOf (is_safe p t pairs) safe
     → not (list_any (has_square safe) (squares_of g) || list_any (holds_pair g) pairs) ≡ is_bare p t pairs g
@@ -177,8 +177,8 @@ first_open p t pairs gs is =
     ap (find (is_bare p t pairs)) is
     ∙ find_of_filter (λ g. lies_on (board_of p) g && is_free_for Black p g) (is_bare p t pairs) (groups_of (board_of p))
     ∙ find_agrees _ _ (groups_of (board_of p)) (λ g among.
-      ap (λ b. b && is_free_for Black p g && is_bare p t pairs g) (Among-groups_gives (board_of p) g among)
-      ∙ neither (list_any (has_man p White) (squares_of g)) (list_any (is_safe p t pairs) (squares_of g)) (list_any (holds_pair g) pairs))
+    ap (λ b. b && is_free_for Black p g && is_bare p t pairs g) (Among-groups_gives (board_of p) g among)
+    ∙ neither (list_any (has_man p White) (squares_of g)) (list_any (is_safe p t pairs) (squares_of g)) (list_any (holds_pair g) pairs))
   where
     neither : (a b c : Bool) → (not a && not (b || c)) ≡ not (a || b || c)
     neither true b c = refl

@@ -29,3 +29,7 @@ pub record HasMoved (threat : Threatened) (now : Position) (last : Square) : Typ
   pub legal : is_legal earlier last.0 ≡ true
   pub row : last.1 ≡ height earlier last.0 + 1
   pub now_is : now ≡ after_move earlier last.0
+
+-- the same, of a group with its pairs
+abbrev pub threat_found : Position → Group × List Pair → Threatened
+threat_found p found = threat_with p found.0 found.1

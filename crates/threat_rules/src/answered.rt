@@ -45,8 +45,12 @@ fn safe_squares(p: &Position, t: Square, pairs: &[Baseinverse]) -> Mask
     let empties = p.empties();
     let odd_rows = Mask::odd_rows();
     let column = Mask::column(t.column());
-    let in_column = empties.intersection(column).intersection(odd_rows.union(Mask::upwards(t)));
-    let elsewhere = empties.without(column).without(odd_rows.union(squares_of_pairs(pairs)));
+    let in_column = empties
+        .intersection(column)
+        .intersection(odd_rows.union(Mask::upwards(t)));
+    let elsewhere = empties
+        .without(column)
+        .without(odd_rows.union(squares_of_pairs(pairs)));
     in_column.union(elsewhere)
 }
 

@@ -5,9 +5,12 @@
 mod answered;
 mod check;
 mod fault;
+mod first;
 mod pairs;
+mod strategy;
 mod target;
 mod threat;
 
 pub use crate::fault::ThreatFault;
+pub use crate::strategy::a_threat_wins_for_white;
 pub use crate::threat::{MOST_PAIRS, Threat};

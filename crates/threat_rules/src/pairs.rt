@@ -1,7 +1,9 @@
 //! The pairs of an odd threat, each a Baseinverse: which list of them is right, and the other square of one.
-ghost use Rattle.std.specs.Prelude.{◌≡◌, ◌≤◌, [], length};
+ghost use Rattle.std.specs.Prelude.{◌≡◌, ◌≤◌, ◌==◌, ◌&&◌, not, [], length};
 ghost use Rattle.std.specs.List.{list_any, find};
 ghost use Rattle.game_rules.specs.Board.{below};
+ghost use Rattle.game_rules.specs.Position.{height};
+ghost use Rattle.plan_rules.specs.Squares.{is_odd};
 ghost use Rattle.odd_rules.specs.Threat.{is_in_column, share_column, is_pair, bad_pair, is_unpaired};
 ghost use Rattle.odd_rules.specs.Duel.{partner};
 
@@ -69,7 +71,14 @@ pub(crate) fn first_unpaired(p: &Position, t: Square, pairs: &[Baseinverse]) -> 
 fn is_unpaired(p: &Position, t: Square, pairs: &[Baseinverse], c: Column) -> bool
     ensures { result ≡ is_unpaired p.now t pairs.now c }
 {
-    c != t.column() && p.height(c) % 2 == 1 && !is_paired(pairs, c)
+    is_odd_column(p, t, c) && !is_paired(pairs, c)
+}
+
+/// Whether the column has an odd number of men and isn't the target's.
+pub(crate) fn is_odd_column(p: &Position, t: Square, c: Column) -> bool
+    ensures { result ≡ (not (c == t.0) && is_odd (height p.now c)) }
+{
+    c != t.column() && p.height(c) % 2 == 1
 }
 
 /// Whether some pair has a square in the column.

@@ -1,4 +1,4 @@
-use Rattle.std.proofs.Common.{ap, subst}
+use Rattle.std.proofs.Common.{subst}
 use Rattle.std.proofs.Common.{◌&&◌, ◌==◌}
 use Rattle.game_rules.specs.Board.{on_board}
 use Rattle.game_rules.specs.Squares.{widest, IsSetOf}

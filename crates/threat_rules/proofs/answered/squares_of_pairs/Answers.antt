@@ -1,4 +1,4 @@
-use Rattle.threat_rules.proofs.SafeSets.{pair_joins, pairs_joined}
+use Rattle.threat_rules.proofs.SafeSets.{pair_joins}
 use Rattle.threat_rules.proofs.answered.squares_of_pairs.Goals as goal
 
 pub loop-pair-preserved : goal.loop-pair-preserved

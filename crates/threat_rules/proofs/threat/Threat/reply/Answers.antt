@@ -1,4 +1,4 @@
-use Rattle.std.proofs.Common.{◌≡◌, Some, is_some, sym, ap, ◌∙◌, subst}
+use Rattle.std.proofs.Common.{◌≡◌, is_some, sym, ap, ◌∙◌, subst}
 use Rattle.std.proofs.lemmas.Option.{same_Some}
 use Rattle.plan_rules.specs.Squares.{above}
 use Rattle.odd_rules.specs.Duel.{answer_of}
@@ -14,7 +14,7 @@ partner_answer c =
     let is = partner_found self.at self.group self.pairs.items c.as_slice.result.now c.args.self.now c.args.last c.partner.result c.in-Some.square
     c.self.view_is c.as_slice.ensures.value c.partner.ensures c.in-Some.is in
     subst (IsAnswer c.args.self.now c.args.now.now) (sym is) (answer_kept self.at self.group self.pairs.items c.args.self.now c.args.now.now c.args.last
-      c.self.view_is c.has_a_board.ensures.board c.self.invariant c.requires)
+    c.self.view_is c.has_a_board.ensures.board c.self.invariant c.requires)
 
 pub returns-in-Some-clause-playable : goal.returns-in-Some-clause-playable
 returns-in-Some-clause-playable c = (partner_answer c).playable
@@ -47,7 +47,7 @@ above_answer : (c : After-unwrap) → IsAnswer c.args.self.now c.args.now.now c.
 above_answer c =
     let self = c.self.inside in
     subst (IsAnswer c.args.self.now c.args.now.now) (sym (answer_is c)) (answer_kept self.at self.group self.pairs.items c.args.self.now c.args.now.now
-      c.args.last c.self.view_is c.has_a_board.ensures.board c.self.invariant c.requires)
+    c.args.last c.self.view_is c.has_a_board.ensures.board c.self.invariant c.requires)
 
 pub returns-in-None-clause-reply : goal.returns-in-None-clause-reply
 returns-in-None-clause-reply c = answer_is c
