@@ -3,7 +3,8 @@ use Rattle.std.proofs.Common.{◌≡◌, ◌≢◌, ◌⊎◌, ℕ, zero, suc, �
 use Rattle.std.proofs.Common.{refl, sym, ap, ◌∙◌, subst, inl, inr, arith}
 use Rattle.std.specs.List.{list_any, slice_get, find}
 use Rattle.std.specs.Option.{option_map, option_or, option_and_then}
-use Rattle.std.proofs.lemmas.Bool.{cases_Bool, cases_order, both_ways, and_parts, and_from, or_left, or_right, not-true, not_from_false, false_from_ne_true, eq-eqb, ne_eqb, cond-true, cond-false}
+use Rattle.std.proofs.lemmas.Bool.{cases_Bool, cases_order, both_ways, and_parts, and_from, or_left, or_right, not-true, not_from_false}
+use Rattle.std.proofs.lemmas.Bool.{false_from_ne_true, eq-eqb, ne_eqb, cond-true, cond-false}
 use Rattle.std.proofs.lemmas.Option.{same_Some, some_pair_parts, option_and_then_some}
 use Rattle.game_rules.specs.Board.{Square, below}
 use Rattle.game_rules.specs.Position.{Position, board_of, height}
@@ -102,7 +103,8 @@ module _ (p : Position) (pairs : List Pair) (top : (x : Pair) → Among x pairs 
   -- the first column with that of its pair, and then the others
   one_paired : (n c : ℕ) (cs : List ℕ) → Ascending (c ∷ cs) → Joined (c ∷ cs) → length cs ≤ n
       → ((others : List ℕ) → length others ≤ n → Ascending others → Joined others → Paired n others) → Paired (suc n) (c ∷ cs)
-  one_paired n c cs order joined low shorter = from (joined c (inl refl)).0 (joined c (inl refl)).1 (joined c (inl refl)).2 (joined c (inl refl)).3 (joined c (inl refl)).4
+  one_paired n c cs order joined low shorter = from (joined c (inl refl)).0 (joined c (inl refl)).1 (joined c (inl refl)).2 (joined c (inl refl)).3
+      (joined c (inl refl)).4
     where
       from : (x : Pair) → Among x pairs → is_in_column c x ≡ true → Among x.0.0 (c ∷ cs) → Among x.1.0 (c ∷ cs) → Paired (suc n) (c ∷ cs)
       from x given in_x first second = by (pick cs order.1 x.1.0 right)
@@ -201,7 +203,8 @@ module _ (p : Position) (pairs : List Pair) (top : (x : Pair) → Among x pairs 
 
                   apart : (i j : ℕ) (y z : Pair) → i < j → IsPairAt (x ∷ rest.list) i y → IsPairAt (x ∷ rest.list) j z → share_column y z ≡ false
                   apart i zero y z before first second = absurd (omega arith)
-                  apart zero (suc j) y z before first second = ap (λ y. share_column y z) (sym (same_Some x y first)) ∙ none_shared z (get-Among rest.list j z second)
+                  apart zero (suc j) y z before first second = ap (λ y. share_column y z) (sym (same_Some x y first))
+                      ∙ none_shared z (get-Among rest.list j z second)
                   apart (suc i) (suc j) y z before first second = rest.apart i j y z (omega arith) first second
 
   paired : (n : ℕ) (cs : List ℕ) → length cs ≤ n → Ascending cs → Joined cs → Paired n cs
@@ -234,7 +237,8 @@ module _ (p : Position) (g : Group) (pairs : List Pair) (t : Square) (threat : I
       ]
 
   odd_among : (c : ℕ) → c < length p.columns → c ≢ t.0 → is_odd (height p c) ≡ true → Among c (odd_columns p t)
-  odd_among c within apart odd = Among-filter (λ c. not (c == t.0) && is_odd (height p c)) (below (length p.columns)) c (Among-below (length p.columns) c within)
+  odd_among c within apart odd = Among-filter (λ c. not (c == t.0) && is_odd (height p c)) (below (length p.columns)) c
+      (Among-below (length p.columns) c within)
       (and_from _ _ (not_from_false _ (ne_eqb c t.0 apart)) odd)
 
   odd_joined : Joined p pairs top_is (λ x among. (parts_of x among).order) one_pair (odd_columns p t)
@@ -324,7 +328,8 @@ threat_by_none p g none pairs = false_from_ne_true _ (λ h. let some = threat_gi
 
 -- a first choice, where it is one, and else the other
 either_gives : (g h : Group) (pairs : List Pair) (o : Option (List Pair)) (rest : Option (Group × List Pair))
-    → option_or (option_map {U = Group × List Pair} (λ pairs. (h, pairs)) o) rest ≡ Some (g, pairs) → ((h ≡ g) × (o ≡ Some pairs)) ⊎ ((o ≡ None) × (rest ≡ Some (g, pairs)))
+    → option_or (option_map {U = Group × List Pair} (λ pairs. (h, pairs)) o) rest ≡ Some (g, pairs)
+    → ((h ≡ g) × (o ≡ Some pairs)) ⊎ ((o ≡ None) × (rest ≡ Some (g, pairs)))
 either_gives g h pairs None rest is = inr (refl, is)
 either_gives g h pairs (Some xs) rest is = let same = some_pair_parts h g xs pairs is in inl (same.0, ap (λ ys. Some ys) same.1)
 
@@ -376,7 +381,8 @@ first_by_before p (k ∷ ks) g pairs order is = elim (either_gives g k pairs (th
   | inl here ↦ (
     inl here.0,
     λ h among before. elim among [
-      | inl same ↦ absurd (groups_one_way g g (subst (λ f. GroupPrecedes f g) (sym same ∙ here.0) before) (subst (λ f. GroupPrecedes f g) (sym same ∙ here.0) before))
+      | inl same ↦ absurd (groups_one_way g g (subst (λ f. GroupPrecedes f g) (sym same ∙ here.0) before)
+          (subst (λ f. GroupPrecedes f g) (sym same ∙ here.0) before))
       | inr later ↦ absurd (groups_one_way h g before (subst (λ f. GroupPrecedes f h) here.0 (order.0 h later)))
     ],
   )
@@ -395,5 +401,6 @@ pub first_before : (p : Position) (g : Group) (pairs : List Pair) → first_thre
 unfolding first_threat
 first_before p g pairs is h others before = false_from_ne_true _ (λ passes.
     let some = threat_gives p h others passes in
-    let none = (first_by_before p (groups_of (board_of p)) g pairs (groups_in_order (board_of p)) is).1 h (Among-groups (board_of p) h some.2.lacks.line) before in
+    let none = (first_by_before p (groups_of (board_of p)) g pairs (groups_in_order (board_of p)) is).1 h
+        (Among-groups (board_of p) h some.2.lacks.line) before in
     both_ways (is_threat p h others) (threat_by_none p h none others) passes)

@@ -116,5 +116,7 @@ no_partner (y ∷ ys) u h i x at = elim (chosen (same_square u y.0) (Some y.1) (
     here : (i : ℕ) → same_square u y.0 ≡ false → same_square u y.1 ≡ false
         → ((j : ℕ) → IsPairAt ys j x → (same_square u x.0 ≡ false) × (same_square u x.1 ≡ false))
         → IsPairAt (y ∷ ys) i x → (same_square u x.0 ≡ false) × (same_square u x.1 ≡ false)
-    here zero left right rest at = let same : y ≡ x = same_Some y x at in (ap (λ (z : Pair). same_square u z.0) (sym same) ∙ left, ap (λ (z : Pair). same_square u z.1) (sym same) ∙ right)
+    here zero left right rest at =
+        let same : y ≡ x = same_Some y x at in
+        (ap (λ (z : Pair). same_square u z.0) (sym same) ∙ left, ap (λ (z : Pair). same_square u z.1) (sym same) ∙ right)
     here (suc j) left right rest at = rest j at

@@ -30,7 +30,8 @@ no_line p t pairs =
     ∙ all_same _ _ (groups_of (board_of p)) (λ g. twice_not (is_answered p t pairs g))
     ∙ lines_all (board_of p) (is_answered p t pairs)
 
-none_of_three : (i : Option ℕ) (c : Option ℕ) (g : Option Group) → is_none (option_or (option_map bad_member i) (option_or (option_map unpaired c) (option_map unanswered g)))
+none_of_three : (i : Option ℕ) (c : Option ℕ) (g : Option Group)
+    → is_none (option_or (option_map bad_member i) (option_or (option_map unpaired c) (option_map unanswered g)))
     ≡ (is_none i && is_none c && is_none g)
 none_of_three (Some i) c g = refl
 none_of_three None (Some c) g = refl
@@ -48,7 +49,8 @@ target_refused p pairs None = refl
 target_refused p pairs (Some t) = pairs_refused p pairs t
 
 none_of_both : (black : Bool) (end : Option End) (rest : Option ThreatFault)
-    → is_none (option_or (if not black then Some not_black_to_move else (if is_some end then Some ended else None)) rest) ≡ (black && is_none end && is_none rest)
+    → is_none (option_or (if not black then Some not_black_to_move else (if is_some end then Some ended else None)) rest)
+    ≡ (black && is_none end && is_none rest)
 none_of_both false end rest = refl
 none_of_both true (Some e) rest = refl
 none_of_both true None rest = refl

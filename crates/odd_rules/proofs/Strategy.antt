@@ -6,7 +6,8 @@ use Rattle.std.proofs.lemmas.Bool.{cases_Bool, cases_eq, cases_order, both_ways,
 use Rattle.std.proofs.lemmas.Bool.{not_from_true, false_from_ne_true, eqb-true, eqb-false, eq-eqb, ne_eqb, le-ltb, cond-true, cond-false}
 use Rattle.std.proofs.lemmas.Option.{same_Some}
 use Rattle.game_rules.specs.Board.{Board, Square, is_board, on_board}
-use Rattle.game_rules.specs.Position.{Position, board_of, men_in, height, man_at, has_man, is_man, other, side_to_move, has_line, is_full, end_of, is_legal, after_move}
+use Rattle.game_rules.specs.Position.{Position, board_of, men_in, height, man_at, has_man, is_man, other, side_to_move, has_line, is_full, end_of}
+use Rattle.game_rules.specs.Position.{is_legal, after_move}
 use Rattle.game_rules.specs.Squares.{same_square, has_square, is_empty, is_playable}
 use Rattle.game_rules.specs.Groups.{Group, squares_of, lies_on}
 use Rattle.game_rules.specs.declared.Side.TheVariants.{White, Black}
@@ -260,7 +261,8 @@ module _ (p : Position) (g : Group) (pairs : List Pair) (t : Square) (board : is
         is_s : (u : Square) → u.1 ≡ height q u.0 + 1 → has_man now Black u ≡ true → u ≡ s
         is_s u top black = elim (cases_Bool (same_square u s)) [
           | inl same ↦ same_square_is u s same
-          | inr apart ↦ absurd (let gone : is_man Black None ≡ true = ap (is_man Black) (sym (man_past (men_in q u.0) u.1 (omega (arith, top)))) ∙ sym (black_beside u apart) ∙ black in cc)
+          | inr apart ↦ absurd (let gone : is_man Black None ≡ true = ap (is_man Black) (sym (man_past (men_in q u.0) u.1 (omega (arith, top))))
+              ∙ sym (black_beside u apart) ∙ black in cc)
         ]
 
         both_black : (i : ℕ) (x : Pair) → IsPairAt pairs i x → has_man now Black x.0 ≡ true → has_man now Black x.1 ≡ true → IsPairKept p q x → ⊥
@@ -335,7 +337,8 @@ module _ (p : Position) (g : Group) (pairs : List Pair) (t : Square) (board : is
       column_kept c (inl same) (inl even) = inl (ap is_even same ∙ even)
       column_kept c (inl same) (inr old) = inr (same ∙ old)
 
-      white_one : (x : Pair) → (has_man q White x.0 ≡ true) ⊎ (has_man q White x.1 ≡ true) → (has_man then_at White x.0 ≡ true) ⊎ (has_man then_at White x.1 ≡ true)
+      white_one : (x : Pair) → (has_man q White x.0 ≡ true) ⊎ (has_man q White x.1 ≡ true)
+          → (has_man then_at White x.0 ≡ true) ⊎ (has_man then_at White x.1 ≡ true)
       white_one x (inl white) = inl (white_stays x.0 white)
       white_one x (inr white) = inr (white_stays x.1 white)
 

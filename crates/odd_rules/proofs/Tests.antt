@@ -11,7 +11,8 @@ use Rattle.game_rules.specs.Position.{Position, board_of, height, has_man, is_ma
 use Rattle.game_rules.specs.Squares.{same_square, has_square, is_empty}
 use Rattle.game_rules.specs.Groups.{Group, squares_of, lies_on}
 use Rattle.game_rules.specs.declared.Side.TheVariants.{White, Black}
-use Rattle.game_rules.proofs.Lists.{Among, any_gives, any_from, all_gives, all_from, chosen, Among-below, Among-below_gives, Among-append_left, Among-append_right}
+use Rattle.game_rules.proofs.Lists.{Among, any_gives, any_from, all_gives, all_from, chosen, Among-below, Among-below_gives, Among-append_left}
+use Rattle.game_rules.proofs.Lists.{Among-append_right}
 use Rattle.game_rules.proofs.Lists.{Among-append_cases}
 use Rattle.game_rules.proofs.Moves.{same_side_is}
 use Rattle.game_rules.proofs.Squares.{has_gives, has_from, same_square_is}
@@ -20,7 +21,8 @@ use Rattle.plan_rules.specs.Plan.{every_line}
 use Rattle.plan_rules.proofs.Plans.{every_line_gives, every_line_from, none_is}
 use Rattle.plan_rules.proofs.Squares.{Among-get, get-Among, find_one}
 use Rattle.plan_rules.proofs.Turns.{empty_parts}
-use Rattle.odd_rules.specs.Threat.{Pair, is_target, target, is_in_column, share_column, is_pair, bad_pair, is_unpaired, is_safe, holds_pair, is_answered, holds_with}
+use Rattle.odd_rules.specs.Threat.{Pair, is_target, target, is_in_column, share_column, is_pair, bad_pair, is_unpaired, is_safe, holds_pair}
+use Rattle.odd_rules.specs.Threat.{is_answered, holds_with}
 use Rattle.odd_rules.specs.Threat.{is_threat, IsTarget, IsPairAt, SomePair, IsThreat}
 use Rattle.odd_rules.proofs.Pairs.{share_gives, share_from}
 
@@ -48,7 +50,8 @@ target_gives p g t h = elim (chosen (lies_on (board_of p) g) (find (is_target p 
         empty = row.0;
         odd_row = row.1;
         odd_column = column.1;
-        others = λ u in_line apart. elim (or_cases _ _ (all_gives (λ u. same_square u t || has_man p White u) (squares_of g) u white.1 (has_gives (squares_of g) u in_line))) [
+        others = λ u in_line apart. elim
+            (or_cases _ _ (all_gives (λ u. same_square u t || has_man p White u) (squares_of g) u white.1 (has_gives (squares_of g) u in_line))) [
           | inl same ↦ absurd (both_ways (same_square u t) apart same)
           | inr man ↦ man
         ];
@@ -69,7 +72,8 @@ target_from p g t is = cond-true (lies_on (board_of p) g) (find (is_target p g) 
     first = find_one (is_target p g) (squares_of g) (any_from (is_target p g) (squares_of g) t (has_gives (squares_of g) t is.in_line) test)
 
     -- another square of the line is White's, so it isn't empty
-    one_is : (u : Square) → slice_get (squares_of g) first.0 ≡ Some u → is_target p g u ≡ true → find (is_target p g) (squares_of g) ≡ Some u → find (is_target p g) (squares_of g) ≡ Some t
+    one_is : (u : Square) → slice_get (squares_of g) first.0 ≡ Some u → is_target p g u ≡ true → find (is_target p g) (squares_of g) ≡ Some u
+        → find (is_target p g) (squares_of g) ≡ Some t
     one_is u at passes found = elim (cases_Bool (same_square u t)) [
       | inl same ↦ found ∙ ap (λ v. Some v) (same_square_is u t same)
       | inr apart ↦
@@ -212,7 +216,8 @@ threat_from p g pairs t threat =
     each_line h lies = elim (cases_Bool (list_any (has_man p White) (squares_of h))) [
       | inl some ↦ or_left _ _ (or_left _ _ some)
       | inr none ↦ elim (threat.answered h lies (no_white h none)) [
-        | inl some ↦ or_left _ _ (or_right _ _ (any_from (is_safe p t pairs) (squares_of h) some.square (has_gives (squares_of h) some.square some.in_line) some.safe))
+        | inl some ↦ or_left _ _ (or_right _ _
+            (any_from (is_safe p t pairs) (squares_of h) some.square (has_gives (squares_of h) some.square some.in_line) some.safe))
         | inr some ↦ or_right _ _ (some_from (holds_pair h) pairs some)
       ]
     ]

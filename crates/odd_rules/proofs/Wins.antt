@@ -6,7 +6,8 @@ use Rattle.std.specs.Option.{option_map_or, option_and_then}
 use Rattle.std.proofs.lemmas.Bool.{cases_Bool, both_ways, and_parts, and_from, cond-true, cond-false, false_from_ne_true}
 use Rattle.std.proofs.lemmas.Option.{same_Some}
 use Rattle.game_rules.specs.Board.{Square, below, is_board}
-use Rattle.game_rules.specs.Position.{Position, board_of, other, side_to_move, has_room, has_line, end_of, is_legal, after_move, empty_count, moved, open_columns}
+use Rattle.game_rules.specs.Position.{Position, board_of, other, side_to_move, has_room, has_line, end_of, is_legal, after_move, empty_count, moved}
+use Rattle.game_rules.specs.Position.{open_columns}
 use Rattle.game_rules.specs.Value.{wins, same_end}
 use Rattle.game_rules.specs.Groups.{Group}
 use Rattle.game_rules.specs.declared.Side.TheVariants.{White, Black}
@@ -18,11 +19,13 @@ use Rattle.game_rules.proofs.Ends.{has_line_from, ended_parts, legal_parts}
 use Rattle.plan_rules.specs.Plan.{is_nil}
 use Rattle.plan_rules.proofs.Turns.{playable_room}
 use Rattle.odd_rules.specs.Threat.{Pair, IsThreat}
-use Rattle.odd_rules.specs.Duel.{answer_of, top_of, answered_move, after_turn, threat_duel, is_playable_list, after_turns, IsKept, IsWon, Stands, IsAnswered, IsTurn, IsHeld}
+use Rattle.odd_rules.specs.Duel.{answer_of, top_of, answered_move, after_turn, threat_duel, is_playable_list, after_turns, IsKept, IsWon, Stands}
+use Rattle.odd_rules.specs.Duel.{IsAnswered, IsTurn, IsHeld}
 use Rattle.odd_rules.proofs.Strategy.{first_kept, take_turn}
 
 -- the turn after a move that doesn't end the game
-pub turn_is : (pairs : List Pair) (q : Position) (column : ℕ) → end_of (after_move q column) ≡ None → after_turn pairs q column ≡ Some (answered_move pairs q column)
+pub turn_is : (pairs : List Pair) (q : Position) (column : ℕ) → end_of (after_move q column) ≡ None
+    → after_turn pairs q column ≡ Some (answered_move pairs q column)
 turn_is pairs q column going = rw going refl
 
 -- after the end no column is legal
@@ -38,7 +41,8 @@ module _ (p : Position) (g : Group) (pairs : List Pair) (t : Square) (board : is
   stands_along : (columns : List ℕ) (q r : Position) → Stands p t pairs q → after_turns pairs q columns ≡ Some r → Stands p t pairs r
   stands_along [] q r stands h = subst (Stands p t pairs) (same_Some q r h) stands
   stands_along (column ∷ columns) q r (inl won) h =
-      absurd (cc (sym (cond-false (is_legal q column) (option_and_then (λ next. after_turns pairs next columns) (after_turn pairs q column)) None (won_over q won column)) ∙ h))
+      absurd (cc (sym (cond-false (is_legal q column) (option_and_then (λ next. after_turns pairs next columns) (after_turn pairs q column)) None
+          (won_over q won column)) ∙ h))
   stands_along (column ∷ columns) q r (inr kept) h =
       elim (chosen (is_legal q column) (option_and_then (λ next. after_turns pairs next columns) (after_turn pairs q column)) None (Some r) h) [
         | inr illegal ↦ absurd (cc illegal.1)
@@ -51,7 +55,8 @@ module _ (p : Position) (g : Group) (pairs : List Pair) (t : Square) (board : is
   pub stands_at : (columns : List ℕ) (q : Position) → after_turns pairs p columns ≡ Some q → Stands p t pairs q
   stands_at columns q h = stands_along columns p q (inr (first_kept p g pairs t board threat)) h
 
-  pub answered_at : (columns : List ℕ) (q : Position) (column : ℕ) → after_turns pairs p columns ≡ Some q → is_legal q column ≡ true → IsAnswered p t pairs q column
+  pub answered_at : (columns : List ℕ) (q : Position) (column : ℕ) → after_turns pairs p columns ≡ Some q → is_legal q column ≡ true
+      → IsAnswered p t pairs q column
   answered_at columns q column h legal = elim (stands_at columns q h) [
     | inl won ↦ absurd (both_ways (is_legal q column) (won_over q won column) legal)
     | inr kept ↦ turn_at q kept column legal
@@ -63,12 +68,14 @@ module _ (p : Position) (g : Group) (pairs : List Pair) (t : Square) (board : is
   duel_opens : (q : Position) (column : ℕ) (columns : List ℕ) → is_legal q column ≡ true → end_of (after_move q column) ≡ None
       → threat_duel pairs q (column ∷ columns) ≡ q ∷ after_move q column ∷ threat_duel pairs (answered_move pairs q column) columns
   duel_opens q column columns legal going =
-      cond-true (is_legal q column) (q ∷ after_move q column ∷ option_map_or (λ next. threat_duel pairs next columns) (after_turn pairs q column) []) (q ∷ []) legal
+      cond-true (is_legal q column) (q ∷ after_move q column ∷ option_map_or (λ next. threat_duel pairs next columns) (after_turn pairs q column) [])
+          (q ∷ []) legal
       ∙ ap (λ o. q ∷ after_move q column ∷ option_map_or (λ next. threat_duel pairs next columns) o []) (turn_is pairs q column going)
 
   duel_stops : (q : Position) (column : ℕ) (columns : List ℕ) → is_legal q column ≡ false → threat_duel pairs q (column ∷ columns) ≡ q ∷ []
   duel_stops q column columns illegal =
-      cond-false (is_legal q column) (q ∷ after_move q column ∷ option_map_or (λ next. threat_duel pairs next columns) (after_turn pairs q column) []) (q ∷ []) illegal
+      cond-false (is_legal q column) (q ∷ after_move q column ∷ option_map_or (λ next. threat_duel pairs next columns) (after_turn pairs q column) [])
+          (q ∷ []) illegal
 
   list_opens : (q : Position) (column : ℕ) (columns : List ℕ) → is_playable_list pairs q (column ∷ columns) ≡ true → end_of (after_move q column) ≡ None
       → is_playable_list pairs (answered_move pairs q column) columns ≡ true
@@ -78,7 +85,8 @@ module _ (p : Position) (g : Group) (pairs : List Pair) (t : Square) (board : is
 
   duel_first : (q : Position) (columns : List ℕ) → slice_get (threat_duel pairs q columns) 0 ≡ Some q
   duel_first q [] = refl
-  duel_first q (column ∷ columns) = either (is_legal q column) (after_move q column ∷ option_map_or (λ next. threat_duel pairs next columns) (after_turn pairs q column) [])
+  duel_first q (column ∷ columns) = either (is_legal q column)
+      (after_move q column ∷ option_map_or (λ next. threat_duel pairs next columns) (after_turn pairs q column) [])
     where
       either : (b : Bool) (rest : List Position) → slice_get (cond b (q ∷ rest) (q ∷ [])) 0 ≡ Some q
       either true rest = refl
@@ -108,7 +116,8 @@ module _ (p : Position) (g : Group) (pairs : List Pair) (t : Square) (board : is
         (ap (λ positions. slice_get positions i) (sym (duel_opens q column columns legal one.going)) ∙ h)
   ]
     where
-      at : (i : ℕ) (one : IsAnswered p t pairs q column) → ((j : ℕ) → slice_get (threat_duel pairs (answered_move pairs q column) columns) j ≡ Some r → IsHeld r)
+      at : (i : ℕ) (one : IsAnswered p t pairs q column)
+          → ((j : ℕ) → slice_get (threat_duel pairs (answered_move pairs q column) columns) j ≡ Some r → IsHeld r)
           → slice_get (q ∷ after_move q column ∷ threat_duel pairs (answered_move pairs q column) columns) i ≡ Some r → IsHeld r
       at zero one later h = subst IsHeld (same_Some q r h) (held_when q (inr kept))
       at (suc zero) one later h = subst IsHeld (same_Some (after_move q column) r h) (record {

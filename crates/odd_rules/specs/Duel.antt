@@ -1,6 +1,7 @@
 -- Play from an odd threat: Black moves, and White answers in the pair of Black's square or directly above it. What the
 -- threat keeps while it goes on is said here too. The answers are this project's own rule; the play is the game's.
-use Rattle.std.specs.Prelude.{◌≡◌, ◌≢◌, ◌⊎◌, ℕ, ◌+◌, ◌*◌, Bool, true, false, ◌&&◌, if◌then◌else◌, List, [], ◌∷◌, Option, Some, None, is_none, option_and_then, unwrap_or, slice_get}
+use Rattle.std.specs.Prelude.{◌≡◌, ◌≢◌, ◌⊎◌, ℕ, ◌+◌, ◌*◌, Bool, true, false, ◌&&◌, if◌then◌else◌, List, [], ◌∷◌, Option, Some, None, is_none}
+use Rattle.std.specs.Prelude.{option_and_then, unwrap_or, slice_get}
 use Rattle.std.specs.Option.{option_map_or}
 use Rattle.game_rules.specs.Board.{Square}
 use Rattle.game_rules.specs.Position.{Position, board_of, height, man_at, has_man, side_to_move, has_line, end_of, is_legal, after_move}

@@ -15,11 +15,11 @@ pub fn a_threat_in_words()
     ensures { (p : Position) (g : Group) (pairs : List Pair) → (is_threat p g pairs ≡ true) ↔ ((t : Square) × IsThreat p g pairs t) }
 {}
 
-/// From a threat, after any of Black's legal moves and White's answers: White has a line and Black has none, or the game
-/// goes on and all of this holds. The board is the same, Black is to move, and the men of the threat's position are
-/// still there. The target is empty, above an odd number of men; each other column has an even number of men or as many
-/// as it had. In each pair's columns nothing changed, or both have an even number of men and a square of the pair is
-/// White's. Black has no safe square.
+/// From a threat, after any of Black's legal moves and White's answers: White has a line and Black has none, or the
+/// game goes on and all of this holds. The board is the same, Black is to move, and the men of the threat's position
+/// are still there. The target is empty, above an odd number of men; each other column has an even number of men or
+/// as many as it had. In each pair's columns nothing changed, or both have an even number of men and a square of the
+/// pair is White's. Black has no safe square.
 pub fn a_threat_is_kept_whatever_black_plays()
     ensures { (p : Position) (g : Group) (pairs : List Pair) (t : Square) (columns : List ℕ) (q : Position) → is_board (board_of p) ≡ true
         → is_threat p g pairs ≡ true → target p g ≡ Some t → after_turns pairs p columns ≡ Some q → Stands p t pairs q }
@@ -50,8 +50,8 @@ pub fn a_threat_wins()
     ensures value { (p : Position) (g : Group) (pairs : List Pair) → is_board (board_of p) ≡ true → is_threat p g pairs ≡ true → value p ≡ ends.White }
 {}
 
-/// The first threat is one, and no earlier group is one with whatever pairs; and there is none exactly where no group is
-/// one with any list of pairs.
+/// The first threat is one, and no earlier group is one with whatever pairs; and there is none exactly where no group
+/// is one with any list of pairs.
 pub fn the_first_threat()
     ensures is { (p : Position) (g : Group) (pairs : List Pair) → first_threat p ≡ Some (g, pairs) → is_threat p g pairs ≡ true }
     ensures first { (p : Position) (g : Group) (pairs : List Pair) → first_threat p ≡ Some (g, pairs)

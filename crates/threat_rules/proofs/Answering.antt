@@ -73,7 +73,8 @@ pub record IsAnswer (threat : Threatened) (now : Position) (answer : Square) : T
 -- each legal move at a position that is reached has one
 pub answer_after : (threat : Threatened) (now : Position) (last : Square) → is_board (board_of threat.at) ≡ true
     → is_threat threat.at threat.group threat.pairs ≡ true → HasMoved threat now last → IsAnswer threat now (answer_of threat.pairs last)
-answer_after threat now last board is moved = from (threat_gives threat.at threat.group threat.pairs is).0 (threat_gives threat.at threat.group threat.pairs is).1
+answer_after threat now last board is moved = from (threat_gives threat.at threat.group threat.pairs is).0
+    (threat_gives threat.at threat.group threat.pairs is).1
   where
     last_is : top_of moved.earlier last.0 ≡ last
     last_is = ap (λ r. (last.0, r)) (sym moved.row)

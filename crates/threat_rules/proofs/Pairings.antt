@@ -1,5 +1,6 @@
 -- The pairings of some columns, tried one after the other.
-use Rattle.std.proofs.Common.{◌≡◌, ◌↔◌, ℕ, zero, suc, ◌+◌, ◌-◌, ◌<◌, ◌≤◌, Bool, true, false, not, ◌&&◌, ◌==◌, nat_lt, List, [], ◌∷◌, ◌++◌, length, map, filter, take, drop, get_or}
+use Rattle.std.proofs.Common.{◌≡◌, ◌↔◌, ℕ, zero, suc, ◌+◌, ◌-◌, ◌<◌, ◌≤◌, Bool, true, false, not, ◌&&◌, ◌==◌, nat_lt, List, [], ◌∷◌, ◌++◌, length}
+use Rattle.std.proofs.Common.{map, filter, take, drop, get_or}
 use Rattle.std.proofs.Common.{Option, Some, None, is_some, is_none, Result, Ok, Err, refl, sym, ap, ◌∙◌, subst, inl, inr, arith, append_assoc}
 use Rattle.std.specs.List.{list_all, slice_get, find, flat_map, remove}
 use Rattle.std.specs.Option.{option_map, option_or, option_and_then}
@@ -55,7 +56,8 @@ abbrev pub found_with : Position → Group → List Pair → ℕ → List ℕ �
 found_with p g pairs n cs = find (is_threat p g) (map (λ rest. pairs ++ rest) (pairings n p cs))
 
 -- the pair is the last of the given ones, or the first of the rest
-pair_moves : (pairs : List Pair) (x : Pair) (lists : List (List Pair)) → map (λ rest. pairs ++ rest) (map (λ rest. x ∷ rest) lists) ≡ map (λ rest. (pairs ++ x ∷ []) ++ rest) lists
+pair_moves : (pairs : List Pair) (x : Pair) (lists : List (List Pair))
+    → map (λ rest. pairs ++ rest) (map (λ rest. x ∷ rest) lists) ≡ map (λ rest. (pairs ++ x ∷ []) ++ rest) lists
 pair_moves pairs x [] = refl
 pair_moves pairs x (list ∷ lists) = cc (append_assoc pairs (x ∷ []) list, pair_moves pairs x lists)
 
@@ -220,7 +222,8 @@ pub rest_parts : (p : Position) (cs : List ℕ) (c : ℕ) → 1 ≤ length cs �
     → (has_room p c ≡ true) × ((d : ℕ) → Among d (rest_of cs) → c < d) × (ascends p (rest_of cs) ≡ true)
 rest_parts p cs c some first order = ascends_parts p c (rest_of cs) (ap (ascends p) (sym (columns_are cs c some first)) ∙ order)
 
-pub rest_room : (p : Position) (cs : List ℕ) (c i d : ℕ) → 1 ≤ length cs → c ≡ get_or cs 0 c → ascends p cs ≡ true → slice_get (rest_of cs) i ≡ Some d → has_room p d ≡ true
+pub rest_room : (p : Position) (cs : List ℕ) (c i d : ℕ) → 1 ≤ length cs → c ≡ get_or cs 0 c → ascends p cs ≡ true → slice_get (rest_of cs) i ≡ Some d
+    → has_room p d ≡ true
 rest_room p cs c i d some first order at = ascends_room p (rest_of cs) (rest_parts p cs c some first order).2 d (get-Among (rest_of cs) i d at)
 
 pub rest_opened : (p : Position) (g : Group) (pairs : List Pair) (cs : List ℕ) (c : ℕ) (result : Option Threatened) → 1 ≤ length cs → c ≡ get_or cs 0 c
@@ -243,7 +246,8 @@ odd_few p t i cs is =
 
 -- one with an odd number of men is put behind them, and another one isn't
 pub odd_joins : (p : Position) (t : Square) (i column : ℕ) (cs more : List ℕ) → cs ≡ filter (λ c. not (c == t.0) && is_odd (height p c)) (below i) → column ≡ i
-    → (not (column == t.0) && is_odd (height p column)) ≡ true → more ≡ cs ++ column ∷ [] → more ≡ filter (λ c. not (c == t.0) && is_odd (height p c)) (below (i + 1))
+    → (not (column == t.0) && is_odd (height p column)) ≡ true → more ≡ cs ++ column ∷ []
+    → more ≡ filter (λ c. not (c == t.0) && is_odd (height p c)) (below (i + 1))
 odd_joins p t i column cs more is same passes joined =
     joined
     ∙ ap (λ k. cs ++ k ∷ []) same
@@ -273,7 +277,8 @@ by_group p g t cs result lacks are each =
     each (length (odd_columns p t)) (omega (arith, ap length are))
     ∙ ap (λ lists. option_map (threat_with p g) (find (is_threat p g) lists)) (map-id (pairings (length (odd_columns p t)) p cs))
     ∙ ap (λ ds. option_map (threat_with p g) (find (is_threat p g) (pairings (length (odd_columns p t)) p ds))) are
-    ∙ ap (λ o. option_map (threat_with p g) (option_and_then (λ t. find (is_threat p g) (pairings (length (odd_columns p t)) p (odd_columns p t))) o)) (sym lacks)
+    ∙ ap (λ o. option_map (threat_with p g) (option_and_then (λ t. find (is_threat p g) (pairings (length (odd_columns p t)) p (odd_columns p t))) o))
+    (sym lacks)
 
 -- the first of some groups, where it is one, and else that of the others
 group_found : (p : Position) (g : Group) (gs : List Group) (o : Option (List Pair)) → is_some (option_map (threat_with p g) o) ≡ true
@@ -301,7 +306,8 @@ first_next p gs i g result at is none =
     ∙ ap (λ h. first_by p (h ∷ drop (i + 1) gs)) (sym (get_or_from_slice_get gs i g g at))
     ∙ sym (at_drop_more (first_by p) gs i g (slice_get_within gs i g at))
 
-pub first_of_all : (p : Position) (gs : List Group) (result : Option Threatened) → gs ≡ groups_of (board_of p) → result ≡ option_map (threat_found p) (first_by p gs)
+pub first_of_all : (p : Position) (gs : List Group) (result : Option Threatened) → gs ≡ groups_of (board_of p)
+    → result ≡ option_map (threat_found p) (first_by p gs)
     → result ≡ option_map (threat_found p) (first_threat p)
 unfolding first_threat
 first_of_all p gs result are is = is ∙ ap (λ gs. option_map (threat_found p) (first_by p gs)) are
@@ -309,7 +315,8 @@ first_of_all p gs result are is = is ∙ ap (λ gs. option_map (threat_found p) 
 -- there is none exactly where no group is one
 pub none_is : (p : Position) (result : Option Threatened) → result ≡ option_map (threat_found p) (first_threat p)
     → (result ≡ None) ↔ ((g : Group) (pairs : List Pair) → is_threat p g pairs ≡ false)
-none_is p result is = ((λ none. (first_missing p).0 (unmapped (first_threat p) (sym is ∙ none))), (λ none. is ∙ ap (option_map (threat_found p)) ((first_missing p).1 none)))
+none_is p result is = ((λ none. (first_missing p).0 (unmapped (first_threat p) (sym is ∙ none))),
+    (λ none. is ∙ ap (option_map (threat_found p)) ((first_missing p).1 none)))
   where
     unmapped : (o : Option (Group × List Pair)) → option_map (threat_found p) o ≡ None → o ≡ None
     unmapped None h = refl

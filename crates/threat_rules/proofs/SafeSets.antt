@@ -1,5 +1,6 @@
 -- The squares that Black never gets as a set, and the first group that is not answered among those without a White man.
-use Rattle.std.proofs.Common.{◌≡◌, ℕ, ◌+◌, ◌%◌, ◌<◌, ◌≤◌, Bool, true, false, not, ◌&&◌, ◌||◌, ◌==◌, nat_lt, nat_le, cond, List, [], ◌∷◌, filter, take, get_or, length, Some}
+use Rattle.std.proofs.Common.{◌≡◌, ℕ, ◌+◌, ◌%◌, ◌<◌, ◌≤◌, Bool, true, false, not, ◌&&◌, ◌||◌, ◌==◌, nat_lt, nat_le, cond, List, [], ◌∷◌, filter, take}
+use Rattle.std.proofs.Common.{get_or, length, Some}
 use Rattle.std.proofs.Common.{refl, sym, ap, ◌∙◌, inl, inr, arith}
 use Rattle.std.specs.List.{list_all, list_any, find}
 use Rattle.std.proofs.lemmas.Bool.{cases_Bool, cases_eq, cases_lt, eq-eqb, ne_eqb, lt-ltb, le-ltb, le-leb, lt-leb}
@@ -88,54 +89,66 @@ not_odd n = elim (cases_eq (n % 2) 1) [
   | inr even ↦ rw (ne_eqb (n % 2) 1 even) (sym (eq-eqb (n % 2) 0 (omega arith)))
 ]
 
-pub safe_set : (p : Position) (t : Square) (pairs : List Pair) (empties odd_rows column up low taken inner cut outer rest off all : List Square)
-    → is_board (board_of p) ≡ true → is_odd t.1 ≡ true → IsSetOf (is_empty p) empties → IsSetOf (λ u. on_board widest u && is_odd u.1) odd_rows
-    → IsSetOf (λ u. on_board widest u && (t.0 == u.0)) column → IsSetOf (λ u. has_square empties u && has_square column u) inner
-    → IsSetOf (λ u. (u.0 == t.0) && (nat_le t.1 u.1 && nat_le u.1 10)) up → IsSetOf (λ u. has_square odd_rows u || has_square up u) low
-    → IsSetOf (λ u. has_square inner u && has_square low u) cut → IsSetOf (λ u. has_square empties u && not (has_square column u)) outer
-    → IsSetOf (λ u. list_any (is_of_pair u) pairs) taken → IsSetOf (λ u. has_square odd_rows u || has_square taken u) off
-    → IsSetOf (λ u. has_square outer u && not (has_square off u)) rest → IsSetOf (λ u. has_square cut u || has_square rest u) all
-    → IsSetOf (is_safe p t pairs) all
-safe_set p t pairs empties odd_rows column up low taken inner cut outer rest off all board odd is_empties is_odds is_column is_inner is_up is_low is_cut is_outer is_taken
-    is_off is_rest is_all = set_same _ _ all is_all (λ u. parts u ∙ at u)
-  where
-    parts : (u : Square) → (has_square cut u || has_square rest u)
-        ≡ (is_empty p u && cond (on_board widest u && (t.0 == u.0)) ((on_board widest u && is_odd u.1) || ((u.0 == t.0) && (nat_le t.1 u.1 && nat_le u.1 10)))
-        (not (on_board widest u && is_odd u.1) && not (list_any (is_of_pair u) pairs)))
-    parts u =
-        let left : has_square cut u
-        ≡ (is_empty p u && (on_board widest u && (t.0 == u.0)) && ((on_board widest u && is_odd u.1) || ((u.0 == t.0) && (nat_le t.1 u.1 && nat_le u.1 10))))
-        = cc (is_cut.has u, is_inner.has u, is_low.has u, is_empties.has u, is_column.has u, is_odds.has u, is_up.has u) in
-        let right : has_square rest u
-        ≡ (is_empty p u && not (on_board widest u && (t.0 == u.0)) && not ((on_board widest u && is_odd u.1) || list_any (is_of_pair u) pairs))
-        = cc (is_rest.has u, is_outer.has u, is_off.has u, is_empties.has u, is_column.has u, is_odds.has u, is_taken.has u) in
-        ap (λ b. b || has_square rest u) left
-        ∙ ap (λ b. (is_empty p u && (on_board widest u && (t.0 == u.0)) && ((on_board widest u && is_odd u.1) || ((u.0 == t.0) && (nat_le t.1 u.1 && nat_le u.1 10)))) || b) right
-        ∙ either_part (is_empty p u) (on_board widest u && (t.0 == u.0)) (on_board widest u && is_odd u.1)
-        ((u.0 == t.0) && (nat_le t.1 u.1 && nat_le u.1 10)) (list_any (is_of_pair u) pairs)
+-- the target's column, the odd rows, and the target's column from the target up, on the widest board
+abbrev in_column : Square → Square → Bool
+in_column t u = on_board widest u && (t.0 == u.0)
 
-    within : (u : Square) → on_board widest u ≡ true
-        → cond (on_board widest u && (t.0 == u.0)) ((on_board widest u && is_odd u.1) || ((u.0 == t.0) && (nat_le t.1 u.1 && nat_le u.1 10)))
-        (not (on_board widest u && is_odd u.1) && not (list_any (is_of_pair u) pairs))
+abbrev in_odd_row : Square → Bool
+in_odd_row u = on_board widest u && is_odd u.1
+
+abbrev is_up : Square → Square → Bool
+is_up t u = (u.0 == t.0) && (nat_le t.1 u.1 && nat_le u.1 10)
+
+-- what is cut from the empty squares in the column, and outside it
+abbrev is_cut : Position → Square → Square → Bool
+is_cut p t u = is_empty p u && in_column t u && (in_odd_row u || is_up t u)
+
+abbrev is_rest : Position → Square → List Pair → Square → Bool
+is_rest p t pairs u = is_empty p u && not (in_column t u) && not (in_odd_row u || list_any (is_of_pair u) pairs)
+
+safe_is : (p : Position) (t : Square) (pairs : List Pair) (u : Square) → is_board (board_of p) ≡ true → is_odd t.1 ≡ true
+    → (is_cut p t u || is_rest p t pairs u) ≡ is_safe p t pairs u
+safe_is p t pairs u board odd =
+    either_part (is_empty p u) (in_column t u) (in_odd_row u) (is_up t u) (list_any (is_of_pair u) pairs)
+    ∙ elim (cases_Bool (is_empty p u)) [
+      | inl empty ↦ ap (λ b. is_empty p u && b) (within (on_widest (board_of p) board u (empty_parts p u empty).0))
+      | inr filled ↦ rw filled refl
+    ]
+  where
+    and_true : (b : Bool) → (b && true) ≡ b
+    and_true true = refl
+    and_true false = refl
+
+    within : on_board widest u ≡ true → cond (in_column t u) (in_odd_row u || is_up t u) (not (in_odd_row u) && not (list_any (is_of_pair u) pairs))
         ≡ cond (u.0 == t.0) (is_odd u.1 || nat_lt t.1 u.1) (is_even u.1 && not (list_any (is_of_pair u) pairs))
-    within u on = elim (cases_eq u.0 t.0) [
+    within on = elim (cases_eq u.0 t.0) [
       | inl same ↦
           let high = le-leb u.1 10 (on_board_parts widest u.0 u.1 on).2 in
-          rw (on, eq-eqb t.0 u.0 (sym same), eq-eqb u.0 t.0 same, high) (ap (λ b. is_odd u.1 || b) (and_true (nat_le t.1 u.1)) ∙ from_target t.1 u.1 (odd_gives t.1 odd))
+          rw (on, eq-eqb t.0 u.0 (sym same), eq-eqb u.0 t.0 same, high)
+          (ap (λ b. is_odd u.1 || b) (and_true (nat_le t.1 u.1)) ∙ from_target t.1 u.1 (odd_gives t.1 odd))
       | inr apart ↦
           rw (on, ne_eqb t.0 u.0 (λ same. apart (sym same)), ne_eqb u.0 t.0 apart) (ap (λ b. b && not (list_any (is_of_pair u) pairs)) (not_odd u.1))
     ]
-      where
-        and_true : (b : Bool) → (b && true) ≡ b
-        and_true true = refl
-        and_true false = refl
 
-    at : (u : Square) → (is_empty p u && cond (on_board widest u && (t.0 == u.0)) ((on_board widest u && is_odd u.1) || ((u.0 == t.0) && (nat_le t.1 u.1 && nat_le u.1 10)))
-        (not (on_board widest u && is_odd u.1) && not (list_any (is_of_pair u) pairs))) ≡ is_safe p t pairs u
-    at u = elim (cases_Bool (is_empty p u)) [
-      | inl empty ↦ ap (λ b. is_empty p u && b) (within u (on_widest (board_of p) board u (empty_parts p u empty).0))
-      | inr filled ↦ rw filled refl
-    ]
+-- the empty squares of the column that are cut to the odd rows and those from the target up
+pub cut_set : (p : Position) (t : Square) (empties odd_rows column up inner low cut : List Square) → IsSetOf (is_empty p) empties → IsSetOf in_odd_row odd_rows
+    → IsSetOf (in_column t) column → IsSetOf (is_up t) up → IsSetOf (λ u. has_square empties u && has_square column u) inner
+    → IsSetOf (λ u. has_square odd_rows u || has_square up u) low → IsSetOf (λ u. has_square inner u && has_square low u) cut → IsSetOf (is_cut p t) cut
+cut_set p t empties odd_rows column up inner low cut is_empties is_odds is_column ups is_inner is_low is = set_same _ _ cut is (λ u.
+    cc (is_inner.has u, is_low.has u, is_empties.has u, is_column.has u, is_odds.has u, ups.has u))
+
+-- those outside it, without the odd rows and the squares of pairs
+pub rest_set : (p : Position) (t : Square) (pairs : List Pair) (empties odd_rows column taken outer off rest : List Square) → IsSetOf (is_empty p) empties
+    → IsSetOf in_odd_row odd_rows → IsSetOf (in_column t) column → IsSetOf (λ u. list_any (is_of_pair u) pairs) taken
+    → IsSetOf (λ u. has_square empties u && not (has_square column u)) outer → IsSetOf (λ u. has_square odd_rows u || has_square taken u) off
+    → IsSetOf (λ u. has_square outer u && not (has_square off u)) rest → IsSetOf (is_rest p t pairs) rest
+rest_set p t pairs empties odd_rows column taken outer off rest is_empties is_odds is_column is_taken is_outer is_off is = set_same _ _ rest is (λ u.
+    cc (is_outer.has u, is_off.has u, is_empties.has u, is_column.has u, is_odds.has u, is_taken.has u))
+
+pub safe_set : (p : Position) (t : Square) (pairs : List Pair) (cut rest all : List Square) → is_board (board_of p) ≡ true → is_odd t.1 ≡ true
+    → IsSetOf (is_cut p t) cut → IsSetOf (is_rest p t pairs) rest → IsSetOf (λ u. has_square cut u || has_square rest u) all → IsSetOf (is_safe p t pairs) all
+safe_set p t pairs cut rest all board odd cuts rests is = set_same _ _ all is (λ u.
+    ap (λ b. b || has_square rest u) (cuts.has u) ∙ ap (λ b. is_cut p t u || b) (rests.has u) ∙ safe_is p t pairs u board odd)
 
 -- ---- the first line that isn't answered
 
@@ -170,7 +183,8 @@ find_agrees f g [] same = refl
 find_agrees f g (x ∷ xs) same = ap (λ b. cond b (Some x) (find f xs)) (same x (inl refl))
     ∙ ap (cond (g x) (Some x)) (find_agrees f g xs (λ y among. same y (inr among)))
 
-pub first_open : (p : Position) (t : Square) (pairs : List Pair) (gs : List Group) → gs ≡ groups_where (board_of p) (λ g. lies_on (board_of p) g && is_free_for Black p g)
+pub first_open : (p : Position) (t : Square) (pairs : List Pair) (gs : List Group)
+    → gs ≡ groups_where (board_of p) (λ g. lies_on (board_of p) g && is_free_for Black p g)
     → find (is_bare p t pairs) gs ≡ find (λ g. not (is_answered p t pairs g)) (groups_of (board_of p))
 unfolding groups_where
 first_open p t pairs gs is =

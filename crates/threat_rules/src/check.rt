@@ -14,12 +14,12 @@ use board_bits::{Position, Side, Square};
 use open_groups::GroupId;
 
 impl Threat {
-    /// The odd threat that the group and the pairs are at the position, where they are one. Otherwise they are refused for
-    /// the first of six reasons that holds: White is to move; the game has ended; the group has no target; a member is
-    /// no pair or shares a column with an earlier one, and the first such is told; a column with an odd number of men is
-    /// in no pair, and the first is told; a group without a White man is not answered, and the first in group order is
-    /// told. Members are counted from 1. A group or a pair of another board is refused as any other that doesn't fit.
-    /// Neither a threat nor a refusal takes memory.
+    /// The odd threat that the group and the pairs are at the position, where they are one. Otherwise they are
+    /// refused for the first of six reasons that holds: White is to move; the game has ended; the group has no
+    /// target; a member is no pair or shares a column with an earlier one, and the first such is told; a column with
+    /// an odd number of men is in no pair, and the first is told; a group without a White man is not answered, and
+    /// the first in group order is told. Members are counted from 1. A group or a pair of another board is refused as
+    /// any other that doesn't fit. Neither a threat nor a refusal takes memory.
     pub fn check(p: &Position, group: GroupId, pairs: &[Baseinverse]) -> Result<Threat, ThreatFault>
         requires { length pairs.now ≤ MOST_PAIRS }
         ensures fault { refusal_of result ≡ threat_refusal p.now group pairs.now }

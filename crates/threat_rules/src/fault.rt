@@ -10,8 +10,8 @@ pub enum ThreatFault {
     NotBlackToMove,
     /// The game has ended.
     Ended,
-    /// The group isn't one of the board, or it doesn't lack exactly one square on an odd row above an odd number of men,
-    /// with White's men on the others.
+    /// The group isn't one of the board, or it doesn't lack exactly one square on an odd row above an odd number of
+    /// men, with White's men on the others.
     BadGroup,
     /// The first member that doesn't fit, stands in the target's column or in one with an even number of men, or shares
     /// a column with an earlier member.

@@ -22,10 +22,10 @@ use open_groups::{GroupId, groups};
 const MOST_APART: usize = 5;
 
 impl Threat {
-    /// The first odd threat of the position: of the first group, in group order, that is one with some list of pairs, and
-    /// for it with the first such list. The lists are made by pairing the first column with an odd number of men, the
-    /// target's aside, with each later one, from the left, and then in the same way those that are left. None exactly
-    /// where no group is a threat with any list of pairs.
+    /// The first odd threat of the position: of the first group, in group order, that is one with some list of pairs,
+    /// and for it with the first such list. The lists are made by pairing the first column with an odd number of men,
+    /// the target's aside, with each later one, from the left, and then in the same way those that are left. None
+    /// exactly where no group is a threat with any list of pairs.
     pub fn first(p: &Position) -> Option<Threat>
         ensures first { result ≡ option_map (threat_found p.now) (first_threat p.now) }
         ensures none { (result ≡ None) ↔ ((g : Group) (pairs : List Pair) → is_threat p.now g pairs ≡ false) }

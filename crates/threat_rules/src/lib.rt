@@ -1,5 +1,5 @@
-//! The odd threat in code: whether a group and a list of pairs are one, why not, White's answers, and the first threat of
-//! a position. What a threat is, and that White wins by it, stands in `odd_rules`. No call takes memory.
+//! The odd threat in code: whether a group and a list of pairs are one, why not, White's answers, and the first
+//! threat of a position. What a threat is, and that White wins by it, stands in `odd_rules`. No call takes memory.
 #![tactic(auto)]
 
 mod answered;

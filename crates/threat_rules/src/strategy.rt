@@ -9,11 +9,11 @@ ghost use Rattle.odd_rules.specs.Duel.{threat_duel, is_playable_list, IsTurn, Is
 
 use crate::Threat;
 
-/// What every threat promises. For each list of Black's columns of which each is legal at its turn, each column opens a
-/// turn, in which Black's move neither makes a line nor ends the game, and White has the threat's answer, a playable
-/// square. At each position of a duel, those right after Black's moves among them, Black has no line, and where the game
-/// has ended White has one. And under perfect play White wins from the threat's position. It doesn't promise that a won
-/// position has a threat.
+/// What every threat promises. For each list of Black's columns of which each is legal at its turn, each column opens
+/// a turn, in which Black's move neither makes a line nor ends the game, and White has the threat's answer, a
+/// playable square. At each position of a duel, those right after Black's moves among them, Black has no line, and
+/// where the game has ended White has one. And under perfect play White wins from the threat's position. It doesn't
+/// promise that a won position has a threat.
 pub fn a_threat_wins_for_white(threat: &Threat)
     ensures turns { (t : Square) (columns : List ℕ) (i column : ℕ) → target threat.now.at threat.now.group ≡ Some t
         → is_playable_list threat.now.pairs threat.now.at columns ≡ true → slice_get columns i ≡ Some column

@@ -17,8 +17,8 @@ use std::marker::Model;
 /// No board has more pairs of columns, so no list of pairs that is tried need be longer.
 pub const MOST_PAIRS: usize = 45;
 
-/// An odd threat of White's at a position. Every value of the type is one: it is only made of a group and a list of pairs
-/// that passed each test.
+/// An odd threat of White's at a position. Every value of the type is one: it is only made of a group and a list of
+/// pairs that passed each test.
 #[derive(Drop)]
 pub struct Threat {
     at: Position,
@@ -78,11 +78,11 @@ impl Threat {
         self.pairs.as_slice()
     }
 
-    /// White's answer to Black's move to the square `last`, at the position `now` after it: the other square of the pair
-    /// that has the square, or where none has it the square directly above. Black's move has to be a legal one, made at
-    /// the threat's position or after some turns, each of a legal move of Black's and the threat's answer to it. Then
-    /// the answer is always a playable square, and after it White has a line, or Black's next move can be answered in
-    /// the same way.
+    /// White's answer to Black's move to the square `last`, at the position `now` after it: the other square of the
+    /// pair that has the square, or where none has it the square directly above. Black's move has to be a legal one,
+    /// made at the threat's position or after some turns, each of a legal move of Black's and the threat's answer to
+    /// it. Then the answer is always a playable square, and after it White has a line, or Black's next move can be
+    /// answered in the same way.
     pub fn reply(&self, now: &Position, last: Square) -> Square
         requires { HasMoved self.now now.now last }
         ensures reply { result ≡ answer_of self.now.pairs last }

@@ -11,7 +11,8 @@ returns-then-not-is_covered c =
     let p = c.args.p.now in let t = c.args.t in let xs = c.args.pairs.now in let gs = c.as_slice-g-items.result.now in
     let at = slice_get_read gs (length gs) c.loop-g.g-index c.g-item.result refl c.loop-g-test.true c.g-item.is in
     sym (find_here (is_bare p t xs) gs c.loop-g.g-index c.g-item.result at
-    (sym (bare_is p t xs c.g-item.result c.safe_squares-safe.result c.safe_squares-safe.ensures) ∙ ap not (sym c.is_covered.ensures ∙ c.if-not-is_covered.true)))
+    (sym (bare_is p t xs c.g-item.result c.safe_squares-safe.result c.safe_squares-safe.ensures)
+        ∙ ap not (sym c.is_covered.ensures ∙ c.if-not-is_covered.true)))
     ∙ c.loop-g.invariant
     ∙ first_open p t xs gs (c.as_slice-g-items.ensures.value ∙ c.groups-groups.ensures ∙ c.free_for.ensures.in_order)
 
@@ -20,7 +21,8 @@ loop-g-preserved c =
     let p = c.args.p.now in let t = c.args.t in let xs = c.args.pairs.now in let gs = c.as_slice-g-items.result.now in
     let at = slice_get_read gs (length gs) c.loop-g.g-index c.g-item.result refl c.loop-g-test.true c.g-item.is in
     sym (find_next (is_bare p t xs) gs c.loop-g.g-index c.g-item.result at
-    (sym (bare_is p t xs c.g-item.result c.safe_squares-safe.result c.safe_squares-safe.ensures) ∙ ap not (sym c.is_covered.ensures ∙ c.if-not-is_covered.false)))
+    (sym (bare_is p t xs c.g-item.result c.safe_squares-safe.result c.safe_squares-safe.ensures)
+        ∙ ap not (sym c.is_covered.ensures ∙ c.if-not-is_covered.false)))
     ∙ c.loop-g.invariant
 
 pub returns : goal.returns

@@ -5,7 +5,8 @@ use Rattle.std.proofs.lemmas.Option.{slice_get_read}
 use Rattle.odd_rules.specs.Refusal.{tops}
 use Rattle.threat_rules.specs.Threatened.{threat_with}
 use Rattle.threat_rules.specs.Ascending.{ascends}
-use Rattle.threat_rules.proofs.Pairings.{found_with, rest_of, columns_are, none_are, rest_parts, rest_room, rest_opened, step_found, step_none, tried_all, checked, ascends_remove}
+use Rattle.threat_rules.proofs.Pairings.{found_with, rest_of, columns_are, none_are, rest_parts, rest_room, rest_opened, step_found, step_none}
+use Rattle.threat_rules.proofs.Pairings.{tried_all, checked, ascends_remove}
 use Rattle.threat_rules.proofs.Pairings.{remove_length}
 use Rattle.threat_rules.proofs.first.+first_pairing.Goals as goal
 use Rattle.threat_rules.proofs.first.+first_pairing.Goals.{After-index-rest-index}
