@@ -1,15 +1,15 @@
 -- Even and odd numbers, what a pair is, and the other square of a pair.
-use Rattle.std.proofs.Common.{◌≡◌, ◌≢◌, ◌⊎◌, ℕ, zero, suc, ◌%◌, ◌<◌, true, false, cond, List, [], ◌∷◌, Some, None, refl, sym, ap, ◌∙◌, inl, inr}
+use Rattle.std.proofs.Common.{◌≡◌, ◌≢◌, ◌⊎◌, ℕ, zero, suc, ◌%◌, ◌<◌, true, false, cond, List, [], ◌∷◌, Some, None, refl, sym, ap, ◌∙◌, inl, inr, ◌==◌, subst}
 use Rattle.std.proofs.lemmas.Bool.{both_ways, and_parts, or_cases, or_left, or_right, not-true, eqb-true, eq-eqb, ltb-true}
 use Rattle.std.proofs.lemmas.Option.{same_Some}
 use Rattle.game_rules.specs.Board.{Square}
 use Rattle.game_rules.specs.Position.{Position, board_of, height}
 use Rattle.game_rules.specs.Squares.{same_square, is_playable}
 use Rattle.game_rules.proofs.Lists.{chosen}
-use Rattle.game_rules.proofs.Squares.{same_square_is}
+use Rattle.game_rules.proofs.Squares.{same_square_refl, same_square_is}
 use Rattle.plan_rules.specs.Squares.{is_even, is_odd}
 use Rattle.plan_rules.specs.Rules.{baseinverse, is_shaped, fits_besides}
-use Rattle.odd_rules.specs.Threat.{Pair, is_in_column, share_column, is_pair, IsPairAt}
+use Rattle.odd_rules.specs.Threat.{Pair, is_in_column, share_column, is_pair, is_of_pair, IsPairAt}
 use Rattle.odd_rules.specs.Duel.{partner}
 
 -- ---- parity
@@ -65,11 +65,20 @@ in_gives c x h = elim (or_cases _ _ h) [
   | inr right ↦ inr (eqb-true x.1.0 c right)
 ]
 
+same_column : (u v : Square) → u ≡ v → (u.0 == v.0) ≡ true
+same_column u v same = eq-eqb u.0 v.0 (ap (λ (w : Square). w.0) same)
+
+pub left_in : (x : Pair) → is_in_column x.0.0 x ≡ true
+left_in x = or_left _ _ (eq-eqb x.0.0 x.0.0 refl)
+
+pub right_in : (x : Pair) → is_in_column x.1.0 x ≡ true
+right_in x = or_right _ _ (eq-eqb x.1.0 x.1.0 refl)
+
 -- two pairs share a column exactly where one column is in both
 pub share_gives : (x y : Pair) → share_column x y ≡ true → (c : ℕ) × (is_in_column c x ≡ true) × (is_in_column c y ≡ true)
 share_gives x y h = elim (or_cases _ _ h) [
-  | inl left ↦ (x.0.0, or_left _ _ (eq-eqb x.0.0 x.0.0 refl), left)
-  | inr right ↦ (x.1.0, or_right _ _ (eq-eqb x.1.0 x.1.0 refl), right)
+  | inl left ↦ (x.0.0, left_in x, left)
+  | inr right ↦ (x.1.0, right_in x, right)
 ]
 
 pub share_from : (x y : Pair) (c : ℕ) → is_in_column c x ≡ true → is_in_column c y ≡ true → share_column x y ≡ true
@@ -83,12 +92,37 @@ apart_columns x y apart c in_x in_y = both_ways (share_column x y) apart (share_
 
 -- ---- the other square of a pair
 
--- the two squares are those of a pair of the list, in this order or the other
+-- the two squares are those of the pair, in this order or the other
+abbrev pub AreIts : Pair → Square → Square → Type 0
+AreIts x u v = ((x.0 ≡ u) × (x.1 ≡ v)) ⊎ ((x.1 ≡ u) × (x.0 ≡ v))
+
+-- they are those of a pair of the list
 pub record ArePair (pairs : List Pair) (u v : Square) : Type 0 where
   pub place : ℕ
   pub pair : Pair
   pub is_at : IsPairAt pairs place pair
-  pub squares : ((pair.0 ≡ u) × (pair.1 ≡ v)) ⊎ ((pair.1 ≡ u) × (pair.0 ≡ v))
+  pub squares : AreIts pair u v
+
+pub of_pair : (x : Pair) (u v : Square) → AreIts x u v → (is_of_pair u x ≡ true) × ((x.0 ≡ v) ⊎ (x.1 ≡ v))
+of_pair x u v (inl both) = (or_left _ _ (subst (λ w. same_square u w ≡ true) (sym both.0) (same_square_refl u)), inr both.1)
+of_pair x u v (inr both) = (or_right _ _ (subst (λ w. same_square u w ≡ true) (sym both.0) (same_square_refl u)), inl both.1)
+
+-- its columns are theirs
+pub columns_of : (x : Pair) (u v : Square) → AreIts x u v → (c : ℕ) → is_in_column c x ≡ true → (c ≡ u.0) ⊎ (c ≡ v.0)
+columns_of x u v are c in_x = by are (in_gives c x in_x)
+  where
+    column : (w z : Square) → w.0 ≡ c → w ≡ z → c ≡ z.0
+    column w z at same = sym at ∙ ap (λ (y : Square). y.0) same
+
+    by : AreIts x u v → (x.0.0 ≡ c) ⊎ (x.1.0 ≡ c) → (c ≡ u.0) ⊎ (c ≡ v.0)
+    by (inl both) (inl at) = inl (column x.0 u at both.0)
+    by (inl both) (inr at) = inr (column x.1 v at both.1)
+    by (inr both) (inl at) = inr (column x.0 v at both.1)
+    by (inr both) (inr at) = inl (column x.1 u at both.0)
+
+pub in_columns : (x : Pair) (u v : Square) → AreIts x u v → (is_in_column u.0 x ≡ true) × (is_in_column v.0 x ≡ true)
+in_columns x u v (inl both) = (or_left _ _ (same_column x.0 u both.0), or_right _ _ (same_column x.1 v both.1))
+in_columns x u v (inr both) = (or_right _ _ (same_column x.1 u both.0), or_left _ _ (same_column x.0 v both.1))
 
 pub partner_gives : (pairs : List Pair) (u v : Square) → partner pairs u ≡ Some v → ArePair pairs u v
 partner_gives [] u v h = absurd (cc h)

@@ -24,7 +24,8 @@ use Rattle.plan_rules.proofs.Turns.{empty_height, man_from, has_man_from, playab
 use Rattle.plan_rules.proofs.Turns.{height_here, height_beside, side_after, answer_at, low_above, low_kept}
 use Rattle.odd_rules.specs.Threat.{Pair, is_in_column, is_of_pair, is_safe, IsPairAt, SomePair, IsThreat}
 use Rattle.odd_rules.specs.Duel.{partner, answer_of, top_of, IsPairKept, IsKept, IsWon, Stands, IsAnswered}
-use Rattle.odd_rules.proofs.Pairs.{even_gives, odd_gives, even_from, odd_from, PairParts, pair_parts, apart_columns, ArePair, partner_gives, no_partner}
+use Rattle.odd_rules.proofs.Pairs.{even_gives, odd_gives, even_from, odd_from, PairParts, pair_parts, left_in, right_in, apart_columns, AreIts, ArePair}
+use Rattle.odd_rules.proofs.Pairs.{of_pair, columns_of, in_columns, partner_gives, no_partner}
 
 module _ (p : Position) (g : Group) (pairs : List Pair) (t : Square) (board : is_board (board_of p) ≡ true) (threat : IsThreat p g pairs t) where
   parts_at : (i : ℕ) (x : Pair) → IsPairAt pairs i x → PairParts p t x
@@ -94,24 +95,27 @@ module _ (p : Position) (g : Group) (pairs : List Pair) (t : Square) (board : is
             let row : x.1.1 ≡ s.1 = ap (λ (u : Square). u.1) right in
             absurd (omega (arith, even_gives (height q x.1.0) changed.1, parts.right_odd, (playable_parts p x.1 parts.right).1, s_row))
 
-    -- where s has a partner, both columns are as they were, with an odd number of men
+    -- a square of a pair in whose column no man came
+    record IsTop (u : Square) : Type 0 where
+      row : u.1 ≡ height q u.0 + 1
+      beside_target : u.0 ≢ t.0
+      odd_below : height q u.0 % 2 ≡ 1
+      on_the_board : on_board (board_of q) u ≡ true
+
+    is_top : (u : Square) → is_playable p u ≡ true → u.0 ≢ t.0 → height p u.0 % 2 ≡ 1 → height q u.0 ≡ height p u.0 → IsTop u
+    is_top u first apart odd same = record {
+      row = omega (arith, (playable_parts p u first).1, same);
+      beside_target = apart;
+      odd_below = ap (λ n. n % 2) same ∙ odd;
+      on_the_board = subst (λ b. on_board b u ≡ true) kept.board (and_parts (on_board (board_of p) u) _ first).0;
+    }
+
+    -- where s has a partner, both are such squares
     record Two (v : Square) : Type 0 where
-      place : ℕ
-      pair : Pair
-      is_at : IsPairAt pairs place pair
-      has_s : is_of_pair s pair ≡ true
-      left_in : (pair.0.0 ≡ s.0) ⊎ (pair.0.0 ≡ v.0)
-      right_in : (pair.1.0 ≡ s.0) ⊎ (pair.1.0 ≡ v.0)
-      s_in : is_in_column s.0 pair ≡ true
-      v_in : is_in_column v.0 pair ≡ true
-      v_one : (pair.0 ≡ v) ⊎ (pair.1 ≡ v)
+      are : ArePair pairs s v
       apart : v.0 ≢ s.0
-      s_apart : s.0 ≢ t.0
-      v_apart : v.0 ≢ t.0
-      s_odd : height q s.0 % 2 ≡ 1
-      v_odd : height q v.0 % 2 ≡ 1
-      v_row : v.1 ≡ height q v.0 + 1
-      v_on : on_board (board_of q) v ≡ true
+      s_top : IsTop s
+      v_top : IsTop v
 
     two : (v : Square) → ArePair pairs s v → Two v
     two v are = by are.squares
@@ -119,69 +123,36 @@ module _ (p : Position) (g : Group) (pairs : List Pair) (t : Square) (board : is
         parts : PairParts p t are.pair
         parts = parts_at are.place are.pair are.is_at
 
-        on : (u : Square) → is_playable p u ≡ true → on_board (board_of q) u ≡ true
-        on u h = subst (λ b. on_board b u ≡ true) kept.board (and_parts (on_board (board_of p) u) _ h).0
+        tops : (are.pair.0 ≡ s) ⊎ (are.pair.1 ≡ s) → IsTop are.pair.0 × IsTop are.pair.1
+        tops one =
+            let heights = untouched are.place are.pair are.is_at one in (
+              is_top are.pair.0 parts.left parts.left_apart parts.left_odd heights.0,
+              is_top are.pair.1 parts.right parts.right_apart parts.right_odd heights.1,
+            )
 
-        by : ((are.pair.0 ≡ s) × (are.pair.1 ≡ v)) ⊎ ((are.pair.1 ≡ s) × (are.pair.0 ≡ v)) → Two v
-        by (inl both) =
-            let heights = untouched are.place are.pair are.is_at (inl both.0) in
-            let sc : are.pair.0.0 ≡ s.0 = ap (λ (u : Square). u.0) both.0 in
-            let vc : are.pair.1.0 ≡ v.0 = ap (λ (u : Square). u.0) both.1 in
-            let vr : are.pair.1.1 ≡ v.1 = ap (λ (u : Square). u.1) both.1 in
-            let sh : height q are.pair.0.0 ≡ height q s.0 = ap (height q) sc in
-            let vh : height q are.pair.1.0 ≡ height q v.0 = ap (height q) vc in
-            let top = (playable_parts p are.pair.1 parts.right).1 in
-            record {
-              place = are.place;
-              pair = are.pair;
-              is_at = are.is_at;
-              has_s = or_left _ _ (subst (λ u. same_square s u ≡ true) (sym both.0) (same_square_refl s));
-              left_in = inl sc;
-              right_in = inr vc;
-              s_in = or_left _ _ (eq-eqb are.pair.0.0 s.0 sc);
-              v_in = or_right _ _ (eq-eqb are.pair.1.0 v.0 vc);
-              v_one = inr both.1;
-              apart = λ same. omega (arith, parts.order, sc, vc, same);
-              s_apart = λ same. parts.left_apart (sc ∙ same);
-              v_apart = λ same. parts.right_apart (vc ∙ same);
-              s_odd = ap (λ n. n % 2) (sym sh ∙ heights.0) ∙ parts.left_odd;
-              v_odd = ap (λ n. n % 2) (sym vh ∙ heights.1) ∙ parts.right_odd;
-              v_row = omega (arith, top, vr, vh, heights.1);
-              v_on = subst (λ u. on_board (board_of q) u ≡ true) both.1 (on are.pair.1 parts.right);
-            }
-        by (inr both) =
-            let heights = untouched are.place are.pair are.is_at (inr both.0) in
-            let sc : are.pair.1.0 ≡ s.0 = ap (λ (u : Square). u.0) both.0 in
-            let vc : are.pair.0.0 ≡ v.0 = ap (λ (u : Square). u.0) both.1 in
-            let vr : are.pair.0.1 ≡ v.1 = ap (λ (u : Square). u.1) both.1 in
-            let sh : height q are.pair.1.0 ≡ height q s.0 = ap (height q) sc in
-            let vh : height q are.pair.0.0 ≡ height q v.0 = ap (height q) vc in
-            let top = (playable_parts p are.pair.0 parts.left).1 in
-            record {
-              place = are.place;
-              pair = are.pair;
-              is_at = are.is_at;
-              has_s = or_right _ _ (subst (λ u. same_square s u ≡ true) (sym both.0) (same_square_refl s));
-              left_in = inr vc;
-              right_in = inl sc;
-              s_in = or_right _ _ (eq-eqb are.pair.1.0 s.0 sc);
-              v_in = or_left _ _ (eq-eqb are.pair.0.0 v.0 vc);
-              v_one = inl both.1;
-              apart = λ same. omega (arith, parts.order, sc, vc, same);
-              s_apart = λ same. parts.right_apart (sc ∙ same);
-              v_apart = λ same. parts.left_apart (vc ∙ same);
-              s_odd = ap (λ n. n % 2) (sym sh ∙ heights.1) ∙ parts.right_odd;
-              v_odd = ap (λ n. n % 2) (sym vh ∙ heights.0) ∙ parts.left_odd;
-              v_row = omega (arith, top, vr, vh, heights.0);
-              v_on = subst (λ u. on_board (board_of q) u ≡ true) both.1 (on are.pair.0 parts.left);
-            }
+        column : (u w : Square) → u ≡ w → u.0 ≡ w.0
+        column u w same = ap (λ (x : Square). x.0) same
+
+        by : AreIts are.pair s v → Two v
+        by (inl both) = let top = tops (inl both.0) in record {
+          are = are;
+          apart = λ same. omega (arith, parts.order, column are.pair.0 s both.0, column are.pair.1 v both.1, same);
+          s_top = subst IsTop both.0 top.0;
+          v_top = subst IsTop both.1 top.1;
+        }
+        by (inr both) = let top = tops (inr both.0) in record {
+          are = are;
+          apart = λ same. omega (arith, parts.order, column are.pair.1 s both.0, column are.pair.0 v both.1, same);
+          s_top = subst IsTop both.0 top.1;
+          v_top = subst IsTop both.1 top.0;
+        }
 
     -- where s has no partner, its column had an even number of men, or is the target's
     even_below : partner pairs s ≡ None → s.0 ≢ t.0 → height q s.0 % 2 ≡ 0
     even_below none apart = elim (kept.columns s.0 apart) [
       | inl even ↦ even_gives (height q s.0) even
       | inr same ↦ elim (cases_Bool (is_odd (height p s.0))) [
-        | inl odd ↦ absurd (of_pair same (threat.paired s.0 column (ne_eqb s.0 t.0 apart) odd))
+        | inl odd ↦ absurd (in_none same (threat.paired s.0 column (ne_eqb s.0 t.0 apart) odd))
         | inr not_odd ↦ let parity = eqb-false (height p s.0 % 2) 1 not_odd in omega (arith, same, parity)
       ]
     ]
@@ -195,8 +166,8 @@ module _ (p : Position) (g : Group) (pairs : List Pair) (t : Square) (board : is
             let row : u.1 ≡ s.1 = omega (arith, (playable_parts p u first).1, s_row) in
             subst (λ v. same_square s v ≡ true) (sym (same_place u s at row)) (same_square_refl s)
 
-        of_pair : height q s.0 ≡ height p s.0 → SomePair pairs (λ x. is_in_column s.0 x ≡ true) → ⊥
-        of_pair same some =
+        in_none : height q s.0 ≡ height p s.0 → SomePair pairs (λ x. is_in_column s.0 x ≡ true) → ⊥
+        in_none same some =
             let parts = parts_at some.place some.pair some.is_at in
             let alone = no_partner pairs s none some.place some.pair some.is_at in
             elim (or_cases _ _ some.has_it) [
@@ -224,7 +195,8 @@ module _ (p : Position) (g : Group) (pairs : List Pair) (t : Square) (board : is
         by : (o : Option Square) → partner pairs s ≡ o → s.0 ≢ t.0 → (is_even s.1 && not (list_any (is_of_pair s) pairs)) ≡ false
         by None none apart = and_left _ _ (ne_eqb (s.1 % 2) 0 (λ even. omega (arith, even, s_row, even_below none apart)))
         by (Some v) some apart = let both = two v (partner_gives pairs s v some) in
-            and_right _ _ (not_from_true _ (any_from (is_of_pair s) pairs both.pair (get-Among pairs both.place both.pair both.is_at) both.has_s))
+            and_right _ _ (not_from_true _ (any_from (is_of_pair s) pairs both.are.pair (get-Among pairs both.are.place both.are.pair both.are.is_at)
+            (of_pair both.are.pair s v both.are.squares).0))
 
     safe_beside : (u : Square) → is_safe p t pairs u ≡ true → same_square u s ≡ false
     safe_beside u safe = false_from_ne_true _ (λ same.
@@ -384,22 +356,22 @@ module _ (p : Position) (g : Group) (pairs : List Pair) (t : Square) (board : is
         }
           where
             answered : is_playable now v ≡ true
-            answered = answer_at q s v playable both.v_on (other_column v s both.apart) (man_past (men_in q v.0) v.1 (omega (arith, both.v_row)))
-                (low_kept q s v playable (omega (arith, both.v_row)))
+            answered = answer_at q s v playable both.v_top.on_the_board (other_column v s both.apart) (man_past (men_in q v.0) v.1 (omega (arith, both.v_top.row)))
+                (low_kept q s v playable (omega (arith, both.v_top.row)))
 
             none : man_at (then_at v answered) t ≡ None
-            none = target_then v answered (other_column t v (λ same. both.v_apart (sym same)))
+            none = target_then v answered (other_column t v (λ same. both.v_top.beside_target (sym same)))
 
             odd : is_odd (height (then_at v answered) t.0) ≡ true
-            odd = ap is_odd (height_same v answered t.0 (λ same. both.s_apart (sym same)) (λ same. both.v_apart (sym same))) ∙ kept.odd
+            odd = ap is_odd (height_same v answered t.0 (λ same. both.s_top.beside_target (sym same)) (λ same. both.v_top.beside_target (sym same))) ∙ kept.odd
 
             s_even : is_even (height (then_at v answered) s.0) ≡ true
             s_even = even_from (height (then_at v answered) s.0)
-                (omega (arith, height_beside now v s.0 (λ same. both.apart (sym same)), height_here q s playable, both.s_odd))
+                (omega (arith, height_beside now v s.0 (λ same. both.apart (sym same)), height_here q s playable, both.s_top.odd_below))
 
             v_even : is_even (height (then_at v answered) v.0) ≡ true
             v_even = even_from (height (then_at v answered) v.0)
-                (omega (arith, height_here now v answered, height_beside q s v.0 both.apart, both.v_odd))
+                (omega (arith, height_here now v answered, height_beside q s v.0 both.apart, both.v_top.odd_below))
 
             even_at : (c : ℕ) → (c ≡ s.0) ⊎ (c ≡ v.0) → is_even (height (then_at v answered) c) ≡ true
             even_at c (inl here) = ap (λ n. is_even (height (then_at v answered) n)) here ∙ s_even
@@ -413,27 +385,37 @@ module _ (p : Position) (g : Group) (pairs : List Pair) (t : Square) (board : is
             white_in x (inr here) = inr (ap (has_man (then_at v answered) White) here ∙ v_white)
 
             -- another pair has neither of the two columns
-            other_pair : (i : ℕ) (x : Pair) → IsPairAt pairs i x → i ≢ both.place → (c : ℕ) → is_in_column c both.pair ≡ true → is_in_column c x ≡ true → ⊥
-            other_pair i x at beside_i c in_pair in_x = elim (cases_order i both.place) [
+            other_pair : (i : ℕ) (x : Pair) → IsPairAt pairs i x → i ≢ both.are.place → (c : ℕ) → is_in_column c both.are.pair ≡ true → is_in_column c x ≡ true → ⊥
+            other_pair i x at beside_i c in_pair in_x = elim (cases_order i both.are.place) [
               | inl same ↦ beside_i same
               | inr apart ↦ elim apart [
-                | inl before ↦ apart_columns x both.pair (threat.apart i both.place x both.pair before at both.is_at) c in_x in_pair
-                | inr behind ↦ apart_columns both.pair x (threat.apart both.place i both.pair x behind both.is_at at) c in_pair in_x
+                | inl before ↦ apart_columns x both.are.pair (threat.apart i both.are.place x both.are.pair before at both.are.is_at) c in_x in_pair
+                | inr behind ↦ apart_columns both.are.pair x (threat.apart both.are.place i both.are.pair x behind both.are.is_at at) c in_pair in_x
               ]
             ]
 
+            ins : (is_in_column s.0 both.are.pair ≡ true) × (is_in_column v.0 both.are.pair ≡ true)
+            ins = in_columns both.are.pair s v both.are.squares
+
+            columns : (c : ℕ) → is_in_column c both.are.pair ≡ true → (c ≡ s.0) ⊎ (c ≡ v.0)
+            columns c in_it = columns_of both.are.pair s v both.are.squares c in_it
+
             pairs_then : (i : ℕ) (x : Pair) → IsPairAt pairs i x → IsPairKept p (then_at v answered) x
-            pairs_then i x at = elim (cases_eq i both.place) [
-              | inl same ↦ let one : both.pair ≡ x = same_Some both.pair x (sym both.is_at ∙ ap (slice_get pairs) (sym same) ∙ at) in
+            pairs_then i x at = elim (cases_eq i both.are.place) [
+              | inl same ↦ let one : both.are.pair ≡ x = same_Some both.are.pair x (sym both.are.is_at ∙ ap (slice_get pairs) (sym same) ∙ at) in
                   subst (IsPairKept p (then_at v answered)) one
-                  (inr (even_at both.pair.0.0 both.left_in, even_at both.pair.1.0 both.right_in, white_in both.pair both.v_one))
+                  (inr (
+                  even_at both.are.pair.0.0 (columns both.are.pair.0.0 (left_in both.are.pair)),
+                  even_at both.are.pair.1.0 (columns both.are.pair.1.0 (right_in both.are.pair)),
+                  white_in both.are.pair (of_pair both.are.pair s v both.are.squares).1,
+                  ))
               | inr beside_i ↦ pair_beside v answered x
                   (height_same v answered x.0.0
-                  (λ same. other_pair i x at beside_i s.0 both.s_in (or_left _ _ (eq-eqb x.0.0 s.0 same)))
-                  (λ same. other_pair i x at beside_i v.0 both.v_in (or_left _ _ (eq-eqb x.0.0 v.0 same))))
+                  (λ same. other_pair i x at beside_i s.0 ins.0 (or_left _ _ (eq-eqb x.0.0 s.0 same)))
+                  (λ same. other_pair i x at beside_i v.0 ins.1 (or_left _ _ (eq-eqb x.0.0 v.0 same))))
                   (height_same v answered x.1.0
-                  (λ same. other_pair i x at beside_i s.0 both.s_in (or_right _ _ (eq-eqb x.1.0 s.0 same)))
-                  (λ same. other_pair i x at beside_i v.0 both.v_in (or_right _ _ (eq-eqb x.1.0 v.0 same))))
+                  (λ same. other_pair i x at beside_i s.0 ins.0 (or_right _ _ (eq-eqb x.1.0 s.0 same)))
+                  (λ same. other_pair i x at beside_i v.0 ins.1 (or_right _ _ (eq-eqb x.1.0 v.0 same))))
                   (kept.pairs_kept i x at)
             ]
 
