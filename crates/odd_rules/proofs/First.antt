@@ -402,5 +402,5 @@ unfolding first_threat
 first_before p g pairs is h others before = false_from_ne_true _ (λ passes.
     let some = threat_gives p h others passes in
     let none = (first_by_before p (groups_of (board_of p)) g pairs (groups_in_order (board_of p)) is).1 h
-        (Among-groups (board_of p) h some.2.lacks.line) before in
+    (Among-groups (board_of p) h some.2.lacks.line) before in
     both_ways (is_threat p h others) (threat_by_none p h none others) passes)

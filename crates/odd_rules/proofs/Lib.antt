@@ -6,3 +6,4 @@ pub mod Tests
 pub mod First
 pub mod Refusals
 pub mod Theorems
+pub mod RefusalWords

@@ -356,7 +356,8 @@ module _ (p : Position) (g : Group) (pairs : List Pair) (t : Square) (board : is
         }
           where
             answered : is_playable now v ≡ true
-            answered = answer_at q s v playable both.v_top.on_the_board (other_column v s both.apart) (man_past (men_in q v.0) v.1 (omega (arith, both.v_top.row)))
+            answered = answer_at q s v playable both.v_top.on_the_board (other_column v s both.apart)
+                (man_past (men_in q v.0) v.1 (omega (arith, both.v_top.row)))
                 (low_kept q s v playable (omega (arith, both.v_top.row)))
 
             none : man_at (then_at v answered) t ≡ None
@@ -385,7 +386,8 @@ module _ (p : Position) (g : Group) (pairs : List Pair) (t : Square) (board : is
             white_in x (inr here) = inr (ap (has_man (then_at v answered) White) here ∙ v_white)
 
             -- another pair has neither of the two columns
-            other_pair : (i : ℕ) (x : Pair) → IsPairAt pairs i x → i ≢ both.are.place → (c : ℕ) → is_in_column c both.are.pair ≡ true → is_in_column c x ≡ true → ⊥
+            other_pair : (i : ℕ) (x : Pair) → IsPairAt pairs i x → i ≢ both.are.place → (c : ℕ) → is_in_column c both.are.pair ≡ true
+                → is_in_column c x ≡ true → ⊥
             other_pair i x at beside_i c in_pair in_x = elim (cases_order i both.are.place) [
               | inl same ↦ beside_i same
               | inr apart ↦ elim apart [
@@ -405,9 +407,9 @@ module _ (p : Position) (g : Group) (pairs : List Pair) (t : Square) (board : is
               | inl same ↦ let one : both.are.pair ≡ x = same_Some both.are.pair x (sym both.are.is_at ∙ ap (slice_get pairs) (sym same) ∙ at) in
                   subst (IsPairKept p (then_at v answered)) one
                   (inr (
-                  even_at both.are.pair.0.0 (columns both.are.pair.0.0 (left_in both.are.pair)),
-                  even_at both.are.pair.1.0 (columns both.are.pair.1.0 (right_in both.are.pair)),
-                  white_in both.are.pair (of_pair both.are.pair s v both.are.squares).1,
+                    even_at both.are.pair.0.0 (columns both.are.pair.0.0 (left_in both.are.pair)),
+                    even_at both.are.pair.1.0 (columns both.are.pair.1.0 (right_in both.are.pair)),
+                    white_in both.are.pair (of_pair both.are.pair s v both.are.squares).1,
                   ))
               | inr beside_i ↦ pair_beside v answered x
                   (height_same v answered x.0.0

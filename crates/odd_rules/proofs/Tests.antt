@@ -52,9 +52,9 @@ target_gives p g t h = elim (chosen (lies_on (board_of p) g) (find (is_target p 
         odd_column = column.1;
         others = λ u in_line apart. elim
             (or_cases _ _ (all_gives (λ u. same_square u t || has_man p White u) (squares_of g) u white.1 (has_gives (squares_of g) u in_line))) [
-          | inl same ↦ absurd (both_ways (same_square u t) apart same)
-          | inr man ↦ man
-        ];
+              | inl same ↦ absurd (both_ways (same_square u t) apart same)
+              | inr man ↦ man
+            ];
       }
 ]
 
@@ -85,16 +85,16 @@ target_from p g t is = cond-true (lies_on (board_of p) g) (find (is_target p g) 
 -- ---- the pairs
 
 -- each of a list is a pair, and no two share a column, also with those before the list
-record Good (p : Position) (t : Square) (earlier xs : List Pair) : Type 0 where
-  each : (i : ℕ) (x : Pair) → IsPairAt xs i x → is_pair p t x ≡ true
-  new : (i : ℕ) (x y : Pair) → Among y earlier → IsPairAt xs i x → share_column x y ≡ false
-  apart : (i j : ℕ) (x y : Pair) → i < j → IsPairAt xs i x → IsPairAt xs j y → share_column y x ≡ false
+pub record Good (p : Position) (t : Square) (earlier xs : List Pair) : Type 0 where
+  pub each : (i : ℕ) (x : Pair) → IsPairAt xs i x → is_pair p t x ≡ true
+  pub new : (i : ℕ) (x y : Pair) → Among y earlier → IsPairAt xs i x → share_column x y ≡ false
+  pub apart : (i j : ℕ) (x y : Pair) → i < j → IsPairAt xs i x → IsPairAt xs j y → share_column y x ≡ false
 
-share_turned : (x y : Pair) → share_column x y ≡ false → share_column y x ≡ false
+pub share_turned : (x y : Pair) → share_column x y ≡ false → share_column y x ≡ false
 share_turned x y apart = false_from_ne_true _ (λ shared.
     let common = share_gives y x shared in both_ways (share_column x y) apart (share_from x y common.0 common.2 common.1))
 
-good_gives : (p : Position) (t : Square) (earlier : List Pair) (n : ℕ) (xs : List Pair) → bad_pair p t earlier n xs ≡ None → Good p t earlier xs
+pub good_gives : (p : Position) (t : Square) (earlier : List Pair) (n : ℕ) (xs : List Pair) → bad_pair p t earlier n xs ≡ None → Good p t earlier xs
 good_gives p t earlier n [] h = record {
   each = λ i x at. absurd (cc at);
   new = λ i x y among at. absurd (cc at);
@@ -124,7 +124,7 @@ good_gives p t earlier n (z ∷ zs) h =
             ∙ rest.new j y z (Among-append_right z earlier (z ∷ []) (inl refl)) right
         apart (suc i) (suc j) x y order left right = rest.apart i j x y (omega arith) left right
 
-good_from : (p : Position) (t : Square) (earlier : List Pair) (n : ℕ) (xs : List Pair) → Good p t earlier xs → bad_pair p t earlier n xs ≡ None
+pub good_from : (p : Position) (t : Square) (earlier : List Pair) (n : ℕ) (xs : List Pair) → Good p t earlier xs → bad_pair p t earlier n xs ≡ None
 good_from p t earlier n [] good = refl
 good_from p t earlier n (z ∷ zs) good =
     cond-true (is_pair p t z && not (list_any (share_column z) earlier)) (bad_pair p t (earlier ++ z ∷ []) (n + 1) zs) (Some n)

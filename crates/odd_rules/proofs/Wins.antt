@@ -42,7 +42,7 @@ module _ (p : Position) (g : Group) (pairs : List Pair) (t : Square) (board : is
   stands_along [] q r stands h = subst (Stands p t pairs) (same_Some q r h) stands
   stands_along (column ∷ columns) q r (inl won) h =
       absurd (cc (sym (cond-false (is_legal q column) (option_and_then (λ next. after_turns pairs next columns) (after_turn pairs q column)) None
-          (won_over q won column)) ∙ h))
+      (won_over q won column)) ∙ h))
   stands_along (column ∷ columns) q r (inr kept) h =
       elim (chosen (is_legal q column) (option_and_then (λ next. after_turns pairs next columns) (after_turn pairs q column)) None (Some r) h) [
         | inr illegal ↦ absurd (cc illegal.1)
@@ -69,13 +69,13 @@ module _ (p : Position) (g : Group) (pairs : List Pair) (t : Square) (board : is
       → threat_duel pairs q (column ∷ columns) ≡ q ∷ after_move q column ∷ threat_duel pairs (answered_move pairs q column) columns
   duel_opens q column columns legal going =
       cond-true (is_legal q column) (q ∷ after_move q column ∷ option_map_or (λ next. threat_duel pairs next columns) (after_turn pairs q column) [])
-          (q ∷ []) legal
+      (q ∷ []) legal
       ∙ ap (λ o. q ∷ after_move q column ∷ option_map_or (λ next. threat_duel pairs next columns) o []) (turn_is pairs q column going)
 
   duel_stops : (q : Position) (column : ℕ) (columns : List ℕ) → is_legal q column ≡ false → threat_duel pairs q (column ∷ columns) ≡ q ∷ []
   duel_stops q column columns illegal =
       cond-false (is_legal q column) (q ∷ after_move q column ∷ option_map_or (λ next. threat_duel pairs next columns) (after_turn pairs q column) [])
-          (q ∷ []) illegal
+      (q ∷ []) illegal
 
   list_opens : (q : Position) (column : ℕ) (columns : List ℕ) → is_playable_list pairs q (column ∷ columns) ≡ true → end_of (after_move q column) ≡ None
       → is_playable_list pairs (answered_move pairs q column) columns ≡ true

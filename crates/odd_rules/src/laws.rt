@@ -8,7 +8,7 @@ ghost use Rattle.game_rules.specs.declared.Side.TheVariants as sides;
 ghost use Rattle.game_rules.specs.declared.End.TheVariants as ends;
 ghost use Rattle.odd_rules.specs.Threat.{Pair, target, is_threat, IsThreat};
 ghost use Rattle.odd_rules.specs.Duel.{after_turns, threat_duel, is_playable_list, Stands, IsAnswered, IsTurn, IsHeld};
-ghost use Rattle.odd_rules.specs.Refusal.{threat_refusal, first_threat};
+ghost use Rattle.odd_rules.specs.Refusal.{ThreatFault, threat_refusal, first_threat, IsRefusal};
 
 /// A threat in words of squares and lines.
 pub fn a_threat_in_words()
@@ -62,4 +62,12 @@ pub fn the_first_threat()
 /// A group and a list of pairs have no refusal exactly where they are a threat.
 pub fn what_is_not_refused_is_a_threat()
     ensures { (p : Position) (g : Group) (pairs : List Pair) → is_none (threat_refusal p g pairs) ≡ is_threat p g pairs }
+{}
+
+/// They are refused for a fault exactly where the fault's own condition holds and that of no fault before it: White is
+/// to move; the game has ended; the group has no target; the first member that is no pair or shares a column with an
+/// earlier one; the first column, from the left, with an odd number of men that is in no pair; the first group, in
+/// group order, without a White man that has no safe square and no whole pair.
+pub fn each_refusal_in_words()
+    ensures { (p : Position) (g : Group) (pairs : List Pair) (fault : ThreatFault) → (threat_refusal p g pairs ≡ Some fault) ↔ IsRefusal p g pairs fault }
 {}
