@@ -70,6 +70,13 @@ class Board:
                 return True
         return False
 
+    def image(self, men):
+        """The men seen from the other side: column a is the last one, and so on."""
+        image = 0
+        for i in range(self.cols):
+            image = image << self.step | men >> self.step * i & (1 << self.step) - 1
+        return image
+
     def name_of(self, bit):
         i, up = divmod(bit.bit_length() - 1, self.step)
         return "%s%d" % (self.letters[i], up + 1)
@@ -338,9 +345,10 @@ class List:
 class Checker:
     """The lemmas so far, and whether a further line is right."""
 
-    def __init__(self, board, white, black, end):
+    def __init__(self, board, white, black, end, version=1):
         self.board = board
         self.shift = board.size
+        self.version = version
         self.root = (white | black << board.size, white | black, end)
         self.is_white = bin(white | black).count("1") % 2 == 0
         self.verdict = None
@@ -354,7 +362,7 @@ class Checker:
         number = rb"([1-9][0-9]{0,7})"
         self.lemma_form = re.compile(
             number + rb" (-|" + letter + rb"{1,100}) ([WB][+-]) (?:(end)|one (" + letter + rb") " + number +
-            rb"|all((?: " + letter + rb":[1-9][0-9]{0,7}){1,10})|plan((?: [!-~]+){1,300}))"
+            rb"|all((?: " + letter + rb":[1-9][0-9]{0,7}){1,10})|plan((?: [!-~]+){1,300})|mirror " + number + rb")"
         )
         self.verdict_form = re.compile(
             rb"value (?:(win|loss) " + number + rb"|draw " + number + rb" " + number + rb"|(unknown))"
@@ -368,11 +376,13 @@ class Checker:
         found = self.lemma_form.fullmatch(line)
         if found is None:
             return self.add_other(line)
-        number, path, claim, end, column, cited, cites, plan = found.groups()
+        number, path, claim, end, column, cited, cites, plan, image = found.groups()
         # A line behind the verdict has the same name as one that is no form, so the two need not be told apart.
         if self.verdict is not None or int(number) != len(self.lemmas) or len(self.lemmas) > GREATEST_NUMBER:
             return "BadLine"
-        if column is not None:
+        if image is not None:
+            reason = [(None, int(image))] if self.version == 2 else None
+        elif column is not None:
             reason = [(column[0] - 97, int(cited))]
         elif cites is not None:
             reason = [(item[0] - 97, int(item[2:])) for item in cites[1:].split(b" ")]
@@ -387,6 +397,8 @@ class Checker:
         mark = CLAIMS[claim]
         if end is not None:
             fault = self.end_fault(place[2], mark)
+        elif image is not None:
+            fault = self.image_fault(place[0], mark, int(image))
         elif plan is None:
             fault = self.cites_fault(place, is_white, mark, column is not None, reason)
         else:
@@ -400,6 +412,15 @@ class Checker:
             return "WrongPosition"
         side, wins = "BW"[mark >> 1], mark & 1
         return "WrongClaim" if (over == side) != wins else None
+
+    def image_fault(self, key, mark, n):
+        if n >= len(self.lemmas):
+            return "NoSuchLemma"
+        board = self.board
+        there, claimed = divmod(self.lemmas[n], 4)
+        if board.image(there & board.all) | board.image(there >> self.shift) << self.shift != key:
+            return "WrongPosition"
+        return None if claimed == mark else "WrongClaim"
 
     def cites_fault(self, place, is_white, mark, is_one, cites):
         key, men, over = place
@@ -618,6 +639,8 @@ CLAIMS = {b"W+": 3, b"W-": 2, b"B+": 1, b"B-": 0}
 # ---------------------------------------------------------------------------------------------------------------------
 # The text.
 
+VERSIONS = {b"victor 1": 1, b"victor 2": 2}
+
 
 def lines_in(source):
     """The lines with their line feeds. A line that is too long is given as far as it was read, and is the last."""
@@ -644,13 +667,13 @@ def lines_in(source):
 def check(source):
     """The line that an accepted proof is answered with."""
     lines = lines_in(source)
-    first = next(lines, None)
-    if first is None or first.removesuffix(b"\n") != b"victor 1":
+    version = VERSIONS.get(next(lines, b"").removesuffix(b"\n"))
+    if version is None:
         raise Refused(1, "BadLine")
     game = next(lines, b"")
     if game.endswith(b"\n"):
         game += next(lines, b"")
-    checker = Checker(*read_game(game))
+    checker = Checker(*read_game(game), version)
     number = 3
     for number, line in enumerate(lines, 4):
         line = line.removesuffix(b"\n")

@@ -364,7 +364,9 @@ def draw_duel(size, shown, is_text):
 # ---------------------------------------------------------------------------------------------------------------------
 # A proof as a page.
 
-LEMMA = re.compile(r"([1-9][0-9]*) (-|[a-j]+) ([WB][+-]) (end|one [a-j] [0-9]+|all(?: [a-j]:[0-9]+)+|plan(?: [!-~]+)+)")
+FORMATS = ("victor 1", "victor 2")
+LEMMA = re.compile(r"([1-9][0-9]*) (-|[a-j]+) ([WB][+-]) "
+                   r"(end|one [a-j] [0-9]+|all(?: [a-j]:[0-9]+)+|plan(?: [!-~]+)+|mirror [0-9]+)")
 CITED = re.compile(r"(?:[a-j]:| [a-j] )([0-9]+)")
 
 
@@ -373,8 +375,8 @@ def read_proof(text):
     lines = text.split("\n")
     if lines and not lines[-1]:
         lines.pop()
-    if len(lines) < 3 or lines[0] != "victor 1":
-        raise Fault("this is no proof: the first line isn't `victor 1`")
+    if len(lines) < 3 or lines[0] not in FORMATS:
+        raise Fault("this is no proof: the first line is neither `victor 1` nor `victor 2`")
     game = boards.read_game("\n".join(lines[1:3]))
     lemmas, verdict = [], []
     for n, line in enumerate(lines[3:], 4):
@@ -393,6 +395,8 @@ def cites_of(line):
     words = line.split(" ", 4)
     if words[3] == "one":
         return [int(words[4].split(" ")[1])]
+    if words[3] == "mirror":
+        return [int(words[4])]
     return [int(item[2:]) for item in words[4].split(" ")] if words[3] == "all" else []
 
 

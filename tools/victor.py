@@ -38,6 +38,8 @@ MOST_REACH = 1_000_000
 MOST_TRIED = 2_000_000
 MAYBE_SCORE = "%r may be a score and no move: moves as digits stand in one word, or with commas between them"
 FIRST_TOLD = 2.0  # seconds after which `tell` is called for the first time
+FORMATS = (b"victor 1\n", b"victor 2\n")
+LONGEST_HEAD = 16  # bytes of a first line, and more
 TAIL = 1 << 16  # bytes that hold the last lines of a proof
 
 
@@ -594,9 +596,9 @@ def proof_in(path: pathlib.Path, game: Game, status: int, is_kept: bool) -> Proo
 
 def require_game(proof: Text, game: Game) -> None:
     """The first three lines of a proof are those of this game."""
-    head = b"victor 1\n" + game.text().encode()
+    head = game.text().encode()
     with file_of(proof) as source:
-        if source.read(len(head)) != head:
+        if source.readline(LONGEST_HEAD) not in FORMATS or source.read(len(head)) != head:
             raise OtherGame
 
 
@@ -623,8 +625,8 @@ def prove_by_move(game: Game, column: int, after: Proof, into: Optional[Path] = 
     letter, number, cited = LETTERS[column].encode(), 0, b""
     with place_for(into) as path:
         with file_of(after.source) as source, open(path, "wb") as out:
-            out.write(b"victor 1\n" + game.text().encode())
-            for line in itertools.islice(source, 3, None):
+            out.write(source.readline() + game.text().encode())
+            for line in itertools.islice(source, 2, None):
                 words = line.split(b" ", 2)
                 if words[0] == b"value":
                     cited = words[2].strip()
