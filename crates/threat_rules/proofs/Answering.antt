@@ -80,7 +80,8 @@ answer_after threat now last board is moved = from (threat_gives threat.at threa
     last_is = ap (λ r. (last.0, r)) (sym moved.row)
 
     from : (t : Square) → target threat.at threat.group ≡ Some t → IsAnswer threat now (answer_of threat.pairs last)
-    from t lacks = by (threat_answers threat.at threat.group threat.pairs t moved.reached.columns moved.earlier last.0 board is lacks moved.reached.leads moved.legal)
+    from t lacks = by (threat_answers threat.at threat.group threat.pairs t moved.reached.columns moved.earlier last.0 board is lacks moved.reached.leads
+        moved.legal)
       where
         by : IsAnswered threat.at t threat.pairs moved.earlier last.0 → IsAnswer threat now (answer_of threat.pairs last)
         by answered =

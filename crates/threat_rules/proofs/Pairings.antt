@@ -6,11 +6,11 @@ use Rattle.std.specs.List.{list_all, slice_get, find, flat_map, remove}
 use Rattle.std.specs.Option.{option_map, option_or, option_and_then}
 use Rattle.std.specs.Result.{result_ok, IfOk}
 use Rattle.std.proofs.lemmas.Bool.{cases_Bool, and_parts, and_from, ltb-true, lt-ltb, cond-true, cond-false}
-use Rattle.std.proofs.lemmas.List.{at_drop_more, append-nil, take_all, map-id}
+use Rattle.std.proofs.lemmas.List.{at_drop_more, append-nil, length-append, take_all, map-id}
 use Rattle.std.proofs.Math.ListN.{drop_of_length-le}
 use Rattle.std.proofs.lemmas.List.Elements.{filter-append}
 use Rattle.std.proofs.lemmas.List.FromFn.{length-range_with_len}
-use Rattle.std.proofs.lemmas.Option.{slice_get_within, get_or_from_slice_get, same_Some}
+use Rattle.std.proofs.lemmas.Option.{slice_get_within, slice_get_read, get_or_from_slice_get, same_Some}
 use Rattle.game_rules.specs.Board.{Square, below, is_board}
 use Rattle.game_rules.specs.Position.{Position, board_of, height, has_room, IsStacked}
 use Rattle.game_rules.specs.Groups.{Group, groups_of}
@@ -43,6 +43,45 @@ find_append test (x ∷ xs) ys = elim (cases_Bool (test x)) [
 map_append : {X Y : Type 0} (f : X → Y) (xs ys : List X) → map f (xs ++ ys) ≡ map f xs ++ map f ys
 map_append f [] ys = refl
 map_append f (x ∷ xs) ys = ap (λ zs. f x ∷ zs) (map_append f xs ys)
+
+-- ---- columns from the left
+
+pub ascends_parts : (p : Position) (c : ℕ) (cs : List ℕ) → ascends p (c ∷ cs) ≡ true
+    → (has_room p c ≡ true) × ((d : ℕ) → Among d cs → c < d) × (ascends p cs ≡ true)
+ascends_parts p c cs h =
+    let both = and_parts _ (ascends p cs) h in let first = and_parts (has_room p c) (list_all (nat_lt c) cs) both.0 in
+    (first.0, (λ d among. ltb-true c d (all_gives (nat_lt c) cs d first.1 among)), both.1)
+
+pub ascends_from : (p : Position) (cs : List ℕ) → Ordered (λ a b. a < b) cs → ((c : ℕ) → Among c cs → has_room p c ≡ true) → ascends p cs ≡ true
+ascends_from p [] order room = refl
+ascends_from p (c ∷ cs) order room = and_from _ _ (and_from _ _ (room c (inl refl)) (all_from (nat_lt c) cs (λ d among. lt-ltb c d (order.0 d among))))
+    (ascends_from p cs order.1 (λ d among. room d (inr among)))
+
+pub ascends_room : (p : Position) (cs : List ℕ) → ascends p cs ≡ true → (c : ℕ) → Among c cs → has_room p c ≡ true
+ascends_room p [] h c among = absurd among
+ascends_room p (d ∷ cs) h c (inl same) = subst (λ e. has_room p e ≡ true) same (ascends_parts p d cs h).0
+ascends_room p (d ∷ cs) h c (inr later) = ascends_room p cs (ascends_parts p d cs h).2 c later
+
+remove_among : (cs : List ℕ) (i d : ℕ) → Among d (remove cs i) → Among d cs
+remove_among [] zero d among = among
+remove_among [] (suc i) d among = among
+remove_among (c ∷ cs) zero d among = inr among
+remove_among (c ∷ cs) (suc i) d (inl same) = inl same
+remove_among (c ∷ cs) (suc i) d (inr later) = inr (remove_among cs i d later)
+
+pub ascends_remove : (p : Position) (cs : List ℕ) (i : ℕ) → ascends p cs ≡ true → ascends p (remove cs i) ≡ true
+ascends_remove p [] zero h = refl
+ascends_remove p [] (suc i) h = refl
+ascends_remove p (c ∷ cs) zero h = (ascends_parts p c cs h).2
+ascends_remove p (c ∷ cs) (suc i) h =
+    let parts = ascends_parts p c cs h in
+    and_from _ _ (and_from _ _ parts.0 (all_from (nat_lt c) (remove cs i) (λ d among. lt-ltb c d (parts.1 d (remove_among cs i d among)))))
+    (ascends_remove p cs i parts.2)
+
+pub remove_length : (cs : List ℕ) (i : ℕ) → i < length cs → length (remove cs i) + 1 ≡ length cs
+remove_length [] i within = absurd (omega arith)
+remove_length (c ∷ cs) zero within = omega arith
+remove_length (c ∷ cs) (suc i) within = let rest = remove_length cs i (omega arith) in omega arith
 
 -- ---- the pairings with one first column
 
@@ -90,7 +129,7 @@ picks_length (c ∷ cs) = ap suc (mapped (picks cs) ∙ picks_length cs)
     mapped (q ∷ ps) = ap suc (mapped ps)
 
 -- one choice of a partner, and then the others
-pub tried_step : (p : Position) (g : Group) (pairs more : List Pair) (n c i d : ℕ) (cs others : List ℕ) → slice_get cs i ≡ Some d
+tried_step : (p : Position) (g : Group) (pairs more : List Pair) (n c i d : ℕ) (cs others : List ℕ) → slice_get cs i ≡ Some d
     → more ≡ pairs ++ tops p c d ∷ [] → others ≡ remove cs i
     → tried p g pairs n c (drop i (picks cs)) ≡ option_or (found_with p g more n others) (tried p g pairs n c (drop (i + 1) (picks cs)))
 tried_step p g pairs more n c i d cs others at more_is others_are =
@@ -110,20 +149,30 @@ none_mapped : {A B : Type 0} (f : A → B) (o rest : Option A) → is_some (opti
 none_mapped f None rest h = refl
 none_mapped f (Some x) rest h = absurd (cc h)
 
-pub step_found : (p : Position) (g : Group) (pairs more : List Pair) (n c i d : ℕ) (cs others : List ℕ) (result : Option Threatened) → slice_get cs i ≡ Some d
-    → more ≡ pairs ++ tops p c d ∷ [] → others ≡ remove cs i → result ≡ option_map (threat_with p g) (found_with p g more n others) → is_some result ≡ true
-    → result ≡ option_map (threat_with p g) (tried p g pairs n c (drop i (picks cs)))
-step_found p g pairs more n c i d cs others result at more_is others_are is some =
-    is
-    ∙ some_mapped (threat_with p g) (found_with p g more n others) (tried p g pairs n c (drop (i + 1) (picks cs))) (ap is_some (sym is) ∙ some)
-    ∙ ap (option_map (threat_with p g)) (sym (tried_step p g pairs more n c i d cs others at more_is others_are))
+-- the answer with one more pair and the others, for whatever fuel is enough
+abbrev Answered : Position → Group → List Pair → List ℕ → Option Threatened → Type 0
+Answered p g pairs cs result = (n : ℕ) → length cs ≤ n → result ≡ option_map (threat_with p g) (found_with p g pairs n cs)
 
-pub step_none : (p : Position) (g : Group) (pairs more : List Pair) (n c i d : ℕ) (cs others : List ℕ) (result : Option Threatened) → slice_get cs i ≡ Some d
-    → more ≡ pairs ++ tops p c d ∷ [] → others ≡ remove cs i → result ≡ option_map (threat_with p g) (found_with p g more n others) → is_some result ≡ false
-    → tried p g pairs n c (drop (i + 1) (picks cs)) ≡ tried p g pairs n c (drop i (picks cs))
-step_none p g pairs more n c i d cs others result at more_is others_are is none =
-    sym (none_mapped (threat_with p g) (found_with p g more n others) (tried p g pairs n c (drop (i + 1) (picks cs))) (ap is_some (sym is) ∙ none))
-    ∙ sym (tried_step p g pairs more n c i d cs others at more_is others_are)
+-- the partner at a place, with what was answered for it
+module _ (p : Position) (g : Group) (pairs more : List Pair) (c i d : ℕ) (cs others : List ℕ) (result : Option Threatened) (within : i < length cs)
+    (is : d ≡ get_or cs i d) (more_is : more ≡ pairs ++ tops p c d ∷ []) (others_are : others ≡ remove cs i) (answered : Answered p g more others result) where
+  one_step : (n : ℕ) → tried p g pairs n c (drop i (picks cs)) ≡ option_or (found_with p g more n others) (tried p g pairs n c (drop (i + 1) (picks cs)))
+  one_step n = tried_step p g pairs more n c i d cs others (slice_get_read cs (length cs) i d refl within is) more_is others_are
+
+  enough : (n : ℕ) → length cs ≤ n → result ≡ option_map (threat_with p g) (found_with p g more n others)
+  enough n low = answered n (omega (arith, ap length others_are, remove_length cs i within))
+
+  pub step_found : is_some result ≡ true → (n : ℕ) → length cs ≤ n → result ≡ option_map (threat_with p g) (tried p g pairs n c (drop i (picks cs)))
+  step_found some n low =
+      enough n low
+      ∙ some_mapped (threat_with p g) (found_with p g more n others) (tried p g pairs n c (drop (i + 1) (picks cs))) (ap is_some (sym (enough n low)) ∙ some)
+      ∙ ap (option_map (threat_with p g)) (sym (one_step n))
+
+  pub step_none : is_some result ≡ false → (n : ℕ) → length cs ≤ n → tried p g pairs n c (drop (i + 1) (picks cs)) ≡ tried p g pairs n c (drop i (picks cs))
+  step_none none n low =
+      sym (none_mapped (threat_with p g) (found_with p g more n others) (tried p g pairs n c (drop (i + 1) (picks cs)))
+      (ap is_some (sym (enough n low)) ∙ none))
+      ∙ sym (one_step n)
 
 -- behind all choices nothing is left
 pub tried_all : (p : Position) (g : Group) (pairs : List Pair) (n c i : ℕ) (cs : List ℕ) → length cs ≤ i → tried p g pairs n c (drop i (picks cs)) ≡ None
@@ -152,46 +201,9 @@ checked p g pairs (Err f) fault is n =
     let whole : is_threat p g (pairs ++ []) ≡ false = ap (is_threat p g) (append-nil pairs) ∙ fails in
     rw whole refl
 
--- ---- columns from the left
+-- ---- the columns that are paired
 
-pub ascends_parts : (p : Position) (c : ℕ) (cs : List ℕ) → ascends p (c ∷ cs) ≡ true
-    → (has_room p c ≡ true) × ((d : ℕ) → Among d cs → c < d) × (ascends p cs ≡ true)
-ascends_parts p c cs h =
-    let both = and_parts _ (ascends p cs) h in let first = and_parts (has_room p c) (list_all (nat_lt c) cs) both.0 in
-    (first.0, (λ d among. ltb-true c d (all_gives (nat_lt c) cs d first.1 among)), both.1)
-
-pub ascends_from : (p : Position) (cs : List ℕ) → Ordered (λ a b. a < b) cs → ((c : ℕ) → Among c cs → has_room p c ≡ true) → ascends p cs ≡ true
-ascends_from p [] order room = refl
-ascends_from p (c ∷ cs) order room = and_from _ _ (and_from _ _ (room c (inl refl)) (all_from (nat_lt c) cs (λ d among. lt-ltb c d (order.0 d among))))
-    (ascends_from p cs order.1 (λ d among. room d (inr among)))
-
-pub ascends_room : (p : Position) (cs : List ℕ) → ascends p cs ≡ true → (c : ℕ) → Among c cs → has_room p c ≡ true
-ascends_room p [] h c among = absurd among
-ascends_room p (d ∷ cs) h c (inl same) = subst (λ e. has_room p e ≡ true) same (ascends_parts p d cs h).0
-ascends_room p (d ∷ cs) h c (inr later) = ascends_room p cs (ascends_parts p d cs h).2 c later
-
-remove_among : (cs : List ℕ) (i d : ℕ) → Among d (remove cs i) → Among d cs
-remove_among [] zero d among = among
-remove_among [] (suc i) d among = among
-remove_among (c ∷ cs) zero d among = inr among
-remove_among (c ∷ cs) (suc i) d (inl same) = inl same
-remove_among (c ∷ cs) (suc i) d (inr later) = inr (remove_among cs i d later)
-
-pub ascends_remove : (p : Position) (cs : List ℕ) (i : ℕ) → ascends p cs ≡ true → ascends p (remove cs i) ≡ true
-ascends_remove p [] zero h = refl
-ascends_remove p [] (suc i) h = refl
-ascends_remove p (c ∷ cs) zero h = (ascends_parts p c cs h).2
-ascends_remove p (c ∷ cs) (suc i) h =
-    let parts = ascends_parts p c cs h in
-    and_from _ _ (and_from _ _ parts.0 (all_from (nat_lt c) (remove cs i) (λ d among. lt-ltb c d (parts.1 d (remove_among cs i d among)))))
-    (ascends_remove p cs i parts.2)
-
-pub remove_length : (cs : List ℕ) (i : ℕ) → i < length cs → length (remove cs i) + 1 ≡ length cs
-remove_length [] i within = absurd (omega arith)
-remove_length (c ∷ cs) zero within = omega arith
-remove_length (c ∷ cs) (suc i) within = let rest = remove_length cs i (omega arith) in omega arith
-
--- columns with an odd number of men have room
+-- those with an odd number of men have room
 pub odd_ascends : (p : Position) (t : Square) → is_board (board_of p) ≡ true → IsStacked p → ascends p (odd_columns p t) ≡ true
 odd_ascends p t board stacked =
     ascends_from p (odd_columns p t)
@@ -222,9 +234,18 @@ pub rest_parts : (p : Position) (cs : List ℕ) (c : ℕ) → 1 ≤ length cs �
     → (has_room p c ≡ true) × ((d : ℕ) → Among d (rest_of cs) → c < d) × (ascends p (rest_of cs) ≡ true)
 rest_parts p cs c some first order = ascends_parts p c (rest_of cs) (ap (ascends p) (sym (columns_are cs c some first)) ∙ order)
 
-pub rest_room : (p : Position) (cs : List ℕ) (c i d : ℕ) → 1 ≤ length cs → c ≡ get_or cs 0 c → ascends p cs ≡ true → slice_get (rest_of cs) i ≡ Some d
-    → has_room p d ≡ true
-rest_room p cs c i d some first order at = ascends_room p (rest_of cs) (rest_parts p cs c some first order).2 d (get-Among (rest_of cs) i d at)
+pub rest_room : (p : Position) (cs : List ℕ) (c i d : ℕ) → 1 ≤ length cs → c ≡ get_or cs 0 c → ascends p cs ≡ true → i < length (rest_of cs)
+    → d ≡ get_or (rest_of cs) i d → has_room p d ≡ true
+rest_room p cs c i d some first order within is = ascends_room p (rest_of cs) (rest_parts p cs c some first order).2 d
+    (get-Among (rest_of cs) i d (slice_get_read (rest_of cs) (length (rest_of cs)) i d refl within is))
+
+-- how many columns and pairs there are with one more pair
+pub rest_fewer : (p : Position) (cs others : List ℕ) (pairs more : List Pair) (c i : ℕ) (x : Pair) → 1 ≤ length cs → c ≡ get_or cs 0 c
+    → i < length (rest_of cs) → others ≡ remove (rest_of cs) i → more ≡ pairs ++ x ∷ [] → (length others + 2 ≡ length cs) × (length more ≡ length pairs + 1)
+rest_fewer p cs others pairs more c i x some first within others_are more_is = (
+  omega (arith, ap length (columns_are cs c some first), remove_length (rest_of cs) i within, ap length others_are),
+  ap length more_is ∙ length-append pairs (x ∷ []),
+)
 
 pub rest_opened : (p : Position) (g : Group) (pairs : List Pair) (cs : List ℕ) (c : ℕ) (result : Option Threatened) → 1 ≤ length cs → c ≡ get_or cs 0 c
     → ((n : ℕ) → length (rest_of cs) ≤ n → result ≡ option_map (threat_with p g) (tried p g pairs n c (picks (rest_of cs))))
@@ -315,8 +336,10 @@ first_of_all p gs result are is = is ∙ ap (λ gs. option_map (threat_found p) 
 -- there is none exactly where no group is one
 pub none_is : (p : Position) (result : Option Threatened) → result ≡ option_map (threat_found p) (first_threat p)
     → (result ≡ None) ↔ ((g : Group) (pairs : List Pair) → is_threat p g pairs ≡ false)
-none_is p result is = ((λ none. (first_missing p).0 (unmapped (first_threat p) (sym is ∙ none))),
-    (λ none. is ∙ ap (option_map (threat_found p)) ((first_missing p).1 none)))
+none_is p result is = (
+  (λ none. (first_missing p).0 (unmapped (first_threat p) (sym is ∙ none))),
+  (λ none. is ∙ ap (option_map (threat_found p)) ((first_missing p).1 none)),
+)
   where
     unmapped : (o : Option (Group × List Pair)) → option_map (threat_found p) o ≡ None → o ≡ None
     unmapped None h = refl

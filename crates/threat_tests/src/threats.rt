@@ -67,7 +67,10 @@ fn what_is_no_threat_is_refused(rt: HostRuntime) -> Result<(), Fail> {
         let group = level(&p, row).ok_or("no group")?;
         let pair = top_pair(&p).ok_or("no pair")?;
         let list = [pair, pair];
-        assert_eq!(rt; Threat::check(&p, group, &list[..pairs.min(list.len())]).err(), fault);
+        assert_eq!(rt;
+            Threat::check(&p, group, &list[..pairs.min(list.len())]).err(),
+            fault
+        );
     }
     Ok(())
 }

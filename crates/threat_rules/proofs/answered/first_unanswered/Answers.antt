@@ -12,7 +12,7 @@ returns-then-not-is_covered c =
     let at = slice_get_read gs (length gs) c.loop-g.g-index c.g-item.result refl c.loop-g-test.true c.g-item.is in
     sym (find_here (is_bare p t xs) gs c.loop-g.g-index c.g-item.result at
     (sym (bare_is p t xs c.g-item.result c.safe_squares-safe.result c.safe_squares-safe.ensures)
-        ∙ ap not (sym c.is_covered.ensures ∙ c.if-not-is_covered.true)))
+    ∙ ap not (sym c.is_covered.ensures ∙ c.if-not-is_covered.true)))
     ∙ c.loop-g.invariant
     ∙ first_open p t xs gs (c.as_slice-g-items.ensures.value ∙ c.groups-groups.ensures ∙ c.free_for.ensures.in_order)
 
@@ -22,7 +22,7 @@ loop-g-preserved c =
     let at = slice_get_read gs (length gs) c.loop-g.g-index c.g-item.result refl c.loop-g-test.true c.g-item.is in
     sym (find_next (is_bare p t xs) gs c.loop-g.g-index c.g-item.result at
     (sym (bare_is p t xs c.g-item.result c.safe_squares-safe.result c.safe_squares-safe.ensures)
-        ∙ ap not (sym c.is_covered.ensures ∙ c.if-not-is_covered.false)))
+    ∙ ap not (sym c.is_covered.ensures ∙ c.if-not-is_covered.false)))
     ∙ c.loop-g.invariant
 
 pub returns : goal.returns

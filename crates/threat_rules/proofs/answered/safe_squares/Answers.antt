@@ -14,4 +14,5 @@ returns c =
     let rest = rest_set p t pairs c.empties-empties.result c.odd_rows-odd_rows.result c.column-column.result c.squares_of_pairs.result c.without.result
     c.union-2.result c.without-elsewhere.result c.empties-empties.ensures c.odd_rows-odd_rows.ensures column c.squares_of_pairs.ensures c.without.ensures
     c.union-2.ensures c.without-elsewhere.ensures in
-    safe_set p t pairs c.intersection-in_column.result c.without-elsewhere.result c.union-3.result c.has_a_board.ensures.board c.requires cut rest c.union-3.ensures
+    safe_set p t pairs c.intersection-in_column.result c.without-elsewhere.result c.union-3.result c.has_a_board.ensures.board c.requires cut rest
+    c.union-3.ensures
