@@ -10,6 +10,7 @@ use Rattle.proof_text.specs.Spelling.{lines_of}
 use Rattle.proof_text.proofs.Append.{AreRight_append}
 use Rattle.deep_search.specs.Search.{Moment, AppendsLemmas, Solves}
 use Rattle.deep_search.specs.Lists.{EndsIn, FitsMoment, Continues}
+use Rattle.proof_text.specs.declared.Version.{Version}
 use Rattle.deep_search.specs.declared.solving.Answer.{Answer}
 use Rattle.deep_search.specs.declared.solving.SearchStop.{SearchStop}
 use Rattle.proof_text.proofs.Written.{lemmas_append, lemmas_map, entries_append, entries_map}
@@ -29,10 +30,11 @@ ends_behind list ls (Some was) (Some bytes) stands ends = (
       ∙ ap (λ xs. ends.0 ++ xs) (sym (entries_append list (map LemmaEntry ls))),
 )
 
-pub continues : (root p : Position) (question : Question) (reach : ℕ) (list : List Entry) (shown : List Shown) (old new : Moment) (before count : ℕ)
+pub continues : (root p : Position) (question : Question) (reach : ℕ) (version : Version) (list : List Entry) (shown : List Shown) (old new : Moment)
+    (before count : ℕ)
     (result : Result Answer SearchStop) → EndsIn list old.bytes → FitsMoment root before list shown old
-    → Solves root p question reach shown old new count result → Continues root p question reach list shown old new count result
-continues root p question reach list shown old new before count result ends fits solves = record {
+    → Solves root p question reach version shown old new count result → Continues root p question reach version list shown old new count result
+continues root p question reach version list shown old new before count result ends fits solves = record {
   more = solves.wrote.more;
   now_shown = solves.wrote.shown;
   text = solves.wrote.text;

@@ -1,5 +1,5 @@
 -- What the search rests on where it answers by a plan, and where there is none.
-use Rattle.std.proofs.Common.{◌≡◌, ◌↔◌, ℕ, true, false, List, Option, Some, None, IfSome, is_none, refl, sym, ap, ◌∙◌, subst, inl, inr}
+use Rattle.std.proofs.Common.{◌≡◌, ◌↔◌, ℕ, true, false, List, Option, Some, None, IfSome, is_none, is_some, refl, sym, ap, ◌∙◌, subst, inl, inr}
 use Rattle.std.proofs.lemmas.Bool.{cases_Bool, and_parts}
 use Rattle.game_rules.specs.Position.{Position, played, end_of, same_side, side_to_move}
 use Rattle.game_rules.specs.Value.{wins}
@@ -13,7 +13,7 @@ use Rattle.game_rules.specs.contracts.QuestionPartialEq.TheImpl as question_eq
 use Rattle.plan_rules.specs.Rules.{RuleInstance}
 use Rattle.plan_rules.specs.Plan.{is_plan}
 use Rattle.game_rules.proofs.Moves.{same_side_is}
-use Rattle.proof_text.specs.Lemma.{claim_side, claim_for, Reason, ByEnd, ByOne, ByAll, ByPlan, Lemma}
+use Rattle.proof_text.specs.Lemma.{claim_side, claim_for, Reason, ByEnd, ByOne, ByAll, ByPlan, ByMirror, Lemma}
 use Rattle.proof_text.specs.Right.{Shown, HasReason}
 use Rattle.walk_rules.specs.Walk.{solved, Chosen, gave, no_plan, spent, choice_of, is_given}
 use Rattle.walk_rules.proofs.Choices.{choice_words, solved_is, solved_going, solved_not_won}
@@ -55,6 +55,13 @@ ended_open k White p end ended = elim (cases_Bool (solved p k)) [
     going_ended None h going = cc
     going_ended (Some other) h going = cc
 
+pub some_open : (k : ℕ) (side : Side) (p : Position) → is_some (end_of p) ≡ true → solved_within k side p ≡ false
+some_open k side p some = of_end (end_of p) refl some
+  where
+    of_end : (e : Option End) → end_of p ≡ e → is_some e ≡ true → solved_within k side p ≡ false
+    of_end None h some = cc
+    of_end (Some end) h some = ended_open k side p end h
+
 -- the side doesn't win at a solved position
 pub solved_lost : (k : ℕ) (side : Side) (p : Position) → solved_within k side p ≡ true → false ≡ wins side p
 solved_lost k Black p h = cc
@@ -85,6 +92,7 @@ plan_by : (reason : Reason) (ws : List RuleInstance) → plan_in reason ≡ Some
 plan_by ByEnd ws h = cc
 plan_by (ByOne cite) ws h = cc
 plan_by (ByAll cites) ws h = cc
+plan_by (ByMirror n) ws h = cc
 plan_by (ByPlan list) ws h = let same : list ≡ ws = cc in ap ByPlan same
 
 pub planned_words : (k : ℕ) (root p : Position) (l : Lemma) (ws : List RuleInstance) → played root l.path ≡ Some p → IsPlanned k root l

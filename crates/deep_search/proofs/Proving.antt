@@ -21,7 +21,7 @@ use Rattle.game_rules.specs.declared.Question.{Question}
 use Rattle.game_rules.specs.declared.Side.{Side}
 use Rattle.game_rules.specs.declared.Side.TheVariants.{White, Black}
 use Rattle.proof_text.specs.declared.Claim.{Claim}
-use Rattle.proof_text.specs.Lemma.{claim_side, claim_for, claim_of_end, agrees, Reason, ByEnd, ByOne, ByAll, Lemma}
+use Rattle.proof_text.specs.Lemma.{claim_side, claim_for, claim_of_end, agrees, Reason, ByEnd, ByOne, ByAll, Lemma, has_reason}
 use Rattle.proof_text.specs.Right.{Shown, Shows, IsCited, goes_by_one, HasReason, AreRight}
 use Rattle.proof_text.specs.Spelling.{lemma_line, members_in, IsShort}
 use Rattle.plan_text.proofs.Spaced.{all_append}
@@ -36,6 +36,7 @@ use Rattle.deep_search.proofs.News.{new_nothing, new_then}
 use Rattle.deep_search.proofs.Cut.{one_lemma, lemmas_then}
 use Rattle.deep_search.proofs.Moves.{other_from_apart}
 use Rattle.deep_search.proofs.Below.{below_raised, below_both, limit_least, limit_most}
+use Rattle.proof_text.specs.declared.Version.{Version}
 use Rattle.deep_search.specs.declared.solving.Answer.{Answer}
 use Rattle.deep_search.specs.declared.solving.SearchStop.{SearchStop}
 use Rattle.deep_search.specs.declared.solving.SearchStop.TheVariants.{Spent, WriteFault}
@@ -100,16 +101,17 @@ limit_after p question won count before after (Err Spent) (cut, same) = absurd (
 limit_after p question won count before after (Err WriteFault) (cut, same) = omega arith
 
 -- a lemma that is right behind what is known
-pub right_lemma : (root p : Position) (question : Question) (reach : ℕ) (won : Bool) (said : Claim) (known : List Shown) (path : List ℕ) (reason : Reason)
+pub right_lemma : (root p : Position) (question : Question) (reach : ℕ) (version : Version) (won : Bool) (said : Claim) (known : List Shown) (path : List ℕ)
+    (reason : Reason)
     (old new : Moment) (count counted : ℕ) (result : Result Answer SearchStop)
     → said ≡ claim_for (side_asked question) won → played root path ≡ Some p → length known ≡ count → FitsTable old.table known
     → held old.table p question ≡ None
     → HasReason known p (claim_for (side_asked question) won) reason → plan_in reason ≡ plan_for reach (side_asked question) p
-    → length (members_in reason) ≤ MOST_MEMBERS
+    → length (members_in reason) ≤ MOST_MEMBERS → has_reason version reason ≡ true
     → AppendsPrefix (is_whole result) old.bytes new.bytes (lemma_line (record { number = count + 1; path = path; claim = said; reason = reason }))
     → counted + uncounted result ≡ count + 1 → IsDetermined won count result
-    → IsAfter p question won count old.table new.table result → Solves root p question reach known old new counted result
-right_lemma root p question reach won said known path reason old new count counted result is_said along many fits absent right planned short stands number
+    → IsAfter p question won count old.table new.table result → Solves root p question reach version known old new counted result
+right_lemma root p question reach version won said known path reason old new count counted result is_said along many fits absent right planned short had stands number
     answer
     after = record {
       wrote = record {
@@ -120,7 +122,7 @@ right_lemma root p question reach won said known path reason old new count count
             (ap (λ claim. lemma_line (record { number = count + 1; path = path; claim = claim; reason = reason })) is_said) stands);
         right = (p, record { next = ap (λ n. n + 1) (sym many); along = along; reason = right }, refl);
         counted = omega (arith, length-append known ((p, claim_for (side_asked question) won) ∷ []), number, many);
-        sided = ((side_claimed (side_asked question) won, short), tt);
+        sided = ((side_claimed (side_asked question) won, short, had), tt);
         planned = (
           subst (λ at. IfSome at (λ q. plan_in reason ≡ plan_for reach (claim_side (claim_for (side_asked question) won)) q)) (sym along)
               (planned ∙ ap (λ side. plan_for reach side p) (sym (side_claimed (side_asked question) won))),
@@ -143,10 +145,11 @@ pub same_itself : (t : Entries) → HasSame t t
 same_itself t = record { entries = λ p question. refl; whole = refl }
 
 -- nothing was written, and the table has what it had
-abbrev pub wrote_nothing : (root : Position) (question : Question) (reach : ℕ) (known : List Shown) (bytes : Option (List ℕ)) (before after : Entries)
+abbrev pub wrote_nothing : (root : Position) (question : Question) (reach : ℕ) (version : Version) (known : List Shown) (bytes : Option (List ℕ))
+    (before after : Entries)
     (total : ℕ) → HasSame before after → FitsTable before known → length known ≡ total
-    → Wrote true root question reach known (moment before bytes) (moment after bytes) total
-wrote_nothing root question reach known bytes before after total same fits many = record {
+    → Wrote true root question reach version known (moment before bytes) (moment after bytes) total
+wrote_nothing root question reach version known bytes before after total same fits many = record {
   more = [];
   shown = [];
   text = Appends-nil bytes;
@@ -160,32 +163,34 @@ wrote_nothing root question reach known bytes before after total same fits many 
 }
 
 -- what the table has answers the question
-pub solves_found : (root p : Position) (question : Question) (reach : ℕ) (known : List Shown) (bytes : Option (List ℕ)) (before after : Entries) (count : ℕ)
+pub solves_found : (root p : Position) (question : Question) (reach : ℕ) (version : Version) (known : List Shown) (bytes : Option (List ℕ))
+    (before after : Entries) (count : ℕ)
     (f : Found) → HasSame before after → FitsTable before known → held before p question ≡ Some f
-    → length known ≡ count → Solves root p question reach known (moment before bytes) (moment after bytes) count
+    → length known ≡ count → Solves root p question reach version known (moment before bytes) (moment after bytes) count
     (Ok (record { yes = f.answer; lemma = f.lemma }))
-solves_found root p question reach known bytes before after count f same fits there many = record {
-  wrote = wrote_nothing root question reach known bytes before after (count + 0) same fits (omega (arith, many));
+solves_found root p question reach version known bytes before after count f same fits there many = record {
+  wrote = wrote_nothing root question reach version known bytes before after (count + 0) same fits (omega (arith, many));
   below = tt;
   named = subst (λ all. Shows all f.lemma p (claim_for (side_asked question) f.answer)) (sym (append-nil known)) (fits p question f there);
 }
 
 -- a search that takes nothing from the budget writes nothing
-pub solves_spent : {root : Position} {question : Question} {reach : ℕ} {known : List Shown} {bytes : Option (List ℕ)} {table : Entries} {count : ℕ}
+pub solves_spent : {root : Position} {question : Question} {reach : ℕ} {version : Version} {known : List Shown} {bytes : Option
+    (List ℕ)} {table : Entries} {count : ℕ}
     (p : Position)
-    → length known ≡ count → FitsTable table known → Solves root p question reach known (moment table bytes) (moment table bytes) count (Err Spent)
-solves_spent {root} {question} {reach} {known} {bytes} {table} {count} p many fits = record {
-  wrote = wrote_nothing root question reach known bytes table table (count + 0) (same_itself table) fits (omega (arith, many));
+    → length known ≡ count → FitsTable table known → Solves root p question reach version known (moment table bytes) (moment table bytes) count (Err Spent)
+solves_spent {root} {question} {reach} {version} {known} {bytes} {table} {count} p many fits = record {
+  wrote = wrote_nothing root question reach version known bytes table table (count + 0) (same_itself table) fits (omega (arith, many));
   below = tt;
   named = tt;
 }
 
 -- what was written after a look-up was written after the moment before it
-pub solves_entered : (root p : Position) (question : Question) (reach : ℕ) (known : List Shown) (old mid new : Moment) (count : ℕ)
+pub solves_entered : (root p : Position) (question : Question) (reach : ℕ) (version : Version) (known : List Shown) (old mid new : Moment) (count : ℕ)
     (result : Result Answer SearchStop)
-    → HasSame old.table mid.table → mid.bytes ≡ old.bytes → Solves root p question reach known mid new count result
-    → Solves root p question reach known old new count result
-solves_entered root p question reach known old mid new count result same bytes rest = record {
+    → HasSame old.table mid.table → mid.bytes ≡ old.bytes → Solves root p question reach version known mid new count result
+    → Solves root p question reach version known old new count result
+solves_entered root p question reach version known old mid new count result same bytes rest = record {
   wrote = record {
     more = rest.wrote.more;
     shown = rest.wrote.shown;
@@ -204,10 +209,10 @@ solves_entered root p question reach known old mid new count result same bytes r
 }
 
 -- what stands after some lemmas, and more behind them
-module _ (root : Position) (question : Question) (reach : ℕ) (known : List Shown) (old mid new : Moment) (middle : ℕ)
-    (first : Wrote true root question reach known old mid middle) where
-  abbrev pub then_wrote : (whole : Bool) (count total : ℕ) → count ≡ total → Wrote whole root question reach (known ++ first.shown) mid new count
-      → Wrote whole root question reach known old new total
+module _ (root : Position) (question : Question) (reach : ℕ) (version : Version) (known : List Shown) (old mid new : Moment) (middle : ℕ)
+    (first : Wrote true root question reach version known old mid middle) where
+  abbrev pub then_wrote : (whole : Bool) (count total : ℕ) → count ≡ total → Wrote whole root question reach version (known ++ first.shown) mid new count
+      → Wrote whole root question reach version known old new total
   then_wrote whole count total same rest = record {
     more = first.more ++ rest.more;
     shown = first.shown ++ rest.shown;
@@ -215,7 +220,8 @@ module _ (root : Position) (question : Question) (reach : ℕ) (known : List Sho
     right = subst (AreRight root known (first.more ++ rest.more)) (append_assoc known first.shown rest.shown)
         (AreRight_append root known (known ++ first.shown) ((known ++ first.shown) ++ rest.shown) first.more rest.more first.right rest.right);
     counted = ap length (sym (append_assoc known first.shown rest.shown)) ∙ rest.counted ∙ same;
-    sided = all_append (λ l. (claim_side l.claim ≡ side_asked question) × IsShort l) first.more rest.more first.sided rest.sided;
+    sided = all_append (λ l. (claim_side l.claim ≡ side_asked question) × IsShort l
+        × (has_reason version l.reason ≡ true)) first.more rest.more first.sided rest.sided;
     planned = all_append (IsPlanned reach root) first.more rest.more first.planned rest.planned;
     fits = subst (FitsTable new.table) (append_assoc known first.shown rest.shown) rest.fits;
     stays = stays_then old.table mid.table new.table first.stays rest.stays;
@@ -223,7 +229,7 @@ module _ (root : Position) (question : Question) (reach : ℕ) (known : List Sho
   }
 
   pub then_solves : (p : Position) (count : ℕ) (result : Result Answer SearchStop) → AreBelow (limit_of p result) first.shown
-      → Solves root p question reach (known ++ first.shown) mid new count result → Solves root p question reach known old new count result
+      → Solves root p question reach version (known ++ first.shown) mid new count result → Solves root p question reach version known old new count result
   then_solves p count result below rest = record {
     wrote = then_wrote (is_whole result) (count + uncounted result) (count + uncounted result) refl rest.wrote;
     below = below_both (limit_of p result) first.shown rest.wrote.shown below rest.below;
@@ -233,8 +239,8 @@ module _ (root : Position) (question : Question) (reach : ℕ) (known : List Sho
 
   -- a search that stopped behind a move shows nothing of the position
   pub then_stopped : (p q : Position) (count : ℕ) (stop : SearchStop) → empty_count q + 1 ≡ empty_count p → AreBelow (empty_count p) first.shown
-      → Solves root q question reach (known ++ first.shown) mid new count (Err stop)
-      → Solves root p question reach known old new count (Err stop)
+      → Solves root q question reach version (known ++ first.shown) mid new count (Err stop)
+      → Solves root p question reach version known old new count (Err stop)
   then_stopped p q count stop fewer below rest = record {
     wrote = then_wrote (is_whole (Err stop)) (count + uncounted (Err stop)) (count + uncounted (Err stop)) refl rest.wrote;
     below = below_raised (empty_count p) (limit_of p (Err stop)) (first.shown ++ rest.wrote.shown) (limit_least p (Err stop))
@@ -246,27 +252,29 @@ module _ (root : Position) (question : Question) (reach : ℕ) (known : List Sho
 -- ---- after some of the moves
 
 -- The moves before place i were searched, and none decided: each has a lemma, whose number stands at its column.
-pub record SoFar (root p : Position) (question : Question) (reach : ℕ) (own : Bool) (known : List Shown) (old new : Moment) (count : ℕ) (numbers order : List ℕ)
+pub record SoFar (root p : Position) (question : Question) (reach : ℕ) (version : Version) (own : Bool) (known : List Shown) (old new : Moment) (count : ℕ)
+    (numbers order : List ℕ)
     (i : ℕ) : Type 0 where
-  pub wrote : Wrote true root question reach known old new count
+  pub wrote : Wrote true root question reach version known old new count
   pub below : AreBelow (empty_count p) wrote.shown
   pub moves : (k c : ℕ) → k < i → get_or order k 0 ≡ c → has_room p c ≡ true
       → Shows (known ++ wrote.shown) (get_or numbers c 0) (after_move p c) (claim_for (side_asked question) (not own))
 
-module _ (root p : Position) (question : Question) (reach : ℕ) (own : Bool) (known : List Shown) where
+module _ (root p : Position) (question : Question) (reach : ℕ) (version : Version) (own : Bool) (known : List Shown) where
   pub so_far_start : (bytes : Option (List ℕ)) (before after : Entries) (count : ℕ) (numbers order : List ℕ) → HasSame before after → FitsTable before known
       → length known ≡ count
-      → SoFar root p question reach own known (moment before bytes) (moment after bytes) count numbers order 0
+      → SoFar root p question reach version own known (moment before bytes) (moment after bytes) count numbers order 0
   so_far_start bytes before after count numbers order same fits many = record {
-    wrote = wrote_nothing root question reach known bytes before after count same fits many;
+    wrote = wrote_nothing root question reach version known bytes before after count same fits many;
     below = tt;
     moves = λ k c low _ _. absurd (omega arith);
   }
 
-  module _ (old mid : Moment) (count : ℕ) (numbers order : List ℕ) (i c : ℕ) (so_far : SoFar root p question reach own known old mid count numbers order i)
+  module _ (old mid : Moment) (count : ℕ) (numbers order : List ℕ) (i c : ℕ)
+      (so_far : SoFar root p question reach version own known old mid count numbers order i)
       (at : get_or order i 0 ≡ c) where
     -- a full column has no move
-    pub so_far_full : has_room p c ≡ false → SoFar root p question reach own known old mid count numbers order (i + 1)
+    pub so_far_full : has_room p c ≡ false → SoFar root p question reach version own known old mid count numbers order (i + 1)
     so_far_full full = record {
       wrote = so_far.wrote;
       below = so_far.below;
@@ -278,10 +286,10 @@ module _ (root p : Position) (question : Question) (reach : ℕ) (own : Bool) (k
 
     -- a move that doesn't decide
     pub so_far_more : (new : Moment) (counted : ℕ) (answer : Answer) (result : Result Answer SearchStop) → result ≡ Ok answer → has_room p c ≡ true
-        → c < length numbers → (answer.yes ≡ own → ⊥) → Solves root (after_move p c) question reach (known ++ so_far.wrote.shown) mid new counted result
-        → SoFar root p question reach own known old new counted (set numbers c answer.lemma) order (i + 1)
+        → c < length numbers → (answer.yes ≡ own → ⊥) → Solves root (after_move p c) question reach version (known ++ so_far.wrote.shown) mid new counted result
+        → SoFar root p question reach version own known old new counted (set numbers c answer.lemma) order (i + 1)
     so_far_more new counted answer result was room within apart child = answered
-        (subst (λ r. Solves root (after_move p c) question reach (known ++ so_far.wrote.shown) mid new counted r) was child)
+        (subst (λ r. Solves root (after_move p c) question reach version (known ++ so_far.wrote.shown) mid new counted r) was child)
       where
         other : answer.yes ≡ not own
         other = other_from_apart answer.yes own apart
@@ -294,10 +302,10 @@ module _ (root p : Position) (question : Question) (reach : ℕ) (own : Bool) (k
             Shows_more (known ++ so_far.wrote.shown) more (get_or numbers d 0) (after_move p d) (claim_for (side_asked question) (not own))
             (so_far.moves k d before place room)
 
-        answered : Solves root (after_move p c) question reach (known ++ so_far.wrote.shown) mid new counted (Ok answer)
-            → SoFar root p question reach own known old new counted (set numbers c answer.lemma) order (i + 1)
+        answered : Solves root (after_move p c) question reach version (known ++ so_far.wrote.shown) mid new counted (Ok answer)
+            → SoFar root p question reach version own known old new counted (set numbers c answer.lemma) order (i + 1)
         answered rest = record {
-          wrote = then_wrote root question reach known old mid new count so_far.wrote true (counted + 0) counted (omega arith) rest.wrote;
+          wrote = then_wrote root question reach version known old mid new count so_far.wrote true (counted + 0) counted (omega arith) rest.wrote;
           below = below_both (empty_count p) so_far.wrote.shown rest.wrote.shown so_far.below
               (below_raised (empty_count (after_move p c) + 1) (empty_count p) rest.wrote.shown (omega (arith, empty_count_moved p c room)) rest.below);
           moves = λ k d low place room. subst
@@ -373,11 +381,12 @@ place_among x (y ∷ ys) (inl same) = (0, omega arith, same)
 place_among x (y ∷ ys) (inr later) = let rest = place_among x ys later in (suc rest.0, omega arith, rest.2)
 
 -- after all moves, each playable column has its lemma
-pub all_moves : (root p : Position) (question : Question) (reach : ℕ) (own : Bool) (known : List Shown) (old mid : Moment) (count : ℕ) (numbers order : List ℕ)
+pub all_moves : (root p : Position) (question : Question) (reach : ℕ) (version : Version) (own : Bool) (known : List Shown) (old mid : Moment) (count : ℕ)
+    (numbers order : List ℕ)
     (i : ℕ)
-    (so_far : SoFar root p question reach own known old mid count numbers order i) → length order ≤ i → order ≡ centre_out (length p.columns)
+    (so_far : SoFar root p question reach version own known old mid count numbers order i) → length order ≤ i → order ≡ centre_out (length p.columns)
     → (c : ℕ) → Among c (open_columns p) → Shows (known ++ so_far.wrote.shown) (get_or numbers c 0) (after_move p c) (claim_for (side_asked question) (not own))
-all_moves root p question reach own known old mid count numbers order i so_far all is_order c among =
+all_moves root p question reach version own known old mid count numbers order i so_far all is_order c among =
     let open' = Among-filter_gives (has_room p) (below (length p.columns)) c among in
     let place = place_among c order (subst (Among c) (sym is_order) (Among-centre_out (length p.columns) c (Among-below_gives (length p.columns) c open'.0))) in
     let low : place.0 < length order = place.1 in
@@ -424,52 +433,52 @@ played_more root (d ∷ path) p c along going room = elim (chosen (is_legal root
 
 -- ---- the position's own lemma, behind those of its moves
 
-module _ {root p : Position} {question : Question} {reach : ℕ} {own : Bool} {known : List Shown} {old mid : Moment} {count : ℕ} {numbers order : List ℕ} {i : ℕ}
-    (so_far : SoFar root p question reach own known old mid count numbers order i) (going : end_of p ≡ None)
+module _ {root p : Position} {question : Question} {reach : ℕ} {version : Version} {own : Bool} {known : List Shown} {old mid : Moment} {count : ℕ} {numbers order : List ℕ} {i : ℕ}
+    (so_far : SoFar root p question reach version own known old mid count numbers order i) (going : end_of p ≡ None)
     (is_own : own ≡ same_side (side_asked question) (side_to_move p)) where
   -- the search after a move stopped
   pub stopped_by_move : (c : ℕ) {new : Moment} {counted : ℕ} {stop : SearchStop} {child result : Result Answer SearchStop} → has_room p c ≡ true
       → child ≡ Err stop
       → result ≡ Err stop
-      → Solves root (after_move p c) question reach (known ++ so_far.wrote.shown) mid new counted child
-      → Solves root p question reach known old new counted result
+      → Solves root (after_move p c) question reach version (known ++ so_far.wrote.shown) mid new counted child
+      → Solves root p question reach version known old new counted result
   stopped_by_move c {new} {counted} {stop} room was is_stop solves =
-      rw is_stop (then_stopped root question reach known old mid new count so_far.wrote p (after_move p c) counted stop (empty_count_moved p c room)
+      rw is_stop (then_stopped root question reach version known old mid new count so_far.wrote p (after_move p c) counted stop (empty_count_moved p c room)
       so_far.below
-      (subst (λ r. Solves root (after_move p c) question reach (known ++ so_far.wrote.shown) mid new counted r) was solves))
+      (subst (λ r. Solves root (after_move p c) question reach version (known ++ so_far.wrote.shown) mid new counted r) was solves))
 
   pub closed_by_one : (c : ℕ) {next new : Moment} {counted last : ℕ} {found : Answer} {child result : Result Answer SearchStop} → child ≡ Ok found
       → has_room p c ≡ true
-      → found.yes ≡ own → Solves root (after_move p c) question reach (known ++ so_far.wrote.shown) mid next counted child
+      → found.yes ≡ own → Solves root (after_move p c) question reach version (known ++ so_far.wrote.shown) mid next counted child
       → ((also : List Shown) → length also ≡ counted → FitsTable next.table also
       → HasReason also p (claim_for (side_asked question) own) (ByOne (record { column = c; lemma = found.lemma }))
-      → Solves root p question reach also next new last result)
-      → Solves root p question reach known old new last result
+      → Solves root p question reach version also next new last result)
+      → Solves root p question reach version known old new last result
   closed_by_one c {next} {new} {counted} {last} {found} {child} {result} was room same solves tell =
       let fewer : empty_count (after_move p c) + 1 ≡ empty_count p = empty_count_moved p c room in
-      let all = then_solves root question reach known old mid next count so_far.wrote (after_move p c) counted (Ok found)
+      let all = then_solves root question reach version known old mid next count so_far.wrote (after_move p c) counted (Ok found)
       (below_raised (empty_count p) (empty_count (after_move p c) + 1) so_far.wrote.shown (omega (arith, fewer)) so_far.below)
-      (subst (λ r. Solves root (after_move p c) question reach (known ++ so_far.wrote.shown) mid next counted r) was solves) in
+      (subst (λ r. Solves root (after_move p c) question reach version (known ++ so_far.wrote.shown) mid next counted r) was solves) in
       let also = known ++ all.wrote.shown in
       let shown : Shows also found.lemma (after_move p c) (claim_for (side_asked question) own) =
       subst (λ won. Shows also found.lemma (after_move p c) (claim_for (side_asked question) won)) same all.named in
       let many : length also ≡ counted = omega (arith, all.wrote.counted) in
-      then_solves root question reach known old next new (counted + 0) all.wrote p last result
+      then_solves root question reach version known old next new (counted + 0) all.wrote p last result
       (below_raised (empty_count (after_move p c) + 1) (limit_of p result) all.wrote.shown (omega (arith, fewer, limit_least p result)) all.below)
       (tell also many all.wrote.fits (one_reason p (side_asked question) own going is_own also c found.lemma room shown))
 
   pub closed_by_all : {new : Moment} {last : ℕ} {result : Result Answer SearchStop} → length order ≤ i → order ≡ centre_out (length p.columns)
       → ((also : List Shown) → length also ≡ count → FitsTable mid.table also
       → HasReason also p (claim_for (side_asked question) (not own)) (ByAll (cites_from numbers (open_columns p)))
-      → Solves root p question reach also mid new last result)
-      → Solves root p question reach known old new last result
+      → Solves root p question reach version also mid new last result)
+      → Solves root p question reach version known old new last result
   closed_by_all {new} {last} {result} all is_order tell =
       let also = known ++ so_far.wrote.shown in
-      then_solves root question reach known old mid new count so_far.wrote p last result
+      then_solves root question reach version known old mid new count so_far.wrote p last result
       (below_raised (empty_count p) (limit_of p result) so_far.wrote.shown (limit_least p result) so_far.below)
       (tell also so_far.wrote.counted so_far.wrote.fits
       (all_reason p (side_asked question) own going is_own also numbers
-      (all_moves root p question reach own known old mid count numbers order i so_far all is_order)))
+      (all_moves root p question reach version own known old mid count numbers order i so_far all is_order)))
 
 -- a column that was taken from the end of a path
 pub path_back : (path longer shorter : List ℕ) (c : ℕ) → longer ≡ path ++ c ∷ [] → shorter ≡ take (length longer - 1) longer → shorter ≡ path

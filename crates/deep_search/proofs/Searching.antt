@@ -18,6 +18,7 @@ use Rattle.proof_text.specs.Spelling.{longest_path}
 use Rattle.deep_search.specs.Planned.{solved_within}
 use Rattle.deep_search.specs.Search.{cites_from, Stand, Searched, Moment, Solves}
 use Rattle.deep_search.specs.Tables.{FitsTable, IsTrueTable, OnlyBelow}
+use Rattle.proof_text.specs.declared.Version.{Version}
 use Rattle.deep_search.specs.declared.solving.Answer.{Answer}
 use Rattle.deep_search.specs.declared.solving.SearchStop.{SearchStop}
 use Rattle.deep_search.proofs.Tables.{below_same, below_then}
@@ -51,7 +52,8 @@ stop_is {r = r} err = let found = err_from_is_err_and r err in found.1 ∙ ap (�
 -- ---- what the search keeps
 
 -- The moves before place i were searched, and none decided.
-pub record Searching (question : Question) (reach : ℕ) (p : Position) (own : Bool) (order first : List ℕ) (was : Stand) (old : Moment) (path : List ℕ)
+pub record Searching (question : Question) (reach : ℕ) (version : Version) (p : Position) (own : Bool) (order first : List ℕ) (was : Stand) (old : Moment)
+    (path : List ℕ)
     (now : Stand) (new : Moment) (numbers : List ℕ) (i : ℕ) : Type 0 where
   pub asked : IsAsked (solved_within reach) (side_asked question) p own
   pub in_order : order ≡ centre_out (length p.columns)
@@ -65,14 +67,14 @@ pub record Searching (question : Question) (reach : ℕ) (p : Position) (own : B
   pub same_path : path ≡ first
   pub ten : length numbers ≡ 10
   pub wrote : (root : Position) (known : List Shown) → played root first ≡ Some p → length known ≡ was.lemmas → FitsTable old.table known
-      → SoFar root p question reach own known old new now.lemmas numbers order i
+      → SoFar root p question reach version own known old new now.lemmas numbers order i
 
 -- before the first move
-pub starts : {question : Question} {reach : ℕ} {p : Position} {own : Bool} {order first : List ℕ} {was : Stand} {old : Moment} {numbers : List ℕ}
+pub starts : {question : Question} {reach : ℕ} {version : Version} {p : Position} {own : Bool} {order first : List ℕ} {was : Stand} {old : Moment} {numbers : List ℕ}
     {asked to_move : Side} → end_of p ≡ None → solved_within reach (side_asked question) p ≡ false → own ≡ eq-value.it asked to_move
     → asked ≡ side_asked question → to_move ≡ side_to_move p → order ≡ centre_out (length p.columns) → IsTrueTable old.table was.lemmas
-    → length numbers ≡ 10 → Searching question reach p own order first was old first was old numbers 0
-starts {question} {reach} {p} {own} {order} {first} {was} {old} {numbers} {asked} {to_move} going unsolved is is_asked turn in_order entries ten = record {
+    → length numbers ≡ 10 → Searching question reach version p own order first was old first was old numbers 0
+starts {question} {reach} {version} {p} {own} {order} {first} {was} {old} {numbers} {asked} {to_move} going unsolved is is_asked turn in_order entries ten = record {
   asked = record { going = going; open_here = unsolved; is_own = own_told own asked (side_asked question) to_move p is is_asked turn };
   in_order = in_order;
   tried = tried_none (solved_within reach) (side_asked question) p order (was.budget + 1) was.budget in_order (omega arith);
@@ -85,7 +87,7 @@ starts {question} {reach} {p} {own} {order} {first} {was} {old} {numbers} {asked
   same_path = refl;
   ten = ten;
   wrote = λ root known along many fits.
-      so_far_start root p question reach own known old.bytes old.table old.table was.lemmas numbers order (same_itself old.table) fits many;
+      so_far_start root p question reach version own known old.bytes old.table old.table was.lemmas numbers order (same_itself old.table) fits many;
 }
 
 -- the move at a place, as the code has it
@@ -93,11 +95,11 @@ pub next_move : {p : Position} {order : List ℕ} {i c : ℕ} {room : Bool} → 
     → IsNext p order i c
 next_move {order = order} {i} {c} low item is passes = record { low = low; at = get_or_default order i 0 c low ∙ sym item; room = sym is ∙ passes }
 
-module _ {question : Question} {reach : ℕ} {p : Position} {own : Bool} {order first path : List ℕ} {was now : Stand} {old mid : Moment} {numbers : List ℕ}
-    {i : ℕ} (s : Searching question reach p own order first was old path now mid numbers i) where
+module _ {question : Question} {reach : ℕ} {version : Version} {p : Position} {own : Bool} {order first path : List ℕ} {was now : Stand} {old mid : Moment} {numbers : List ℕ}
+    {i : ℕ} (s : Searching question reach version p own order first was old path now mid numbers i) where
   -- the column at the place is full
   pub goes_past : {c : ℕ} {room : Bool} → i < length order → c ≡ get_or order i c → room ≡ has_room p c → room ≡ false
-      → Searching question reach p own order first was old path now mid numbers (i + 1)
+      → Searching question reach version p own order first was old path now mid numbers (i + 1)
   goes_past {c} low item is no' =
       let at : get_or order i 0 ≡ c = get_or_default order i 0 c low ∙ sym item in
       record {
@@ -113,24 +115,24 @@ module _ {question : Question} {reach : ℕ} {p : Position} {own : Bool} {order 
         same_path = s.same_path;
         ten = s.ten;
         wrote = λ root known along many fits.
-            so_far_full root p question reach own known old mid now.lemmas numbers order i c (s.wrote root known along many fits) at (sym is ∙ no');
+            so_far_full root p question reach version own known old mid now.lemmas numbers order i c (s.wrote root known along many fits) at (sym is ∙ no');
       }
 
   -- what the search after a move says of a whole search
   abbrev pub SolvesAfter : ℕ → Moment → ℕ → Result Answer SearchStop → Type 0
   SolvesAfter c new counted child = (root : Position) (known : List Shown) → played root path ≡ Some p → length known ≡ now.lemmas → FitsTable mid.table known
-      → Solves root (after_move p c) question reach known mid new counted child
+      → Solves root (after_move p c) question reach version known mid new counted child
 
   module _ {c : ℕ} (next : IsNext p order i c) {counted : ℕ} {new : Moment} {child : Result Answer SearchStop} (solves : SolvesAfter c new counted child) where
     behind : {root : Position} {known : List Shown} → played root first ≡ Some p
-        → (so_far : SoFar root p question reach own known old mid now.lemmas numbers order i)
-        → Solves root (after_move p c) question reach (known ++ so_far.wrote.shown) mid new counted child
+        → (so_far : SoFar root p question reach version own known old mid now.lemmas numbers order i)
+        → Solves root (after_move p c) question reach version (known ++ so_far.wrote.shown) mid new counted child
     behind {root} {known} along so_far = solves root (known ++ so_far.wrote.shown) (ap (played root) s.same_path ∙ along) so_far.wrote.counted so_far.wrote.fits
 
     -- the search after the move stopped
     pub stops : {stop : SearchStop} {result : Result Answer SearchStop} {root : Position} {known : List Shown} → child ≡ Err stop → result ≡ Err stop
         → played root first ≡ Some p → length known ≡ was.lemmas → FitsTable old.table known
-        → Solves root p question reach known old new counted result
+        → Solves root p question reach version known old new counted result
     stops {root = root} {known} was_stop is_stop along many fits =
         let so_far = s.wrote root known along many fits in
         stopped_by_move so_far s.asked.going s.asked.is_own c next.room was_stop is_stop (behind along so_far)
@@ -141,8 +143,8 @@ module _ {question : Question} {reach : ℕ} {p : Position} {own : Bool} {order 
         → beq found.yes own ≡ true → played root first ≡ Some p → length known ≡ was.lemmas → FitsTable old.table known
         → ((also : List Shown) → length also ≡ counted → FitsTable new.table also
         → HasReason also p (claim_for (side_asked question) own) (ByOne (record { column = c; lemma = found.lemma }))
-        → Solves root p question reach also new last_moment last result)
-        → Solves root p question reach known old last_moment last result
+        → Solves root p question reach version also new last_moment last result)
+        → Solves root p question reach version known old last_moment last result
     decided {found} {root = root} {known} was_found same along many fits tell =
         let so_far = s.wrote root known along many fits in
         closed_by_one so_far s.asked.going s.asked.is_own c was_found next.room (same_from_beq found.yes own same) (behind along so_far) tell
@@ -154,7 +156,7 @@ module _ {question : Question} {reach : ℕ} {p : Position} {own : Bool} {order 
       → beq found.yes own ≡ false → after.budget < now.budget
       → now.budget ≤ after.budget + count (solved_within reach) (side_asked question) (after_move p c) → Searched now after (Ok found) → longer ≡ path
       → OnlyBelow (empty_count p) mid.table new.table → IsTrueTable new.table after.lemmas → place ≡ c → place < 10
-      → Searching question reach p own order first was old longer after new (set numbers place found.lemma) (i + 1)
+      → Searching question reach version p own order first was old longer after new (set numbers place found.lemma) (i + 1)
   goes_on {c} next {after} {new} {child} solves {found} {longer} {place} was_found answer other fell left searched same_path below entries is_place within =
       let apart = apart_from_beq found.yes own other in
       record {
@@ -171,7 +173,7 @@ module _ {question : Question} {reach : ℕ} {p : Position} {own : Bool} {order 
         ten = length-set numbers place found.lemma ∙ s.ten;
         wrote = λ root known along many fits.
             let so_far = s.wrote root known along many fits in
-            rw is_place (so_far_more root p question reach own known old mid now.lemmas numbers order i c so_far next.at new after.lemmas found child was_found
+            rw is_place (so_far_more root p question reach version own known old mid now.lemmas numbers order i c so_far next.at new after.lemmas found child was_found
             next.room (omega (arith, is_place, within, s.ten)) apart (behind next solves along so_far));
       }
 
@@ -180,7 +182,7 @@ module _ {question : Question} {reach : ℕ} {p : Position} {own : Bool} {order 
       → played root first ≡ Some p → length known ≡ was.lemmas → FitsTable old.table known
       → ((also : List Shown) → length also ≡ now.lemmas → FitsTable mid.table also
       → HasReason also p (claim_for (side_asked question) (not own)) (ByAll (cites_from numbers (open_columns p)))
-      → Solves root p question reach also mid last_moment last result)
-      → Solves root p question reach known old last_moment last result
+      → Solves root p question reach version also mid last_moment last result)
+      → Solves root p question reach version known old last_moment last result
   closed {root = root} {known} all along many fits tell =
       closed_by_all (s.wrote root known along many fits) s.asked.going s.asked.is_own all s.in_order tell

@@ -114,6 +114,13 @@ module _ (before after : Entries) (same : HasSame before after) where
     there = λ now p question gone. sym (same.entries p question) ∙ gone;
   }
 
+-- one look-up after another
+pub same_then : (before mid after : Entries) → HasSame before mid → HasSame mid after → HasSame before after
+same_then before mid after first rest = record {
+  entries = λ p question. rest.entries p question ∙ first.entries p question;
+  whole = rest.whole ∙ first.whole;
+}
+
 pub true_more : (t : Entries) (count more : ℕ) → count ≤ more → IsTrueTable t count → IsTrueTable t more
 true_more t count more low entries p question f there = let is = entries p question f there in
     record { answer = is.answer; first = is.first; last = omega (arith, is.last, low) }

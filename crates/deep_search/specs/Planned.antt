@@ -5,7 +5,7 @@ use Rattle.game_rules.specs.Position.{Position, played}
 use Rattle.game_rules.specs.declared.Side.{Side}
 use Rattle.game_rules.specs.declared.Side.TheVariants.{White, Black}
 use Rattle.plan_rules.specs.Rules.{RuleInstance}
-use Rattle.proof_text.specs.Lemma.{claim_side, Reason, ByEnd, ByOne, ByAll, ByPlan, Lemma}
+use Rattle.proof_text.specs.Lemma.{claim_side, Reason, ByEnd, ByOne, ByAll, ByPlan, ByMirror, Lemma}
 use Rattle.walk_rules.specs.Walk.{solved, Chosen, gave, no_plan, spent, choice_of}
 
 -- Where White is asked about, a position at which a plan is chosen among the first k sets answers the question; where
@@ -30,6 +30,7 @@ plan_in ByEnd = None
 plan_in (ByOne cite) = None
 plan_in (ByAll cites) = None
 plan_in (ByPlan ws) = Some ws
+plan_in (ByMirror n) = None
 
 -- The lemma rests on the plan that is chosen at its position for the side that it speaks of, and on none where none is.
 abbrev pub IsPlanned : ℕ → Position → Lemma → Type 0

@@ -1,5 +1,5 @@
 -- What a search with lemmas does, at any moment at which it may end.
-use Rattle.std.specs.Prelude.{◌≡◌, ℕ, ◌+◌, ◌<◌, ◌≤◌, map, slice_index, Bool, true, false, List, ◌++◌, Option, None, Result, Ok, Err, IfOk, length, take, [], ◌∷◌, ⊤}
+use Rattle.std.specs.Prelude.{◌≡◌, ℕ, ◌+◌, ◌<◌, ◌≤◌, map, slice_index, Bool, true, false, if◌then◌else◌, List, ◌++◌, Option, None, Result, Ok, Err, IfOk, length, take, [], ◌∷◌, ⊤}
 use Rattle.std.specs.List.{AllByRecursion}
 use Rattle.std.specs.Io.KnownBytes.{Appends}
 use Rattle.device_rules.specs.Devices.{Rose}
@@ -10,12 +10,18 @@ use Rattle.proof_text.specs.Lemma.{claim_for, Cite, Lemma}
 use Rattle.proof_text.specs.Right.{Shown, Shows, AreRight}
 use Rattle.proof_text.specs.Spelling.{lemma_line, lines_of}
 use Rattle.proof_text.specs.Written.{AreSided}
+use Rattle.proof_text.specs.declared.Version.{Version}
+use Rattle.proof_text.specs.declared.Version.TheVariants.{One, Two}
 use Rattle.position_table.specs.Table.{Entries}
 use Rattle.deep_search.specs.Planned.{solved_within, ArePlanned}
 use Rattle.deep_search.specs.Tables.{held, HasSame, FitsTable, StaysWhole}
 use Rattle.deep_search.specs.declared.solving.Answer.{Answer}
 use Rattle.deep_search.specs.declared.solving.SearchStop.{SearchStop}
 use Rattle.deep_search.specs.declared.solving.SearchStop.TheVariants.{Spent, WriteFault}
+
+-- the version of the lemmas of a search that looks for mirror images, or doesn't
+abbrev pub version_for : Bool → Version
+version_for mirror = if mirror then Two else One
 
 -- whether all that the search began to write stands whole
 abbrev pub is_whole : Result Answer SearchStop → Bool
@@ -85,13 +91,13 @@ pub record IsNew (done : Bool) (question : Question) (shown : List Shown) (befor
 
 -- Behind what is known, right lemmas of the question's side were written, of which only the last is cut where they don't
 -- stand whole: what they show, and how many lemmas there are with them. The entries of the table name lemmas among them.
-pub record Wrote (whole : Bool) (root : Position) (question : Question) (reach : ℕ) (known : List Shown) (old new : Moment) (total : ℕ) : Type 0 where
+pub record Wrote (whole : Bool) (root : Position) (question : Question) (reach : ℕ) (version : Version) (known : List Shown) (old new : Moment) (total : ℕ) : Type 0 where
   pub more : List Lemma
   pub shown : List Shown
   pub text : AppendsLemmas whole more old.bytes new.bytes
   pub right : AreRight root known more (known ++ shown)
   pub counted : length (known ++ shown) ≡ total
-  pub sided : AreSided (side_asked question) more
+  pub sided : AreSided version (side_asked question) more
   pub planned : ArePlanned reach root more
   pub fits : FitsTable new.table (known ++ shown)
   pub stays : StaysWhole old.table new.table
@@ -109,8 +115,8 @@ limit_of p (Err WriteFault) = empty_count p + 1
 
 -- The lemmas that a search wrote, of positions with at most as many empty squares as p; and its answer names one that
 -- shows at p whether the side wins. Where it is spent they have fewer, so none is of p.
-pub record Solves (root p : Position) (question : Question) (reach : ℕ) (known : List Shown) (old new : Moment) (count : ℕ) (result : Result Answer SearchStop) : Type 0 where
-  pub wrote : Wrote (is_whole result) root question reach known old new (count + uncounted result)
+pub record Solves (root p : Position) (question : Question) (reach : ℕ) (version : Version) (known : List Shown) (old new : Moment) (count : ℕ) (result : Result Answer SearchStop) : Type 0 where
+  pub wrote : Wrote (is_whole result) root question reach version known old new (count + uncounted result)
   pub below : AreBelow (limit_of p result) wrote.shown
   pub named : IfOk result (λ answer. Shows (known ++ wrote.shown) answer.lemma p (claim_for (side_asked question) answer.yes))
 

@@ -3,10 +3,11 @@
 //! before all else, so a position that another path led to costs one look-up.
 ghost use Rattle.std.specs.Prelude.{◌≡◌, ◌+◌, ◌<◌, ◌≤◌, true, false, List, Ok, Err, Some, None, length, map, IfOk, IfSome, OnOk};
 ghost use Rattle.game_rules.specs.Position.{Position as Men, played, empty_count, end_of, has_room, after_move, open_columns};
+ghost use Rattle.game_rules.specs.Mirror.{mirror};
 ghost use Rattle.game_rules.specs.Questions.{side_asked};
 ghost use Rattle.game_rules.specs.Value.{wins};
 ghost use Rattle.game_rules.specs.Cost.{centre_out, count};
-ghost use Rattle.proof_text.specs.Lemma.{claim_for};
+ghost use Rattle.proof_text.specs.Lemma.{claim_for, has_reason};
 ghost use Rattle.proof_text.specs.Spelling.{greatest_number, longest_path, members_in};
 ghost use Rattle.proof_text.specs.Right.{Shown, HasReason};
 ghost use Rattle.cert_format.specs.Shape.{cite_of, reason_viewed};
@@ -14,7 +15,7 @@ ghost use Rattle.rule_compat.specs.Written.{written_list};
 ghost use Rattle.deep_search.specs.Planned.{solved_within, plan_for, plan_in};
 ghost use Rattle.proof_text.specs.Texts.{Entry};
 ghost use Rattle.deep_search.specs.Lists.{EndsIn, FitsMoment, Continues};
-ghost use Rattle.deep_search.specs.Search.{uncounted, stand, Searched, moment, Solves, StaysOpen, cites_from};
+ghost use Rattle.deep_search.specs.Search.{uncounted, stand, version_for, Searched, moment, Solves, StaysOpen, cites_from};
 ghost use Rattle.deep_search.specs.Tables.{held, IsTrueTable, FitsTable, OnlyBelow, HasSame, KeepsEntry};
 ghost use Rattle.deep_search.specs.declared.solving.SearchStop.TheVariants as stops;
 ghost use Rattle.plan_rules.specs.declared.TheConstants.{MOST_MEMBERS};
@@ -43,11 +44,12 @@ pub enum SearchStop {
 }
 
 /// What stays the same in a search: the question that is asked at each position, that a plan is looked for among the first
-/// `reach` sets of zones, and the order in which the columns are visited.
+/// `reach` sets of zones, whether the table is asked for mirror images, and the order in which the columns are visited.
 #[derive(Drop)]
 struct Aim {
     question: Question,
     reach: u32,
+    mirror: bool,
     order: ArrayVec<Column, MOST_COLS>,
 }
 
@@ -56,7 +58,9 @@ struct Aim {
 /// those that it cites, and its answer is kept in the table. While the table is whole, no position has two lemmas. Want of
 /// memory for the table is no fault. At a position with White to move, White is found not to win where
 /// one of the first `reach` sets of zones gives a plan of Black's, which the lemma then rests on; `reach` is from 0, which
-/// looks for no plan, and the chooser is lent for that alone.
+/// looks for no plan, and the chooser is lent for that alone. With `mirror` the table is asked for the mirror image of a
+/// position that it doesn't have and that no plan answers, and what it has there is taken: the position's lemma then rests
+/// on that one, and stands in proofs of the second version alone.
 ///
 /// `Spent` comes only where the budget is below the count of the search, and then no lemma stands at the position itself;
 /// `WriteFault` comes only where the sink's count of faults rose.
@@ -69,6 +73,7 @@ pub fn search<O: Sink>(
     chooser: &mut Chooser,
     lemmas: &mut LemmaOut,
     out: &mut O,
+    mirror: bool,
 ) -> Result<Answer, SearchStop>
     requires room { lemmas.old + budget.old ≤ greatest_number }
     requires entries { IsTrueTable table.old lemmas.old }
@@ -79,16 +84,17 @@ pub fn search<O: Sink>(
     ensures searched { Searched (stand budget.old lemmas.old (O.faults out.old)) (stand budget.new lemmas.new (O.faults out.new)) result }
     ensures entries { IsTrueTable table.new lemmas.new }
     ensures wrote { (known : List Shown) → length known ≡ lemmas.old → FitsTable table.old known
-        → Solves position.now position.now question reach known
+        → Solves position.now position.now question reach (version_for mirror) known
         (moment table.old (O.written out.old)) (moment table.new (O.written out.new)) lemmas.new result }
     ensures lists { (list : List Entry) (known : List Shown) → EndsIn list (O.written out.old)
         → FitsMoment position.now lemmas.old list known (moment table.old (O.written out.old))
-        → Continues position.now position.now question reach list known
+        → Continues position.now position.now question reach (version_for mirror) list known
         (moment table.old (O.written out.old)) (moment table.new (O.written out.new)) lemmas.new result }
 {
     let aim = Aim {
         question,
         reach,
+        mirror,
         order: centre_out(position.size()),
     };
     let mut path = ArrayVec::new();
@@ -123,7 +129,7 @@ fn solve<O: Sink>(
     ensures entries { IsTrueTable table.new lemmas.new }
     ensures wrote { (root : Men) (known : List Shown) → played root path.old.items ≡ Some position.now
         → length known ≡ lemmas.old → FitsTable table.old known
-        → Solves root position.now aim.now.question aim.now.reach known
+        → Solves root position.now aim.now.question aim.now.reach (version_for aim.now.mirror) known
         (moment table.old (O.written out.old)) (moment table.new (O.written out.new)) lemmas.new result }
 {
     let Some(left) = budget.checked_sub(1) else {
@@ -167,7 +173,7 @@ fn solve_by_moves<O: Sink>(
     ensures entries { IsTrueTable table.new lemmas.new }
     ensures wrote { (root : Men) (known : List Shown) → played root path.old.items ≡ Some position.now
         → length known ≡ lemmas.old → FitsTable table.old known
-        → Solves root position.now aim.now.question aim.now.reach known
+        → Solves root position.now aim.now.question aim.now.reach (version_for aim.now.mirror) known
         (moment table.old (O.written out.old)) (moment table.new (O.written out.new)) lemmas.new result }
 {
     let own = aim.question.side() == position.to_move();
@@ -225,7 +231,7 @@ fn solve_after<O: Sink>(
     ensures entries { IsTrueTable table.new lemmas.new }
     ensures wrote { (root : Men) (known : List Shown) → played root path.old.items ≡ Some position.now
         → length known ≡ lemmas.old → FitsTable table.old known
-        → Solves root (after_move position.now column) aim.now.question aim.now.reach known
+        → Solves root (after_move position.now column) aim.now.question aim.now.reach (version_for aim.now.mirror) known
         (moment table.old (O.written out.old)) (moment table.new (O.written out.new)) lemmas.new result }
 {
     let next = position.after(column);
@@ -235,8 +241,9 @@ fn solve_after<O: Sink>(
     found
 }
 
-/// What answers the question at a position without a move: the table, or else the end of the game or a plan, whose lemma
-/// is then put. `None` comes only where there is none of these, and then nothing was put.
+/// What answers the question at a position without a move: the table, or else a plan, the table's answer at the mirror
+/// image, or the end of the game, whose lemma is then put. `None` comes only where there is none of these, and then
+/// nothing was put.
 #[inline(always)]
 fn closed_here<O: Sink>(
     position: &Position,
@@ -259,7 +266,7 @@ fn closed_here<O: Sink>(
     ensures none { result ≡ None → (lemmas.new ≡ lemmas.old) × (out.new ≡ out.old) }
     ensures wrote { (root : Men) (known : List Shown) → played root path.now ≡ Some position.now
         → length known ≡ lemmas.old → FitsTable table.old known
-        → IfSome result (λ found. Solves root position.now aim.now.question aim.now.reach known
+        → IfSome result (λ found. Solves root position.now aim.now.question aim.now.reach (version_for aim.now.mirror) known
         (moment table.old (O.written out.old)) (moment table.new (O.written out.new)) lemmas.new found) }
 {
     if let Some(kept) = look_up(table, position, aim.question) {
@@ -268,14 +275,19 @@ fn closed_here<O: Sink>(
             lemma: kept.lemma,
         }));
     }
-    if let Some(end) = position.ended() {
+    let ended = position.ended();
+    if ended.is_none() && is_planned(position, aim, chooser) {
+        let plan = Reason::Plan(chooser.plan());
+        return Some(put_lemma(position, path, aim, false, &plan, table, lemmas, out));
+    }
+    if let Some(kept) = look_up_image(table, position, aim) {
+        let image = Reason::Mirror(kept.lemma);
+        return Some(put_lemma(position, path, aim, kept.answer, &image, table, lemmas, out));
+    }
+    if let Some(end) = ended {
         let yes = aim.question.side().win() == end;
         let ended = Reason::Ended;
         return Some(put_lemma(position, path, aim, yes, &ended, table, lemmas, out));
-    }
-    if is_planned(position, aim, chooser) {
-        let plan = Reason::Plan(chooser.plan());
-        return Some(put_lemma(position, path, aim, false, &plan, table, lemmas, out));
     }
     None
 }
@@ -288,6 +300,20 @@ fn look_up(table: &mut Table, position: &Position, question: Question) -> Option
     ensures same { HasSame table.old table.new }
 {
     table.find(position, question)
+}
+
+/// What the table has at the mirror image of the position, where it is asked for images.
+#[inline(always)]
+fn look_up_image(table: &mut Table, position: &Position, aim: &Aim) -> Option<Found>
+    ensures found { IfSome result (λ found. held table.old (mirror position.now) aim.now.question ≡ Some found) }
+    ensures asked { IfSome result (λ found. aim.now.mirror ≡ true) }
+    ensures same { HasSame table.old table.new }
+{
+    if aim.mirror {
+        look_up(table, &position.mirror(), aim.question)
+    } else {
+        None
+    }
 }
 
 /// Keeps an answer in the table, where memory is found for it.
@@ -331,6 +357,7 @@ fn put_lemma<O: Sink>(
     requires room { lemmas.old < greatest_number }
     requires deep { length path.now ≤ longest_path }
     requires short { length (members_in (reason_viewed reason.now)) ≤ MOST_MEMBERS }
+    requires had { has_reason (version_for aim.now.mirror) (reason_viewed reason.now) ≡ true }
     ensures answer { IfOk result (λ answer. answer.yes ≡ wins (side_asked aim.now.question) position.now) }
     ensures unspent { result ≡ Err stops.Spent → ⊥ }
     ensures searched { Searched (stand 1 lemmas.old (O.faults out.old)) (stand 0 lemmas.new (O.faults out.new)) result }
@@ -339,7 +366,7 @@ fn put_lemma<O: Sink>(
     ensures wrote { (root : Men) (known : List Shown) → played root path.now ≡ Some position.now
         → length known ≡ lemmas.old → FitsTable table.old known
         → HasReason known position.now (claim_for (side_asked aim.now.question) yes) (reason_viewed reason.now)
-        → Solves root position.now aim.now.question aim.now.reach known
+        → Solves root position.now aim.now.question aim.now.reach (version_for aim.now.mirror) known
         (moment table.old (O.written out.old)) (moment table.new (O.written out.new)) lemmas.new result }
 {
     match lemmas.put_view(out, path, Claim::of(aim.question.side(), yes), reason) {

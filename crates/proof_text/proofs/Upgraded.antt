@@ -11,7 +11,7 @@ use Rattle.game_rules.specs.Position.{Position, played, same_position}
 use Rattle.game_rules.specs.Mirror.{mirror}
 use Rattle.plan_rules.proofs.PlaceWords.{place_gives, none_at}
 use Rattle.plan_rules.proofs.Places.{place_append}
-use Rattle.proof_text.specs.Lemma.{same_claim, Lemma, Line, ALemma, ARemark, AVerdict}
+use Rattle.proof_text.specs.Lemma.{Reason, ByEnd, ByOne, ByAll, ByPlan, ByMirror, has_reason, same_claim, Lemma, Line, ALemma, ARemark, AVerdict}
 use Rattle.proof_text.specs.Right.{Shown, Shows, IsRight, AreRight}
 use Rattle.proof_text.specs.Checked.{is_shown, CheckerState, line_refusal, shown_of, with_line, lemmas_in}
 use Rattle.proof_text.specs.Spelling.{lemma_line, lines_of, verdict_line, Fits}
@@ -105,11 +105,19 @@ all_upgraded root known (l ∷ ls) after (p, one, rest) = (
       (all_upgraded root (known ++ (p, l.claim) ∷ []) ls after rest)),
 )
 
+-- the second version has every reason
+had : (reason : Reason) → has_reason Two reason ≡ true
+had ByEnd = refl
+had (ByOne cite) = refl
+had (ByAll cites) = refl
+had (ByPlan ws) = refl
+had (ByMirror n) = refl
+
 all_fit_upgraded : (board : Board) (root : Position) (known : List Shown) (ls : List Lemma) (after : List Shown) → AreRight root known ls after
     → AllByRecursion (Fits board) ls → AllByRecursion (EntryFits Two board) (map LemmaEntry (upgraded root known ls))
 all_fit_upgraded board root known [] after right fit = tt
 all_fit_upgraded board root known (l ∷ ls) after (p, one, rest) fit = (
-  (refl, fits_upgraded root known l p one board fit.0),
+  (had (upgraded_lemma root known l).reason, fits_upgraded root known l p one board fit.0),
   subst (λ more. AllByRecursion (EntryFits Two board) (map LemmaEntry (upgraded root (known ++ more) ls))) (sym (shown_along root l p one.along))
       (all_fit_upgraded board root (known ++ (p, l.claim) ∷ []) ls after rest fit.1),
 )

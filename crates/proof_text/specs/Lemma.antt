@@ -80,10 +80,13 @@ pub data Line : Type 0 where
 -- ---- versions
 
 -- mirror images came with the second version
+abbrev pub has_images : Version → Bool
+has_images One = false
+has_images Two = true
+
 abbrev pub has_reason : Version → Reason → Bool
-has_reason One (ByMirror n) = false
-has_reason One reason = true
-has_reason Two reason = true
+has_reason version (ByMirror n) = has_images version
+has_reason version reason = true
 
 -- whether a text of the version may say this
 abbrev pub allows : Version → Line → Bool

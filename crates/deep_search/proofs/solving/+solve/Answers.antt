@@ -4,6 +4,7 @@ use Rattle.game_rules.specs.Questions.{side_asked}
 use Rattle.game_rules.proofs.Costs.{count_positive}
 use Rattle.proof_text.specs.Lemma.{claim_for, ByAll}
 use Rattle.proof_text.specs.Right.{HasReason}
+use Rattle.deep_search.specs.Search.{version_for}
 use Rattle.deep_search.specs.Planned.{solved_within}
 use Rattle.deep_search.specs.Tables.{OnlyBelow}
 use Rattle.deep_search.proofs.Tables.{fits_same}
@@ -32,7 +33,8 @@ solve-returns-in-Some-closed_here-clause-left g t c =
 pub solve-returns-clause-wrote : goal.solve-returns-clause-wrote
 solve-returns-clause-wrote g t c root known along many fits =
     let open' = c.closed_here.ensures.open c.in_default-closed_here.is in let none = c.closed_here.ensures.none c.in_default-closed_here.is in
-    solves_entered root c.args.position.now c.args.aim.now.question c.args.aim.now.reach known _ _ _ _ c.solve_by_moves.result open'.same
+    solves_entered root c.args.position.now c.args.aim.now.question c.args.aim.now.reach
+    (version_for c.args.aim.now.mirror) known _ _ _ _ c.solve_by_moves.result open'.same
     (ap g.O.Sink.written none.1)
     (c.solve_by_moves.ensures.wrote root known along (many ∙ sym none.0) (fits_same c.args.table.now c.closed_here.new.table open'.same known fits))
 
