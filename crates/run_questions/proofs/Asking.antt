@@ -24,6 +24,7 @@ use Rattle.proof_text.specs.declared.Verdict.{Verdict}
 use Rattle.proof_text.specs.declared.Claim.TheVariants.{WhiteFails}
 use Rattle.proof_text.specs.declared.Verdict.TheVariants.{Draw, Unknown}
 use Rattle.position_table.specs.Table.{Entries}
+use Rattle.proof_text.specs.declared.Version.TheVariants.{One}
 use Rattle.deep_search.specs.Planned.{solved_within}
 use Rattle.deep_search.specs.Search.{is_whole, uncounted, Moment, moment, AreBelow, limit_of, Solves}
 use Rattle.deep_search.specs.Tables.{FitsTable}
@@ -80,7 +81,7 @@ module _ (root : Position) (question : Question) (reach : ℕ) (slots : Option �
     (old mid new : Option (List ℕ)) (total : ℕ) where
   -- its remark, and behind it what its search wrote
   pub asks_side : (result : Result Answer SearchStop) → LeavesRemark slots reach root (side_asked question) true old mid
-      → Solves root root question reach known (moment before mid) (moment after new) total result → total + uncounted result ≤ most
+      → Solves root root question reach One known (moment before mid) (moment after new) total result → total + uncounted result ≤ most
       → AsksSide root (side_asked question) reach slots known most (moment before old) (moment after new) total result
   asks_side result remarks solves few = record {
     remark = remarks.remark;

@@ -11,6 +11,7 @@ use Rattle.proof_text.specs.Right.{Shown, Shows, AreRight, IsVerdict}
 use Rattle.proof_text.specs.Spelling.{lines_of}
 use Rattle.proof_text.specs.Written.{AreSided, IsRemarkLine, remark_line}
 use Rattle.proof_text.specs.declared.Claim.TheVariants.{WhiteFails}
+use Rattle.proof_text.specs.declared.Version.TheVariants.{One}
 use Rattle.proof_text.specs.declared.Verdict.{Verdict}
 use Rattle.proof_text.specs.declared.Verdict.TheVariants.{Win, Loss, Unknown}
 use Rattle.deep_search.specs.Planned.{solved_within, ArePlanned}
@@ -35,7 +36,7 @@ pub record AsksSide (root : Position) (side : Side) (reach : ℕ) (slots : Optio
   pub line : IsRemarkLine remark
   pub text : AppendsPrefix (is_whole result) old.bytes new.bytes (remark_line remark ++ lines_of lemmas)
   pub right : AreRight root known lemmas (known ++ shown)
-  pub sided : AreSided side lemmas
+  pub sided : AreSided One side lemmas
   pub planned : ArePlanned reach root lemmas
   pub few : length (known ++ shown) ≤ most
   pub counted : IfOk result (λ answer. length (known ++ shown) ≡ total)
@@ -98,8 +99,8 @@ pub record Asks (root : Position) (nodes reach : ℕ) (slots : Option ℕ) (old 
   pub both_remarked : is_whole_verdict result ≡ true → HasBothRemarks slots nodes reach root mid black_remark (verdict_told result)
   pub white_right : AreRight root [] white mid
   pub black_right : AreRight root mid black after
-  pub white_sided : AreSided White white
-  pub black_sided : AreSided Black black
+  pub white_sided : AreSided One White white
+  pub black_sided : AreSided One Black black
   pub white_planned : ArePlanned reach root white
   pub black_planned : ArePlanned reach root black
   pub verdict : IfOk result (λ v. IsVerdict root after v × (v ≢ Unknown))

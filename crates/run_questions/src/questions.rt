@@ -146,7 +146,7 @@ fn ask_side<O: Sink>(
         return Err(SearchStop::WriteFault);
     };
     search(
-        position, question, reach, budget, table, chooser, lemmas, out,
+        position, question, reach, budget, table, chooser, lemmas, out, false,
     )
 }
 
