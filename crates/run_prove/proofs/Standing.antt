@@ -15,6 +15,7 @@ use Rattle.proof_text.proofs.Written.{both_written, lemmas_stand, head_stands, p
 use Rattle.proof_text.specs.declared.Verdict.{Verdict}
 use Rattle.proof_text.specs.declared.Verdict.TheVariants.{Win, Loss, Draw, Unknown}
 use Rattle.deep_search.specs.Planned.{solved_within}
+use Rattle.proof_text.specs.declared.Version.TheVariants.{One}
 use Rattle.run_prove.specs.Proof.{IsProofOf, Writes}
 use Rattle.run_questions.specs.Questions.{HasBothRemarks, Asks}
 use Rattle.run_questions.proofs.Asking.{asked_truth, in_turn}
@@ -51,7 +52,7 @@ stands_all b old mid held new head remark white also black last first both rest 
 
 module _ (nodes reach : ℕ) (slots : Option ℕ) (bytes : List ℕ) (p : Position) (game : IsGameText bytes p) (small : nodes ≤ greatest_number) where
   abbrev the_head : List ℕ
-  the_head = head_of game.board game.columns
+  the_head = head_of One game.board game.columns
 
   module _ (mid held : Option (List ℕ)) (r : Result Verdict SearchStop) (asks : Asks p nodes reach slots mid held r) where
     -- both questions' remarks and lemmas
@@ -64,10 +65,10 @@ module _ (nodes reach : ℕ) (slots : Option ℕ) (bytes : List ℕ) (p : Positi
       proof_text = the_head ++ (remark_line asks.white_remark
           ++ (lines_of asks.white ++ (remark_line asks.black_remark ++ (lines_of asks.black ++ verdict_line v))))
 
-      abbrev is_proof : IsProof p the_head proof_text v
+      abbrev is_proof : IsProof One p the_head proof_text v
       is_proof = record {
         after = asks.after;
-        written = both_written p the_head proof_text asks.white_remark asks.white asks.mid asks.black_remark asks.black asks.after (verdict_line v)
+        written = both_written One p the_head proof_text asks.white_remark asks.white asks.mid asks.black_remark asks.black asks.after (verdict_line v)
             asks.white_right asks.black_right asks.white_sided asks.black_sided
             (in_turn slots reach p asks.mid asks.black_remark asks.black asks.black_remarked) asks.white_line asks.black_line refl;
         verdict = right;
@@ -81,7 +82,7 @@ module _ (nodes reach : ℕ) (slots : Option ℕ) (bytes : List ℕ) (p : Positi
         both_remarked = both;
         planned = (asks.white_planned, asks.black_planned);
         few = asks.few;
-        accepted = proof_accepted game.board game.columns p proof_text v is_proof game.has_board game.has_moves
+        accepted = proof_accepted One game.board game.columns p proof_text v is_proof game.has_board game.has_moves
             (let few : length asks.after ≤ nodes = asks.few in omega arith);
         says = asked_truth p nodes reach slots mid held r asks v right;
       }
@@ -100,7 +101,7 @@ module _ (nodes reach : ℕ) (slots : Option ℕ) (bytes : List ℕ) (p : Positi
         proof_text,
         record {
           game = game;
-          stands = proof_stands p the_head proof_text v is_proof;
+          stands = proof_stands One p the_head proof_text v is_proof;
           remarked = inr (asks.white_remarked, asks.black_remarked);
           planned = (asks.white_planned, asks.black_planned);
           few = asks.few;
@@ -117,7 +118,7 @@ module _ (nodes reach : ℕ) (slots : Option ℕ) (bytes : List ℕ) (p : Positi
     the_head,
     record {
       game = game;
-      stands = head_stands p the_head;
+      stands = head_stands One p the_head;
       remarked = inl refl;
       planned = (tt, tt);
       few = omega arith;
@@ -134,7 +135,7 @@ module _ (nodes reach : ℕ) (slots : Option ℕ) (bytes : List ℕ) (p : Positi
         text,
         record {
           game = game;
-          stands = lemmas_stand p the_head text asks.white_remark asks.white asks.mid asks.black_remark asks.black asks.after asks.white_right asks.black_right
+          stands = lemmas_stand One p the_head text asks.white_remark asks.white asks.mid asks.black_remark asks.black asks.after asks.white_right asks.black_right
               asks.white_sided asks.black_sided
               (in_turn slots reach p asks.mid asks.black_remark asks.black asks.black_remarked) asks.white_line asks.black_line refl;
           remarked = inr (asks.white_remarked, asks.black_remarked);

@@ -6,13 +6,14 @@ ghost use Rattle.game_rules.specs.Game.{board_played, IsTextOf};
 ghost use Rattle.game_rules.specs.declared.Side.TheVariants as sides;
 ghost use Rattle.proof_text.specs.Spelling.{greatest_number, verdict_line};
 ghost use Rattle.proof_text.specs.Texts.{head_of};
+ghost use Rattle.proof_text.specs.declared.Version.TheVariants as versions;
 ghost use Rattle.proof_text.specs.declared.Verdict.TheVariants as verdicts;
 ghost use Rattle.deep_search.specs.Planned.{solved_within};
 ghost use Rattle.run_questions.specs.SizedFronts.{slots_of, IsAfter};
 ghost use Rattle.run_prove.specs.Proof.{Writes};
 
 use board_bits::Game;
-use cert_format::{FIRST_LINE, Line, Verdict, print_line};
+use cert_format::{Line, Verdict, Version, first_line, print_line};
 use deep_search::SearchStop;
 use io_ports::{Failed, Sink, put_all};
 use position_table::Table;
@@ -48,10 +49,10 @@ pub(crate) fn write_proof<O: Sink>(
 
 /// The head of a proof: the line that names its format, and the two lines of the game.
 fn head_of(game: &Game) -> LineText
-    ensures { result.items ≡ head_of (board_played game.now) game.now.moves }
+    ensures { result.items ≡ head_of versions.One (board_played game.now) game.now.moves }
 {
     let mut head = LineText::new();
-    push_text(&mut head, FIRST_LINE);
+    push_text(&mut head, first_line(Version::One));
     head.push(b'\n');
     push_game(&mut head, game);
     head
