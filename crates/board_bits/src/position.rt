@@ -1,8 +1,9 @@
 //! Positions and moves. A position is kept as its board's size and the words of both sides' men; a contract sees the
-//! men of each column. All lines are looked at for the end of a game, so nothing about the last move has to be kept.
-ghost use Rattle.std.specs.Prelude.{◌≡◌, ◌≢◌, ◌+◌, ◌*◌, ◌<◌, ◌≤◌, true, not, filter, length, IsTrue, bit_or};
+//! men of each column. All lines are looked at for the end of a game, so nothing about the last move has to be kept; where
+//! it is known who made it, those of one side suffice.
+ghost use Rattle.std.specs.Prelude.{◌≡◌, ◌≢◌, ◌+◌, ◌*◌, ◌<◌, ◌≤◌, true, false, not, filter, length, IsTrue, bit_or};
 ghost use Rattle.game_rules.specs.Board.{is_board};
-ghost use Rattle.game_rules.specs.Position.{board_of, empty_position, height, has_man, side_to_move, has_room, lowest_empty, after_move, has_line, is_full, end_of, IsStacked, same_position};
+ghost use Rattle.game_rules.specs.Position.{board_of, other, empty_position, height, has_man, side_to_move, has_room, lowest_empty, after_move, has_line, is_full, end_of, IsStacked, same_position};
 ghost use Rattle.game_rules.specs.Mirror.{mirror};
 ghost use Rattle.game_rules.specs.Squares.{IsSetOf, squares_of_board, is_empty, is_playable};
 ghost use Rattle.game_rules.specs.declared.Side.TheVariants as sides;
@@ -253,8 +254,16 @@ impl Position {
         if self.has_line(Side::White) {
             return Some(End::White);
         }
-        if self.has_line(Side::Black) {
-            return Some(End::Black);
+        self.ended_by(Side::Black)
+    }
+
+    /// As `ended`, where the other side has no line, as after a move of this side's: its own is looked for alone.
+    pub fn ended_by(&self, side: Side) -> Option<End>
+        requires { has_line self.now (other side) ≡ false }
+        ensures { result ≡ end_of self.now }
+    {
+        if self.has_line(side) {
+            return Some(side.win());
         }
         if self.is_full() {
             Some(End::Draw)

@@ -58,7 +58,9 @@ impl Reached {
         ensures { result ≡ (if is_legal self.now column then Some (after_move self.now column) else None) }
     {
         if self.ended.is_none() && self.position.has_room(column) {
-            Some(Reached::at(self.position.after(column)))
+            let position = self.position.after(column);
+            let ended = position.ended_by(self.position.to_move());
+            Some(Reached { position, ended })
         } else {
             None
         }
