@@ -1,7 +1,7 @@
--- What the checker finds, and how it stops.
-use Rattle.std.specs.Prelude.{◌≡◌, ℕ, List, map, Option, Some, None, Result, Ok, Err, ⊤}
+-- What the checker finds, how it stops, and how many lemmas it has room for.
+use Rattle.std.specs.Prelude.{◌≡◌, ℕ, ◌+◌, ◌≤◌, List, map, Option, Some, None, Result, Ok, Err, ⊤}
 use Rattle.proof_text.specs.Lemma.{Line, ALemma, ARemark, AVerdict}
-use Rattle.proof_text.specs.Checked.{Why}
+use Rattle.proof_text.specs.Checked.{CheckerState, Why}
 use Rattle.proof_text.specs.declared.Why.{Why as WhyOf}
 use Rattle.proof_text.specs.declared.Why.TheVariants as whys
 use Rattle.rule_compat.specs.Faults.{fault_of}
@@ -37,8 +37,19 @@ IsLemma (ALemma l) = ⊤
 IsLemma ARemark = ⊥
 IsLemma (AVerdict v) = ⊥
 
--- A line is refused by the name that the definitions give it, with its number; or, being a lemma that isn't refused,
--- found no memory.
-abbrev pub StopsAt : ℕ → AddStop → Option Why → Line → Type 0
-StopsAt at (Refused refused) refusal line = (refusal ≡ Some (why_of refused.why)) × (refused.at ≡ at)
-StopsAt at (Memory e) refusal line = (refusal ≡ None) × IsLemma line
+-- what stands after the lines so far, and how many lemma lines can be added without taking memory
+pub record Checking : Type 0 where
+  pub stands : CheckerState
+  pub spare : ℕ
+
+-- An accepted lemma uses up room for one lemma at most, and any other line none.
+abbrev pub LeavesSpare : Line → ℕ → ℕ → Type 0
+LeavesSpare (ALemma l) old new = old ≤ new + 1
+LeavesSpare ARemark old new = new ≡ old
+LeavesSpare (AVerdict v) old new = new ≡ old
+
+-- A line is refused by the name that the definitions give it, with its number; or, being a lemma that isn't refused and for
+-- which there was no room, found no memory.
+abbrev pub StopsAt : (spare at : ℕ) → AddStop → Option Why → Line → Type 0
+StopsAt spare at (Refused refused) refusal line = (refusal ≡ Some (why_of refused.why)) × (refused.at ≡ at)
+StopsAt spare at (Memory e) refusal line = (refusal ≡ None) × IsLemma line × (spare ≡ 0)

@@ -1,12 +1,12 @@
 //! The checker: what stands after the lines so far, and the tests of the next.
-ghost use Rattle.std.specs.Prelude.{◌≡◌, ◌+◌, ◌^◌, ◌<◌, [], ◌∷◌, ◌++◌, Some, None, map, length, MatchResult, IfOk, OnOk, OnErr, IfErr};
+ghost use Rattle.std.specs.Prelude.{◌≡◌, ◌+◌, ◌^◌, ◌<◌, ◌≤◌, [], ◌∷◌, ◌++◌, Some, None, map, length, MatchResult, IfOk, OnOk, OnErr, IfErr};
 ghost use Rattle.game_rules.specs.Position.{board_of};
 ghost use Rattle.proof_text.specs.Lemma.{ALemma, AVerdict};
 ghost use Rattle.proof_text.specs.Checked.{lemma_refusal, line_refusal, with_line};
 ghost use Rattle.proof_text.specs.Texts.{start};
 ghost use Rattle.proof_text.specs.declared.Why.TheVariants.{EndedEarly};
 ghost use Rattle.cert_format.specs.Shape.{lemma_viewed, line_of, viewed};
-ghost use Rattle.cert_checker.specs.Checking.{Finds, StopsAt};
+ghost use Rattle.cert_checker.specs.Checking.{Finds, LeavesSpare, StopsAt};
 ghost use Rattle.cert_checker.specs.declared.stops.AddStop.TheVariants.{Refused};
 
 use crate::known::Known;
@@ -16,11 +16,12 @@ use crate::trail::Trail;
 use board_bits::Position;
 use cert_format::{LemmaView, Line, LineView};
 use proof_text::Verdict;
-use std::alloc::Global;
+use std::alloc::{AllocError, Global};
 use std::marker::Model;
 
 /// What stands after the lines of a proof that were added: the root, what each lemma shows, and the verdict if there
-/// was one. The path of the last lemma is kept with its positions; none of what a contract sees depends on it.
+/// was one; and room for more lemmas. The path of the last lemma is kept with its positions; none of what a contract sees
+/// depends on it.
 #[derive(Drop)]
 pub struct Checker {
     trail: Trail,
@@ -31,11 +32,14 @@ pub struct Checker {
 impl Model for Checker {
     ghost use Rattle.std.specs.Prelude.{◌≡◌};
     ghost use Rattle.game_rules.specs.Position.{board_of};
-    ghost use Rattle.proof_text.specs.Checked.{CheckerState};
+    ghost use Rattle.cert_checker.specs.Checking.{Checking};
 
-    ghost Value = { CheckerState };
+    ghost Value = { Checking };
 
-    ghost view = { λ a. record { root = a.trail.root; known = a.known.shown; verdict = a.verdict } };
+    ghost view = { λ a. record {
+      stands = record { root = a.trail.root; known = a.known.shown; verdict = a.verdict };
+      spare = a.known.spare;
+    } };
 
     ghost invariant = { λ a. board_of a.trail.root ≡ a.known.board };
 }
@@ -43,7 +47,7 @@ impl Model for Checker {
 impl Checker {
     /// A checker to which no line was added. No memory is taken.
     pub fn new(alloc: Global, root: Position) -> Checker
-        ensures { result ≡ start root }
+        ensures { result ≡ record { stands = start root; spare = 0 } }
     {
         Checker {
             trail: Trail::new(root),
@@ -52,13 +56,40 @@ impl Checker {
         }
     }
 
+    /// How many lemmas were added.
+    pub fn lemmas(&self) -> u32
+        ensures { result ≡ length self.now.stands.known }
+    {
+        self.known.len()
+    }
+
+    /// How many lemmas can be added without taking memory.
+    pub fn spare(&self) -> u32
+        ensures { result ≡ self.now.spare }
+    {
+        self.known.spare()
+    }
+
+    /// Makes room for so many more lemmas, where there is less; what stands doesn't change. `AllocError` comes only where
+    /// memory would have to be taken and none is found, and then nothing has changed.
+    pub fn reserve(&mut self, lemmas: u32) -> Result<(), AllocError>
+        ensures stands { self.new.stands ≡ self.old.stands }
+        ensures room { OnOk result (lemmas ≤ self.new.spare) }
+        ensures more { self.old.spare ≤ self.new.spare }
+        ensures none { OnErr result (self.new ≡ self.old) }
+        ensures full { OnErr result (self.old.spare < lemmas) }
+    {
+        self.known.reserve(lemmas)
+    }
+
     /// Adds the line that stands at this line number. It is refused exactly where the definitions refuse it, by the
-    /// first name that they give. `Memory` comes only for a lemma that isn't refused. After any error the checker is as
-    /// before.
+    /// first name that they give. `Memory` comes only for a lemma that isn't refused, and only where there was no room for
+    /// it. After any error the checker is as before.
     pub fn add(&mut self, at: u64, line: &Line) -> Result<(), AddStop>
-        ensures accepted { OnOk result ((line_refusal self.old (line_of line.now) ≡ None) × (self.new ≡ with_line self.old (line_of line.now))) }
+        ensures accepted { OnOk result ((line_refusal self.old.stands (line_of line.now) ≡ None) × (self.new.stands ≡ with_line self.old.stands (line_of line.now))) }
+        ensures spare { OnOk result (LeavesSpare (line_of line.now) self.old.spare self.new.spare) }
         ensures kept { OnErr result (self.new ≡ self.old) }
-        ensures cause { IfErr result (λ stop. StopsAt at stop (line_refusal self.old (line_of line.now)) (line_of line.now)) }
+        ensures cause { IfErr result (λ stop. StopsAt self.old.spare at stop (line_refusal self.old.stands (line_of line.now)) (line_of line.now)) }
     {
         match line {
             Line::Lemma(lemma) => self.add_view(at, &LineView::Lemma(lemma.view())),
@@ -69,9 +100,10 @@ impl Checker {
 
     /// As `add`, of a line that is lent.
     pub fn add_view(&mut self, at: u64, line: &LineView<'_>) -> Result<(), AddStop>
-        ensures accepted { OnOk result ((line_refusal self.old (viewed line.now) ≡ None) × (self.new ≡ with_line self.old (viewed line.now))) }
+        ensures accepted { OnOk result ((line_refusal self.old.stands (viewed line.now) ≡ None) × (self.new.stands ≡ with_line self.old.stands (viewed line.now))) }
+        ensures spare { OnOk result (LeavesSpare (viewed line.now) self.old.spare self.new.spare) }
         ensures kept { OnErr result (self.new ≡ self.old) }
-        ensures cause { IfErr result (λ stop. StopsAt at stop (line_refusal self.old (viewed line.now)) (viewed line.now)) }
+        ensures cause { IfErr result (λ stop. StopsAt self.old.spare at stop (line_refusal self.old.stands (viewed line.now)) (viewed line.now)) }
     {
         if self.verdict.is_some() {
             return Err(refusal_at(at, Why::BadLine));
@@ -84,10 +116,11 @@ impl Checker {
     }
 
     fn add_lemma(&mut self, at: u64, lemma: &LemmaView<'_>) -> Result<(), AddStop>
-        requires { self.old.verdict ≡ None }
-        ensures accepted { OnOk result ((line_refusal self.old (ALemma (lemma_viewed lemma.now)) ≡ None) × (self.new ≡ with_line self.old (ALemma (lemma_viewed lemma.now)))) }
+        requires { self.old.stands.verdict ≡ None }
+        ensures accepted { OnOk result ((line_refusal self.old.stands (ALemma (lemma_viewed lemma.now)) ≡ None) × (self.new.stands ≡ with_line self.old.stands (ALemma (lemma_viewed lemma.now)))) }
+        ensures spare { OnOk result (LeavesSpare (ALemma (lemma_viewed lemma.now)) self.old.spare self.new.spare) }
         ensures kept { OnErr result (self.new ≡ self.old) }
-        ensures cause { IfErr result (λ stop. StopsAt at stop (line_refusal self.old (ALemma (lemma_viewed lemma.now))) (ALemma (lemma_viewed lemma.now))) }
+        ensures cause { IfErr result (λ stop. StopsAt self.old.spare at stop (line_refusal self.old.stands (ALemma (lemma_viewed lemma.now))) (ALemma (lemma_viewed lemma.now))) }
     {
         if let Err(why) = check_lemma(&mut self.trail, &self.known, lemma) {
             return Err(refusal_at(at, why));
@@ -99,10 +132,11 @@ impl Checker {
     }
 
     fn add_verdict(&mut self, at: u64, verdict: Verdict) -> Result<(), AddStop>
-        requires { self.old.verdict ≡ None }
-        ensures accepted { OnOk result ((line_refusal self.old (AVerdict verdict) ≡ None) × (self.new ≡ with_line self.old (AVerdict verdict))) }
+        requires { self.old.stands.verdict ≡ None }
+        ensures accepted { OnOk result ((line_refusal self.old.stands (AVerdict verdict) ≡ None) × (self.new.stands ≡ with_line self.old.stands (AVerdict verdict))) }
+        ensures spare { OnOk result (LeavesSpare (AVerdict verdict) self.old.spare self.new.spare) }
         ensures kept { OnErr result (self.new ≡ self.old) }
-        ensures cause { IfErr result (λ stop. StopsAt at stop (line_refusal self.old (AVerdict verdict)) (AVerdict verdict)) }
+        ensures cause { IfErr result (λ stop. StopsAt self.old.spare at stop (line_refusal self.old.stands (AVerdict verdict)) (AVerdict verdict)) }
     {
         if !verdict_stands(&self.known, self.trail.root(), verdict) {
             return Err(refusal_at(at, Why::BadVerdict));
@@ -115,8 +149,8 @@ impl Checker {
     /// exactly where no verdict was added.
     pub fn finish(&self, at: u64) -> Result<Accepted, Refusal>
         ensures { MatchResult result
-            (λ accepted. (self.now.verdict ≡ Some accepted.verdict) × (accepted.lemmas ≡ length self.now.known))
-            (λ refusal. (self.now.verdict ≡ None) × (refusal ≡ record { at = at; why = EndedEarly })) }
+            (λ accepted. (self.now.stands.verdict ≡ Some accepted.verdict) × (accepted.lemmas ≡ length self.now.stands.known))
+            (λ refusal. (self.now.stands.verdict ≡ None) × (refusal ≡ record { at = at; why = EndedEarly })) }
     {
         match self.verdict {
             Some(verdict) => Ok(Accepted {

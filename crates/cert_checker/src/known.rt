@@ -1,5 +1,5 @@
 //! What the lemmas so far show.
-ghost use Rattle.std.specs.Prelude.{◌≡◌, ◌+◌, ◌<◌, ◌^◌, [], ◌∷◌, ◌++◌, length, option_map, IfSome, OnOk, OnErr};
+ghost use Rattle.std.specs.Prelude.{◌≡◌, ◌+◌, ◌<◌, ◌≤◌, ◌^◌, [], ◌∷◌, ◌++◌, length, option_map, IfSome, OnOk, OnErr};
 ghost use Rattle.game_rules.specs.Position.{board_of, same_position};
 ghost use Rattle.proof_text.specs.Right.{lemma_at};
 ghost use Rattle.proof_text.specs.Checked.{shown_refusal, is_shown};
@@ -19,13 +19,17 @@ struct Shown {
     claim: Claim,
 }
 
+/// No proof has more lemmas.
+pub const MOST_LEMMAS: u32 = 10_000_000;
+
 /// What each lemma shows, at positions of one board. Their paths are forgotten. The men of the positions stand apart from
-/// the claims, so that a lemma takes 33 bytes.
+/// the claims, so that a lemma takes 33 bytes. `spare` is how many more find room in both lists.
 #[derive(Drop)]
 pub(crate) struct Known {
     size: Size,
     men: Vec<MenWords>,
     claims: Vec<Claim>,
+    spare: u32,
 }
 
 impl Model for Known {
@@ -43,12 +47,13 @@ impl Model for Known {
 impl Known {
     /// No lemma. No memory is taken.
     pub(crate) fn new(alloc: Global, size: Size) -> Known
-        ensures { result ≡ record { board = size; shown = [] } }
+        ensures { result ≡ record { board = size; shown = []; spare = 0 } }
     {
         Known {
             size,
             men: Vec::new(alloc),
             claims: Vec::new(alloc),
+            spare: 0,
         }
     }
 
@@ -59,18 +64,59 @@ impl Known {
         self.claims.len() as u32
     }
 
-    /// One more lemma, which shows this claim at the position. Where no memory is found nothing has changed.
+    /// How many lemmas can be pushed without taking memory.
+    pub(crate) fn spare(&self) -> u32
+        ensures { result ≡ self.now.spare }
+    {
+        self.spare
+    }
+
+    /// Makes room for so many more lemmas, where there is less. Where no memory is found nothing has changed.
+    pub(crate) fn reserve(&mut self, lemmas: u32) -> Result<(), AllocError>
+        ensures same { self.new ≡ record self.old { spare = self.new.spare } }
+        ensures room { OnOk result (lemmas ≤ self.new.spare) }
+        ensures more { self.old.spare ≤ self.new.spare }
+        ensures none { OnErr result (self.new ≡ self.old) }
+        ensures full { OnErr result (self.old.spare < lemmas) }
+    {
+        if lemmas <= self.spare {
+            return Ok(());
+        }
+        self.grow(lemmas)
+    }
+
+    /// Makes room for so many more lemmas, or for as many as there are where that is more, but then for no more than a
+    /// proof may have: so a lemma is moved less than twice on the average.
+    #[cold]
+    #[inline(never)]
+    fn grow(&mut self, lemmas: u32) -> Result<(), AllocError>
+        requires { self.old.spare < lemmas }
+        ensures same { self.new ≡ record self.old { spare = self.new.spare } }
+        ensures room { OnOk result (lemmas ≤ self.new.spare) }
+        ensures none { OnErr result (self.new ≡ self.old) }
+    {
+        let held = self.len();
+        let more = lemmas.max(held.min(MOST_LEMMAS.saturating_sub(held)));
+        self.men.try_reserve_exact(more as usize)?;
+        self.claims.try_reserve_exact(more as usize)?;
+        self.spare = more;
+        Ok(())
+    }
+
+    /// One more lemma, which shows this claim at the position. Memory is taken only where there is no room, and where none
+    /// is found nothing has changed.
     pub(crate) fn push(&mut self, position: &Position, claim: Claim) -> Result<(), AllocError>
         requires board { board_of position.now ≡ self.old.board }
         requires few { length self.old.shown + 1 < 2 ^ 32 }
-        ensures kept { OnOk result (self.new ≡ record self.old { shown = self.old.shown ++ (position.now, claim) ∷ [] }) }
+        ensures kept { OnOk result (self.new ≡ record self.old { shown = self.old.shown ++ (position.now, claim) ∷ []; spare = self.new.spare }) }
+        ensures taken { OnOk result (self.old.spare ≤ self.new.spare + 1) }
         ensures none { OnErr result (self.new ≡ self.old) }
+        ensures full { OnErr result (self.old.spare ≡ 0) }
     {
-        self.men.push(MenWords::of(position))?;
-        if let Err(error) = self.claims.push(claim) {
-            self.men.pop();
-            return Err(error.into());
-        }
+        self.reserve(1)?;
+        self.men.push_reserved(MenWords::of(position));
+        self.claims.push_reserved(claim);
+        self.spare -= 1;
         Ok(())
     }
 

@@ -16,5 +16,6 @@ mod trail;
 pub use cert_format::{Line, LineView, Verdict};
 pub use checker::Checker;
 pub use index::MirrorIndex;
+pub use known::MOST_LEMMAS;
 pub use rule_compat::PlanFault;
 pub use stops::{Accepted, AddStop, Refusal, Why};

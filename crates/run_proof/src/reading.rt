@@ -16,7 +16,7 @@ ghost use Rattle.proof_text.specs.declared.Why.TheVariants as whys;
 use crate::stop::ProofStop;
 use crate::taker::{LemmaTaker, NotTaken};
 use board_bits::Size;
-use cert_checker::{Accepted, AddStop, Checker, Refusal, Why};
+use cert_checker::{Accepted, AddStop, Checker, MOST_LEMMAS, Refusal, Why};
 use cert_format::{LineBuffer, LineView, Version, first_line};
 use io_ports::{LineGot, Lines, Source};
 use run_frame::{InputStop, read_game_lines};
@@ -27,6 +27,9 @@ const FIRST_NUMBER: u64 = 4;
 
 /// A proof has no more lines.
 const MOST_LINES: u64 = 20_000_000;
+
+/// For so many lemmas room is made at a time.
+const RESERVE: u32 = 1024;
 
 /// Reads a proof to its end, or to what stops the reading: the first line that is refused, a game that is none, a source
 /// that failed, or a lemma for which memory ran out or which the taker didn't take. An accepted proof is right, and what it
@@ -96,15 +99,15 @@ fn add_lines<S: Source, T: LemmaTaker>(
     lines: &mut Lines,
     source: &mut S,
 ) -> Result<u64, ProofStop>
-    requires board { board_of checker.old.root ≡ size }
-    requires in_step { InStep (T.lemmas taker.old) checker.old }
+    requires board { board_of checker.old.stands.root ≡ size }
+    requires in_step { InStep (T.lemmas taker.old) checker.old.stands }
     ensures answer { Gets (pending lines.old (S.left source.old) (S.last_read source.old))
         (pending lines.new (S.left source.new) (S.last_read source.new)) (T.lemmas taker.old) (T.lemmas taker.new)
         (λ lemmas bytes rest. MatchResult result
-        (λ end. PassesLines (end - 3) bytes rest × ((lines_from version checker.old first_number bytes ≡ verdict_answer end (length checker.new.known) checker.new.verdict)
-        × (lemmas_at (AtLine version checker.old first_number) bytes ≡ lemmas)))
+        (λ end. PassesLines (end - 3) bytes rest × ((lines_from version checker.old.stands first_number bytes ≡ verdict_answer end (length checker.new.stands.known) checker.new.stands.verdict)
+        × (lemmas_at (AtLine version checker.old.stands first_number) bytes ≡ lemmas)))
         (λ stop. PassesLines (lines_read_until stop - 3) bytes rest
-        × StopsWith (AtLine version checker.old first_number) lemmas bytes (S.faults source.old) (S.faults source.new) stop)) }
+        × StopsWith (AtLine version checker.old.stands first_number) lemmas bytes (S.faults source.old) (S.faults source.new) stop)) }
     ensures few { MatchResult result (λ end. (FIRST_NUMBER ≤ end) × (end ≤ most_lines_read)) (λ stop. (3 ≤ lines_read_until stop) × (lines_read_until stop ≤ most_lines_read)) }
     ensures ended { OnOk result (lines.new.ended ≡ true) }
     ensures later { S.faults source.old ≤ S.faults source.new }
@@ -128,15 +131,15 @@ fn add_next<S: Source, T: LemmaTaker>(
     lines: &mut Lines,
     source: &mut S,
 ) -> Result<bool, ProofStop>
-    requires board { board_of checker.old.root ≡ size }
-    requires in_step { InStep (T.lemmas taker.old) checker.old }
+    requires board { board_of checker.old.stands.root ≡ size }
+    requires in_step { InStep (T.lemmas taker.old) checker.old.stands }
     ensures answer { Gets (pending lines.old (S.left source.old) (S.last_read source.old))
         (pending lines.new (S.left source.new) (S.last_read source.new)) (T.lemmas taker.old) (T.lemmas taker.new)
-        (λ lemmas bytes rest. PassesLines 1 bytes rest × MatchResult result (λ more. Adds version checker.old checker.new at more lemmas bytes rest)
-        (StopsWith (AtLine version checker.old at) lemmas bytes (S.faults source.old) (S.faults source.new))) }
-    ensures in_step { OnOk result (InStep (T.lemmas taker.new) checker.new) }
+        (λ lemmas bytes rest. PassesLines 1 bytes rest × MatchResult result (λ more. Adds version checker.old.stands checker.new.stands at more lemmas bytes rest)
+        (StopsWith (AtLine version checker.old.stands at) lemmas bytes (S.faults source.old) (S.faults source.new))) }
+    ensures in_step { OnOk result (InStep (T.lemmas taker.new) checker.new.stands) }
     ensures few { result ≡ Ok true → at ≤ MOST_LINES }
-    ensures root { OnOk result (checker.new.root ≡ checker.old.root) }
+    ensures root { OnOk result (checker.new.stands.root ≡ checker.old.stands.root) }
     ensures ended { result ≡ Ok false → lines.new.ended ≡ true }
     ensures stops { at ≤ most_lines_read → IfErr result (λ stop. (at ≤ lines_read_until stop) × (lines_read_until stop ≤ most_lines_read)) }
     ensures later { S.faults source.old ≤ S.faults source.new }
@@ -162,15 +165,15 @@ fn add_line<T: LemmaTaker>(
     at: u64,
     bytes: &[u8],
 ) -> Result<(), ProofStop>
-    requires board { board_of checker.old.root ≡ size }
-    requires in_step { InStep (T.lemmas taker.old) checker.old }
+    requires board { board_of checker.old.stands.root ≡ size }
+    requires in_step { InStep (T.lemmas taker.old) checker.old.stands }
     ensures answer { MatchResult result
-        (λ _. (bytes_refusal version checker.old at bytes.now ≡ None) × (checker.new ≡ with_bytes version checker.old bytes.now))
-        (StopsAtLine version checker.old at bytes.now) }
+        (λ _. (bytes_refusal version checker.old.stands at bytes.now ≡ None) × (checker.new.stands ≡ with_bytes version checker.old.stands bytes.now))
+        (StopsAtLine version checker.old.stands at bytes.now) }
     ensures taken { MatchResult result
-        (λ _. Gains (T.lemmas taker.old) (T.lemmas taker.new) (lemmas_said version (board_of checker.old.root) (bytes.now ∷ [])))
+        (λ _. Gains (T.lemmas taker.old) (T.lemmas taker.new) (lemmas_said version (board_of checker.old.stands.root) (bytes.now ∷ [])))
         (λ _. T.lemmas taker.new ≡ T.lemmas taker.old) }
-    ensures in_step { OnOk result (InStep (T.lemmas taker.new) checker.new) }
+    ensures in_step { OnOk result (InStep (T.lemmas taker.new) checker.new.stands) }
     ensures few { OnOk result (at ≤ MOST_LINES) }
 {
     match accept_line(checker, room, size, version, at, bytes) {
@@ -189,10 +192,10 @@ pub fn accept_line<'a>(
     at: u64,
     bytes: &[u8],
 ) -> Result<LineView<'a>, ProofStop>
-    requires board { board_of checker.old.root ≡ size }
+    requires board { board_of checker.old.stands.root ≡ size }
     ensures { MatchResult result
-        (λ line. IsAccepted version checker.old checker.new at bytes.now (viewed line))
-        (StopsAtLine version checker.old at bytes.now) }
+        (λ line. IsAccepted version checker.old.stands checker.new.stands at bytes.now (viewed line))
+        (StopsAtLine version checker.old.stands at bytes.now) }
 {
     if at > MOST_LINES {
         return Err(bad_line(at));
@@ -200,10 +203,22 @@ pub fn accept_line<'a>(
     let Ok(line) = room.read(bytes, size, version) else {
         return Err(bad_line(at));
     };
+    make_room(checker, &line);
     match checker.add_view(at, &line) {
         Ok(()) => Ok(line),
         Err(AddStop::Refused(refusal)) => Err(ProofStop::Refused(refusal)),
         Err(AddStop::Memory(_)) => Err(ProofStop::Memory),
+    }
+}
+
+/// Makes room for more lemmas where the line is one and there is none: for 1,024, or for those that a proof may still have.
+/// What is refused is asked for again where the lemma is added, once it has passed its tests.
+fn make_room(checker: &mut Checker, line: &LineView<'_>)
+    ensures { checker.new.stands ≡ checker.old.stands }
+{
+    if matches!(line, LineView::Lemma(_)) && checker.spare() == 0 {
+        let left = MOST_LEMMAS.saturating_sub(checker.lemmas());
+        let _ = checker.reserve(left.min(RESERVE));
     }
 }
 

@@ -1,4 +1,4 @@
-use Rattle.std.proofs.Common.{subst, arith}
+use Rattle.std.proofs.Common.{◌≡◌, None, subst, arith}
 use Rattle.proof_text.specs.Checked.{line_refusal}
 use Rattle.cert_format.specs.Shape.{viewed}
 use Rattle.cert_checker.specs.Checking.{StopsAt}
@@ -8,7 +8,8 @@ use Rattle.run_proof.proofs.reading.accept_line.Goals as goal
 
 pub returns-in-Err-Memory : goal.returns-in-Err-Memory
 returns-in-Err-Memory c =
-    let line = viewed c.in-Ok.line in
-    let P : AddStop → Type 0 = λ stop. StopsAt c.args.at stop (line_refusal c.args.checker.now line) line in
+    let line = viewed c.in-Ok.line in let before = c.make_room.new.checker in
+    let P : AddStop → Type 0 = λ stop. StopsAt before.spare c.args.at stop (line_refusal before.stands line) line in
     let cause = subst P c.in-Err-Memory.field-0-is c.in-Err-Memory.ensures.cause in
-    next_lemma c.args.version c.args.checker.now c.args.at c.args.bytes.now c.args.size line c.requires.board (omega arith) c.in-Ok.ensures cause.0 cause.1
+    next_lemma c.args.version c.args.checker.now.stands c.args.at c.args.bytes.now c.args.size line c.requires.board (omega arith) c.in-Ok.ensures
+    (subst (λ s. line_refusal s line ≡ None) c.make_room.ensures cause.0) cause.1

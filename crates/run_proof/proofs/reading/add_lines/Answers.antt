@@ -21,7 +21,7 @@ returns-in_err-add_next-clause-answer g c =
 pub returns-clause-answer : goal.returns-clause-answer
 returns-clause-answer g c =
     let before = c.loop-at.invariant in
-    let P : Bool → Type 0 = AddsLine c.args.version _ _ _ _ c.loop-at.checker c.add_next.new.checker c.loop-at.at in
+    let P : Bool → Type 0 = AddsLine c.args.version _ _ _ _ c.loop-at.checker.stands c.add_next.new.checker.stands c.loop-at.at in
     gets_then _ _ _ _ _ _ _ _ _ before.goes (subst P c.if-branch.false c.in_ok-add_next.ensures.answer) (λ ls ms bytes mid rest p q. (
       passes_most (c.loop-at.at - 4 + 1) (c.loop-at.at - 3) bytes rest (omega (arith, before.from)) (passes_then (c.loop-at.at - 4) 1 bytes mid rest p.0 q.0),
       (p.1.answer ∙ q.1.0, p.1.says ∙ ap (λ more. ls ++ more) q.1.1),
@@ -44,7 +44,7 @@ loop-at-init g c = record {
 pub loop-at-preserved : goal.loop-at-preserved
 loop-at-preserved g c =
     let before = c.loop-at.invariant in
-    let P : Bool → Type 0 = AddsLine c.args.version _ _ _ _ c.loop-at.checker c.add_next.new.checker c.loop-at.at in
+    let P : Bool → Type 0 = AddsLine c.args.version _ _ _ _ c.loop-at.checker.stands c.add_next.new.checker.stands c.loop-at.at in
     record {
       goes = gets_then _ _ _ _ _ _ _ _ _ before.goes (subst P c.if-branch.true c.in_ok-add_next.ensures.answer) (λ ls ms bytes mid rest p q. (
         passes_most (c.loop-at.at - 4 + 1) (c.loop-at.at + 1 - 4) bytes rest (omega (arith, before.from))
