@@ -1,10 +1,10 @@
 -- What each change of a pool keeps: the count of live slots, and the free numbers in front.
 use Rattle.std.specs.Prelude.{◌≡◌, ◌≢◌, ℕ, ◌+◌, ◌-◌, ◌<◌, ◌≤◌, cond, List, length, set, get_or, Option, Some, None, is_some, replicate}
-use Rattle.std.proofs.Common.{sym, ap, ◌∙◌, arith, length-set, inl, inr}
+use Rattle.std.proofs.Common.{refl, sym, ap, ◌∙◌, arith, length-set, inl, inr}
 use mathlib.Core.Bool.{true≢false}
 use Rattle.std.proofs.lemmas.Bool.{cases_lt}
 use Rattle.std.proofs.lemmas.List.{get_or-set_same, get_or-set_other, get_or_default, get_or_past, get_or-replicate, length-replicate}
-use Rattle.std.proofs.lemmas.List.Sums.{sum_by-set}
+use Rattle.std.proofs.lemmas.List.Sums.{count_by-le-length, sum_by-set}
 use Rattle.std.proofs.lemmas.List.Folds.{sum_by-replicate}
 use Rattle.node_pool.specs.Slots.{held, IsLive, live_slots}
 use Rattle.node_pool.specs.Free.{KeepsFree}
@@ -38,6 +38,20 @@ module _ {T : Type 0} where
   -- a live slot that holds nothing now is one fewer
   pub one_fewer : (slots : List (Option T)) (at : ℕ) → IsLive slots at → live_slots (set slots at None) + 1 ≡ live_slots slots
   one_fewer slots at live = omega (arith, live_set slots at None (live_within slots at live), ap {B = ℕ} (λ b. cond b 1 0) live)
+
+  -- where as many slots are live as there are, each is
+  pub each_live : (slots : List (Option T)) (v : T) → live_slots slots ≡ length slots → (at : ℕ) → at < length slots → IsLive slots at
+  each_live slots v full at inside = of_slot (held slots at) refl
+    where
+      of_slot : (o : Option T) → held slots at ≡ o → IsLive slots at
+      of_slot None none = absurd (omega (
+        arith,
+        full,
+        one_more slots at v inside none,
+        count_by-le-length is_some (set slots at (Some v)),
+        length-set slots at (Some v),
+      ))
+      of_slot (Some x) some = ap is_some some
 
   module _ (slots : List (Option T)) (free : List ℕ) (room : ℕ) (kept : KeepsFree slots free room) where
     -- the slot that is given next

@@ -5,6 +5,8 @@
 
 mod pool;
 mod slot;
+#[cfg(test)]
+mod tests;
 
 pub use pool::{MOST_SLOTS, Pool};
 pub use slot::Slot;

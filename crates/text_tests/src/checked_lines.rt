@@ -1,6 +1,6 @@
 //! Proofs as lists of lines: one in which two paths lead to one position is accepted, and with a line changed it is
 //! refused there by its name.
-use board_bits::read_game;
+use board_bits::{Size, read_game};
 use cert_checker::{Accepted, AddStop, Checker, PlanFault, Refusal, Verdict, Why};
 use cert_format::read_line;
 use std::alloc::Global;
@@ -36,9 +36,18 @@ const PROOF: [&str; 17] = [
 fn checked(alloc: Global, lines: &[&str]) -> Result<Result<Accepted, Refusal>, Fail> {
     let root = read_game(GAME).ok().ok_or("no game")?;
     let mut checker = Checker::new(alloc, root);
+    answer_of(&mut checker, root.size(), lines)
+}
+
+/// The answer of the checker to the lines.
+fn answer_of(
+    checker: &mut Checker,
+    size: Size,
+    lines: &[&str],
+) -> Result<Result<Accepted, Refusal>, Fail> {
     let mut at = FIRST;
     for text in lines {
-        let line = read_line(text.as_bytes(), root.size()).ok().ok_or(*text)?;
+        let line = read_line(text.as_bytes(), size).ok().ok_or(*text)?;
         match checker.add(at, &line) {
             Ok(()) => {}
             Err(AddStop::Refused(refusal)) => return Ok(Err(refusal)),
@@ -121,4 +130,24 @@ fn right_lines_are_accepted_and_wrong_plans_refused(rt: HostRuntime) -> Result<(
         (1, "2 a W- plan CE:b3", 5, not_white),
     ];
     refuse(rt.alloc(), &rows)
+}
+
+/// A reserve for the proof's sixteen lemmas suffices, and one that is there already isn't made again.
+#[test]
+fn lemmas_in_reserve_find_room(rt: HostRuntime) -> Result<(), Fail> {
+    let root = read_game(GAME).ok().ok_or("no game")?;
+    let mut checker = Checker::new(rt.alloc(), root);
+    assert_eq!(rt; (checker.lemmas(), checker.spare()), (0, 0));
+    checker.reserve(16)?;
+    let room = checker.spare();
+    assert!(rt; 16 <= room);
+    checker.reserve(16)?;
+    assert_eq!(rt; checker.spare(), room);
+    let accepted = Accepted {
+        verdict: Verdict::Draw(8, 16),
+        lemmas: 16,
+    };
+    assert_eq!(rt; answer_of(&mut checker, root.size(), &PROOF)?, Ok(accepted));
+    assert_eq!(rt; checker.lemmas(), 16);
+    Ok(())
 }

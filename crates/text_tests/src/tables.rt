@@ -1,5 +1,5 @@
-//! Each call with ample memory, where it answers something else than want of memory; and a table of room 1.
-use board_bits::read_game;
+//! Each call with ample memory, where it answers something else than want of memory; and tables that are full.
+use board_bits::{InputFault, Position, read_game};
 use position_table::{Found, Question, Table};
 use std::test::Fail;
 
@@ -12,6 +12,39 @@ fn found(lemma: u32) -> Found {
         lemma,
         answer: true,
     }
+}
+
+/// One of 1,296 different positions: two men among each of the columns a to d, e to g and h to j.
+fn numbered(number: u32) -> Result<Position, InputFault> {
+    let mut text = *b"board 10 10\nmoves aaeehh\n";
+    text[18] = b'a' + (number % 4) as u8;
+    text[19] = b'a' + (number / 4 % 4) as u8;
+    text[20] = b'e' + (number / 16 % 3) as u8;
+    text[21] = b'e' + (number / 48 % 3) as u8;
+    text[22] = b'h' + (number / 144 % 3) as u8;
+    text[23] = b'h' + (number / 432 % 3) as u8;
+    read_game(&text)
+}
+
+#[test]
+fn a_full_table_drops_the_oldest_position(rt: HostRuntime) -> Result<(), Fail> {
+    let mut table = Table::new(rt.alloc(), 1000)?;
+    for number in 0..1000 {
+        table.keep(&numbered(number)?, Question::WhiteWins, found(number))?;
+    }
+    assert!(rt; table.whole());
+    table.keep(&numbered(1000)?, Question::WhiteWins, found(1000))?;
+    assert!(rt; !table.whole());
+    assert_eq!(rt; table.find(&numbered(0)?, Question::WhiteWins), None);
+    assert_eq!(rt;
+        table.find(&numbered(1)?, Question::WhiteWins),
+        Some(found(1))
+    );
+    assert_eq!(rt;
+        table.find(&numbered(1000)?, Question::WhiteWins),
+        Some(found(1000))
+    );
+    Ok(())
 }
 
 #[test]
