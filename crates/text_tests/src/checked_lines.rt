@@ -2,7 +2,7 @@
 //! refused there by its name.
 use board_bits::{Size, read_game};
 use cert_checker::{Accepted, AddStop, Checker, PlanFault, Refusal, Verdict, Why};
-use cert_format::read_line;
+use cert_format::{Version, read_line};
 use std::alloc::Global;
 use std::test::Fail;
 
@@ -47,7 +47,9 @@ fn answer_of(
 ) -> Result<Result<Accepted, Refusal>, Fail> {
     let mut at = FIRST;
     for text in lines {
-        let line = read_line(text.as_bytes(), size).ok().ok_or(*text)?;
+        let line = read_line(text.as_bytes(), size, Version::Two)
+            .ok()
+            .ok_or(*text)?;
         match checker.add(at, &line) {
             Ok(()) => {}
             Err(AddStop::Refused(refusal)) => return Ok(Err(refusal)),

@@ -1,6 +1,6 @@
 //! Lines as texts: each form and each near miss is read, what was read is printed again, and lemmas are put.
 use board_bits::Size;
-use cert_format::{Claim, LemmaOut, Line, Reason, print_line, read_line};
+use cert_format::{Claim, LemmaOut, Line, Reason, Version, print_line, read_line};
 use io_ports::MemSink;
 use std::alloc::{AllocError, Global};
 use std::test::Fail;
@@ -23,6 +23,18 @@ const LINES: [&str; 13] = [
     "value draw 2 1",
     "value unknown",
     "value draw 1 1",
+];
+
+/// The same of the second version alone.
+const IMAGE_LINES: [&str; 2] = ["7 c W- mirror 6", "10000000 - B+ mirror 10000000"];
+
+/// No lines of either version.
+const NO_IMAGES: [&str; 5] = [
+    "1 - W+ mirror",
+    "1 - W+ mirror ",
+    "1 - W+ mirror 0",
+    "1 - W+ mirror 1 2",
+    "1 - W+ mirror a 1",
 ];
 
 const REMARKS: [&str; 4] = ["#", "# prefix W 12 inf 0", "#~ !", "##"];
@@ -96,7 +108,9 @@ fn printed(alloc: Global, line: &Line) -> Result<Vec<u8>, AllocError> {
 fn what_is_read_is_printed_as_it_stood(rt: HostRuntime) -> Result<(), Fail> {
     let size = board()?;
     for text in LINES {
-        let line = read_line(text.as_bytes(), size).ok().ok_or(text)?;
+        let line = read_line(text.as_bytes(), size, Version::One)
+            .ok()
+            .ok_or(text)?;
         let again = printed(rt.alloc(), &line)?;
         let [read @ .., b'\n'] = again.as_slice() else {
             return Err("no line feed".into());
@@ -107,10 +121,38 @@ fn what_is_read_is_printed_as_it_stood(rt: HostRuntime) -> Result<(), Fail> {
 }
 
 #[test]
+fn images_are_lines_of_the_second_version_alone(rt: HostRuntime) -> Result<(), Fail> {
+    let size = board()?;
+    for text in IMAGE_LINES {
+        assert!(rt;
+            read_line(text.as_bytes(), size, Version::One).is_err(),
+            "{text}"
+        );
+        let line = read_line(text.as_bytes(), size, Version::Two)
+            .ok()
+            .ok_or(text)?;
+        let again = printed(rt.alloc(), &line)?;
+        let [read @ .., b'\n'] = again.as_slice() else {
+            return Err("no line feed".into());
+        };
+        assert_eq!(rt; read, text.as_bytes(), "{text}");
+    }
+    for text in NO_IMAGES {
+        assert!(rt;
+            read_line(text.as_bytes(), size, Version::Two).is_err(),
+            "{text}"
+        );
+    }
+    Ok(())
+}
+
+#[test]
 fn remarks_say_nothing(rt: HostRuntime) -> Result<(), Fail> {
     let size = board()?;
     for text in REMARKS {
-        let line = read_line(text.as_bytes(), size).ok().ok_or(text)?;
+        let line = read_line(text.as_bytes(), size, Version::One)
+            .ok()
+            .ok_or(text)?;
         assert_eq!(rt; printed(rt.alloc(), &line)?.len(), 0, "{text}");
     }
     Ok(())
@@ -120,7 +162,10 @@ fn remarks_say_nothing(rt: HostRuntime) -> Result<(), Fail> {
 fn other_texts_are_no_lines(rt: HostRuntime) -> Result<(), Fail> {
     let size = board()?;
     for text in NO_LINES {
-        assert!(rt; read_line(text.as_bytes(), size).is_err(), "{text}");
+        assert!(rt;
+            read_line(text.as_bytes(), size, Version::One).is_err(),
+            "{text}"
+        );
     }
     Ok(())
 }

@@ -1,5 +1,7 @@
 //! Each call with ample memory, where it answers something else than want of memory; and tables that are full.
 use board_bits::{InputFault, Position, read_game};
+use cert_checker::MirrorIndex;
+use cert_format::Claim;
 use position_table::{Found, Question, Table};
 use std::test::Fail;
 
@@ -108,5 +110,21 @@ fn men_in_the_last_columns_tell_positions_apart(rt: HostRuntime) -> Result<(), F
     assert_eq!(rt; table.find(&left, Question::WhiteWins), Some(found(1)));
     assert_eq!(rt; table.find(&right, Question::WhiteWins), Some(found(2)));
     assert_eq!(rt; table.find(&both, Question::WhiteWins), Some(found(3)));
+    Ok(())
+}
+
+#[test]
+fn the_first_lemma_is_found_at_the_image(rt: HostRuntime) -> Result<(), Fail> {
+    let first = read_game(FIRST)?;
+    let image = read_game(b"board 4 4\nmoves d\n")?;
+    let mut index = MirrorIndex::new(rt.alloc());
+    assert_eq!(rt; index.find(&image, Claim::WhiteFails), None);
+    index.keep(&first, Claim::WhiteFails, 1)?;
+    index.keep(&first, Claim::WhiteFails, 2)?;
+    index.keep(&first, Claim::WhiteWins, 3)?;
+    assert_eq!(rt; index.find(&image, Claim::WhiteFails), Some(1));
+    assert_eq!(rt; index.find(&image, Claim::WhiteWins), Some(3));
+    assert_eq!(rt; index.find(&image, Claim::BlackFails), None);
+    assert_eq!(rt; index.find(&first, Claim::WhiteFails), None);
     Ok(())
 }
