@@ -187,7 +187,7 @@ def sentence(game, answer, engines, moves=None):
     side, other = (SIDES[game.side], SIDES["WB"[game.side == "W"]])
     place = "after %s on %s" % (game.letters(), game.size)
     if game.letters() == "-":
-        place = "on the empty board of %s" % game.size
+        place = "on the empty board of %s" % str(game.size)
     found = "found by %s, " % answer.by if "solve" in engines else ""
     shown = "%s%s accepted" % (found, count_of(answer.lemmas, "lemma"))
     if answer.value == "unknown":

@@ -221,7 +221,7 @@ def read_question(text: str, size: Optional[tuple[int, ...]] = None) -> Game:
     if text.startswith("board "):
         game = read_game(text + "\n")
         if size and Size(*size) != game.size:
-            raise Fault("the text has another board, of %s" % game.size)
+            raise Fault("the text has another board, of %s" % str(game.size))
         return game
     rows = diagram_rows(text)
     if rows:

@@ -143,7 +143,7 @@ class SentenceTest(ToolTest):
                   "--board", "5x4x5", "aabbccdde")
         self.says("White, who is to move, wins after aabbddee on 5 by 4 with lines of five", "--board", "5x4x5",
                   "aabbddee")
-        self.refuses("ask.py", "--by", "solve", "--solver", "true", "--board", "5x4x5", "aabbddee",
+        self.refuses("ask.py", "--by", "solve", "--solver", "/bin/true", "--board", "5x4x5", "aabbddee",
                      said="solve takes boards with lines of four")
 
     def test_pipe_from_draw(self):
@@ -326,7 +326,7 @@ class EngineTest(ToolTest):
         data = json.loads(out)
         self.assertEqual((status, out.count("\n"), data.pop("sentence").count("the best move is a")), (0, 1, 1), err)
         self.assertEqual(data, {
-            "columns": 4, "rows": 4, "moves": "ababa", "side": "Black", "ended": False, "value": "draw", "by": "prove",
+            "columns": 4, "rows": 4, "length": 4, "moves": "ababa", "side": "Black", "ended": False, "value": "draw", "by": "prove",
             "lemmas": 361, "accepted": True, "best": ["a"],
             "values": {"a": "draw", "b": "loss", "c": "loss", "d": "loss"},
         })
