@@ -38,7 +38,7 @@ def square(rng, board):
 
 def random_instance(rng, board):
     """A text that may be an instance."""
-    kind = rng.choice(("CE", "BI", "LI", "HI", "BC", "VE", "AE", "BE", "SB"))
+    kind = rng.choice(("CE", "BI", "LI", "HI", "BC", "VE") + (("AE", "BE", "SB") if board.groups else ()))
     if kind in ("AE", "BE", "SB"):
         text = kind + ":" + rng.choice(board.groups)[1]
         return text if kind != "SB" else "%s,%s,%s" % (text, square(rng, board), square(rng, board))

@@ -171,7 +171,7 @@ class BatchTest(ToolTest):
     def test_all_positions(self):
         """How many positions there are after so many moves, by a count that is written apart."""
         for size, most in (("4x4", 6), ("7x6", 4)):
-            cols, rows = boards.board_size(size)
+            cols, rows, _length = boards.board_size(size)
             level = {frozenset(): []}
             for _ in range(most):
                 further = {}
