@@ -14,7 +14,8 @@ returns-in_err-add_line-in-Line-clause-answer g c =
     let stop = err_from_is_err_and c.from_residual.result c.from_residual.ensures.1 in
     let here = c.in_err-add_line-in-Line.ensures in
     rw (stop.1, stop.2) (
-    line_stops c.args.version a b c.text.result.now c.next.new.self.fed c.args.checker.now.stands c.args.at _ _ (subst P (sym c.text.ensures) c.in-Line.ensures.gives) here.taken
+    line_stops c.args.version a b c.text.result.now c.next.new.self.fed c.args.checker.now.stands c.args.at _ _
+      (subst P (sym c.text.ensures) c.in-Line.ensures.gives) here.taken
     (g.S.Source.faults c.args.source.now) (g.S.Source.faults c.next.new.source) c.in_err-add_line-in-Line.field-0.0 here.answer
     )
 
@@ -24,7 +25,8 @@ returns-in_ok-add_line-in-Line-clause-answer g c =
     let b = pending c.next.new.self (g.S.Source.left c.next.new.source) (g.S.Source.last_read c.next.new.source) in
     let P : List ℕ → Type 0 = λ text. Reads a b (λ bytes rest. Gives bytes rest Line text c.next.new.self.fed) in
     let here = c.in_ok-add_line-in-Line.ensures in
-    line_known c.args.version a b c.text.result.now c.next.new.self.fed c.args.checker.now.stands c.args.at _ _ (subst P (sym c.text.ensures) c.in-Line.ensures.gives) here.answer.0
+    line_known c.args.version a b c.text.result.now c.next.new.self.fed c.args.checker.now.stands c.args.at _ _
+      (subst P (sym c.text.ensures) c.in-Line.ensures.gives) here.answer.0
     c.add_line.new.checker.stands here.answer.1 here.taken
 
 pub returns-in_ok-add_line-in-Line-clause-root : goal.returns-in_ok-add_line-in-Line-clause-root
