@@ -133,3 +133,32 @@ fn right_lines_are_accepted_and_wrong_plans_refused(rt: HostRuntime) -> Result<(
     ];
     refuse(rt.alloc(), &rows)
 }
+
+/// A reserve for the proof's sixteen lemmas suffices, one that is there already isn't made again, and a refused lemma
+/// takes nothing of it.
+#[test]
+fn lemmas_in_reserve_find_room(rt: HostRuntime) -> Result<(), Fail> {
+    let root = read_game(GAME).ok().ok_or("no game")?;
+    let mut checker = Checker::new(rt.alloc(), root);
+    assert_eq!(rt; checker.lemmas(), 0);
+    assert_eq!(rt; checker.spare(), 0);
+    checker.reserve(16)?;
+    let room = checker.spare();
+    assert!(rt; 16 <= room);
+    checker.reserve(16)?;
+    assert_eq!(rt; checker.spare(), room);
+    let misfit = Refusal {
+        at: FIRST,
+        why: Why::BadPlan(PlanFault::Misfit(1)),
+    };
+    let wrong = ["1 - W- plan CE:a1"];
+    assert_eq!(rt; answer_of(&mut checker, root.size(), &wrong)?, Err(misfit));
+    assert_eq!(rt; checker.spare(), room);
+    let accepted = Accepted {
+        verdict: Verdict::Draw(8, 16),
+        lemmas: 16,
+    };
+    assert_eq!(rt; answer_of(&mut checker, root.size(), &PROOF)?, Ok(accepted));
+    assert_eq!(rt; checker.lemmas(), 16);
+    Ok(())
+}
