@@ -1,6 +1,6 @@
 -- The words of a position's image: those of its men with the columns in the other order.
-use Rattle.std.proofs.Common.{◌≡◌, ℕ, zero, suc, ◌+◌, ◌-◌, ◌*◌, ◌/◌, ◌%◌, ◌^◌, ◌<◌, ◌≤◌, cond, true, false, [], None, length, refl, sym, ap, ◌∙◌,
-  subst, inl, inr, arith, add-one}
+use Rattle.std.proofs.Common.{◌≡◌, ℕ, zero, suc, ◌+◌, ◌-◌, ◌*◌, ◌/◌, ◌%◌, ◌^◌, ◌<◌, ◌≤◌, cond, true, false, [], None, length, refl, sym, ap, ◌∙◌}
+use Rattle.std.proofs.Common.{subst, inl, inr, arith, add-one}
 use Rattle.std.specs.Int.{bit_at}
 use Rattle.std.proofs.Math.Nat.{pow-le-pow_right, div-le_self}
 use Rattle.std.proofs.lemmas.Nat.{shr-shr}
@@ -55,7 +55,7 @@ turned_below word n = subst (λ m. m < 2 ^ (11 * n)) (sym (turned_number word n)
 pub turned_fits : (word n : ℕ) → n < 10 → turned word n < 2 ^ 99
 turned_fits word n low =
     let below = turned_below word n in let most : 2 ^ (11 * n) ≤ 2 ^ 99 = pow-le-pow_right {n = 2} (omega arith) {i = 11 * n} {j = 99} (omega arith) in
-      omega (arith, below, most)
+    omega (arith, below, most)
 
 pub turned_more : (word n : ℕ) → turned word n * 2048 + word / 2 ^ (11 * n) % 2048 ≡ turned word (n + 1)
 unfolding turned
@@ -116,8 +116,8 @@ module _ (p : Position) (board : is_board (board_of p) ≡ true) (stacked : IsSt
           ∙ ap (λ d. has_man (mirror p) side (d, r))
           (let e : length p.columns - (length p.columns - (c + 1) + 1) ≡ c = omega arith in e)
 
-      at : (c r : ℕ) → c < 10 → r < 11 → bit_at (image_word (side_word p side) (length p.columns)) (11 * c + r) ≡ bit_at (side_word (mirror p) side)
-        (11 * c + r)
+      at : (c r : ℕ) → c < 10 → r < 11 → bit_at (image_word (side_word p side) (length p.columns)) (11 * c + r)
+          ≡ bit_at (side_word (mirror p) side) (11 * c + r)
       at c r within low = elim (cases_lt c (length p.columns)) [
         | inl inside ↦ image_bit (side_word p side) (length p.columns) c r wide inside low ∙ elim (cases_lt r 10) [
           | inl row ↦

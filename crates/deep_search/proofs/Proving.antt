@@ -112,7 +112,7 @@ pub right_lemma : (root p : Position) (question : Question) (reach : ℕ) (versi
     → counted + uncounted result ≡ count + 1 → IsDetermined won count result
     → IsAfter p question won count old.table new.table result → Solves root p question reach version known old new counted result
 right_lemma root p question reach version won said known path reason old new count counted result is_said along many fits absent right planned short
-  had stands number
+    had stands number
     answer
     after = record {
       wrote = record {
@@ -435,7 +435,7 @@ played_more root (d ∷ path) p c along going room = elim (chosen (is_legal root
 -- ---- the position's own lemma, behind those of its moves
 
 module _ {root p : Position} {question : Question} {reach : ℕ} {version : Version} {own : Bool} {known : List Shown} {old mid : Moment} {count : ℕ}
-  {numbers order : List ℕ} {i : ℕ}
+    {numbers order : List ℕ} {i : ℕ}
     (so_far : SoFar root p question reach version own known old mid count numbers order i) (going : end_of p ≡ None)
     (is_own : own ≡ same_side (side_asked question) (side_to_move p)) where
   -- the search after a move stopped

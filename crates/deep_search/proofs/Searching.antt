@@ -71,26 +71,26 @@ pub record Searching (question : Question) (reach : ℕ) (version : Version) (p 
 
 -- before the first move
 pub starts : {question : Question} {reach : ℕ} {version : Version} {p : Position} {own : Bool} {order first : List ℕ} {was : Stand} {old : Moment}
-  {numbers : List ℕ}
+    {numbers : List ℕ}
     {asked to_move : Side} → end_of p ≡ None → solved_within reach (side_asked question) p ≡ false → own ≡ eq-value.it asked to_move
     → asked ≡ side_asked question → to_move ≡ side_to_move p → order ≡ centre_out (length p.columns) → IsTrueTable old.table was.lemmas
     → length numbers ≡ 10 → Searching question reach version p own order first was old first was old numbers 0
 starts {question} {reach} {version} {p} {own} {order} {first} {was} {old} {numbers} {asked}
-  {to_move} going unsolved is is_asked turn in_order entries ten = record {
-  asked = record { going = going; open_here = unsolved; is_own = own_told own asked (side_asked question) to_move p is is_asked turn };
-  in_order = in_order;
-  tried = tried_none (solved_within reach) (side_asked question) p order (was.budget + 1) was.budget in_order (omega arith);
-  fell = omega arith;
-  few = omega arith;
-  more = omega arith;
-  later = omega arith;
-  entries = entries;
-  below = below_same old.table old.table (same_itself old.table) (empty_count p);
-  same_path = refl;
-  ten = ten;
-  wrote = λ root known along many fits.
-      so_far_start root p question reach version own known old.bytes old.table old.table was.lemmas numbers order (same_itself old.table) fits many;
-}
+    {to_move} going unsolved is is_asked turn in_order entries ten = record {
+      asked = record { going = going; open_here = unsolved; is_own = own_told own asked (side_asked question) to_move p is is_asked turn };
+      in_order = in_order;
+      tried = tried_none (solved_within reach) (side_asked question) p order (was.budget + 1) was.budget in_order (omega arith);
+      fell = omega arith;
+      few = omega arith;
+      more = omega arith;
+      later = omega arith;
+      entries = entries;
+      below = below_same old.table old.table (same_itself old.table) (empty_count p);
+      same_path = refl;
+      ten = ten;
+      wrote = λ root known along many fits.
+          so_far_start root p question reach version own known old.bytes old.table old.table was.lemmas numbers order (same_itself old.table) fits many;
+    }
 
 -- the move at a place, as the code has it
 pub next_move : {p : Position} {order : List ℕ} {i c : ℕ} {room : Bool} → i < length order → c ≡ get_or order i c → room ≡ has_room p c → room ≡ true
@@ -98,7 +98,7 @@ pub next_move : {p : Position} {order : List ℕ} {i c : ℕ} {room : Bool} → 
 next_move {order = order} {i} {c} low item is passes = record { low = low; at = get_or_default order i 0 c low ∙ sym item; room = sym is ∙ passes }
 
 module _ {question : Question} {reach : ℕ} {version : Version} {p : Position} {own : Bool} {order first path : List ℕ} {was now : Stand}
-  {old mid : Moment} {numbers : List ℕ}
+    {old mid : Moment} {numbers : List ℕ}
     {i : ℕ} (s : Searching question reach version p own order first was old path now mid numbers i) where
   -- the column at the place is full
   pub goes_past : {c : ℕ} {room : Bool} → i < length order → c ≡ get_or order i c → room ≡ has_room p c → room ≡ false
@@ -177,7 +177,7 @@ module _ {question : Question} {reach : ℕ} {version : Version} {p : Position} 
         wrote = λ root known along many fits.
             let so_far = s.wrote root known along many fits in
             rw is_place (so_far_more root p question reach version own known old mid now.lemmas numbers order i c so_far next.at new after.lemmas found
-              child was_found
+            child was_found
             next.room (omega (arith, is_place, within, s.ten)) apart (behind next solves along so_far));
       }
 

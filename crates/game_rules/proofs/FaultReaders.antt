@@ -112,7 +112,7 @@ size_stop {X = X} spelled bytes s h = read (spelled (run_of bytes)) h
     read (Some n) h = cc
 
 pub size_stops : {X : Type 0} (spelled : List ℕ → Option X) (bytes : List ℕ) → spelled (run_of bytes) ≡ None
-  → size_at spelled bytes ≡ stop BadSize (length bytes)
+    → size_at spelled bytes ≡ stop BadSize (length bytes)
 size_stops spelled bytes h = ap (λ n. read_as n (drop (length (run_of bytes)) bytes) bytes) h
 
 -- behind a length no digit stands, and behind the rows no space

@@ -26,8 +26,8 @@ use Rattle.game_rules.specs.declared.Length.{Length}
 use Rattle.game_rules.specs.declared.Length.TheVariants.{Four}
 use Rattle.game_rules.proofs.Grammar.{board_along}
 use Rattle.game_rules.proofs.FaultReaders.{bind_err, text_stop, text_stops, run_none, size_ends, size_stop, size_stops, length_ends, length_stop}
-use Rattle.game_rules.proofs.FaultReaders.{Letterless, LetterStop, no_letter, over, full, letter_stop, letterless_stops, over_stops, full_stops,
-  moves_read, played_push}
+use Rattle.game_rules.proofs.FaultReaders.{Letterless, LetterStop, no_letter, over, full, letter_stop, letterless_stops, over_stops, full_stops}
+use Rattle.game_rules.proofs.FaultReaders.{moves_read, played_push}
 
 -- what the table says of a kind
 abbrev pub FaultOf : InputKind → List ℕ → List ℕ → Type 0

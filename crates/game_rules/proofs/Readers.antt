@@ -128,7 +128,7 @@ module _ {X : Type 0} (most : ℕ) (spelled : List ℕ → Option X) (too_long :
           stopped (Some n) e = cc
 
   pub size_more : (bytes ys : List ℕ) → most < length bytes
-    → size_at spelled (bytes ++ ys) ≡ with_more (λ x. (x.0, x.1 ++ ys)) (length ys) (size_at spelled bytes)
+      → size_at spelled (bytes ++ ys) ≡ with_more (λ x. (x.0, x.1 ++ ys)) (length ys) (size_at spelled bytes)
   size_more bytes ys h = elim (cases_lt (prefix_len is_digit bytes) (length bytes)) [
     | inl within ↦
         let same : prefix_len is_digit (bytes ++ ys) ≡ prefix_len is_digit bytes = prefix_len-append is_digit bytes ys

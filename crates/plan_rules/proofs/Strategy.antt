@@ -55,7 +55,7 @@ facts_same upper pair twin q r same facts = record {
 
 -- a line that a side has, as a line and its squares
 pub line_squares : (q : Position) (side : Side) → has_line q side ≡ true → (g : Group) × (lies_on (board_of q) g ≡ true)
-  × Owns side q (has_square (squares_of g))
+    × Owns side q (has_square (squares_of g))
 line_squares q side h =
     let line = has_line_gives q side h in (
       group_on (board_of q) line.way line.anchor,
@@ -65,7 +65,7 @@ line_squares q side h =
     )
 
 pub group_gives_line : (q : Position) (side : Side) (g : Group) → lies_on (board_of q) g ≡ true → Owns side q (has_square (squares_of g))
-  → has_line q side ≡ true
+    → has_line q side ≡ true
 group_gives_line q side g lies owns =
     let parts = lies_parts (board_of q) g lies in
     has_line_from q side (record {

@@ -17,12 +17,12 @@ module _ (version : Version) (root : Position) where
   -- the refusal of the line behind some lines
   refusal_here : (before : List (List ℕ)) (line : List ℕ) (rest : List (List ℕ))
       → refusal_at version root (before ++ line ∷ rest) (length before) ≡ bytes_refusal version (state_after version root before)
-        (length before + first_number) line
+      (length before + first_number) line
   refusal_here before line rest =
       ap (λ prefix. bytes_refusal version (state_after version root prefix) (length before + first_number)
-        (slice_index_or (before ++ line ∷ rest) (length before) []))
+      (slice_index_or (before ++ line ∷ rest) (length before) []))
       (take-append_seam before (line ∷ rest)) ∙ ap (bytes_refusal version (state_after version root before) (length before + first_number))
-        (index_seam before line rest)
+      (index_seam before line rest)
 
   -- one line more isn't refused
   stands_more : (before : List (List ℕ)) (line : List ℕ) (rest : List (List ℕ))
@@ -52,7 +52,7 @@ module _ (version : Version) (root : Position) where
       (λ i low. ap (λ lines. refusal_at version root lines i) same ∙ stands_more before line rest stood here i (omega arith))
       (subst (λ n. ReachLemma version (state_after version root (before ++ line ∷ [])) n rest) (omega (arith, longer))
       (subst (λ s. ReachLemma version s (length before + first_number + 1) rest)
-        (sym (state_after_push version root before (length before + first_number) line here)) later)))
+      (sym (state_after_push version root before (length before + first_number) line here)) later)))
 
 pub begins_proof : (asked : Option Version) (version : Version) (bytes first : List ℕ) (more : List (List ℕ)) → pieces bytes ≡ first ∷ more
     → version_named asked first ≡ Some version → (root : Position) → game_at (game_of more) ≡ Ok root

@@ -58,7 +58,7 @@ stops_earlier one two bytes mid ls a b c stops.Memory goes later h = goes.reache
 
 -- the head and the game
 module _ (asked : Option Version) (version : Version) (a b c : Pending)
-  (head : Reads a b (λ bytes rest. PassesLines 1 bytes rest × GoesOn (AtHead asked) bytes (AtGame version) rest [])) where
+    (head : Reads a b (λ bytes rest. PassesLines 1 bytes rest × GoesOn (AtHead asked) bytes (AtGame version) rest [])) where
   pub game_known : (root : Position)
       → Reads b c (λ bytes rest. PassesLines 2 bytes rest
       × ((game_at (game_of (pieces bytes)) ≡ Ok root) × (behind_game (pieces bytes) ≡ lines_in (pieces rest))))
@@ -94,11 +94,11 @@ game_lines inputs.Read = omega arith
 
 -- and the lines behind them
 module _ (asked : Option Version) (version : Version) (a b c : Pending) (x y : Option (List Lemma)) (root : Position) (s t : CheckerState)
-  (began : s ≡ start root)
+    (began : s ≡ start root)
     (game : Reads a b (λ bytes rest. PassesLines 3 bytes rest × GoesOn (AtHead asked) bytes (AtLine version (start root) first_number) rest [])) where
   gets_behind : (P Q : List Lemma → List ℕ → List ℕ → Type 0)
       → ((ls : List Lemma) (bytes mid rest : List ℕ) → PassesLines 3 bytes mid
-        × GoesOn (AtHead asked) bytes (AtLine version (start root) first_number) mid [] → P ls mid rest
+      × GoesOn (AtHead asked) bytes (AtLine version (start root) first_number) mid [] → P ls mid rest
       → Q ls bytes rest)
       → Gets b c x y P → Gets a c x y Q
   gets_behind P Q more lines = record { lemmas = lines.lemmas; gains = lines.gains; reads = Reads_then a b c _ _ _ game lines.reads (more lines.lemmas) }
@@ -133,7 +133,7 @@ module _ (asked : Option Version) (version : Version) (a b c : Pending) (x y : O
 -- ---- how it was judged
 
 pub judged_stop : (asked : Option Version) (old : Option (List ℕ)) (begun : ℕ) (last : Pending) (had has : Option (List Lemma)) (n before after : ℕ)
-  (stop : ProofStop)
+    (stop : ProofStop)
     → Gets (fresh old begun) last had has (λ ls bytes rest. PassesLines n bytes rest × StopsWith (AtHead asked) ls bytes before after stop)
     → n ≤ lines_read_until stop → n ≤ most_lines_read → Judges asked old last.left last.last_read before after had has (Err stop)
 judged_stop asked old begun last had has n before after stop gets few all =
@@ -153,22 +153,22 @@ judged_stop asked old begun last had has n before after stop gets few all =
 
 -- it stopped before the first lemma
 pub judged_bare : (asked : Option Version) (old : Option (List ℕ)) (begun : ℕ) (last : Pending) (told : Option (List Lemma)) (n before after : ℕ)
-  (stop : ProofStop)
+    (stop : ProofStop)
     → Reads (fresh old begun) last (λ bytes rest. PassesLines n bytes rest × StopsBy (AtHead asked) bytes before after stop)
     → n ≤ lines_read_until stop → n ≤ most_lines_read → Judges asked old last.left last.last_read before after told told (Err stop)
 judged_bare asked old begun last told n before after stop reads few all =
     judged_stop asked old begun last told told n before after stop
-      (stops_bare (fresh old begun) last told told (AtHead asked) n before after stop refl reads) few all
+    (stops_bare (fresh old begun) last told told (AtHead asked) n before after stop refl reads) few all
 
 -- no line is left, and there was no verdict
 pub judged_unended : (asked : Option Version) (old : Option (List ℕ)) (begun : ℕ) (last : Pending) (had has : Option (List Lemma)) (n before after : ℕ)
-  (r : Refusal)
+    (r : Refusal)
     → Gets (fresh old begun) last had has
     (λ ls bytes rest. PassesLines n bytes rest × ((judged asked bytes ≡ answers.Refused r.at (why_of r.why)) × (text_lemmas asked bytes ≡ ls)))
     → n ≤ r.at → n ≤ most_lines_read → Judges asked old last.left last.last_read before after had has (Err (stops.Refused r))
 judged_unended asked old begun last had has n before after r gets few all =
     let stopped : Gets (fresh old begun) last had has (λ ls bytes rest. PassesLines n bytes rest
-      × StopsWith (AtHead asked) ls bytes before after (stops.Refused r)) =
+    × StopsWith (AtHead asked) ls bytes before after (stops.Refused r)) =
     record {
       lemmas = gets.lemmas;
       gains = gets.gains;
@@ -177,7 +177,7 @@ judged_unended asked old begun last had has n before after r gets few all =
     judged_stop asked old begun last had has n before after (stops.Refused r) stopped few all
 
 pub judged_right : (asked : Option Version) (old : Option (List ℕ)) (begun : ℕ) (last : Pending) (had has : Option (List Lemma)) (n before after : ℕ)
-  (accepted : Accepted)
+    (accepted : Accepted)
     → Gets (fresh old begun) last had has
     (λ ls bytes rest. PassesLines n bytes rest × ((judged asked bytes ≡ answers.Accepted accepted.verdict accepted.lemmas) × (text_lemmas asked bytes ≡ ls)))
     → last.ended ≡ true → n ≤ most_lines_read → Judges asked old last.left last.last_read before after had has (Ok accepted)

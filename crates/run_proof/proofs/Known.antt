@@ -47,7 +47,7 @@ module _ (a b : Pending) (got : LineGot) (text : List ℕ) (fed : Bool) (gives :
       })
 
   pub head_stops : (got ≡ Failed → ⊥) → version_named asked text ≡ None
-    → Reads a b (λ bytes rest. PassesLines 1 bytes rest × (judged asked bytes ≡ Refused 1 BadLine))
+      → Reads a b (λ bytes rest. PassesLines 1 bytes rest × (judged asked bytes ≡ Refused 1 BadLine))
   head_stops other unnamed = by_line a b got text fed gives _
       (λ bytes rest h. head_other asked bytes (record { got = got; text = text; fed = fed; rest = rest }) (given bytes rest text got fed h other) unnamed)
 
@@ -64,7 +64,7 @@ with_bytes_root version s bytes = of_line (read_line version (board_of s.root) b
 
 module _ (version : Version) (a b : Pending) (text : List ℕ) (fed : Bool) (s : CheckerState) (at : ℕ) (had has : Option (List Lemma)) where
   pub line_known : Reads a b (λ bytes rest. Gives bytes rest Line text fed) → bytes_refusal version s at text ≡ None → (t : CheckerState)
-    → t ≡ with_bytes version s text
+      → t ≡ with_bytes version s text
       → Gains had has (lemmas_said version (board_of s.root) (text ∷ []))
       → Gets a b had has (λ lemmas bytes rest. PassesLines 1 bytes rest × GoesOn (AtLine version s at) bytes (AtLine version t (at + 1)) rest lemmas)
   line_known gives stands t next gains = record {
@@ -97,17 +97,17 @@ module _ (version : Version) (a b : Pending) (text : List ℕ) (fed : Bool) (s :
       → ((bytes rest : List ℕ) → Gives bytes rest got text fed → StopsBy (AtLine version s at) bytes before after stop)
       → Gets a b had has (λ lemmas bytes rest. PassesLines 1 bytes rest × StopsWith (AtLine version s at) lemmas bytes before after stop)
   at_line before after stop got gives same stops = stops_bare a b had has (AtLine version s at) 1 before after stop same
-    (by_line a b got text fed gives _ stops)
+      (by_line a b got text fed gives _ stops)
 
   pub line_stops : Reads a b (λ bytes rest. Gives bytes rest Line text fed) → has ≡ had → (before after : ℕ) (stop : ProofStop)
-    → StopsAtLine version s at text stop
+      → StopsAtLine version s at text stop
       → Gets a b had has (λ lemmas bytes rest. PassesLines 1 bytes rest × StopsWith (AtLine version s at) lemmas bytes before after stop)
   line_stops gives same before after stop h = at_line before after stop Line gives same (λ bytes rest is. by_stop bytes rest is stop h)
     where
       by_stop : (bytes rest : List ℕ) → record { got = Line; text = text; fed = fed; rest = rest } ≡ next_line bytes
           → (stop : ProofStop) → StopsAtLine version s at text stop → StopsBy (AtLine version s at) bytes before after stop
       by_stop bytes rest is (stops.Refused r) h = line_refused version s at bytes (record { got = Line; text = text; fed = fed; rest = rest })
-        (why_of r.why) is refl
+          (why_of r.why) is refl
           h.0 ∙ ap (λ at. Refused at (why_of r.why)) (sym h.1)
       by_stop bytes rest is stops.Memory h = lemma_reached version s at bytes (record { got = Line; text = text; fed = fed; rest = rest }) is refl h
       by_stop bytes rest is (stops.Input why) h = absurd h
@@ -124,7 +124,7 @@ module _ (version : Version) (a b : Pending) (text : List ℕ) (fed : Bool) (s :
 
 -- a line that is read and not refused
 module _ (version : Version) (s : CheckerState) (at : ℕ) (bytes : List ℕ) (size : Board) (line : Said) (board : board_of s.root ≡ size)
-  (within : at ≤ most_lines)
+    (within : at ≤ most_lines)
     (said : read_line version size bytes ≡ Some line) (stands : line_refusal s line ≡ None) where
   here : read_line version (board_of s.root) bytes ≡ Some line
   here = ap (λ board. read_line version board bytes) board ∙ said

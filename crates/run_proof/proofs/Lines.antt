@@ -27,7 +27,7 @@ use Rattle.run_frame.proofs.Cuts.{by_piece, line_first, long_first, none_left}
 -- the answer to the bytes before a line is that to the line, and then that to the bytes behind it
 line_got : (version : Version) (s : CheckerState) (at : ℕ) (bytes : List ℕ) (line : Cut) → line ≡ next_line bytes → line.got ≡ Line
     → lines_from version s at bytes ≡ line_answer (bytes_refusal version s at line.text) at
-      (lines_from version (with_bytes version s line.text) (at + 1) line.rest)
+    (lines_from version (with_bytes version s line.text) (at + 1) line.rest)
 unfolding lines_from
 line_got version s at bytes line is got = ap (check_from version s at) (line_first bytes line is got)
 
@@ -38,23 +38,23 @@ line_refused version s at bytes line why is got refused = line_got version s at 
     ∙ ap (λ r. line_answer r at (lines_from version (with_bytes version s line.text) (at + 1) line.rest)) refused
 
 pub line_stands : (version : Version) (s : CheckerState) (at : ℕ) (bytes : List ℕ) (line : Cut) → line ≡ next_line bytes → line.got ≡ Line
-  → bytes_refusal version s at line.text ≡ None
+    → bytes_refusal version s at line.text ≡ None
     → lines_from version s at bytes ≡ lines_from version (with_bytes version s line.text) (at + 1) line.rest
 line_stands version s at bytes line is got stands = line_got version s at bytes line is got
     ∙ ap (λ r. line_answer r at (lines_from version (with_bytes version s line.text) (at + 1) line.rest)) stands
 
 -- a line that is too long is refused
 pub long_got : (version : Version) (s : CheckerState) (at : ℕ) (bytes : List ℕ) (line : Cut) → line ≡ next_line bytes → line.got ≡ Long
-  → lines_from version s at bytes ≡ Refused at BadLine
+    → lines_from version s at bytes ≡ Refused at BadLine
 unfolding lines_from
 long_got version s at bytes line is got =
     let some = long_first bytes line is got in
     ap (check_from version s at) some.2 ∙ ap (λ r. line_answer r at (check_from version (with_bytes version s some.0) (at + 1) some.1))
-      (out_of_bounds version s at some.0 (inr some.3))
+    (out_of_bounds version s at some.0 (inr some.3))
 
 -- a line that isn't refused is passed, or is itself the lemma that is reached
 pub line_reaches : (version : Version) (s : CheckerState) (at : ℕ) (bytes : List ℕ) (line : Cut) → line ≡ next_line bytes → line.got ≡ Line
-  → bytes_refusal version s at line.text ≡ None
+    → bytes_refusal version s at line.text ≡ None
     → LinesReach version (with_bytes version s line.text) (at + 1) line.rest → LinesReach version s at bytes
 unfolding LinesReach
 line_reaches version s at bytes line is got stands later = subst (ReachLemma version s at) (sym (line_first bytes line is got)) (inr (stands, later))
@@ -111,7 +111,7 @@ head_other asked bytes line is other =
 
 -- where the first two lines are a game, the answer is that to the lines behind them
 pub game_read : (version : Version) (bytes rest : List ℕ) (root : Position) → game_at (game_of (pieces bytes)) ≡ Ok root
-  → behind_game (pieces bytes) ≡ lines_in (pieces rest)
+    → behind_game (pieces bytes) ≡ lines_in (pieces rest)
     → game_from version bytes ≡ lines_from version (start root) first_number rest
 unfolding game_from lines_from
 game_read version bytes rest root game behind =
@@ -124,7 +124,7 @@ unfolding GameReaches LinesReach
 game_reaches version bytes rest root game behind reach = (root, game, subst (ReachLemma version (start root) first_number) (sym behind) reach)
 
 pub game_fault : (version : Version) (bytes : List ℕ) (fault : InputFault) → game_at (game_of (pieces bytes)) ≡ Err fault
-  → game_from version bytes ≡ NoGame fault
+    → game_from version bytes ≡ NoGame fault
 unfolding game_from
 game_fault version bytes fault game = ap (λ r. game_answer version r (behind_game (pieces bytes))) game
 
@@ -136,7 +136,7 @@ said_first : (version : Version) (board : Board) (line : List ℕ) (lines : List
 said_first version board line lines = of_read (read_line version board line) refl
   where
     of_read : (said : Option Said) → read_line version board line ≡ said
-      → lemmas_said version board (line ∷ lines) ≡ lemmas_said version board (line ∷ []) ++ lemmas_said version board lines
+        → lemmas_said version board (line ∷ lines) ≡ lemmas_said version board (line ∷ []) ++ lemmas_said version board lines
     of_read None e = rw e refl
     of_read (Some (ALemma l)) e = rw e refl
     of_read (Some ARemark) e = rw e refl
@@ -146,15 +146,15 @@ pub line_says : (version : Version) (board : Board) (bytes : List ℕ) (line : C
     → lemmas_from_lines version board bytes ≡ lemmas_said version board (line.text ∷ []) ++ lemmas_from_lines version board line.rest
 unfolding lemmas_from_lines
 line_says version board bytes line is got = ap (lemmas_said version board) (line_first bytes line is got)
-  ∙ said_first version board line.text (lines_in (pieces line.rest))
+    ∙ said_first version board line.text (lines_in (pieces line.rest))
 
 pub none_says : (version : Version) (board : Board) (bytes : List ℕ) (line : Cut) → line ≡ next_line bytes → line.got ≡ Done
-  → lemmas_from_lines version board bytes ≡ []
+    → lemmas_from_lines version board bytes ≡ []
 unfolding lemmas_from_lines
 none_says version board bytes line is got = ap (lemmas_said version board) (none_left bytes line is got).0
 
 pub game_says : (version : Version) (bytes rest : List ℕ) (root : Position) → game_at (game_of (pieces bytes)) ≡ Ok root
-  → behind_game (pieces bytes) ≡ lines_in (pieces rest)
+    → behind_game (pieces bytes) ≡ lines_in (pieces rest)
     → lemmas_from_game version bytes ≡ lemmas_from_lines version (board_of root) rest
 unfolding lemmas_from_game lemmas_from_lines
 game_says version bytes rest root game behind =

@@ -51,7 +51,7 @@ stops_bare a b had has place n before after stop same reads = record {
 module _ (version : Version) (s : CheckerState) (bytes : List ℕ) where
   -- a line that isn't refused may be handed on
   pub may_hand_on : (size : Board) (line : Said) (told : Option (List Lemma)) → InStep told s → read_line version size bytes ≡ Some line
-    → line_refusal s line ≡ None
+      → line_refusal s line ≡ None
       → MayHandOn told line
   may_hand_on size ARemark told step said stands = tt
   may_hand_on size (AVerdict v) told step said stands = tt
@@ -78,12 +78,12 @@ module _ (version : Version) (s : CheckerState) (bytes : List ℕ) where
 
   -- the taker stays in step
   pub step_more : (at : ℕ) (t : CheckerState) (had has : Option (List Lemma)) → bytes_refusal version s at bytes ≡ None
-    → t ≡ with_bytes version s bytes → InStep had s
+      → t ≡ with_bytes version s bytes → InStep had s
       → Gains had has (lemmas_said version (board_of s.root) (bytes ∷ [])) → InStep has t
   step_more at t had has stands next step gains = rw (gains, next) (by had step)
     where
       by : (had : Option (List Lemma)) → InStep had s → InStep (option_map (λ got. got ++ lemmas_said version (board_of s.root) (bytes ∷ [])) had)
-        (with_bytes version s bytes)
+          (with_bytes version s bytes)
       by None step = tt
       by (Some got) step = omega (arith, step, known_more at stands, length-append got (lemmas_said version (board_of s.root) (bytes ∷ [])))
 

@@ -136,7 +136,7 @@ module _ (nodes reach : ℕ) (slots : Option ℕ) (bytes : List ℕ) (p : Positi
         record {
           game = game;
           stands = lemmas_stand One p the_head text asks.white_remark asks.white asks.mid asks.black_remark asks.black asks.after asks.white_right
-            asks.black_right
+              asks.black_right
               asks.white_sided asks.black_sided
               (in_turn slots reach p asks.mid asks.black_remark asks.black asks.black_remarked) asks.white_line asks.black_line refl;
           remarked = inr (asks.white_remarked, asks.black_remarked);

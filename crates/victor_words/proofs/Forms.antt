@@ -15,8 +15,8 @@ use Rattle.game_rules.proofs.Lists.{chosen}
 use Rattle.game_rules.proofs.Numbers.{number_gives, number_spelled}
 use Rattle.plan_text.specs.Words.{◌>>=◌}
 use Rattle.plan_text.proofs.Spaced.{bind_some, is_text}
-use Rattle.victor_words.specs.Words.{OptionRow, Given, IsNumberOf, IsGiven, FormRow, form_row, row_of, is_drilled, AreGames, HasOwnRanges, HasRanges,
-  nodes, reach, front}
+use Rattle.victor_words.specs.Words.{OptionRow, Given, IsNumberOf, IsGiven, FormRow, form_row, row_of, is_drilled, AreGames, HasOwnRanges}
+use Rattle.victor_words.specs.Words.{HasRanges, nodes, reach, front}
 use Rattle.victor_words.specs.Words.{table, options_of, has_only}
 use Rattle.victor_words.specs.Reading.{WordsFound, asked, number, own_with, with_none, with_five, board_with, size_from, form_with}
 use Rattle.victor_words.specs.Reading.{prove_form, bare_form, explain_form, drill_form}

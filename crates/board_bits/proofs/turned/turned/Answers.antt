@@ -19,5 +19,5 @@ overflow_add-image c = let low = room c in omega (arith, low)
 pub loop-column-preserved : goal.loop-column-preserved
 loop-column-preserved c = record {
   so_far = ap (λ n. n * 2048 + c.args.word / 2 ^ (11 * c.loop-column.column) % 2048) c.loop-column.invariant.so_far
-    ∙ turned_more c.args.word c.loop-column.column;
+      ∙ turned_more c.args.word c.loop-column.column;
 }

@@ -43,7 +43,7 @@ put_lemma-requires-clause-true_now g c =
 pub returns-then-is_planned-clause-wrote : goal.returns-then-is_planned-clause-wrote
 returns-then-is_planned-clause-wrote g c root known along many fits =
     let p = c.args.position.now in let question = c.args.aim.now.question in let reach = c.args.aim.now.reach in
-      let version = version_for c.args.aim.now.mirror in
+    let version = version_for c.args.aim.now.mirror in
     solves_entered root p question reach version known _ _ _ _ c.put_lemma.result c.look_up.ensures.same refl
     (c.put_lemma.ensures.wrote root known along many (fits_same c.args.table.now c.look_up.new.table c.look_up.ensures.same known fits)
     (plan_reason known reach (side_asked question) p _ (c.if-is_planned.ensures.plan refl ∙ ap (λ list. Some (written_list list)) (sym c.plan.ensures.value))))

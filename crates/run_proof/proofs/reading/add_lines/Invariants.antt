@@ -13,7 +13,7 @@ invariant-loop-at g l = record {
   goes : Gets (pending l.fn.lines (g.S.Source.left l.fn.source) (g.S.Source.last_read l.fn.source))
       (pending l.lines (g.S.Source.left l.source) (g.S.Source.last_read l.source)) (g.T.LemmaTaker.lemmas l.fn.taker) (g.T.LemmaTaker.lemmas l.taker)
       (λ lemmas bytes rest. PassesLines (l.at - 4) bytes rest
-        × GoesOn (AtLine l.version l.fn.checker.stands first_number) bytes (AtLine l.version l.checker.stands l.at) rest lemmas);
+      × GoesOn (AtLine l.version l.fn.checker.stands first_number) bytes (AtLine l.version l.checker.stands l.at) rest lemmas);
   in_step : InStep (g.T.LemmaTaker.lemmas l.taker) l.checker.stands;
   board : board_of l.checker.stands.root ≡ l.size;
   from : 4 ≤ l.at;

@@ -15,7 +15,7 @@ returns-in_err-add_line-in-Line-clause-answer g c =
     let here = c.in_err-add_line-in-Line.ensures in
     rw (stop.1, stop.2) (
     line_stops c.args.version a b c.text.result.now c.next.new.self.fed c.args.checker.now.stands c.args.at _ _
-      (subst P (sym c.text.ensures) c.in-Line.ensures.gives) here.taken
+    (subst P (sym c.text.ensures) c.in-Line.ensures.gives) here.taken
     (g.S.Source.faults c.args.source.now) (g.S.Source.faults c.next.new.source) c.in_err-add_line-in-Line.field-0.0 here.answer
     )
 
@@ -26,7 +26,7 @@ returns-in_ok-add_line-in-Line-clause-answer g c =
     let P : List ℕ → Type 0 = λ text. Reads a b (λ bytes rest. Gives bytes rest Line text c.next.new.self.fed) in
     let here = c.in_ok-add_line-in-Line.ensures in
     line_known c.args.version a b c.text.result.now c.next.new.self.fed c.args.checker.now.stands c.args.at _ _
-      (subst P (sym c.text.ensures) c.in-Line.ensures.gives) here.answer.0
+    (subst P (sym c.text.ensures) c.in-Line.ensures.gives) here.answer.0
     c.add_line.new.checker.stands here.answer.1 here.taken
 
 pub returns-in_ok-add_line-in-Line-clause-root : goal.returns-in_ok-add_line-in-Line-clause-root

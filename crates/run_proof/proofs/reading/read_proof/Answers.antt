@@ -30,7 +30,7 @@ returns-in_err-end g c =
     let head = from_fresh _ _ _ _ _ c.new-lines.ensures c.in_ok-version.ensures.answer in
     let game = game_known c.args.asked c.in_ok-version.version _ _ _ head c.in_ok-root.root c.in_ok-root.ensures.answer in
     let stopped = lines_stop c.args.asked c.in_ok-version.version _ _ _ _ _ c.in_ok-root.root c.new-checker.result.stands
-      c.add_lines.new.checker.stands (ap (λ s. s.stands) c.new-checker.ensures) game
+    c.add_lines.new.checker.stands (ap (λ s. s.stands) c.new-checker.ensures) game
     _ _ _ _ stop (omega (arith, c.in_ok-version.ensures.later, c.in_ok-root.ensures.later)) c.in_err-end.ensures.few.0 c.in_err-end.ensures.answer in
     rw (same.1, same.2) (judged_stop c.args.asked _ _ _ _ _ (lines_read_until stop) _ _ stop stopped all c.in_err-end.ensures.few.1)
 
@@ -44,7 +44,7 @@ returns-in-Ok g c =
     let game = game_known c.args.asked c.in_ok-version.version _ _ _ head c.in_ok-root.root c.in_ok-root.ensures.answer in
     let answer = ap (verdict_answer end (length t.known)) c.in-Ok.ensures.0 ∙ ap (Accepted accepted.verdict) (sym c.in-Ok.ensures.1) in
     let right = lines_known c.args.asked c.in_ok-version.version _ _ _ _ _ c.in_ok-root.root c.new-checker.result.stands t
-      (ap (λ s. s.stands) c.new-checker.ensures) game end (omega (arith, few.0))
+    (ap (λ s. s.stands) c.new-checker.ensures) game end (omega (arith, few.0))
     c.in_ok-end.ensures.answer (Accepted accepted.verdict accepted.lemmas) answer in
     judged_right c.args.asked _ _ _ _ _ end _ _ accepted right c.in_ok-end.ensures.ended few.1
 
@@ -58,6 +58,6 @@ returns g c =
     let game = game_known c.args.asked c.in_ok-version.version _ _ _ head c.in_ok-root.root c.in_ok-root.ensures.answer in
     let answer = ap (verdict_answer end (length t.known)) c.in-Err.ensures.0 ∙ ap (λ r. Refused r.at (why_of r.why)) (sym c.in-Err.ensures.1) in
     let stopped = lines_known c.args.asked c.in_ok-version.version _ _ _ _ _ c.in_ok-root.root c.new-checker.result.stands t
-      (ap (λ s. s.stands) c.new-checker.ensures) game end (omega (arith, few.0))
+    (ap (λ s. s.stands) c.new-checker.ensures) game end (omega (arith, few.0))
     c.in_ok-end.ensures.answer (Refused r.at (why_of r.why)) answer in
     judged_unended c.args.asked _ _ _ _ _ end _ _ r stopped (omega (arith, ap (λ r. r.at) c.in-Err.ensures.1)) few.1
