@@ -424,7 +424,8 @@ def shown_lemmas(lemmas, verdict, most):
 def draw_proof(game, lemmas, verdict, most):
     numbers = shown_lemmas(lemmas, verdict, most)
     data = {
-        "size": str(game.size), "cols": game.cols, "rows": game.rows, "moves": game.letters(), "verdict": verdict,
+        "size": str(game.size), "cols": game.cols, "rows": game.rows, "line": game.length, "moves": game.letters(),
+        "verdict": verdict,
         "count": len(lemmas),
         "lemmas": [lemmas[n - 1] for n in numbers],
     }

@@ -252,6 +252,18 @@ class PageTest(ToolTest):
         self.assertIn("<details>", found)
         self.assertNotIn("<details open", found)
         self.assertIn(">4 lemmas</div>", found)
+        # Each move from a position has what the page's lemmas say of it, and what isn't there is told.
+        found = browse(path)
+        self.assertIn('a3</a></td><td>a draw by <a href="#4">lemma 4</a> and <a href="#15">lemma 15</a></td>', found)
+        self.assertIn('b3</a></td><td>White doesn\'t win by <a href="#7">lemma 7</a></td>', found)
+        found = browse(path, "#+ab")
+        self.assertIn("Lemma 14</h2>", found)
+        self.assertIn('a4</a></td><td>Black doesn\'t win by <a href="#13">lemma 13</a></td>', found)
+        self.assertIn("b4</a></td><td>not known on this page</td>", found)
+        self.assertIn("No lemma on this page stands at this position.", browse(path, "#+ba"))
+        for address, said in (("#99", "Lemma 99 isn't on this page, which has 16 of 16."), ("#+z", "z can't be played from"),
+                              ("#/ccc", "No lemma on this page has a path that begins so.")):
+            self.assertIn(said, browse(path, address), address)
         # A lemma by a plan has the zones on its board.
         found = browse(self.page(read(example("six-zones.proof"))))
         self.assertIn("LI 6</text>", found)

@@ -1,0 +1,174 @@
+"""The documents: each command that they show runs, and what stands behind `$` is what comes.
+
+A document's commands run one after the other in a folder that is laid out as the checkout. `LEFT_OUT` names those that
+don't run here, each with the reason; they are run by hand.
+"""
+
+import os
+import re
+import shutil
+import subprocess
+import tempfile
+import unittest
+
+from common import boards, program, read
+
+DOCUMENTS = ("README.md",) + tuple(
+    "docs/%s.md" % name for name in (
+        "USE", "TOOLS", "PLAY", "CHOOSER", "FRONT", "SOLVED", "TEACH", "PROOFS", "RULES", "FIVE", "MIRROR", "THREAT"))
+COMMAND = re.compile(r"(tools/|\./victor|printf|echo|make|moves=|tr |set -o|python3|apt-get|\.ci/) *")
+# The beginning of a command, and why it isn't run.
+LEFT_OUT = {
+    "make try": "it needs the sources and takes a minute",
+    "make install": "it writes outside the folder; .ci/launcher looks at what it installs",
+    "make check-proofs": "it needs the packed proofs",
+    ".ci/run": "this is a part of it",
+    "apt-get": "it installs",
+    "make -C tools/solve usual.txt": "it takes 40 minutes",
+    "make -C": "tools/tests/test_solve.py does it",
+    "./victor check < tools/solve/usual.txt": "it needs the proof that takes 40 minutes",
+    "sha256sum tools/solve/usual.txt": "the same",
+    "wc -lc tools/solve/usual.txt": "the same",
+    "tools/check.py tools/solve/usual.txt": "the same",
+    "tools/batch": "tools/tests/test_batch.py runs it, and Slurm is elsewhere",
+    "python3 tools/tests/mutants.py": "it takes minutes",
+    "tools/play.py": "it asks a person; tools/tests/test_play.py plays it",
+    "./victor play": "it asks a person; a test below plays it",
+    "tools/ask.py dddcccbb": "it shows what comes where tools/solve is made",
+    "tools/ask.py --seconds 4 dccdcdb": "the same",
+}
+# What stands there before a document's commands.
+FIRST = {
+    "docs/USE.md": r"printf 'board 7 6\nmoves dcdcdc\n' > game.txt; ./victor prove < game.txt > proof.txt;"
+                   r" printf 'board 7 6\r\nmoves dcdcdc\r\n' > game-of-windows.txt; moves=dcdcdc",
+    "docs/TOOLS.md": r"printf 'board 4 4\nmoves -\n' | tee game.txt one.txt > two.txt;"
+                     r" printf 'board 4 4\nmoves -\nplan CE:a1 CE:a3 CE:b1 CE:b3 BI:c1,d1 LI:c2-c4,d2-d4\nc\n' > moves.txt",
+}
+
+
+def blocks_of(text):
+    """The indented blocks of a document, each a list of lines from the same edge."""
+    block = []
+    for line in text.split("\n") + ["end"]:
+        if line.startswith("    ") or not line and block:
+            block.append(line)
+        elif block:
+            while not block[-1]:
+                block.pop()
+            edge = len(block[0]) - len(block[0].lstrip())
+            yield [line[edge:] for line in block]
+            block = []
+
+
+def whole(lines):
+    """The lines with each that goes on joined to the next."""
+    joined = []
+    for line in lines:
+        if joined and joined[-1].endswith(("\\", "&&")):
+            joined[-1] = joined[-1].rstrip("\\") + line.lstrip()
+        else:
+            joined.append(line)
+    return joined
+
+
+def runs_of(block):
+    """Each command of a block with what is shown of its output, or None where nothing is."""
+    lines = whole(block)
+    if not any(line.startswith("$ ") for line in lines):
+        return [(line, None) for line in lines if COMMAND.match(line)]
+    runs = []
+    for line in lines:
+        if line.startswith("$ "):
+            runs.append((line[2:], []))
+        elif runs:
+            runs[-1][1].append(line)
+    return runs
+
+
+def commands_of(name):
+    path = os.path.join(boards.TOP, name)
+    runs = [run for block in blocks_of(read(path)) for run in runs_of(block)] if os.path.exists(path) else []
+    # tools/solve has to be made first, which tools/tests/test_solve.py does.
+    return [(line, shown) for line, shown in runs
+            if "tools/solve/solve" not in line and not any(line.startswith(words) for words in LEFT_OUT)]
+
+
+def is_shown(shown, made):
+    """Whether the output begins with these lines. Of a line that ends in ` ..` what stands before is enough."""
+    lines = made.split("\n")
+    return len(shown) <= len(lines) and all(
+        line.startswith(part[:-2]) if part.endswith(" ..") else line == part for part, line in zip(shown, lines))
+
+
+class DocumentsTest(unittest.TestCase):
+    def setUp(self):
+        self.folder = tempfile.mkdtemp()
+        self.addCleanup(shutil.rmtree, self.folder)
+        for name in ("tools", "examples", "docs"):
+            # Copied, so that the tools take the program beside them.
+            others = shutil.ignore_patterns("solve", "wrong-bodies", "__pycache__")
+            shutil.copytree(os.path.join(boards.TOP, name), os.path.join(self.folder, name), ignore=others)
+
+    def link(self, path):
+        os.symlink(path, os.path.join(self.folder, "victor"))
+
+    def bash(self, line, text=None, **more):
+        made = subprocess.run(["bash", "-c", line], cwd=self.folder, input=text or "", stdout=subprocess.PIPE,
+                              stderr=subprocess.STDOUT, encoding="utf-8", timeout=150, **more)
+        return made.returncode, made.stdout
+
+    def try_commands(self, name, environment=None):
+        first = FIRST.get(name, "true")
+        self.bash(first)
+        # What a command sets stands for those behind it.
+        kept = first.rsplit("; ", 1)[-1] if "=" in first.rsplit("; ", 1)[-1] else "true"
+        for line, shown in commands_of(name):
+            with self.subTest(document=name, command=line):
+                status, made = self.bash(kept + "\n" + line, env=environment)
+                if line.startswith("moves="):
+                    self.assertEqual(self.bash(line + "\necho $moves")[1], "dcdcdc\n")
+                    kept = line
+                if shown:
+                    self.assertTrue(is_shown(shown, made), made)
+                elif shown is None:
+                    self.assertEqual(status, 0, made)
+
+    def test_commands(self):
+        self.link(program())
+        counts = {name: len(commands_of(name)) for name in DOCUMENTS}
+        self.assertGreater(sum(counts.values()), 70, counts)
+        for name in DOCUMENTS:
+            if name != "docs/USE.md":
+                self.try_commands(name)
+
+    def test_use(self):
+        """The page shows what the launcher says on a terminal."""
+        launcher = os.path.join(boards.TOP, "victor")
+        if os.environ.get("VICTOR") or not os.access(launcher, os.X_OK):
+            self.skipTest("another program than that of the checkout is tested")
+        program()  # built where it isn't
+        self.link(launcher)
+        wrong = "printf 'board 7 6\\nmoves Dcdcdc\\n' > wrong.txt"
+        self.bash(wrong)
+        self.try_commands("docs/USE.md", dict(os.environ, VICTOR_EXPLAIN="1"))
+
+    def test_play(self):
+        """The games of the page on playing: each line that is typed there, and what is answered."""
+        self.link(program())
+        text = read(os.path.join(boards.TOP, "docs", "PLAY.md"))
+        lines = [line.strip() for line in text.split("\n") if line.startswith("    ")]
+        start = lines[lines.index("$ ./victor play") + 1:][:3]
+        answers = [line for line in lines if re.fullmatch(r"[a-j]\d+ [a-j]\d+( won| full)?", line)]
+        typed = [line for line in lines if re.fullmatch("[a-j]", line)]
+        first = self.bash("./victor play", text="\n".join(start + typed))
+        self.assertEqual(first, (0, "".join(line + "\n" for line in answers[:len(typed)])))
+        second = self.bash("./victor play", text="\n".join(start + ["c", "c", "c", "d"]))
+        self.assertEqual(second, (0, "".join(line + "\n" for line in answers[len(typed):-2])))
+        third = ["board 4 4", "moves cccdcd", "plan CE:a1 CE:a3 CE:b1 CE:b3 CE:d3 AE:a2h", "a", "b"]
+        self.assertEqual(self.bash("./victor play", text="\n".join(third)), (0, "\n".join(answers[-2:]) + "\n"))
+        fewer = ["board 4 4", "moves cccdcd", "plan CE:a1 CE:a3 CE:b1 CE:b3 CE:d3"]
+        self.assertEqual(self.bash("./victor play", text="\n".join(fewer)), (4, "refused line 3: Unanswered a3h\n"))
+
+
+if __name__ == "__main__":
+    unittest.main()
