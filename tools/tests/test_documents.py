@@ -19,13 +19,9 @@ DOCUMENTS = ("README.md",) + tuple(
 COMMAND = re.compile(r"(tools/|\./victor|printf|echo|make|moves=|tr |set -o|python3|apt-get|\.ci/) *")
 # The beginning of a command, and why it isn't run.
 LEFT_OUT = {
-    "make try": "it needs the sources and takes a minute",
-    "make install": "it writes outside the folder; .ci/launcher looks at what it installs",
-    "make check-proofs": "it needs the packed proofs",
+    "make": "it builds, installs, or takes 40 minutes; .ci/launcher and test_solve.py try the short ones",
     ".ci/run": "this is a part of it",
     "apt-get": "it installs",
-    "make -C tools/solve usual.txt": "it takes 40 minutes",
-    "make -C": "tools/tests/test_solve.py does it",
     "./victor check < tools/solve/usual.txt": "it needs the proof that takes 40 minutes",
     "sha256sum tools/solve/usual.txt": "the same",
     "wc -lc tools/solve/usual.txt": "the same",

@@ -289,9 +289,10 @@ class ImagesTest(unittest.TestCase):
         """Each picture that a document shows is there, is PNG and has fewer than 60,000 bytes."""
         shown = set()
         folder = os.path.join(boards.TOP, "docs")
-        for name in ("TOOLS.md", "TEACH.md"):
-            shown |= set(re.findall(r"!\[[^]]*\]\(([^)]*)\)", read(os.path.join(folder, name))))
-        self.assertGreaterEqual(len(shown), 9)
+        for name in ("TOOLS.md", "TEACH.md", "../README.md"):
+            found = re.findall(r"!\[[^]]*\]\(([^)]*)\)", read(os.path.join(folder, name)))
+            shown |= {path.replace("docs/", "") for path in found}
+        self.assertGreaterEqual(len(shown), 10)
         for name in shown:
             with open(os.path.join(folder, name), "rb") as source:
                 image = source.read()
