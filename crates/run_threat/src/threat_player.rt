@@ -18,14 +18,13 @@ pub(crate) struct ThreatPlayer {
 }
 
 impl Model for ThreatPlayer {
-    ghost use Rattle.run_threat.specs.Turns.{ThreatGame};
-    ghost use Rattle.threat_rules.specs.Threatened.{IsReached};
+    ghost use Rattle.run_threat.specs.Turns.{ThreatGame, IsUnderWay};
 
     ghost Value = { ThreatGame };
 
     ghost view = { λ player. record { threat = player.threat; stands = player.stands } };
 
-    ghost invariant = { λ player. IsReached player.threat player.stands };
+    ghost invariant = { λ player. IsUnderWay player.threat player.stands };
 }
 
 impl ThreatPlayer {

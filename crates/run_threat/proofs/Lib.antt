@@ -1,0 +1,4 @@
+pub mod Turn
+pub mod Read
+pub mod Judged
+pub mod Ends
