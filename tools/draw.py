@@ -358,8 +358,11 @@ class Duel:
         else:
             self.size, men = board_of(lowest, size)
         self.marks = {square: str(n) for n, pair in enumerate(pairs, 1) for square in pair}
-        if game is not None:
-            self.marks.update({square: "*" for square in group if square not in men})
+        if self.threat and game is not None:
+            lacking = [square for square in group if square not in men]
+            if len(lacking) != 1 or any(square in men for square in self.marks):
+                raise Fault("the threat isn't one of this game's position")
+            self.marks[lacking[0]] = "*"
         self.play(men, turns, game)
 
     def play(self, men, turns, game):
