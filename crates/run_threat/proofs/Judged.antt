@@ -195,10 +195,10 @@ module _ {X : Type 0} (old : Option (List ℕ)) (begun : ℕ) (last : Pending) (
       takes_until (stops.NoMove fault) undecided takes waits = takes
       takes_until stops.Write undecided takes waits = takes
 
-  pub input_played : (x : X) → Appends o n (text_of lines) → last.ended ≡ true
-      → Reads (fresh old begun) last (λ bytes rest. PassesLines (3 + answers lines) bytes rest
+  pub input_played : (x : X) (m : ℕ) → m ≤ 3 + answers lines → Appends o n (text_of lines) → last.ended ≡ true
+      → Reads (fresh old begun) last (λ bytes rest. PassesLines m bytes rest
       × (threat_of bytes ≡ record { lines = lines; end = ends.AllPlayed })) → PlaysInput {X = X} old last.left last.last_read o n (Ok x)
-  input_played x put end reads =
+  input_played x m until put end reads =
       let All : List ℕ → Type 0 = λ bytes. threat_of bytes ≡ record { lines = lines; end = ends.AllPlayed } in
       record {
         taken = reads.taken;
@@ -207,11 +207,11 @@ module _ {X : Type 0} (old : Option (List ℕ)) (begun : ℕ) (last : Pending) (
         few = few;
         written = put;
         played = (
-          of_taken old begun last (3 + answers lines) (3 + answers lines) All reads,
-          of_input old begun last (3 + answers lines) (3 + answers lines) All reads,
+          of_taken old begun last m (3 + answers lines) All reads,
+          of_input old begun last m (3 + answers lines) All reads,
           reads.last (λ never. absurd (cc never)) end,
         );
-        passed = of_lines old begun last (3 + answers lines) (3 + answers lines) All reads (omega arith);
+        passed = of_lines old begun last m (3 + answers lines) All reads until;
       }
 
 -- the line of the threat, and those behind it
@@ -227,7 +227,7 @@ module _ (old : Option (List ℕ)) (begun : ℕ) (mid last : Pending) (root : Po
   pub all_played : TurnStep mid last p n true before after (PlaysTurns {T = ⊤} threat_stands player_turn player first_move (Ok tt))
       → last.ended ≡ true → PlaysInput {X = ⊤} old last.left last.last_read o n (Ok tt)
   all_played step end = input_played old begun last o n (head.line ∷ step.lines) (omega (arith, step.few)) tt
-      (put_behind true o p n head.line step.lines head.written step.written) end
+      (3 + length step.lines) (omega arith) (put_behind true o p n head.line step.lines head.written step.written) end
       (moves_played (fresh old begun) mid last player head.line step.lines start step.reads)
 
   pub all_stopped : (result : Result ⊤ TurnStop) (stop : TurnStop) → result ≡ Err stop

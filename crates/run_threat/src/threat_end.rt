@@ -1,4 +1,5 @@
 //! How `threat` ends.
+ghost use Rattle.std.specs.Prelude.{◌≡◌};
 ghost use Rattle.run_threat.specs.Steps.{of_turns};
 ghost use Rattle.run_threat.specs.declared.threat_end.ThreatStop.TheVariants as stops;
 

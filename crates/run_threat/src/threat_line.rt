@@ -19,7 +19,8 @@ pub(crate) fn threat_line(threat: &Threat) -> ArrayVec<u8, MOST_THREAT_TEXT>
     let mut line = ArrayVec::new();
     push_text(&mut line, b"threat ");
     push_group(&mut line, threat.group());
-    for pair in threat.pairs() {
+    let pairs = threat.pairs();
+    for pair in pairs {
         push_pair(&mut line, pair);
     }
     line.push(b'\n');

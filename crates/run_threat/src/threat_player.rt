@@ -55,8 +55,8 @@ impl Player for ThreatPlayer {
     fn answer(&mut self, column: Column) -> Result<LineText, MoveFault> {
         let now = self.stands.play(column)?;
         let last = self.stands.playable(column).unwrap();
-        let reply = self.threat.reply(&now, last);
-        self.stands = now.after(reply.column());
-        Ok(turn_line(last, reply, self.stands.ended()))
+        let white = self.threat.reply(&now, last);
+        self.stands = now.after(white.column());
+        Ok(turn_line(last, white, self.stands.ended()))
     }
 }
