@@ -11,7 +11,7 @@ use Rattle.threat_text.specs.Told.{IsTold}
 use Rattle.threat_text.proofs.Steps.{threat_is_told}
 use Rattle.run_frame.specs.Streams.{Streams, TakesLines, StillHolds}
 use Rattle.run_frame.specs.declared.game_input.InputStop.TheVariants as inputs
-use Rattle.run_frame.proofs.Inputs.{of_each, IfSome_more, kept_still, appended_still, cut_still}
+use Rattle.run_frame.proofs.Inputs.{IfSome_more, kept_still, appended_still, cut_still}
 use Rattle.run_frame.proofs.Passing.{takes_bytes}
 use Rattle.run_threat.specs.Threatens.{IsPlayed, BeginsPlay, answers, most_threat_lines, threat_status, Threatens, ThreatCompletes}
 use Rattle.run_threat.specs.Steps.{PlaysInput}

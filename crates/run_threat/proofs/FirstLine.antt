@@ -10,7 +10,7 @@ use Rattle.play_text.specs.Play as ends
 use Rattle.play_text.specs.Play.{Played, behind}
 use Rattle.threat_rules.specs.Threatened.{Threatened, threat_found}
 use Rattle.threat_text.specs.Threats.{threat_line, no_threat_line, answers_from, first_move, threat_lines}
-use Rattle.run_threat.specs.Steps.{PutsHead, TellsNone, StopsHead, StopsPlay}
+use Rattle.run_threat.specs.Steps.{PutsHead, TellsNone, StopsHead}
 use Rattle.run_threat.specs.Turns.{ThreatGame, turns_left}
 use Rattle.run_threat.specs.declared.threat_end.ThreatStop.{ThreatStop}
 use Rattle.run_threat.specs.declared.threat_end.ThreatStop.TheVariants as stops

@@ -1,14 +1,12 @@
 -- What each step of `threat` says of the bytes: what is played goes on, or how it ends.
-use Rattle.std.proofs.Common.{◌≡◌, ℕ, ◌+◌, List, [], ◌∷◌, length, Option, Some, None, option_map, Result, Ok, Err, refl, ap, ◌∙◌}
-use Rattle.game_rules.specs.Groups.{Group}
+use Rattle.std.proofs.Common.{◌≡◌, ℕ, ◌+◌, List, [], ◌∷◌, Option, Some, None, option_map, Ok, Err, refl, ap, ◌∙◌}
 use Rattle.game_rules.specs.Position.{Position, board_of}
 use Rattle.game_rules.specs.Text.{game_at}
 use Rattle.game_rules.specs.declared.InputFault.{InputFault}
-use Rattle.odd_rules.specs.Threat.{Pair}
 use Rattle.odd_rules.specs.Duel.{after_turn}
 use Rattle.odd_rules.specs.Refusal.{first_threat}
 use Rattle.proof_text.specs.Texts.{pieces, lines_in, game_of, behind_game}
-use Rattle.play_text.specs.Play.{NoGame, Played, ended, behind, column_in, move_refusal, with_turn, with_move, turns_from}
+use Rattle.play_text.specs.Play.{NoGame, ended, behind, column_in, move_refusal, with_turn, with_move, turns_from}
 use Rattle.play_text.specs.declared.PlayKind.{PlayKind}
 use Rattle.threat_text.specs.Threats.{turn_with, threat_turn, answers_from, threat_lines, threat_game, threat_of}
 use Rattle.run_turns.specs.Steps.{turns_by}

@@ -12,7 +12,7 @@ use Rattle.odd_rules.proofs.Theorems.{threat_answers}
 use Rattle.odd_rules.proofs.Wins.{turn_is}
 use Rattle.threat_rules.specs.Threatened.{Threatened, HasMoved}
 use Rattle.threat_text.specs.Threats.{answer_line, turn_text}
-use Rattle.run_threat.specs.Turns.{ThreatGame, IsUnderWay, game_with, player_turn, turns_left}
+use Rattle.run_threat.specs.Turns.{IsUnderWay, game_with, player_turn}
 
 -- a legal move goes to the column's lowest empty square
 legal_square : (q : Position) (column : ℕ) (last : Square) → is_legal q column ≡ true → lowest_empty q column ≡ Some last → top_of q column ≡ last

@@ -1,6 +1,6 @@
 -- How `threat` goes through an input: at each step what is played by the bytes that were not given yet is what the step wrote
 -- and then what is played by those that are not given after it, or the step ends play.
-use Rattle.std.specs.Prelude.{◌≡◌, ◌≤◌, ℕ, ◌+◌, Bool, true, false, List, [], ◌∷◌, length, Option, Some, None, IfSome, MatchResult, ⊤, Result, Ok, Err}
+use Rattle.std.specs.Prelude.{◌≡◌, ◌≤◌, ℕ, ◌+◌, Bool, true, false, List, [], ◌∷◌, Option, Some, None, IfSome, MatchResult, ⊤, Result, Ok, Err}
 use Rattle.std.specs.Io.KnownBytes.{Consumes, Appends, IsAtEnd}
 use Rattle.device_rules.specs.Devices.{Rose, AppendsPrefix}
 use Rattle.io_ports.specs.Lines.{IsUndecided}

@@ -21,7 +21,7 @@ returns-in_err-root-clause-plays g c =
 pub returns-in_err-root-clause-cause : goal.returns-in_err-root-clause-cause
 returns-in_err-root-clause-cause g c =
     let same = err_from_is_err_and c.from_residual.result c.from_residual.ensures.1 in
-    rw (same.1, same.2) (game_caused _ _ _ _ _ _ c.in_err-root.field-0.0 c.in_err-root.ensures.answer)
+    rw (same.1, same.2) (game_caused _ _ _ _ 0 0 c.in_err-root.field-0.0 c.in_err-root.ensures.answer)
 
 -- ---- no threat, or its line wasn't written
 
