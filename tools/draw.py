@@ -339,8 +339,8 @@ def board_of(lowest, size):
 class Duel:
     """What `play` or `threat` wrote: the board, and for each moment men, the two new ones, and a caption.
 
-    Without a game the men below the first squares are `?`, and lines of four win where no size says another length. Of a
-    threat the squares of its pairs have their number, and the target, which a game tells, has a star.
+    Without a game the men below the first squares are `?`, and lines of four win where no size says another length. Of
+    a threat the squares of its pairs have their number, and the target, which a game tells, has a star.
     """
 
     def __init__(self, text, game, size):
@@ -493,7 +493,8 @@ def main():
     parser = argparse.ArgumentParser(
         prog="draw.py", description="Draws a position, a plan, a duel or a proof, as SVG, as text or as an HTML page.",
         epilog="position: the text of a game. plan: what `victor explain` writes. duel: what `victor play` or "
-        "`victor threat` writes. proof: what `victor prove` writes. What is drawn isn't checked, and nothing is proved of this program.",
+        "`victor threat` writes. proof: what `victor prove` writes. What is drawn isn't checked, and nothing is proved of "
+        "this program.",
     )
     parser.add_argument("kind", choices=("position", "plan", "duel", "proof"))
     parser.add_argument("file", nargs="?", help="the file to draw; without it, standard input")

@@ -663,8 +663,8 @@ class Duel:
 
 @dataclass(frozen=True)
 class Threat:
-    """What `threat` writes: the group and the pairs of White's first odd threat, or none; then for each of Black's moves
-    both squares, and whether White has made a line."""
+    """What `threat` writes: the group and the pairs of White's first odd threat, or none; then for each of Black's
+    moves both squares, and whether White has made a line."""
 
     group: Optional[str]
     pairs: tuple[str, ...]

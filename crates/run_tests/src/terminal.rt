@@ -118,13 +118,7 @@ fn each_answer_of_play_is_flushed_before_the_next_line_is_read(
 fn each_line_of_threat_is_flushed_before_the_next_line_is_read(
     rt: HostRuntime,
 ) -> Result<(), Fail> {
-    let lines: [&[u8]; 5] = [
-        b"board 4 4\n",
-        b"moves dccbbdbaddc\n",
-        b"c\n",
-        b"a\n",
-        b"",
-    ];
+    let lines: [&[u8]; 5] = [b"board 4 4\n", b"moves dccbbdbaddc\n", b"c\n", b"a\n", b""];
     let (status, seen, asked) = shown_by(rt.alloc(), "threat", lines)?;
     assert_eq!(rt; status, 0);
     // First comes `threat a3h BI:b4,c4`, then `c4 b4` and `a2 a3 won`; the last call finds the end of the input.
