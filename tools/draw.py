@@ -18,6 +18,7 @@ COLOURS = {
     "CE": "#b5dcc0", "BI": "#f8cf9c", "LI": "#a9d0ee", "HI": "#d3c1ea", "BC": "#f5b3b3",
     "VE": "#9a6b00", "AE": "#00662b", "BE": "#1f4e9c", "SB": "#8b108b",
 }
+TARGET = "#f3a6a6"
 STYLE = (
     "text{font-family:DejaVu Sans,Verdana,sans-serif;fill:#222}.small{font-size:11px}.note{font-size:12px}"
     ".head{font-size:14px;font-weight:bold}"
@@ -292,55 +293,103 @@ def plan_text(plan, title):
 
 
 # ---------------------------------------------------------------------------------------------------------------------
-# A duel, from the text of `play`.
+# A duel, from the text of `play` or of `threat`.
 
 
-def read_duel(text, game, size):
-    """The size of a duel's board, and its boards: men, the two new ones, and a caption.
+def read_threat(line, length):
+    """The squares of a threat's group and its pairs, from the first line that `threat` writes."""
+    words = line.split(" ")
+    group = group_of(words[1], length) if len(words) > 1 else None
+    pairs = [tuple(square_of(part) for part in word[3:].split(",")) for word in words[2:]]
+    if group is None or any(word[:3] != "BI:" for word in words[2:]):
+        raise Fault("line 1 isn't what `threat` writes: %r" % line)
+    if any(len(pair) != 2 or None in pair for pair in pairs):
+        raise Fault("line 1 isn't what `threat` writes: %r" % line)
+    return group, pairs
 
-    Without a game the men below the first squares are `?`, and lines of four win where no size says another length.
-    """
+
+def read_turns(lines, first, ends):
+    """The two squares of each turn, and the words of its line. The first line has this number."""
     turns = []
-    for n, line in enumerate(text.replace("\r", "").rstrip("\n").split("\n"), 1):
+    for n, line in enumerate(lines, first):
         words = line.split(" ")
         squares = [square_of(word) for word in words[:2]]
-        if len(words) not in (2, 3) or None in squares or words[2:] not in ([], ["won"], ["full"]):
-            raise Fault("line %d isn't what `play` writes: %r" % (n, line))
+        if len(words) not in (2, 3) or None in squares or words[2:] not in ends:
+            raise Fault("line %d isn't what `play` or `threat` writes: %r" % (n, line))
         turns.append((squares, words))
-    all_squares = [square for squares, _ in turns for square in squares]
-    if game is not None:
-        size, men = game.size, dict(game.men)
-    else:
-        cols = max([4] + [i + 1 for i, _ in all_squares])
-        rows = min(r for r in boards.ROWS if r >= max(row for _, row in all_squares))
-        if size:
-            if cols > size.cols or rows > size.rows:
-                raise Fault("a square of the duel isn't on this board")
-        size = size or boards.Size(cols, rows)
-        men = {}
-        for i in range(size.cols):
-            lowest = min((r for k, r in all_squares if k == i), default=1)
-            men.update({(i, r): "?" for r in range(1, lowest)})
-    shown = [(dict(men), (), "the start")]
-    for n, (squares, words) in enumerate(turns, 1):
-        for square, side in zip(squares, "WB"):
-            i, r = square
-            if i >= size.cols or r > size.rows or square in men or (r > 1 and (i, r - 1) not in men):
-                raise Fault("turn %d: %s isn't playable there%s"
-                            % (n, name_of(square), "" if game else " (--game names the game)"))
-            men[square] = side
-        shown.append((dict(men), tuple(squares), "%d.  %s" % (n, "  ".join(words))))
-    return size, shown
+    return turns
 
 
-def draw_duel(size, shown, is_text):
+def board_of(lowest, size):
+    """The board of a duel without a game, and the men below the first squares."""
+    cols = max([4] + [i + 1 for i, _ in lowest])
+    rows = min((r for r in boards.ROWS if r >= max((row for _, row in lowest), default=4)), default=None)
+    if rows is None or cols > 10:
+        raise Fault("the squares are those of no board")
+    if size and (cols > size.cols or rows > size.rows):
+        raise Fault("a square of the duel isn't on this board")
+    size = size or boards.Size(cols, rows)
+    men = {}
+    for i in range(size.cols):
+        low = min((r for k, r in lowest if k == i), default=1)
+        men.update({(i, r): "?" for r in range(1, low)})
+    return size, men
+
+
+class Duel:
+    """What `play` or `threat` wrote: the board, and for each moment men, the two new ones, and a caption.
+
+    Without a game the men below the first squares are `?`, and lines of four win where no size says another length. Of
+    a threat the squares of its pairs have their number, and the target, which a game tells, has a star.
+    """
+
+    def __init__(self, text, game, size):
+        lines = text.replace("\r", "").rstrip("\n").split("\n")
+        if lines == ["no threat"]:
+            raise Fault("there is no threat to draw")
+        self.threat = lines.pop(0) if lines[0].startswith("threat ") else ""
+        length = game.length if game else size.length if size else 4
+        group, pairs = read_threat(self.threat, length) if self.threat else ([], [])
+        ends = ([], ["won"]) if self.threat else ([], ["won"], ["full"])
+        turns = read_turns(lines, 2 if self.threat else 1, ends)
+        lowest = [square for squares, _ in turns for square in squares] + [square for pair in pairs for square in pair]
+        if game is not None:
+            self.size, men = game.size, dict(game.men)
+        else:
+            self.size, men = board_of(lowest, size)
+        self.marks = {square: str(n) for n, pair in enumerate(pairs, 1) for square in pair}
+        if self.threat and game is not None:
+            lacking = [square for square in group if square not in men]
+            if len(lacking) != 1 or any(square in men for square in self.marks):
+                raise Fault("the threat isn't one of this game's position")
+            self.marks[lacking[0]] = "*"
+        self.play(men, turns, game)
+
+    def play(self, men, turns, game):
+        self.shown = [(dict(men), (), "the start")]
+        for n, (squares, words) in enumerate(turns, 1):
+            for square, side in zip(squares, "BW" if self.threat else "WB"):
+                i, r = square
+                if i >= self.size.cols or r > self.size.rows or square in men or (r > 1 and (i, r - 1) not in men):
+                    raise Fault("turn %d: %s isn't playable there%s"
+                                % (n, name_of(square), "" if game else " (--game names the game)"))
+                men[square] = side
+            self.shown.append((dict(men), tuple(squares), "%d.  %s" % (n, "  ".join(words))))
+
+    def title(self):
+        turns = len(self.shown) - 1
+        return "%d turns by %s" % (turns, self.threat) if self.threat else "a duel of %d turns by a plan" % turns
+
+
+def draw_duel(duel, is_text):
+    size, shown, marks = duel.size, duel.shown, duel.marks
     cols, rows = size.cols, size.rows
-    title = "a duel of %d turns by a plan" % (len(shown) - 1)
+    title = duel.title()
     if is_text:
         wide = 3 + 2 * cols
         each = []
         for men, _, caption in shown:
-            lines = grid_text(cols, rows, lambda s: men.get(s, ".")) + ["   " + caption]
+            lines = grid_text(cols, rows, lambda s: men.get(s) or marks.get(s, ".")) + ["   " + caption]
             each.append([line.ljust(max(wide, 18)) for line in lines])
         many = max(1, 100 // len(each[0][0]))
         out = []
@@ -356,7 +405,10 @@ def draw_duel(size, shown, is_text):
         x, y = across * (cols * cell + EDGE + 20) + 4, line_up * (rows * cell + 56) + 34
         grid = Grid(cols, rows, x, y, cell)
         line = boards.line_through(men, new[1], size.length) if new else ()
-        grid.draw(picture, men, {}, new, line)
+        grid.draw(picture, men, {s: TARGET if mark == "*" else COLOURS["BI"] for s, mark in marks.items()}, new, line)
+        for square, mark in marks.items():
+            if square not in men and mark != "*":
+                picture.write(grid.middle(square)[0], grid.middle(square)[1] + 4, mark, "small", "middle")
         picture.write(grid.x, y + rows * cell + 34, caption, "note")
     return picture.text(title)
 
@@ -441,8 +493,9 @@ def draw_proof(game, lemmas, verdict, most):
 def main():
     parser = argparse.ArgumentParser(
         prog="draw.py", description="Draws a position, a plan, a duel or a proof, as SVG, as text or as an HTML page.",
-        epilog="position: the text of a game. plan: what `victor explain` writes. duel: what `victor play` writes. "
-        "proof: what `victor prove` writes. What is drawn isn't checked, and nothing is proved of this program.",
+        epilog="position: the text of a game. plan: what `victor explain` writes. duel: what `victor play` or "
+        "`victor threat` writes. proof: what `victor prove` writes. What is drawn isn't checked, and nothing is proved of "
+        "this program.",
     )
     parser.add_argument("kind", choices=("position", "plan", "duel", "proof"))
     parser.add_argument("file", nargs="?", help="the file to draw; without it, standard input")
@@ -491,7 +544,7 @@ def draw(words):
     if words.kind == "plan":
         return draw_plan(Explained(text, game), words.text)
     if words.kind == "duel":
-        return draw_duel(*read_duel(text, game, size), words.text)
+        return draw_duel(Duel(text, game, size), words.text)
     return draw_proof(*read_proof(text), words.most)
 
 

@@ -639,7 +639,7 @@ def prove_by_move(game: Game, column: int, after: Proof, into: Optional[Path] = 
 
 
 # ---------------------------------------------------------------------------------------------------------------------
-# Plans, play and drills.
+# Plans, threats, play and drills.
 
 
 @dataclass(frozen=True)
@@ -657,6 +657,19 @@ class Duel:
 
     turns: tuple[tuple[str, str], ...]
     end: str
+    text: str
+    status: int
+
+
+@dataclass(frozen=True)
+class Threat:
+    """What `threat` writes: the group and the pairs of White's first odd threat, or none; then for each of Black's
+    moves both squares, and whether White has made a line."""
+
+    group: Optional[str]
+    pairs: tuple[str, ...]
+    turns: tuple[tuple[str, str], ...]
+    won: bool
     text: str
     status: int
 
@@ -690,6 +703,18 @@ def play(game: Game, plan: str, moves: Iterable[int], *, program: Optional[str] 
     turns = [line.split() for line in text.splitlines()]
     end = turns[-1][2] if turns and len(turns[-1]) > 2 else ""
     return Duel(tuple((words[0], words[1]) for words in turns), end, text, status)
+
+
+def threat(game: Game, moves: Iterable[int] = (), *, program: Optional[str] = None, **limits) -> Threat:
+    """White's first odd threat, with status 5 where there is none, and what it answers to Black's moves, which are
+    columns. Where a move isn't legal, it is Failed with status 3, and has what was written before."""
+    lines = "".join(LETTERS[column] + "\n" for column in moves)
+    status, text = answer("victor threat", [find_program(program), "threat"], game.text() + lines, (0, 5), **limits)
+    first, *turns = [line.split() for line in text.splitlines()]
+    if status == 5:
+        return Threat(None, (), (), False, text, status)
+    won = bool(turns) and len(turns[-1]) > 2
+    return Threat(first[1], tuple(first[2:]), tuple((words[0], words[1]) for words in turns), won, text, status)
 
 
 def drill(cols: int, rows: int, moves: int, seed: int, games: int, *, nodes: Optional[int] = None,

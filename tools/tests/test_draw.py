@@ -179,6 +179,27 @@ class DuelTest(ToolTest):
                 self.assertEqual(count_of(out, "circle", stroke="#d01c1c"), 4)  # Black's line
                 self.assertEqual(count_of(out, "circle", r="%g" % (26 * 0.38)), 6 + 8 + men)
 
+    def test_threat(self):
+        """A duel by an odd threat: Black moves first, and the pair and the target are marked."""
+        words = ("draw.py", "duel", "--text", "--game", example("threat", "explained.txt"))
+        status, out, err = tool(*words, example("threat", "explained.played"))
+        self.assertEqual((status, err), (0, ""))
+        # The first board and the last of docs/THREAT.md.
+        for line in ("4 . 1 . W B", "3 . W * W B", "2 1 W . B B", "3 B W W W B", "2 W W B B B", "3.  c2  c3  won"):
+            self.assertIn(line, out)
+        self.refuses(*words, example("threat", "unplayed.played"), said="isn't one of this game's position")
+        for name in ("one-column", "unplayed", "with-pair", "two-pairs"):
+            text = read(example("threat", name + ".played"))
+            status, out, err = tool("draw.py", "duel", "--game", example("threat", name + ".txt"), text=text)
+            self.assertEqual((status, err), (0, ""), name)
+            self.assertIn(text.split("\n")[0], " ".join(texts_of(out)))
+            self.assertEqual(tool("draw.py", "duel", text=text)[0], 0, name)
+        self.refuses("draw.py", "duel", text="no threat\n", said="no threat to draw")
+        self.refuses("draw.py", "duel", text="threat a3\n", said="line 1")
+        self.refuses("draw.py", "duel", text="threat a3h CE:a1\n", said="line 1")
+        self.refuses("draw.py", "duel", text="threat a3h BI:a1\n", said="line 1")
+        self.refuses("draw.py", "duel", text="threat a3h\na1 a2 full\n", said="line 2")
+
     def test_faults(self):
         self.refuses("draw.py", "duel", text="a1\n", said="line 1")
         self.refuses("draw.py", "duel", text="a1 a3\n", said="a3 isn't playable")

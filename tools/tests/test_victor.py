@@ -112,6 +112,18 @@ class RunTest(ToolTest):
         self.assertEqual((fault.status, fault.text), (3, "input fault: ColumnFull at line 7\n"))
         self.assertEqual(fault.written, "c1 d1\nc2 c3\nc4 d2\n")
 
+    def test_threat(self):
+        game = victor.Game.read("dccbbdbaddc", (4, 4))
+        found = victor.threat(game)
+        self.assertEqual((found.group, found.pairs, found.turns, found.won), ("a3h", ("BI:b4,c4",), (), False))
+        found = victor.threat(game, [2, 0])
+        self.assertEqual((found.turns, found.won, found.status), ((("c4", "b4"), ("a2", "a3")), True, 0))
+        fault = self.fails(victor.Failed, victor.threat, game, [2, 2])
+        self.assertEqual((fault.status, fault.text), (3, "input fault: ColumnFull at line 4\n"))
+        self.assertEqual(fault.written, "threat a3h BI:b4,c4\nc4 b4\n")
+        found = victor.threat(victor.Game.read("-", (4, 4)), [0])
+        self.assertEqual((found.group, found.pairs, found.turns, found.won, found.status), (None, (), (), False, 5))
+
     def test_win_by_a_move(self):
         """A proof for the position behind a winning move becomes one of the position, of either side."""
         for letters, size, column in (("dcdcdc", (7, 6), 3), ("dccbbdbbddcc", (4, 4), 0), ("dcdcbcb", (7, 6), 2)):

@@ -2,8 +2,7 @@
 use Rattle.std.proofs.Common.{◌≡◌, ◌≢◌, ◌⊎◌, ℕ, suc, ◌+◌, true, nat_le, List, [], ◌∷◌, ◌++◌, map, length, Option, Some, None, is_none, Result, Ok, Err, refl}
 use Rattle.std.proofs.Common.{sym, ap, ◌∙◌, inl, inr, arith, append_assoc, append-nil}
 use Rattle.std.proofs.lemmas.Bool.{le-leb}
-use Rattle.game_rules.specs.Board.{Square}
-use Rattle.game_rules.specs.Position.{Position, board_of, after_move}
+use Rattle.game_rules.specs.Position.{Position, board_of}
 use Rattle.game_rules.specs.Text.{game_at}
 use Rattle.game_rules.specs.declared.InputFault.{InputFault}
 use Rattle.plan_rules.specs.Rules.{RuleInstance}
@@ -14,8 +13,8 @@ use Rattle.plan_text.specs.PlanLine.{PlanFits, plan_text}
 use Rattle.plan_text.proofs.PlanLines.{plan_spelled, plan_length}
 use Rattle.proof_text.specs.Spelling.{longest_line}
 use Rattle.proof_text.specs.Texts.{pieces, game_of, behind_game}
-use Rattle.play_text.specs.Play.{PlayEnd, NoMove, AllPlayed, NoReply, move_line, Played, behind, turn_text, column_in, move_refusal, answer_to, with_answer}
-use Rattle.play_text.specs.Play.{with_column, play_from, first_move, plan_in, play_by, play_list, play_lines, play_game, play_of}
+use Rattle.play_text.specs.Play.{PlayEnd, NoMove, AllPlayed, NoReply, move_line, Played, behind, column_in, move_refusal, Turn, with_turn, with_move, turns_from}
+use Rattle.play_text.specs.Play.{plan_turn, play_from, first_move, plan_in, play_by, play_list, play_lines, play_game, play_of}
 use Rattle.play_text.specs.Told.{TellsPlay, IsTold}
 use Rattle.play_text.specs.declared.PlayFault.{PlayFault}
 use Rattle.play_text.specs.declared.PlayKind.{PlayKind}
@@ -28,74 +27,78 @@ use Rattle.play_text.proofs.Turns.{tells_duel, all_legal_played}
 pub behind_more : (xs ys : List (List ℕ)) (played : Played) → behind xs (behind ys played) ≡ behind (xs ++ ys) played
 behind_more xs ys played = ap (λ lines. record { lines = lines; end = played.end }) (sym (append_assoc xs ys played.lines))
 
--- Some lines stop play, whatever follows; or all are played, and it goes on from a position.
-abbrev pub GoesOn : List RuleInstance → Position → ℕ → List (List ℕ) → List (List ℕ) → Type 0
-GoesOn ws q at xs ys =
-    (((play_from ws q at xs).end ≢ AllPlayed) × (play_from ws q at (xs ++ ys) ≡ play_from ws q at xs))
-    ⊎ (((play_from ws q at xs).end ≡ AllPlayed)
-    × ((r : Position) × (play_from ws q at (xs ++ ys) ≡ behind (play_from ws q at xs).lines (play_from ws r (at + length xs) ys))))
+-- Some lines stop play, whatever follows; or all are played, and it goes on from where the player stands then.
+abbrev pub GoesOn : {X : Type 0} → (X → Position) → (X → ℕ → Turn X) → X → ℕ → List (List ℕ) → List (List ℕ) → Type 0
+GoesOn {X} stands turn x at xs ys =
+    (((turns_from stands turn x at xs).end ≢ AllPlayed) × (turns_from stands turn x at (xs ++ ys) ≡ turns_from stands turn x at xs))
+    ⊎ (((turns_from stands turn x at xs).end ≡ AllPlayed)
+    × ((y : X) × (turns_from stands turn x at (xs ++ ys) ≡ behind (turns_from stands turn x at xs).lines (turns_from stands turn y (at + length xs) ys))))
 
-pub goes_on : (ws : List RuleInstance) (q : Position) (at : ℕ) (xs ys : List (List ℕ)) → GoesOn ws q at xs ys
-goes_on ws q at [] ys = inr (refl, (q, ap (λ at. play_from ws q at ys) (let same : at ≡ at + 0 = omega arith in same)))
-goes_on ws q at (x ∷ xs) ys =
-    of_column (column_in (board_of q) x) (move_refusal q (column_in (board_of q) x)) refl refl (λ next. goes_on ws next (at + 1) xs ys)
+pub goes_on : {X : Type 0} (stands : X → Position) (turn : X → ℕ → Turn X) (x : X) (at : ℕ) (xs ys : List (List ℕ)) → GoesOn stands turn x at xs ys
+goes_on stands turn x at [] ys = inr (refl, (x, ap (λ at. turns_from stands turn x at ys) (let same : at ≡ at + 0 = omega arith in same)))
+goes_on {X} stands turn x at (move ∷ xs) ys =
+    of_column (column_in (board_of (stands x)) move) (move_refusal (stands x) (column_in (board_of (stands x)) move)) refl refl
+    (λ next. goes_on stands turn next (at + 1) xs ys)
   where
-    of_answer : (column : ℕ) (answer : Option Square) → answer_to ws q column ≡ answer → column_in (board_of q) x ≡ Some column
-        → move_refusal q (column_in (board_of q) x) ≡ None
-        → ((next : Position) → GoesOn ws next (at + 1) xs ys) → GoesOn ws q at (x ∷ xs) ys
-    of_answer column None f e g later = rw (g, e, f) (inl (λ same. cc, refl))
-    of_answer column (Some reply) f e g later = rw (g, e, f) (further (later (after_move (after_move q column) reply.0)))
-      where
-        further : GoesOn ws (after_move (after_move q column) reply.0) (at + 1) xs ys
-            → (((play_from ws (after_move (after_move q column) reply.0) (at + 1) xs).end ≢ AllPlayed)
-            × (behind (turn_text q column reply ∷ []) (play_from ws (after_move (after_move q column) reply.0) (at + 1) (xs ++ ys))
-            ≡ behind (turn_text q column reply ∷ []) (play_from ws (after_move (after_move q column) reply.0) (at + 1) xs)))
-            ⊎ (((play_from ws (after_move (after_move q column) reply.0) (at + 1) xs).end ≡ AllPlayed)
-            × ((r : Position) × (behind (turn_text q column reply ∷ []) (play_from ws (after_move (after_move q column) reply.0) (at + 1) (xs ++ ys))
-            ≡ behind (turn_text q column reply ∷ (play_from ws (after_move (after_move q column) reply.0) (at + 1) xs).lines)
-            (play_from ws r (at + suc (length xs)) ys))))
-        further (inl (stops, same)) = inl (stops, ap (behind (turn_text q column reply ∷ [])) same)
-        further (inr (all, (r, same))) =
-            inr (
-              all,
-              (
-                r,
-                ap (behind (turn_text q column reply ∷ []))
-                    (same ∙ ap (λ n. behind (play_from ws (after_move (after_move q column) reply.0) (at + 1) xs).lines (play_from ws r n ys))
-                    (let more : at + 1 + length xs ≡ at + suc (length xs) = omega arith in more)),
-              ),
-            )
+    further : (line : List ℕ) (next : X) → GoesOn stands turn next (at + 1) xs ys
+        → (((turns_from stands turn next (at + 1) xs).end ≢ AllPlayed)
+        × (behind (line ∷ []) (turns_from stands turn next (at + 1) (xs ++ ys)) ≡ behind (line ∷ []) (turns_from stands turn next (at + 1) xs)))
+        ⊎ (((turns_from stands turn next (at + 1) xs).end ≡ AllPlayed)
+        × ((y : X) × (behind (line ∷ []) (turns_from stands turn next (at + 1) (xs ++ ys))
+        ≡ behind (line ∷ (turns_from stands turn next (at + 1) xs).lines) (turns_from stands turn y (at + suc (length xs)) ys))))
+    further line next (inl (stops, same)) = inl (stops, ap (behind (line ∷ [])) same)
+    further line next (inr (all, (y, same))) =
+        inr (
+          all,
+          (
+            y,
+            ap (behind (line ∷ []))
+                (same ∙ ap (λ n. behind (turns_from stands turn next (at + 1) xs).lines (turns_from stands turn y n ys))
+                (let more : at + 1 + length xs ≡ at + suc (length xs) = omega arith in more)),
+          ),
+        )
 
-    of_column : (column : Option ℕ) (refusal : Option PlayKind) → column_in (board_of q) x ≡ column → move_refusal q (column_in (board_of q) x) ≡ refusal
-        → ((next : Position) → GoesOn ws next (at + 1) xs ys) → GoesOn ws q at (x ∷ xs) ys
+    of_turn : (column : ℕ) (made : Turn X) → turn x column ≡ made → column_in (board_of (stands x)) move ≡ Some column
+        → move_refusal (stands x) (column_in (board_of (stands x)) move) ≡ None
+        → ((next : X) → GoesOn stands turn next (at + 1) xs ys) → GoesOn stands turn x at (move ∷ xs) ys
+    of_turn column None f e g later = rw (g, e, f) (inl (λ same. cc, refl))
+    of_turn column (Some (line, next)) f e g later = rw (g, e, f) (further line next (later next))
+
+    of_column : (column : Option ℕ) (refusal : Option PlayKind) → column_in (board_of (stands x)) move ≡ column
+        → move_refusal (stands x) (column_in (board_of (stands x)) move) ≡ refusal
+        → ((next : X) → GoesOn stands turn next (at + 1) xs ys) → GoesOn stands turn x at (move ∷ xs) ys
     of_column column (Some kind) e f later = rw f (inl (λ same. cc, refl))
     of_column None None e f later = absurd (cc (rw e at f))
-    of_column (Some column) None e f later = of_answer column (answer_to ws q column) refl e f later
+    of_column (Some column) None e f later = of_turn column (turn x column) refl e f later
 
-pub play_stops : (ws : List RuleInstance) (q : Position) (at : ℕ) (xs ys : List (List ℕ)) → (play_from ws q at xs).end ≢ AllPlayed
-    → play_from ws q at (xs ++ ys) ≡ play_from ws q at xs
-play_stops ws q at xs ys stops = of_case (goes_on ws q at xs ys)
+pub play_stops : {X : Type 0} (stands : X → Position) (turn : X → ℕ → Turn X) (x : X) (at : ℕ) (xs ys : List (List ℕ))
+    → (turns_from stands turn x at xs).end ≢ AllPlayed
+    → turns_from stands turn x at (xs ++ ys) ≡ turns_from stands turn x at xs
+play_stops stands turn x at xs ys stops = of_case (goes_on stands turn x at xs ys)
   where
-    of_case : GoesOn ws q at xs ys → play_from ws q at (xs ++ ys) ≡ play_from ws q at xs
+    of_case : GoesOn stands turn x at xs ys → turns_from stands turn x at (xs ++ ys) ≡ turns_from stands turn x at xs
     of_case (inl (other, same)) = same
     of_case (inr (all, some)) = absurd (stops all)
 
-pub play_more : (ws : List RuleInstance) (q : Position) (at : ℕ) (xs ys : List (List ℕ)) → (play_from ws q at xs).end ≡ AllPlayed
-    → (r : Position) × (play_from ws q at (xs ++ ys) ≡ behind (play_from ws q at xs).lines (play_from ws r (at + length xs) ys))
-play_more ws q at xs ys all = of_case (goes_on ws q at xs ys)
+pub play_more : {X : Type 0} (stands : X → Position) (turn : X → ℕ → Turn X) (x : X) (at : ℕ) (xs ys : List (List ℕ))
+    → (turns_from stands turn x at xs).end ≡ AllPlayed
+    → (y : X) × (turns_from stands turn x at (xs ++ ys) ≡ behind (turns_from stands turn x at xs).lines (turns_from stands turn y (at + length xs) ys))
+play_more {X} stands turn x at xs ys all = of_case (goes_on stands turn x at xs ys)
   where
-    of_case : GoesOn ws q at xs ys → (r : Position) × (play_from ws q at (xs ++ ys) ≡ behind (play_from ws q at xs).lines (play_from ws r (at + length xs) ys))
+    of_case : GoesOn stands turn x at xs ys
+        → (y : X) × (turns_from stands turn x at (xs ++ ys) ≡ behind (turns_from stands turn x at xs).lines (turns_from stands turn y (at + length xs) ys))
     of_case (inl (stops, same)) = absurd (stops all)
     of_case (inr (also, some)) = some
 
 -- what fewer lines give stands at the beginning
-pub fewer_lines : (ws : List RuleInstance) (q : Position) (at : ℕ) (xs ys : List (List ℕ))
-    → (more : List (List ℕ)) × ((play_from ws q at (xs ++ ys)).lines ≡ (play_from ws q at xs).lines ++ more)
-fewer_lines ws q at xs ys = of_case (goes_on ws q at xs ys)
+pub fewer_lines : {X : Type 0} (stands : X → Position) (turn : X → ℕ → Turn X) (x : X) (at : ℕ) (xs ys : List (List ℕ))
+    → (more : List (List ℕ)) × ((turns_from stands turn x at (xs ++ ys)).lines ≡ (turns_from stands turn x at xs).lines ++ more)
+fewer_lines {X} stands turn x at xs ys = of_case (goes_on stands turn x at xs ys)
   where
-    of_case : GoesOn ws q at xs ys → (more : List (List ℕ)) × ((play_from ws q at (xs ++ ys)).lines ≡ (play_from ws q at xs).lines ++ more)
-    of_case (inl (stops, same)) = ([], ap (λ played. played.lines) same ∙ sym (append-nil (play_from ws q at xs).lines))
-    of_case (inr (all, (r, same))) = ((play_from ws r (at + length xs) ys).lines, ap (λ played. played.lines) same)
+    of_case : GoesOn stands turn x at xs ys
+        → (more : List (List ℕ)) × ((turns_from stands turn x at (xs ++ ys)).lines ≡ (turns_from stands turn x at xs).lines ++ more)
+    of_case (inl (stops, same)) = ([], ap (λ played. played.lines) same ∙ sym (append-nil (turns_from stands turn x at xs).lines))
+    of_case (inr (all, (y, same))) = ((turns_from stands turn y (at + length xs) ys).lines, ap (λ played. played.lines) same)
 
 -- ---- whole inputs
 
@@ -104,28 +107,29 @@ pub is_one : (p : Position) (ws : List RuleInstance) → plan_refusal p ws ≡ N
 is_one p ws none = sym (refusal_is p ws) ∙ ap is_none none
 
 -- by further lines play ends at one that is no move, behind the last, or for want of an answer
-ends_so : (P : PlayEnd → Type 0) → ((fault : PlayFault) → P (NoMove fault)) → P AllPlayed → P NoReply
-    → (ws : List RuleInstance) (q : Position) (at : ℕ) (moves : List (List ℕ)) → P (play_from ws q at moves).end
-ends_so P stops all none ws q at [] = all
-ends_so P stops all none ws q at (move ∷ moves) =
-    of_column (column_in (board_of q) move) (move_refusal q (column_in (board_of q) move)) (λ next. ends_so P stops all none ws next (at + 1) moves)
+pub ends_so : {X : Type 0} (stands : X → Position) (turn : X → ℕ → Turn X) (P : PlayEnd → Type 0) → ((fault : PlayFault) → P (NoMove fault)) → P AllPlayed
+    → P NoReply → (x : X) (at : ℕ) (moves : List (List ℕ)) → P (turns_from stands turn x at moves).end
+ends_so stands turn P stops all none x at [] = all
+ends_so {X} stands turn P stops all none x at (move ∷ moves) =
+    of_column (column_in (board_of (stands x)) move) (move_refusal (stands x) (column_in (board_of (stands x)) move))
+    (λ next. ends_so stands turn P stops all none next (at + 1) moves)
   where
-    of_answer : (column : ℕ) (answer : Option Square) → ((next : Position) → P (play_from ws next (at + 1) moves).end)
-        → P (with_answer q column answer (λ next. play_from ws next (at + 1) moves)).end
-    of_answer column None later = none
-    of_answer column (Some reply) later = later (after_move (after_move q column) reply.0)
+    of_turn : (made : Turn X) → ((next : X) → P (turns_from stands turn next (at + 1) moves).end)
+        → P (with_turn made (λ next. turns_from stands turn next (at + 1) moves)).end
+    of_turn None later = none
+    of_turn (Some (line, next)) later = later next
 
-    of_column : (column : Option ℕ) (refusal : Option PlayKind) → ((next : Position) → P (play_from ws next (at + 1) moves).end)
-        → P (with_column ws q at column refusal (λ next. play_from ws next (at + 1) moves)).end
+    of_column : (column : Option ℕ) (refusal : Option PlayKind) → ((next : X) → P (turns_from stands turn next (at + 1) moves).end)
+        → P (with_move (turn x) at column refusal (λ next. turns_from stands turn next (at + 1) moves)).end
     of_column column (Some kind) later = stops (record { kind = kind; at = at })
     of_column None None later = stops (record { kind = BadMove; at = at })
-    of_column (Some column) None later = of_answer column (answer_to ws q column) later
+    of_column (Some column) None later = of_turn (turn x column) later
 
 -- what is told by an end that further lines lead to
 told_at : (bytes : List ℕ) (ws : List RuleInstance) (q : Position) (at : ℕ) (moves lines : List (List ℕ)) → (play_from ws q at moves).end ≢ NoReply
     → TellsPlay bytes lines → IsTold bytes lines (play_from ws q at moves).end
-told_at bytes ws q at moves lines answered tells = ends_so (λ end. end ≢ NoReply → IsTold bytes lines end) (λ fault answered. tells) (λ answered. tells)
-    (λ answered. answered refl) ws q at moves answered
+told_at bytes ws q at moves lines answered tells = ends_so (λ q. q) (plan_turn ws) (λ end. end ≢ NoReply → IsTold bytes lines end)
+    (λ fault answered. tells) (λ answered. tells) (λ answered. answered refl) q at moves answered
 
 pub play_is_told : (bytes : List ℕ) → IsTold bytes (play_of bytes).lines (play_of bytes).end
 unfolding play_of

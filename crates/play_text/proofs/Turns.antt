@@ -17,7 +17,7 @@ use Rattle.plan_rules.specs.Plan.{is_plan, plan_reply, after_turn, after_turns, 
 use Rattle.plan_rules.proofs.MoreTurns.{turns_more, turn_made}
 use Rattle.plan_rules.proofs.Theorems.{plan_answers, duel_turns, duel_no_line}
 use Rattle.plan_text.proofs.Spaced.{letter_read, letter_spelled}
-use Rattle.play_text.specs.Play.{AllPlayed, NoReply, move_line, Played, behind, turn_text, column_in, move_refusal, answer_to, play_from}
+use Rattle.play_text.specs.Play.{AllPlayed, NoReply, move_line, Played, behind, turn_text, column_in, move_refusal, answer_to, turn_with, play_from}
 use Rattle.play_text.specs.Told.{TellsTurn, TellsDuel}
 use Rattle.play_text.specs.declared.PlayKind.{PlayKind}
 
@@ -235,7 +235,7 @@ tells_duel p ws at moves is =
 
 -- ---- columns that are all legal
 
-legal_line : (q : Position) (column : ℕ) → is_legal q column ≡ true → column_in (board_of q) (move_line column) ≡ Some column
+pub legal_line : (q : Position) (column : ℕ) → is_legal q column ≡ true → column_in (board_of q) (move_line column) ≡ Some column
 legal_line q column legal =
     let letter = letter_spelled (length q.columns) column (room_column q column (legal_parts q column legal).1) in
     rw letter.0 (ap (λ column. Some column) letter.1)

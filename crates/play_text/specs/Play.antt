@@ -1,7 +1,7 @@
 -- A game that is played by a plan. The input is the text of a game in two lines, the line of a plan, and then a line for each
 -- move of White's, which is the letter of its column; the output is a line for each of them, with White's square and the
 -- square of Black's answer by the plan. The text is this project's own.
-use Rattle.std.specs.Prelude.{ℕ, ◌+◌, nat_le, if◌then◌else◌, List, [], ◌∷◌, ◌++◌, length, Option, Some, None, is_none, is_some, Result, Ok, Err, codes, flat_map}
+use Rattle.std.specs.Prelude.{ℕ, ◌+◌, nat_le, if◌then◌else◌, List, [], ◌∷◌, ◌++◌, length, Option, Some, None, is_none, is_some, option_map, Result, Ok, Err, codes, flat_map}
 use Rattle.game_rules.specs.Board.{Board, Square}
 use Rattle.game_rules.specs.Grammar.{letter_of}
 use Rattle.game_rules.specs.Letters.{column_named}
@@ -21,16 +21,17 @@ use Rattle.play_text.specs.declared.PlayFault.{PlayFault}
 use Rattle.play_text.specs.declared.PlayKind.{PlayKind}
 use Rattle.play_text.specs.declared.PlayKind.TheVariants.{BadMove, GameOver, ColumnFull}
 
--- how play ends
+-- how play ends, by a plan of Black's or by an odd threat of White's
 pub data PlayEnd : Type 0 where
   NoGame : InputFault → PlayEnd  -- the first two lines are the text of no game
   NoPlanLine : PlayEnd  -- there is no third line, or it is no line of a plan
   NoPlan : PlanFault → PlayEnd  -- its instances are no plan at the game's position
-  NoMove : PlayFault → PlayEnd  -- a later line is no move of White's
+  NoThreat : PlayEnd  -- the game's position has no odd threat
+  NoMove : PlayFault → PlayEnd  -- a later line is no move of the other side's
   AllPlayed : PlayEnd  -- each line is one
-  NoReply : PlayEnd  -- White's move ended the game, or has no answer; by a plan this never comes
+  NoReply : PlayEnd  -- that side's move ended the game, or has no answer; by a plan or a threat this never comes
 
--- what is written, a line for each move of White's, and how play ends
+-- what is written, a line for each move, and how play ends
 pub record Played : Type 0 where
   pub lines : List (List ℕ)
   pub end : PlayEnd
@@ -60,9 +61,9 @@ turn_line white black end = as_line (square_text white ++ (32 ∷ (square_text b
 abbrev pub turn_text : Position → ℕ → Square → List ℕ
 turn_text q column reply = turn_line (column, height q column + 1) reply (end_of (after_move (after_move q column) reply.0))
 
--- ---- White's moves
+-- ---- the lines of an input
 
--- White's line for a column
+-- the line of a move, by its column
 abbrev pub move_line : ℕ → List ℕ
 move_line column = letter_of column ∷ []
 
@@ -72,32 +73,55 @@ column_in board [] = None
 column_in board (letter ∷ []) = column_named board.cols letter
 column_in board (letter ∷ next ∷ more) = None
 
--- why no man of White's can be dropped into the column that a line names, if it names one
+-- why no man can be dropped into the column that a line names, if it names one
 abbrev pub move_refusal : Position → Option ℕ → Option PlayKind
 move_refusal q None = Some BadMove
 move_refusal q (Some column) = if is_some (end_of q) then Some GameOver else (if has_room q column then None else Some ColumnFull)
+
+-- ---- the moves of one side, with any player who answers them
+
+-- what a player makes of a legal column: the line that is written, and the player after it; or it has no answer
+abbrev pub Turn : Type 0 → Type 0
+Turn X = Option (List ℕ × X)
+
+-- the line of a turn, and what is played after it
+abbrev pub with_turn : {X : Type 0} → Turn X → (X → Played) → Played
+with_turn None later = ended NoReply
+with_turn (Some (line, next)) later = behind (line ∷ []) (later next)
+
+-- a line with this number is a move, or it ends the game
+abbrev pub with_move : {X : Type 0} → (ℕ → Turn X) → ℕ → Option ℕ → Option PlayKind → (X → Played) → Played
+with_move turn at column (Some kind) later = ended (NoMove (record { kind = kind; at = at }))
+with_move turn at None None later = ended (NoMove (record { kind = BadMove; at = at }))
+with_move turn at (Some column) None later = with_turn (turn column) later
+
+-- what is played by a player from here on by further lines, of which the first has this number
+abbrev pub turns_from : {X : Type 0} → (X → Position) → (X → ℕ → Turn X) → X → ℕ → List (List ℕ) → Played
+turns_from stands turn x at [] = ended AllPlayed
+turns_from stands turn x at (line ∷ lines) =
+    let column = column_in (board_of (stands x)) line in
+    with_move (turn x) at column (move_refusal (stands x) column) (λ next. turns_from stands turn next (at + 1) lines)
+
+-- the same, where the position alone says what is answered
+abbrev pub played_by : (Position → ℕ → Turn Position) → Position → ℕ → List (List ℕ) → Played
+played_by turn q at lines = turns_from (λ q. q) turn q at lines
+
+-- ---- the moves of White's, answered by a plan
 
 -- Black's answer to White's move, where the move doesn't end the game
 abbrev pub answer_to : List RuleInstance → Position → ℕ → Option Square
 answer_to ws q column = if is_none (end_of (after_move q column)) then plan_reply ws (after_move q column) (column, height q column + 1) else None
 
--- the line of a turn, and what is played from the position after it
-abbrev pub with_answer : Position → ℕ → Option Square → (Position → Played) → Played
-with_answer q column None later = ended NoReply
-with_answer q column (Some reply) later = behind (turn_text q column reply ∷ []) (later (after_move (after_move q column) reply.0))
+-- the line of a turn, and the position after it
+abbrev pub turn_with : Position → ℕ → Square → List ℕ × Position
+turn_with q column reply = (turn_text q column reply, after_move (after_move q column) reply.0)
 
--- a line with this number is a move, or it ends play
-abbrev pub with_column : List RuleInstance → Position → ℕ → Option ℕ → Option PlayKind → (Position → Played) → Played
-with_column ws q at column (Some kind) later = ended (NoMove (record { kind = kind; at = at }))
-with_column ws q at None None later = ended (NoMove (record { kind = BadMove; at = at }))
-with_column ws q at (Some column) None later = with_answer q column (answer_to ws q column) later
+abbrev pub plan_turn : List RuleInstance → Position → ℕ → Turn Position
+plan_turn ws q column = option_map (turn_with q column) (answer_to ws q column)
 
--- what is played from a position on by further lines, of which the first has this number
+-- what is played by the plan from a position on by further lines, of which the first has this number
 abbrev pub play_from : List RuleInstance → Position → ℕ → List (List ℕ) → Played
-play_from ws q at [] = ended AllPlayed
-play_from ws q at (line ∷ lines) =
-    let column = column_in (board_of q) line in
-    with_column ws q at column (move_refusal q column) (λ next. play_from ws next (at + 1) lines)
+play_from ws q at lines = played_by (plan_turn ws) q at lines
 
 -- ---- the whole
 

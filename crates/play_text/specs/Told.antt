@@ -7,7 +7,7 @@ use Rattle.game_rules.specs.declared.Side.TheVariants.{White}
 use Rattle.plan_rules.specs.Rules.{RuleInstance}
 use Rattle.plan_rules.specs.Plan.{is_plan, duel, is_playable_list, IsTurn}
 use Rattle.proof_text.specs.Texts.{pieces, game_of, behind_game}
-use Rattle.play_text.specs.Play.{PlayEnd, NoGame, NoPlanLine, NoPlan, NoMove, AllPlayed, NoReply, move_line, turn_text, plan_in}
+use Rattle.play_text.specs.Play.{PlayEnd, NoGame, NoPlanLine, NoPlan, NoThreat, NoMove, AllPlayed, NoReply, move_line, turn_text, plan_in}
 
 -- The line tells the turn of the duel that has this place: its column is White's there, and the line has White's square,
 -- Black's by the plan, and what Black's man ended.
@@ -39,11 +39,12 @@ pub record TellsPlay (bytes : List ℕ) (lines : List (List ℕ)) : Type 0 where
   pub is_one : is_plan root list ≡ true
   pub duel : TellsDuel root list moves lines
 
--- Where there is no plan nothing is written, and else a duel is told; a plan always has an answer.
+-- Where there is no plan nothing is written, and else a duel is told. No other end comes: a plan always has an answer.
 abbrev pub IsTold : List ℕ → List (List ℕ) → PlayEnd → Type 0
 IsTold bytes lines (NoGame fault) = lines ≡ []
 IsTold bytes lines NoPlanLine = lines ≡ []
 IsTold bytes lines (NoPlan fault) = lines ≡ []
+IsTold bytes lines NoThreat = ⊥
 IsTold bytes lines (NoMove fault) = TellsPlay bytes lines
 IsTold bytes lines AllPlayed = TellsPlay bytes lines
 IsTold bytes lines NoReply = ⊥

@@ -7,18 +7,18 @@ ghost use Rattle.plan_rules.specs.Rules.{RuleInstance};
 ghost use Rattle.plan_rules.specs.Plan.{is_plan, is_playable_list};
 ghost use Rattle.plan_text.specs.PlanLine.{PlanFits, plan_text};
 ghost use Rattle.proof_text.specs.Texts.{pieces, game_of, behind_game};
-ghost use Rattle.play_text.specs.Play.{PlayEnd, AllPlayed, behind, move_line, play_from, play_of};
+ghost use Rattle.play_text.specs.Play.{AllPlayed, Turn, behind, move_line, played_by, play_from, play_of};
 ghost use Rattle.play_text.specs.Told.{IsTold};
 
-/// Lines that stop play decide, whatever follows them; where all are moves, play goes on behind them from a position. So
-/// what fewer lines give stands at the beginning of what more give.
+/// Whatever is answered at a position, lines that stop play decide, whatever follows them; where all are moves, play goes on
+/// behind them from a position. So what fewer lines give stands at the beginning of what more give.
 pub fn play_goes_line_by_line()
-    ensures stops { (ws : List RuleInstance) (q : Position) (at : ℕ) (xs ys : List (List ℕ)) → (play_from ws q at xs).end ≢ AllPlayed
-        → play_from ws q at (xs ++ ys) ≡ play_from ws q at xs }
-    ensures more { (ws : List RuleInstance) (q : Position) (at : ℕ) (xs ys : List (List ℕ)) → (play_from ws q at xs).end ≡ AllPlayed
-        → (r : Position) × (play_from ws q at (xs ++ ys) ≡ behind (play_from ws q at xs).lines (play_from ws r (at + length xs) ys)) }
-    ensures prefix { (ws : List RuleInstance) (q : Position) (at : ℕ) (xs ys : List (List ℕ))
-        → (more : List (List ℕ)) × ((play_from ws q at (xs ++ ys)).lines ≡ (play_from ws q at xs).lines ++ more) }
+    ensures stops { (turn : Position → ℕ → Turn Position) (q : Position) (at : ℕ) (xs ys : List (List ℕ)) → (played_by turn q at xs).end ≢ AllPlayed
+        → played_by turn q at (xs ++ ys) ≡ played_by turn q at xs }
+    ensures more { (turn : Position → ℕ → Turn Position) (q : Position) (at : ℕ) (xs ys : List (List ℕ)) → (played_by turn q at xs).end ≡ AllPlayed
+        → (r : Position) × (played_by turn q at (xs ++ ys) ≡ behind (played_by turn q at xs).lines (played_by turn r (at + length xs) ys)) }
+    ensures prefix { (turn : Position → ℕ → Turn Position) (q : Position) (at : ℕ) (xs ys : List (List ℕ))
+        → (more : List (List ℕ)) × ((played_by turn q at (xs ++ ys)).lines ≡ (played_by turn q at xs).lines ++ more) }
 {}
 
 /// Whatever the input, its lines tell the duel by its plan, where it has one, and nothing is written where it has none. White

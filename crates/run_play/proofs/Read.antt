@@ -20,11 +20,12 @@ use Rattle.proof_text.specs.Texts.{pieces, lines_in, game_of, behind_game}
 use Rattle.rule_compat.specs.Planned.{Planned, members}
 use Rattle.reply_player.specs.Playing.{Playing, reply_for, HasAnswered}
 use Rattle.reply_player.specs.declared.session.Reply.{Reply}
-use Rattle.play_text.specs.Play.{NoGame, NoPlanLine, Played, ended, behind, end_text, turn_text, column_in, move_refusal, answer_to, with_answer, with_column}
+use Rattle.play_text.specs.Play as told
+use Rattle.play_text.specs.Play.{NoGame, NoPlanLine, Played, ended, behind, end_text, turn_text, column_in, move_refusal, answer_to}
 use Rattle.play_text.specs.Play.{play_from, play_list, play_lines, play_game, plan_in, play_of, first_move}
 use Rattle.play_text.specs.declared.PlayKind.{PlayKind}
 use Rattle.play_text.proofs.Turns.{answer_is}
-use Rattle.run_turns.specs.Turns.{with_turn, with_move, turns_from}
+use Rattle.play_text.specs.Play.{with_turn, with_move, turns_from}
 use Rattle.run_turns.specs.Steps.{turns_by}
 use Rattle.run_play.specs.Turns.{plan_stands, turn_with, plan_turn}
 use Rattle.run_play.specs.declared.plan_player.PlanPlayer.{PlanPlayer}
@@ -159,7 +160,7 @@ turns_played player at (line ∷ lines) =
         → ((next : PlanPlayer) → turns_from plan_stands plan_turn next (at + 1) lines
         ≡ play_from (members next.session.plan) next.session.stands (at + 1) lines)
         → with_turn (option_map (turn_with player column) answer) (λ next. turns_from plan_stands plan_turn next (at + 1) lines)
-        ≡ with_answer player.session.stands column answer (λ next. play_from (members player.session.plan) next (at + 1) lines)
+        ≡ with_turn (option_map (told.turn_with player.session.stands column) answer) (λ next. play_from (members player.session.plan) next (at + 1) lines)
     of_answer column None later = refl
     of_answer column (Some reply) later =
         let turn = turn_with player column reply in
@@ -169,7 +170,7 @@ turns_played player at (line ∷ lines) =
         → ((next : PlanPlayer) → turns_from plan_stands plan_turn next (at + 1) lines
         ≡ play_from (members next.session.plan) next.session.stands (at + 1) lines)
         → with_move (plan_turn player) at column refusal (λ next. turns_from plan_stands plan_turn next (at + 1) lines)
-        ≡ with_column (members player.session.plan) player.session.stands at column refusal
+        ≡ with_move (told.plan_turn (members player.session.plan) player.session.stands) at column refusal
         (λ next. play_from (members player.session.plan) next (at + 1) lines)
     of_column column (Some kind) later = refl
     of_column None None later = refl

@@ -41,6 +41,14 @@ const CHECK: &[&str] = &["check"];
 
 pub(crate) const PLAY: &[&str] = &["play"];
 
+/// A game by an odd threat, in which Black enters the pair and then has one column left.
+pub(crate) const ZUGZWANG: &str = "board 4 4\nmoves dccbbdbaddc\nc\na\n";
+
+/// What is written of it.
+pub(crate) const ZUGZWANG_ANSWERS: &str = "threat a3h BI:b4,c4\nc4 b4\na2 a3 won\n";
+
+pub(crate) const THREAT: &[&str] = &["threat"];
+
 const DRILL: &[&str] = &["drill", "4", "4", "12", "1", "1"];
 
 /// The words of a run and its input, its devices, its status, and what it writes and reports.

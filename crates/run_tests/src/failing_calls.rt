@@ -1,6 +1,7 @@
 //! Each call of a device failed in turn, up to the first run that has no call of that number.
 use crate::devices::{
-    DUEL, DUEL_ANSWERS, PLAY, PROVE_BY_SEARCH, TWO_SQUARES_LEFT, TWO_SQUARES_PROOF,
+    DUEL, DUEL_ANSWERS, PLAY, PROVE_BY_SEARCH, THREAT, TWO_SQUARES_LEFT, TWO_SQUARES_PROOF,
+    ZUGZWANG, ZUGZWANG_ANSWERS,
 };
 use crate::running::{Devices, SOUND, run_over};
 use std::test::Fail;
@@ -11,9 +12,10 @@ const MOST_CALLS: u32 = 200;
 /// The words of a run, its input, and what it writes where no call fails.
 type Whole = (&'static [&'static str], &'static str, &'static str);
 
-const WHOLE: [Whole; 2] = [
+const WHOLE: [Whole; 3] = [
     (PROVE_BY_SEARCH, TWO_SQUARES_LEFT, TWO_SQUARES_PROOF),
     (PLAY, DUEL, DUEL_ANSWERS),
+    (THREAT, ZUGZWANG, ZUGZWANG_ANSWERS),
 ];
 
 #[test]
@@ -65,7 +67,8 @@ fn each_failing_call_of_the_source_leaves_whole_lines(rt: HostRuntime) -> Result
                 break;
             }
             let answered = got.out.as_slice();
-            let lines = answered.is_empty() || (words == PLAY && answered.ends_with(b"\n"));
+            let by_line = words == PLAY || words == THREAT;
+            let lines = answered.is_empty() || (by_line && answered.ends_with(b"\n"));
             assert_eq!(rt; got.status, 6, "{words:?} {call}");
             assert!(rt;
                 lines && whole.as_bytes().starts_with(answered),

@@ -10,7 +10,7 @@ use Rattle.play_text.specs.Play.{NoMove, AllPlayed, Played, ended, behind}
 use Rattle.play_text.specs.declared.PlayKind.TheVariants.{BadMove}
 use Rattle.run_frame.proofs.Cuts.{line_first, long_first, none_left}
 use Rattle.run_frame.proofs.GameRead.{by_line}
-use Rattle.run_turns.specs.Turns.{Turn, turns_from}
+use Rattle.play_text.specs.Play.{Turn, turns_from}
 use Rattle.run_turns.specs.Steps.{turns_by}
 
 -- a line that was given is the text that is asked for

@@ -16,7 +16,7 @@ use Rattle.play_text.specs.Play as ends
 use Rattle.play_text.specs.Play.{Played, ended, behind, text_of}
 use Rattle.play_text.specs.declared.PlayFault.{PlayFault}
 use Rattle.play_text.proofs.Steps.{behind_more}
-use Rattle.run_turns.specs.Turns.{Turn, turns_from}
+use Rattle.play_text.specs.Play.{Turn, turns_from}
 use Rattle.run_turns.specs.Steps.{turns_by, StopsTurns, passed_by, TurnStep, PlaysNext, PlaysTurns}
 use Rattle.run_turns.specs.declared.turn_stop.TurnStop.{TurnStop}
 use Rattle.run_turns.specs.declared.turn_stop.TurnStop.TheVariants as stops

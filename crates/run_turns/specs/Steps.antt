@@ -7,7 +7,7 @@ use Rattle.game_rules.specs.Position.{Position}
 use Rattle.proof_text.specs.Texts.{pieces, lines_in}
 use Rattle.play_text.specs.Play as ends
 use Rattle.play_text.specs.Play.{Played, behind, text_of}
-use Rattle.run_turns.specs.Turns.{Turn, turns_from}
+use Rattle.play_text.specs.Play.{Turn, turns_from}
 use Rattle.run_turns.specs.declared.turn_stop.TurnStop.{TurnStop}
 use Rattle.run_turns.specs.declared.turn_stop.TurnStop.TheVariants.{NoMove, Read, Write}
 

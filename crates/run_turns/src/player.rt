@@ -2,7 +2,7 @@
 ghost use Rattle.std.specs.Prelude.{◌≡◌, ◌<◌, ℕ, true, length, Some, Err, IfOk, IfErr, OnOk};
 ghost use Rattle.game_rules.specs.Position.{Position, board_of, is_legal};
 ghost use Rattle.board_bits.specs.Move.{moved_into};
-ghost use Rattle.run_turns.specs.Turns.{Turn};
+ghost use Rattle.play_text.specs.Play.{Turn};
 
 use board_bits::{Column, MoveFault, Size};
 use text_words::LineText;

@@ -4,7 +4,7 @@ ghost use Rattle.device_rules.specs.Devices.{Rose};
 ghost use Rattle.io_ports.specs.Lines.{IsUndecided};
 ghost use Rattle.io_ports.specs.Reading.{pending};
 ghost use Rattle.play_text.specs.Play.{NoMove, ended, behind, column_in};
-ghost use Rattle.run_turns.specs.Turns.{turns_from};
+ghost use Rattle.play_text.specs.Play.{turns_from};
 ghost use Rattle.run_turns.specs.Steps.{TurnStep, PlaysNext, PlaysTurns, is_whole};
 ghost use Rattle.run_turns.specs.declared.turn_stop.TurnStop.TheVariants as stops;
 

@@ -103,9 +103,10 @@ fn prove_has_its_options_in_any_order_and_spelling(rt: HostRuntime) -> Result<()
 
 #[test]
 fn other_commands_have_their_own_words(rt: HostRuntime) -> Result<(), Fail> {
-    let rows: [(&[&str], Form); 5] = [
+    let rows: [(&[&str], Form); 6] = [
         (&["check"], Form::Check),
         (&["play"], Form::Play),
+        (&["threat"], Form::Threat),
         (&["explain"], Form::Explain { reach: 1_000 }),
         (&["explain", "--reach=7"], Form::Explain { reach: 7 }),
         (&["explain", "--reach", "0"], Form::Explain { reach: 0 }),
@@ -181,14 +182,16 @@ fn options_stand_before_between_and_after_the_numbers(rt: HostRuntime) -> Result
 }
 
 /// Lists of words that are no form.
-const NONE: [&[&str]; 68] = [
+const NONE: [&[&str]; 70] = [
     &[],
     &[""],
     &["", "prove"],
     &["--help"],
     &["help"],
     &["Prove"],
-    &["threat"],
+    &["threats"],
+    &["threat", "x"],
+    &["threat", "--reach", "3"],
     &["prove", "x"],
     &["prove", "5"],
     &["prove", "--"],

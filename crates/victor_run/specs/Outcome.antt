@@ -5,13 +5,14 @@ use Rattle.proof_text.specs.Spelling.{as_line}
 use Rattle.drill_games.specs.Games.{games_from}
 use Rattle.victor_words.specs.Words.{usage}
 use Rattle.victor_words.specs.declared.form.Form.{Form}
-use Rattle.victor_words.specs.declared.form.Form.TheVariants.{Prove, Check, Play, Explain, Drill}
+use Rattle.victor_words.specs.declared.form.Form.TheVariants.{Prove, Check, Play, Explain, Drill, Threat}
 use Rattle.run_frame.specs.Streams.{Streams, IsUnread}
 use Rattle.run_prove.specs.Proves.{ProveRuns, ProveCompletes}
 use Rattle.run_check.specs.Checks.{CheckRuns, CheckCompletes}
 use Rattle.run_play.specs.Plays.{PlayRuns, PlayCompletes}
 use Rattle.run_explain.specs.Explains.{ExplainRuns, ExplainCompletes}
 use Rattle.run_drill.specs.Drills.{DrillRuns, DrillCompletes}
+use Rattle.run_threat.specs.Threatens.{ThreatRuns, ThreatCompletes}
 
 -- how a run ended, by its status and its text for the error stream; where its words are no form nothing is read or written
 abbrev pub Outcome : Option Form → Streams → (status : ℕ) → (text : List ℕ) → Type 0
@@ -21,6 +22,7 @@ Outcome (Some Check) s status text = CheckRuns s status text
 Outcome (Some Play) s status text = PlayRuns s status text
 Outcome (Some (Explain reach)) s status text = ExplainRuns reach s status text
 Outcome (Some (Drill size moves seed games nodes reach)) s status text = DrillRuns (games_from games size moves seed) nodes reach s status text
+Outcome (Some Threat) s status text = ThreatRuns s status text
 
 -- how it has to end where no stream failed, from all of its input, where the source tells it
 abbrev pub Completes : Form → (unread unwritten : Type 0) → (input : Option (List ℕ)) → (status : ℕ) → Type 0
@@ -29,3 +31,4 @@ Completes Check unread unwritten input status = (unread → ⊥) → (unwritten 
 Completes Play unread unwritten input status = (unread → ⊥) → (unwritten → ⊥) → PlayCompletes input status
 Completes (Explain reach) unread unwritten input status = (unread → ⊥) → (unwritten → ⊥) → ExplainCompletes reach input status
 Completes (Drill size moves seed games nodes reach) unread unwritten input status = (unwritten → ⊥) → DrillCompletes status
+Completes Threat unread unwritten input status = (unread → ⊥) → (unwritten → ⊥) → ThreatCompletes input status

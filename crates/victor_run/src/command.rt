@@ -14,6 +14,7 @@ use run_explain::explain;
 use run_frame::report;
 use run_play::play;
 use run_prove::prove;
+use run_threat::threat;
 use std::alloc::Global;
 use victor_words::{Form, read_words};
 
@@ -21,7 +22,7 @@ use victor_words::{Form, read_words};
 /// of a fault goes to `err`, whole unless the count of faults of `err` rose.
 ///
 /// What a command reads and writes, and with which status and text it ends, its own crate says: [`prove`], [`check`],
-/// [`play`], [`explain`], [`drill`]. Where the words are no written form, the status is 2 and nothing is read or written.
+/// [`play`], [`explain`], [`drill`], [`threat`]. Where the words are no written form, the status is 2 and nothing is read or written.
 /// What stops a run first decides its end. `prove`, `check` and `drill` alone take memory.
 pub fn run<S: Source, O: Sink, E: Sink>(
     alloc: Global,
@@ -93,5 +94,6 @@ fn run_form<S: Source, O: Sink, E: Sink>(
             &drill(alloc, size, moves, seed, games, nodes, reach, out),
             err,
         ),
+        Form::Threat => report(&threat(source, out), err),
     }
 }

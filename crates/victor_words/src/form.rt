@@ -40,4 +40,6 @@ pub enum Form {
         /// How many sets of zones a walk looks at, as for `Prove`.
         reach: u32,
     },
+    /// Read a game and Black's moves, and play White's by an odd threat.
+    Threat,
 }

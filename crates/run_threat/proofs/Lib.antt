@@ -1,0 +1,5 @@
+pub mod Turn
+pub mod Read
+pub mod FirstLine
+pub mod Judged
+pub mod Ends

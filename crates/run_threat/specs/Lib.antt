@@ -1,0 +1,3 @@
+pub mod Threatens
+pub mod Turns
+pub mod Steps

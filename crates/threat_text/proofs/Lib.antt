@@ -1,0 +1,3 @@
+mod Vectors
+pub mod Turns
+pub mod Steps

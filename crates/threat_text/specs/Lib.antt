@@ -1,0 +1,2 @@
+pub mod Threats
+pub mod Told
