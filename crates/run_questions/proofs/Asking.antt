@@ -153,65 +153,65 @@ in_turn slots reach root mid remark lemmas (inr none) some = absurd (some none.1
 -- ---- both questions
 
 module _ (version : Version) (root : Position) (nodes reach : ℕ) (slots : Option ℕ) (before after : Entries) (old new : Option (List ℕ)) (total most : ℕ)
-  (within : most ≤ nodes) where
-    -- the first question stopped
-    pub asks_none : (stop : SearchStop) → AsksSide version root White reach slots [] most (moment before old) (moment after new) total (Err stop)
-        → (stop ≡ Spent → nodes < count (solved_within reach) White root)
-        → Asks version root nodes reach slots old new (Err stop)
-    asks_none stop white short = record {
-      white_remark = white.remark;
-      white = white.lemmas;
-      mid = white.shown;
-      black_remark = None;
-      black = [];
-      after = white.shown;
-      text = stopped_text stop old new (remark_line white.remark ++ (lines_of white.lemmas ++ []))
-          (alone (is_whole (Err stop)) old new (remark_line white.remark) (lines_of white.lemmas) white.text);
-      white_remarked = white.remarked;
-      white_line = white.line;
-      black_remarked = inr (refl, refl);
-      black_line = tt;
-      both_remarked = unasked root nodes reach slots stop white.shown None white.below short;
-      white_right = white.right;
-      black_right = refl;
-      white_sided = white.sided;
-      black_sided = tt;
-      white_planned = white.planned;
-      black_planned = tt;
-      verdict = tt;
-      few = omega (arith, white.few, within);
-    }
+    (within : most ≤ nodes) where
+  -- the first question stopped
+  pub asks_none : (stop : SearchStop) → AsksSide version root White reach slots [] most (moment before old) (moment after new) total (Err stop)
+      → (stop ≡ Spent → nodes < count (solved_within reach) White root)
+      → Asks version root nodes reach slots old new (Err stop)
+  asks_none stop white short = record {
+    white_remark = white.remark;
+    white = white.lemmas;
+    mid = white.shown;
+    black_remark = None;
+    black = [];
+    after = white.shown;
+    text = stopped_text stop old new (remark_line white.remark ++ (lines_of white.lemmas ++ []))
+        (alone (is_whole (Err stop)) old new (remark_line white.remark) (lines_of white.lemmas) white.text);
+    white_remarked = white.remarked;
+    white_line = white.line;
+    black_remarked = inr (refl, refl);
+    black_line = tt;
+    both_remarked = unasked root nodes reach slots stop white.shown None white.below short;
+    white_right = white.right;
+    black_right = refl;
+    white_sided = white.sided;
+    black_sided = tt;
+    white_planned = white.planned;
+    black_planned = tt;
+    verdict = tt;
+    few = omega (arith, white.few, within);
+  }
 
-    -- White wins
-    pub asks_white : (answer : Answer) (to_move : Side) (v : Verdict)
-        → AsksSide version root White reach slots [] most (moment before old) (moment after new) total (Ok answer) → answer.yes ≡ true → to_move ≡ side_to_move root
-        → wins White root ≡ true → v ≡ won_by White to_move answer.lemma → Asks version root nodes reach slots old new (Ok v)
-    asks_white answer to_move v white won turn wins_root told = record {
-      white_remark = white.remark;
-      white = white.lemmas;
-      mid = white.shown;
-      black_remark = None;
-      black = [];
-      after = white.shown;
-      text = alone true old new (remark_line white.remark) (lines_of white.lemmas) white.text;
-      white_remarked = white.remarked;
-      white_line = white.line;
-      black_remarked = inr (refl, refl);
-      black_line = tt;
-      both_remarked = λ _. unneeded root nodes reach slots white.shown None v wins_root;
-      white_right = white.right;
-      black_right = refl;
-      white_sided = white.sided;
-      black_sided = tt;
-      white_planned = white.planned;
-      black_planned = tt;
-      verdict = (
-        rw told (won_verdict root white.shown White to_move answer.lemma turn
-            (subst (λ b. Shows white.shown answer.lemma root (claim_for White b)) won white.named)),
-        (λ h. won_known White to_move answer.lemma (sym told ∙ h)),
-      );
-      few = omega (arith, white.few, within);
-    }
+  -- White wins
+  pub asks_white : (answer : Answer) (to_move : Side) (v : Verdict)
+      → AsksSide version root White reach slots [] most (moment before old) (moment after new) total (Ok answer) → answer.yes ≡ true → to_move ≡ side_to_move root
+      → wins White root ≡ true → v ≡ won_by White to_move answer.lemma → Asks version root nodes reach slots old new (Ok v)
+  asks_white answer to_move v white won turn wins_root told = record {
+    white_remark = white.remark;
+    white = white.lemmas;
+    mid = white.shown;
+    black_remark = None;
+    black = [];
+    after = white.shown;
+    text = alone true old new (remark_line white.remark) (lines_of white.lemmas) white.text;
+    white_remarked = white.remarked;
+    white_line = white.line;
+    black_remarked = inr (refl, refl);
+    black_line = tt;
+    both_remarked = λ _. unneeded root nodes reach slots white.shown None v wins_root;
+    white_right = white.right;
+    black_right = refl;
+    white_sided = white.sided;
+    black_sided = tt;
+    white_planned = white.planned;
+    black_planned = tt;
+    verdict = (
+      rw told (won_verdict root white.shown White to_move answer.lemma turn
+          (subst (λ b. Shows white.shown answer.lemma root (claim_for White b)) won white.named)),
+      (λ h. won_known White to_move answer.lemma (sym told ∙ h)),
+    );
+    few = omega (arith, white.few, within);
+  }
 
 module _ (version : Version) (root : Position) (nodes reach : ℕ) (slots : Option ℕ) (before mid after : Entries) (old held new : Option (List ℕ)) (total : ℕ) (first : Answer)
     (begun : ℕ) (white : AsksSide version root White reach slots [] begun (moment before old) (moment mid held) total (Ok first)) (none : first.yes ≡ false)
