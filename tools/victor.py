@@ -543,10 +543,12 @@ class Accepted:
 
 
 def prove(game: Game, *, nodes: Optional[int] = None, reach: Optional[int] = None, front: Optional[int] = None,
-          table: Optional[int] = None, into: Optional[Path] = None, program: Optional[str] = None, **limits) -> Proof:
+          table: Optional[int] = None, version: Optional[int] = None, into: Optional[Path] = None,
+          program: Optional[str] = None, **limits) -> Proof:
     """The proof that `victor prove` writes, with status 5 and the value `unknown` where the budget was spent. With
     `into`, the path of a file, it is written there."""
-    words = [find_program(program), "prove"] + options_of(nodes=nodes, reach=reach, front=front, table=table)
+    words = [find_program(program), "prove"]
+    words += options_of(nodes=nodes, reach=reach, front=front, table=table, format=version)
     return written_proof("victor prove", words, game, into, (0, 5), **limits)
 
 

@@ -1,6 +1,7 @@
 -- What a run of `prove` wrote, by its status.
 use Rattle.std.proofs.Common.{◌≡◌, ℕ, List, Option, Some, None, IfSome, ◌⊎◌, refl, subst, inl, inr, arith}
 use Rattle.proof_text.specs.declared.Verdict.TheVariants as verdicts
+use Rattle.proof_text.specs.declared.Version.{Version}
 use Rattle.run_frame.specs.Streams.{Streams}
 use Rattle.run_frame.specs.declared.game_input.InputStop.TheVariants as stops
 use Rattle.run_prove.specs.Proves.{proved_status, Proves, ProveRuns}
@@ -13,12 +14,12 @@ other_status : {one another : ℕ} (code : ℕ) → (code ≡ one) ⊎ (code ≡
 other_status code (inl is) not_one not_another = not_one is
 other_status code (inr is) not_one not_another = not_another is
 
-module _ (last_read nodes reach : ℕ) (front : Option ℕ) (input left : Option (List ℕ)) (old new : List ℕ) where
+module _ (version : Version) (last_read nodes reach : ℕ) (front : Option ℕ) (input left : Option (List ℕ)) (old new : List ℕ) where
   abbrev run_streams : Streams
   run_streams = record { input = input; left = left; last_read = last_read; old = Some old; new = Some new }
 
-  proof_of : (end : Proved) → Proves nodes reach front run_streams end → (proved_status end ≡ 0) ⊎ (proved_status end ≡ 5)
-      → HoldsProof nodes reach front old new
+  proof_of : (end : Proved) → Proves version nodes reach front run_streams end → (proved_status end ≡ 0) ⊎ (proved_status end ≡ 5)
+      → HoldsProof version nodes reach front old new
   proof_of Value o ended =
       let proved = o.holds.0 in
       record {
@@ -47,8 +48,8 @@ module _ (last_read nodes reach : ℕ) (front : Option ℕ) (input left : Option
   proof_of Memory o ended = absurd (other_status 8 ended (λ (e : 8 ≡ 0). omega (arith, e)) (λ (e : 8 ≡ 5). omega (arith, e)))
 
   -- behind what was there stands the proof that a run of `prove` wrote
-  pub holds_proof : (status : ℕ) (text : List ℕ) → ProveRuns nodes reach front run_streams status text → (status ≡ 0) ⊎ (status ≡ 5)
-      → HoldsProof nodes reach front old new
+  pub holds_proof : (status : ℕ) (text : List ℕ) → ProveRuns version nodes reach front run_streams status text → (status ≡ 0) ⊎ (status ≡ 5)
+      → HoldsProof version nodes reach front old new
   holds_proof status text o ended = proof_of o.ending o.holds (subst (λ status. (status ≡ 0) ⊎ (status ≡ 5)) o.status_is ended)
 
 -- an end with status 0 is that of a run that wrote a proof of the value, and one with 8 is for want of memory

@@ -14,6 +14,7 @@ ghost use Rattle.victor_words.specs.declared.form.Form.TheVariants as forms;
 ghost use Rattle.run_prove.specs.Proves.{proved_status};
 ghost use Rattle.run_prove.specs.declared.proved.Proved.{Proved};
 ghost use Rattle.run_prove.specs.declared.proved.Proved.TheVariants as ends;
+ghost use Rattle.victor_run.specs.Outcome.{version_named};
 ghost use Rattle.run_callers.specs.Held.{StillHolds, HoldsProof};
 
 use io_ports::{MemSink, NullSink, Sink, Source};
@@ -21,7 +22,7 @@ use std::alloc::Global;
 use victor_run::run;
 
 /// Runs the arguments over any source into a sink in memory. Whatever the source tells, what the sink held stands there
-/// still, and where `prove` ended with 0 or 5, a right proof of some game stands behind it.
+/// still, and where `prove` ended with 0 or 5, a right proof of some game, in the version that was asked for, stands behind it.
 pub fn run_into_memory<S: Source>(
     alloc: Global,
     words: &[String],
@@ -29,8 +30,8 @@ pub fn run_into_memory<S: Source>(
     out: &mut MemSink,
 ) -> u8
     ensures kept { StillHolds out.old.written out.new.written }
-    ensures proved { (nodes reach table : ℕ) (front : Option ℕ) → IsWritten (map string_bytes words.now) (forms.Prove nodes reach front table) → (result ≡ 0) ⊎ (result ≡ 5)
-        → HoldsProof nodes reach front out.old.written out.new.written }
+    ensures proved { (nodes reach table format : ℕ) (front : Option ℕ) → IsWritten (map string_bytes words.now) (forms.Prove nodes reach front table format) → (result ≡ 0) ⊎ (result ≡ 5)
+        → HoldsProof (version_named format) nodes reach front out.old.written out.new.written }
 {
     run(alloc, words, source, out, &mut NullSink::new())
 }
@@ -43,7 +44,7 @@ pub fn prove_within_budget<S: Source, O: Sink>(
     source: &mut S,
     out: &mut O,
 ) -> u8
-    ensures { (nodes reach table : ℕ) (front : Option ℕ) (bytes : List ℕ) (p : Position) → IsWritten (map string_bytes words.now) (forms.Prove nodes reach front table)
+    ensures { (nodes reach table format : ℕ) (front : Option ℕ) (bytes : List ℕ) (p : Position) → IsWritten (map string_bytes words.now) (forms.Prove nodes reach front table format)
         → S.left source.old ≡ Some bytes → game_at bytes ≡ Ok p → cost (solved_within reach) p ≤ nodes
         → (Rose (S.faults source.old) (S.faults source.new) → ⊥) → (Rose (O.faults out.old) (O.faults out.new) → ⊥)
         → (end : Proved) × (result ≡ proved_status end) × ((end ≡ ends.Value) ⊎ (end ≡ ends.Memory)) }

@@ -7,6 +7,7 @@ use Rattle.game_rules.specs.Cost.{cost}
 use Rattle.game_rules.specs.Text.{game_at}
 use Rattle.proof_text.specs.declared.Verdict.{Verdict}
 use Rattle.proof_text.specs.declared.Verdict.TheVariants as verdicts
+use Rattle.proof_text.specs.declared.Version.{Version}
 use Rattle.deep_search.specs.Planned.{solved_within}
 use Rattle.io_ports.specs.declared.ports.Failed.{Failed}
 use Rattle.run_frame.specs.Streams.{Streams, StillHolds}
@@ -18,40 +19,40 @@ use Rattle.run_prove.specs.declared.proved.Proved.{Proved}
 use Rattle.run_prove.specs.declared.proved.Proved.TheVariants.{Value, Unknown, Input, Write, Memory}
 
 -- what was written for the game is what `prove` promises
-pub proves_game : (nodes reach : ℕ) (slots : Option ℕ) (s : Streams) (p : Position) (heard : List ℕ) → IsAtEnd s.left → game_at heard ≡ Ok p
-    → (r : Result Verdict Failed) → Writes nodes reach slots heard p s.old s.new r
-    → (r ≡ Ok verdicts.Unknown → nodes < cost (solved_within reach) p) → ProvesFrom nodes reach slots heard s (proved_of r)
-proves_game nodes reach slots s p heard ended game (Ok (verdicts.Win lemma)) h short =
+pub proves_game : (version : Version) (nodes reach : ℕ) (slots : Option ℕ) (s : Streams) (p : Position) (heard : List ℕ) → IsAtEnd s.left → game_at heard ≡ Ok p
+    → (r : Result Verdict Failed) → Writes version nodes reach slots heard p s.old s.new r
+    → (r ≡ Ok verdicts.Unknown → nodes < cost (solved_within reach) p) → ProvesFrom version nodes reach slots heard s (proved_of r)
+proves_game version nodes reach slots s p heard ended game (Ok (verdicts.Win lemma)) h short =
     (record { position = p; game = game; verdict = verdicts.Win lemma; known = λ e. cc; text = h.0; proof = h.1; written = h.2 }, ended)
-proves_game nodes reach slots s p heard ended game (Ok (verdicts.Loss lemma)) h short =
+proves_game version nodes reach slots s p heard ended game (Ok (verdicts.Loss lemma)) h short =
     (record { position = p; game = game; verdict = verdicts.Loss lemma; known = λ e. cc; text = h.0; proof = h.1; written = h.2 }, ended)
-proves_game nodes reach slots s p heard ended game (Ok (verdicts.Draw white black)) h short =
+proves_game version nodes reach slots s p heard ended game (Ok (verdicts.Draw white black)) h short =
     (record { position = p; game = game; verdict = verdicts.Draw white black; known = λ e. cc; text = h.0; proof = h.1; written = h.2 }, ended)
-proves_game nodes reach slots s p heard ended game (Ok verdicts.Unknown) h short =
+proves_game version nodes reach slots s p heard ended game (Ok verdicts.Unknown) h short =
     (record { position = p; game = game; short = short refl; text = h.0; proof = h.1; written = h.2 }, ended)
-proves_game nodes reach slots s p heard ended game (Err failed) h short = (record { position = p; game = game; text = h.0; stands = h.1; written = h.2 }, ended)
+proves_game version nodes reach slots s p heard ended game (Err failed) h short = (record { position = p; game = game; text = h.0; stands = h.1; written = h.2 }, ended)
 
-pub prove_completes : (nodes reach : ℕ) (slots : Option ℕ) (s : Streams) (end : Proved) → Proves nodes reach slots s end
+pub prove_completes : (version : Version) (nodes reach : ℕ) (slots : Option ℕ) (s : Streams) (end : Proved) → Proves version nodes reach slots s end
     → (end ≡ Input stops.Read → ⊥) → (end ≡ Write → ⊥) → ProveCompletes nodes reach s.input (proved_status end)
-prove_completes nodes reach slots s Value o unread unwritten = of_each s.input _ (λ bytes p game cheap. inl refl)
-prove_completes nodes reach slots s Unknown o unread unwritten =
+prove_completes version nodes reach slots s Value o unread unwritten = of_each s.input _ (λ bytes p game cheap. inl refl)
+prove_completes version nodes reach slots s Unknown o unread unwritten =
     let left = o.holds.0 in
     IfSome_more s.input (λ bytes. game_at bytes ≡ Ok left.position) _
     (Consumes-whole s.input s.left o.taken (λ bytes. game_at bytes ≡ Ok left.position) o.gave o.holds.1 left.game)
     (λ bytes at p game cheap. absurd (let same : left.position ≡ p = same_position bytes left.position p at game in
     omega (arith, left.short, cheap, ap (cost (solved_within reach)) same)))
-prove_completes nodes reach slots s (Input (stops.NoGame fault)) o unread unwritten =
+prove_completes version nodes reach slots s (Input (stops.NoGame fault)) o unread unwritten =
     IfSome_more s.input (λ bytes. game_at bytes ≡ Err fault) _ o.holds.1
     (λ bytes at p game cheap. absurd (let never : Ok p ≡ Err fault = sym game ∙ at in cc))
-prove_completes nodes reach slots s (Input stops.Read) o unread unwritten = absurd (unread refl)
-prove_completes nodes reach slots s Write o unread unwritten = absurd (unwritten refl)
-prove_completes nodes reach slots s Memory o unread unwritten = of_each s.input _ (λ bytes p game cheap. inr refl)
+prove_completes version nodes reach slots s (Input stops.Read) o unread unwritten = absurd (unread refl)
+prove_completes version nodes reach slots s Write o unread unwritten = absurd (unwritten refl)
+prove_completes version nodes reach slots s Memory o unread unwritten = of_each s.input _ (λ bytes p game cheap. inr refl)
 
 -- however it ends, what the sink held stands there still
-pub prove_held : (nodes reach : ℕ) (slots : Option ℕ) (s : Streams) (end : Proved) → Proves nodes reach slots s end → StillHolds s.old s.new
-prove_held nodes reach slots s Value o = appended_still s.old s.new _ o.holds.0.written
-prove_held nodes reach slots s Unknown o = appended_still s.old s.new _ o.holds.0.written
-prove_held nodes reach slots s Write o = cut_still s.old s.new _ o.holds.0.written
-prove_held nodes reach slots s (Input (stops.NoGame fault)) o = kept_still s.old s.new o.holds.2
-prove_held nodes reach slots s (Input stops.Read) o = kept_still s.old s.new o.holds
-prove_held nodes reach slots s Memory o = kept_still s.old s.new o.holds.2
+pub prove_held : (version : Version) (nodes reach : ℕ) (slots : Option ℕ) (s : Streams) (end : Proved) → Proves version nodes reach slots s end → StillHolds s.old s.new
+prove_held version nodes reach slots s Value o = appended_still s.old s.new _ o.holds.0.written
+prove_held version nodes reach slots s Unknown o = appended_still s.old s.new _ o.holds.0.written
+prove_held version nodes reach slots s Write o = cut_still s.old s.new _ o.holds.0.written
+prove_held version nodes reach slots s (Input (stops.NoGame fault)) o = kept_still s.old s.new o.holds.2
+prove_held version nodes reach slots s (Input stops.Read) o = kept_still s.old s.new o.holds
+prove_held version nodes reach slots s Memory o = kept_still s.old s.new o.holds.2

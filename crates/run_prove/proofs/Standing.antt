@@ -15,7 +15,7 @@ use Rattle.proof_text.proofs.Written.{both_written, lemmas_stand, head_stands, p
 use Rattle.proof_text.specs.declared.Verdict.{Verdict}
 use Rattle.proof_text.specs.declared.Verdict.TheVariants.{Win, Loss, Draw, Unknown}
 use Rattle.deep_search.specs.Planned.{solved_within}
-use Rattle.proof_text.specs.declared.Version.TheVariants.{One}
+use Rattle.proof_text.specs.declared.Version.{Version}
 use Rattle.run_prove.specs.Proof.{IsProofOf, Writes}
 use Rattle.run_questions.specs.Questions.{HasBothRemarks, Asks}
 use Rattle.run_questions.proofs.Asking.{asked_truth, in_turn}
@@ -50,11 +50,11 @@ stands_all b old mid held new head remark white also black last first both rest 
         append_assoc remark (white ++ (also ++ black)) last
         ∙ ap (λ text. remark ++ text) (append_assoc white (also ++ black) last ∙ ap (λ text. white ++ text) (append_assoc also black last))
 
-module _ (nodes reach : ℕ) (slots : Option ℕ) (bytes : List ℕ) (p : Position) (game : IsGameText bytes p) (small : nodes ≤ greatest_number) where
+module _ (version : Version) (nodes reach : ℕ) (slots : Option ℕ) (bytes : List ℕ) (p : Position) (game : IsGameText bytes p) (small : nodes ≤ greatest_number) where
   abbrev the_head : List ℕ
-  the_head = head_of One game.board game.columns
+  the_head = head_of version game.board game.columns
 
-  module _ (mid held : Option (List ℕ)) (r : Result Verdict SearchStop) (asks : Asks p nodes reach slots mid held r) where
+  module _ (mid held : Option (List ℕ)) (r : Result Verdict SearchStop) (asks : Asks version p nodes reach slots mid held r) where
     -- both questions' remarks and lemmas
     abbrev middle : List ℕ
     middle = remark_line asks.white_remark ++ (lines_of asks.white ++ (remark_line asks.black_remark ++ lines_of asks.black))
@@ -65,16 +65,16 @@ module _ (nodes reach : ℕ) (slots : Option ℕ) (bytes : List ℕ) (p : Positi
       proof_text = the_head ++ (remark_line asks.white_remark
           ++ (lines_of asks.white ++ (remark_line asks.black_remark ++ (lines_of asks.black ++ verdict_line v))))
 
-      abbrev is_proof : IsProof One p the_head proof_text v
+      abbrev is_proof : IsProof version p the_head proof_text v
       is_proof = record {
         after = asks.after;
-        written = both_written One p the_head proof_text asks.white_remark asks.white asks.mid asks.black_remark asks.black asks.after (verdict_line v)
+        written = both_written version p the_head proof_text asks.white_remark asks.white asks.mid asks.black_remark asks.black asks.after (verdict_line v)
             asks.white_right asks.black_right asks.white_sided asks.black_sided
             (in_turn slots reach p asks.mid asks.black_remark asks.black asks.black_remarked) asks.white_line asks.black_line refl;
         verdict = right;
       }
 
-      pub proof_of : HasBothRemarks slots nodes reach p asks.mid asks.black_remark v → IsProofOf nodes reach slots bytes p proof_text v
+      pub proof_of : HasBothRemarks slots nodes reach p asks.mid asks.black_remark v → IsProofOf version nodes reach slots bytes p proof_text v
       proof_of both = record {
         game = game;
         proof = is_proof;
@@ -82,17 +82,17 @@ module _ (nodes reach : ℕ) (slots : Option ℕ) (bytes : List ℕ) (p : Positi
         both_remarked = both;
         planned = (asks.white_planned, asks.black_planned);
         few = asks.few;
-        accepted = proof_accepted One game.board game.columns p proof_text v is_proof game.has_board game.has_moves
+        accepted = proof_accepted version game.board game.columns p proof_text v is_proof game.has_board game.has_moves
             (let few : length asks.after ≤ nodes = asks.few in omega arith);
-        says = asked_truth p nodes reach slots mid held r asks v right;
+        says = asked_truth version p nodes reach slots mid held r asks v right;
       }
 
       pub writes_verdict : (old new : Option (List ℕ)) (result : Result Verdict Failed) → HasBothRemarks slots nodes reach p asks.mid asks.black_remark v
           → (v ≡ Unknown → nodes < cost (solved_within reach) p) → Appends old mid the_head → Appends mid held middle
-          → IfOk result (λ told. told ≡ v) → AppendsPrefix (is_ok result) held new (verdict_line v) → Writes nodes reach slots bytes p old new result
+          → IfOk result (λ told. told ≡ v) → AppendsPrefix (is_ok result) held new (verdict_line v) → Writes version nodes reach slots bytes p old new result
       writes_verdict old new (Ok told) both short head lemmas same stands = (
         proof_text,
-        subst (IsProofOf nodes reach slots bytes p proof_text) (sym same) (proof_of both),
+        subst (IsProofOf version nodes reach slots bytes p proof_text) (sym same) (proof_of both),
         stands_all true old mid held new the_head (remark_line asks.white_remark) (lines_of asks.white) (remark_line asks.black_remark) (lines_of asks.black)
             (verdict_line v)
             head lemmas stands,
@@ -101,7 +101,7 @@ module _ (nodes reach : ℕ) (slots : Option ℕ) (bytes : List ℕ) (p : Positi
         proof_text,
         record {
           game = game;
-          stands = proof_stands One p the_head proof_text v is_proof;
+          stands = proof_stands version p the_head proof_text v is_proof;
           remarked = inr (asks.white_remarked, asks.black_remarked);
           planned = (asks.white_planned, asks.black_planned);
           few = asks.few;
@@ -113,12 +113,12 @@ module _ (nodes reach : ℕ) (slots : Option ℕ) (bytes : List ℕ) (p : Positi
       )
 
   -- the head was cut
-  pub writes_head : (old new : Option (List ℕ)) (failed : Failed) → AppendsPrefix false old new the_head → Writes nodes reach slots bytes p old new (Err failed)
+  pub writes_head : (old new : Option (List ℕ)) (failed : Failed) → AppendsPrefix false old new the_head → Writes version nodes reach slots bytes p old new (Err failed)
   writes_head old new failed stands = (
     the_head,
     record {
       game = game;
-      stands = head_stands One p the_head;
+      stands = head_stands version p the_head;
       remarked = inl refl;
       planned = (tt, tt);
       few = omega arith;
@@ -128,14 +128,14 @@ module _ (nodes reach : ℕ) (slots : Option ℕ) (bytes : List ℕ) (p : Positi
   )
 
   -- a remark or a lemma was cut
-  pub writes_lemmas : (old mid new : Option (List ℕ)) (failed : Failed) (asks : Asks p nodes reach slots mid new (Err WriteFault)) → Appends old mid the_head
-      → Writes nodes reach slots bytes p old new (Err failed)
+  pub writes_lemmas : (old mid new : Option (List ℕ)) (failed : Failed) (asks : Asks version p nodes reach slots mid new (Err WriteFault)) → Appends old mid the_head
+      → Writes version nodes reach slots bytes p old new (Err failed)
   writes_lemmas old mid new failed asks head =
       let text = the_head ++ middle mid new (Err WriteFault) asks in (
         text,
         record {
           game = game;
-          stands = lemmas_stand One p the_head text asks.white_remark asks.white asks.mid asks.black_remark asks.black asks.after asks.white_right
+          stands = lemmas_stand version p the_head text asks.white_remark asks.white asks.mid asks.black_remark asks.black asks.after asks.white_right
               asks.black_right
               asks.white_sided asks.black_sided
               (in_turn slots reach p asks.mid asks.black_remark asks.black asks.black_remarked) asks.white_line asks.black_line refl;

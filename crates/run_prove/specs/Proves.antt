@@ -8,6 +8,7 @@ use Rattle.game_rules.specs.Cost.{cost}
 use Rattle.game_rules.specs.Text.{game_at}
 use Rattle.proof_text.specs.declared.Verdict.{Verdict}
 use Rattle.proof_text.specs.declared.Verdict.TheVariants as verdicts
+use Rattle.proof_text.specs.declared.Version.{Version}
 use Rattle.position_table.specs.declared.table.TheConstants.{MOST_ROOM}
 use Rattle.deep_search.specs.Planned.{solved_within}
 use Rattle.io_ports.specs.declared.ports.Failed.{Failed}
@@ -50,52 +51,52 @@ proved_of (Err failed) = Write
 abbrev pub IsGame : List ℕ → Type 0
 IsGame bytes = (p : Position) × (game_at bytes ≡ Ok p)
 
--- The bytes are a game, and a proof of its position was written whose verdict is a win, a loss or a draw.
-pub record HasProved (nodes reach : ℕ) (slots : Option ℕ) (bytes : List ℕ) (old new : Option (List ℕ)) : Type 0 where
+-- The bytes are a game, and a proof of its position in this version was written whose verdict is a win, a loss or a draw.
+pub record HasProved (version : Version) (nodes reach : ℕ) (slots : Option ℕ) (bytes : List ℕ) (old new : Option (List ℕ)) : Type 0 where
   pub position : Position
   pub game : game_at bytes ≡ Ok position
   pub verdict : Verdict
   pub known : verdict ≢ verdicts.Unknown
   pub text : List ℕ
-  pub proof : IsProofOf nodes reach slots bytes position text verdict
+  pub proof : IsProofOf version nodes reach slots bytes position text verdict
   pub written : Appends old new text
 
 -- The same with the verdict unknown, which comes only where the number of nodes is below the position's cost.
-pub record LeavesUnknown (nodes reach : ℕ) (slots : Option ℕ) (bytes : List ℕ) (old new : Option (List ℕ)) : Type 0 where
+pub record LeavesUnknown (version : Version) (nodes reach : ℕ) (slots : Option ℕ) (bytes : List ℕ) (old new : Option (List ℕ)) : Type 0 where
   pub position : Position
   pub game : game_at bytes ≡ Ok position
   pub short : nodes < cost (solved_within reach) position
   pub text : List ℕ
-  pub proof : IsProofOf nodes reach slots bytes position text verdicts.Unknown
+  pub proof : IsProofOf version nodes reach slots bytes position text verdicts.Unknown
   pub written : Appends old new text
 
 -- The bytes are a game, and of a text that may stand while a proof is written a prefix was.
-pub record WasCut (nodes reach : ℕ) (slots : Option ℕ) (bytes : List ℕ) (old new : Option (List ℕ)) : Type 0 where
+pub record WasCut (version : Version) (nodes reach : ℕ) (slots : Option ℕ) (bytes : List ℕ) (old new : Option (List ℕ)) : Type 0 where
   pub position : Position
   pub game : game_at bytes ≡ Ok position
   pub text : List ℕ
-  pub stands : MayStandFor nodes reach slots bytes position text
+  pub stands : MayStandFor version nodes reach slots bytes position text
   pub written : AppendsPrefix false old new text
 
--- With so many nodes, this reach and a front of so many slots, if any, from the bytes that it took, by its end. A proof is of the
--- game that they are, and all of the input was read then, as it was where memory runs out; a fault is theirs, and that of all of
+-- In this version, with so many nodes, this reach and a front of so many slots, if any, from the bytes that it took, by its
+-- end. A proof is of the game that they are, and all of the input was read then, as it was where memory runs out; a fault is theirs, and that of all of
 -- the input, where the source tells it.
-abbrev pub ProvesFrom : (nodes reach : ℕ) (slots : Option ℕ) → List ℕ → Streams → Proved → Type 0
-ProvesFrom nodes reach slots taken s Value = HasProved nodes reach slots taken s.old s.new × IsAtEnd s.left
-ProvesFrom nodes reach slots taken s Unknown = LeavesUnknown nodes reach slots taken s.old s.new × IsAtEnd s.left
-ProvesFrom nodes reach slots taken s Write = WasCut nodes reach slots taken s.old s.new × IsAtEnd s.left
-ProvesFrom nodes reach slots taken s (Input (stops.NoGame fault)) =
+abbrev pub ProvesFrom : Version → (nodes reach : ℕ) (slots : Option ℕ) → List ℕ → Streams → Proved → Type 0
+ProvesFrom version nodes reach slots taken s Value = HasProved version nodes reach slots taken s.old s.new × IsAtEnd s.left
+ProvesFrom version nodes reach slots taken s Unknown = LeavesUnknown version nodes reach slots taken s.old s.new × IsAtEnd s.left
+ProvesFrom version nodes reach slots taken s Write = WasCut version nodes reach slots taken s.old s.new × IsAtEnd s.left
+ProvesFrom version nodes reach slots taken s (Input (stops.NoGame fault)) =
     (game_at taken ≡ Err fault) × IfSome s.input (λ bytes. game_at bytes ≡ Err fault) × Keeps s.old s.new
-ProvesFrom nodes reach slots taken s (Input stops.Read) = Keeps s.old s.new
-ProvesFrom nodes reach slots taken s Memory = IsGame taken × IsAtEnd s.left × Keeps s.old s.new
+ProvesFrom version nodes reach slots taken s (Input stops.Read) = Keeps s.old s.new
+ProvesFrom version nodes reach slots taken s Memory = IsGame taken × IsAtEnd s.left × Keeps s.old s.new
 
--- `prove` with these numbers
-abbrev pub Proves : (nodes reach : ℕ) (slots : Option ℕ) → Streams → Proved → Type 0
-Proves nodes reach slots s end = Took s most_input (λ taken. ProvesFrom nodes reach slots taken s end)
+-- `prove` with this version and these numbers
+abbrev pub Proves : Version → (nodes reach : ℕ) (slots : Option ℕ) → Streams → Proved → Type 0
+Proves version nodes reach slots s end = Took s most_input (λ taken. ProvesFrom version nodes reach slots taken s end)
 
 -- the same, as a caller of `run` sees it
-abbrev pub ProveRuns : (nodes reach : ℕ) (slots : Option ℕ) → Streams → (status : ℕ) → (text : List ℕ) → Type 0
-ProveRuns nodes reach slots s status text = EndsBy proved_status proved_text (Proves nodes reach slots s) status text
+abbrev pub ProveRuns : Version → (nodes reach : ℕ) (slots : Option ℕ) → Streams → (status : ℕ) → (text : List ℕ) → Type 0
+ProveRuns version nodes reach slots s status text = EndsBy proved_status proved_text (Proves version nodes reach slots s) status text
 
 -- how it ends on a game whose cost is within the budget, where no stream failed: with its value, unless memory runs out
 abbrev pub ProveCompletes : (nodes reach : ℕ) → Option (List ℕ) → (status : ℕ) → Type 0

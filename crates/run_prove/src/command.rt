@@ -15,7 +15,7 @@ ghost use Rattle.run_prove.specs.declared.proved.Proved.TheVariants as ends;
 use crate::proved::Proved;
 use crate::writing::write_proof;
 use board_bits::Game;
-use cert_format::Verdict;
+use cert_format::{Verdict, Version};
 use io_ports::{Failed, Sink, Source};
 use position_table::Table;
 use rule_chooser::Chooser;
@@ -24,20 +24,22 @@ use run_questions::front_for;
 use std::alloc::Global;
 
 /// Reads a game and writes a proof of its position's value, from a search that may enter `nodes` positions, with plans from
-/// the first `reach` sets of zones. Where a number of slots is given, a front with so many grows before each question.
+/// the first `reach` sets of zones. Where a number of slots is given, a front with so many grows before each question. The proof
+/// is of this version: in the second, mirror images of positions that were found are not searched again.
 pub fn prove<S: Source, O: Sink>(
     alloc: Global,
     nodes: u32,
     reach: u32,
     slots: Option<u32>,
     table: u32,
+    version: Version,
     source: &mut S,
     out: &mut O,
 ) -> Proved
     requires nodes { nodes ≤ greatest_number }
     requires slots { IfSome slots AreSlots }
     requires room { IsRoom table }
-    ensures outcome { Proves nodes reach slots
+    ensures outcome { Proves version nodes reach slots
         (record { input = S.left source.old; left = S.left source.new; last_read = S.last_read source.new; old = O.written out.old; new = O.written out.new }) result }
     ensures held { StillHolds (O.written out.old) (O.written out.new) }
     ensures read_fault { result ≡ ends.Input stops.Read → Rose (S.faults source.old) (S.faults source.new) }
@@ -45,7 +47,7 @@ pub fn prove<S: Source, O: Sink>(
     ensures complete { (Rose (S.faults source.old) (S.faults source.new) → ⊥) → (Rose (O.faults out.old) (O.faults out.new) → ⊥)
         → ProveCompletes nodes reach (S.left source.old) (proved_status result) }
 {
-    prove_input(alloc, nodes, reach, slots, table, source, out)
+    prove_input(alloc, nodes, reach, slots, table, version, source, out)
 }
 
 /// The same, without what a run owes where no stream failed.
@@ -55,19 +57,20 @@ fn prove_input<S: Source, O: Sink>(
     reach: u32,
     slots: Option<u32>,
     table: u32,
+    version: Version,
     source: &mut S,
     out: &mut O,
 ) -> Proved
     requires nodes { nodes ≤ greatest_number }
     requires slots { IfSome slots AreSlots }
     requires room { IsRoom table }
-    ensures outcome { Proves nodes reach slots
+    ensures outcome { Proves version nodes reach slots
         (record { input = S.left source.old; left = S.left source.new; last_read = S.last_read source.new; old = O.written out.old; new = O.written out.new }) result }
     ensures read_fault { result ≡ ends.Input stops.Read → Rose (S.faults source.old) (S.faults source.new) }
     ensures write_fault { result ≡ ends.Write → Rose (O.faults out.old) (O.faults out.new) }
 {
     match read_game_input(source) {
-        Ok(game) => prove_game(alloc, &game, nodes, reach, slots, table, out),
+        Ok(game) => prove_game(alloc, &game, nodes, reach, slots, table, version, out),
         Err(stop) => Proved::Input(stop),
     }
 }
@@ -80,12 +83,13 @@ fn prove_game<O: Sink>(
     reach: u32,
     slots: Option<u32>,
     table: u32,
+    version: Version,
     out: &mut O,
 ) -> Proved
     requires nodes { nodes ≤ greatest_number }
     requires slots { IfSome slots AreSlots }
     requires room { IsRoom table }
-    ensures proves { (text : List ℕ) (input left : Option (List ℕ)) (last_read : ℕ) → IsTextOf text game.now → IsAtEnd left → ProvesFrom nodes reach slots text
+    ensures proves { (text : List ℕ) (input left : Option (List ℕ)) (last_read : ℕ) → IsTextOf text game.now → IsAtEnd left → ProvesFrom version nodes reach slots text
         (record { input = input; left = left; last_read = last_read; old = O.written out.old; new = O.written out.new }) result }
     ensures no_input { (stop : InputStop) → result ≡ ends.Input stop → ⊥ }
     ensures write_fault { result ≡ ends.Write → Rose (O.faults out.old) (O.faults out.new) }
@@ -101,6 +105,7 @@ fn prove_game<O: Sink>(
         game,
         nodes,
         reach,
+        version,
         &mut table,
         &mut front,
         &mut chooser,

@@ -6,7 +6,6 @@ ghost use Rattle.game_rules.specs.Game.{board_played, IsTextOf};
 ghost use Rattle.game_rules.specs.declared.Side.TheVariants as sides;
 ghost use Rattle.proof_text.specs.Spelling.{greatest_number, verdict_line};
 ghost use Rattle.proof_text.specs.Texts.{head_of};
-ghost use Rattle.proof_text.specs.declared.Version.TheVariants as versions;
 ghost use Rattle.proof_text.specs.declared.Verdict.TheVariants as verdicts;
 ghost use Rattle.deep_search.specs.Planned.{solved_within};
 ghost use Rattle.run_questions.specs.SizedFronts.{slots_of, IsAfter};
@@ -21,12 +20,13 @@ use rule_chooser::Chooser;
 use run_questions::{SizedFront, ask};
 use text_words::{LineText, push_game, push_text};
 
-/// Writes a proof of the game's position, from a search that may enter `nodes` positions, with remarks of the front, where
-/// there is one. The verdict is `Unknown` only where that number is below the position's cost.
+/// Writes a proof of this version, of the game's position, from a search that may enter `nodes` positions, with remarks of the
+/// front, where there is one. The verdict is `Unknown` only where that number is below the position's cost.
 pub(crate) fn write_proof<O: Sink>(
     game: &Game,
     nodes: u32,
     reach: u32,
+    version: Version,
     table: &mut Table,
     front: &mut Option<SizedFront>,
     chooser: &mut Chooser,
@@ -35,12 +35,21 @@ pub(crate) fn write_proof<O: Sink>(
     requires nodes { nodes ≤ greatest_number }
     requires empty { table.old.entries ≡ [] }
     requires front { IsAfter game.now.position sides.White reach 0 front.old }
-    ensures written { (text : List ℕ) → IsTextOf text game.now → Writes nodes reach (slots_of front.old) text game.now.position (O.written out.old) (O.written out.new) result }
+    ensures written { (text : List ℕ) → IsTextOf text game.now → Writes version nodes reach (slots_of front.old) text game.now.position (O.written out.old) (O.written out.new) result }
     ensures unknown { result ≡ Ok verdicts.Unknown → nodes < cost (solved_within reach) game.now.position }
     ensures cause { HasCause (O.faults out.old) (O.faults out.new) result }
 {
-    put_all(out, head_of(game).as_slice())?;
-    match ask(game.position(), nodes, reach, table, front, chooser, out) {
+    put_all(out, head_of(version, game).as_slice())?;
+    match ask(
+        game.position(),
+        nodes,
+        reach,
+        version,
+        table,
+        front,
+        chooser,
+        out,
+    ) {
         Ok(verdict) => write_verdict(verdict, out),
         Err(SearchStop::Spent) => write_verdict(Verdict::Unknown, out),
         Err(SearchStop::WriteFault) => Err(Failed),
@@ -48,11 +57,11 @@ pub(crate) fn write_proof<O: Sink>(
 }
 
 /// The head of a proof: the line that names its format, and the two lines of the game.
-fn head_of(game: &Game) -> LineText
-    ensures { result.items ≡ head_of versions.One (board_played game.now) game.now.moves }
+fn head_of(version: Version, game: &Game) -> LineText
+    ensures { result.items ≡ head_of version (board_played game.now) game.now.moves }
 {
     let mut head = LineText::new();
-    push_text(&mut head, first_line(Version::One));
+    push_text(&mut head, first_line(version));
     head.push(b'\n');
     push_game(&mut head, game);
     head

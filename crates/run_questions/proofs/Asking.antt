@@ -24,7 +24,7 @@ use Rattle.proof_text.specs.declared.Verdict.{Verdict}
 use Rattle.proof_text.specs.declared.Claim.TheVariants.{WhiteFails}
 use Rattle.proof_text.specs.declared.Verdict.TheVariants.{Draw, Unknown}
 use Rattle.position_table.specs.Table.{Entries}
-use Rattle.proof_text.specs.declared.Version.TheVariants.{One}
+use Rattle.proof_text.specs.declared.Version.{Version}
 use Rattle.deep_search.specs.Planned.{solved_within}
 use Rattle.deep_search.specs.Search.{is_whole, uncounted, Moment, moment, AreBelow, limit_of, Solves}
 use Rattle.deep_search.specs.Tables.{FitsTable}
@@ -77,12 +77,12 @@ together b old held new remark lemmas also more first second =
 
 -- ---- one question
 
-module _ (root : Position) (question : Question) (reach : ℕ) (slots : Option ℕ) (known : List Shown) (most : ℕ) (before after : Entries)
-    (old mid new : Option (List ℕ)) (total : ℕ) where
+module _ (version : Version) (root : Position) (question : Question) (reach : ℕ) (slots : Option ℕ) (known : List Shown) (most : ℕ)
+    (before after : Entries) (old mid new : Option (List ℕ)) (total : ℕ) where
   -- its remark, and behind it what its search wrote
   pub asks_side : (result : Result Answer SearchStop) → LeavesRemark slots reach root (side_asked question) true old mid
-      → Solves root root question reach One known (moment before mid) (moment after new) total result → total + uncounted result ≤ most
-      → AsksSide root (side_asked question) reach slots known most (moment before old) (moment after new) total result
+      → Solves root root question reach version known (moment before mid) (moment after new) total result → total + uncounted result ≤ most
+      → AsksSide version root (side_asked question) reach slots known most (moment before old) (moment after new) total result
   asks_side result remarks solves few = record {
     remark = remarks.remark;
     lemmas = solves.wrote.more;
@@ -106,11 +106,11 @@ module _ (root : Position) (question : Question) (reach : ℕ) (slots : Option �
       at (Ok answer) counted = omega (arith, counted)
       at (Err stop) counted = tt
 
-module _ (root : Position) (side : Side) (reach : ℕ) (slots : Option ℕ) (known : List Shown) (most : ℕ) (before : Entries) (old new : Option (List ℕ))
-    (total : ℕ) where
+module _ (version : Version) (root : Position) (side : Side) (reach : ℕ) (slots : Option ℕ) (known : List Shown) (most : ℕ) (before : Entries)
+    (old new : Option (List ℕ)) (total : ℕ) where
   -- its remark was cut
   pub asks_cut : LeavesRemark slots reach root side false old new → FitsTable before known → length known ≤ most
-      → AsksSide root side reach slots known most (moment before old) (moment before new) total (Err WriteFault)
+      → AsksSide version root side reach slots known most (moment before old) (moment before new) total (Err WriteFault)
   asks_cut remarks fits few = record {
     remark = remarks.remark;
     lemmas = [];
@@ -152,76 +152,76 @@ in_turn slots reach root mid remark lemmas (inr none) some = absurd (some none.1
 
 -- ---- both questions
 
-module _ (root : Position) (nodes reach : ℕ) (slots : Option ℕ) (before after : Entries) (old new : Option (List ℕ)) (total most : ℕ) (within : most ≤ nodes)
-  where
-    -- the first question stopped
-    pub asks_none : (stop : SearchStop) → AsksSide root White reach slots [] most (moment before old) (moment after new) total (Err stop)
-        → (stop ≡ Spent → nodes < count (solved_within reach) White root)
-        → Asks root nodes reach slots old new (Err stop)
-    asks_none stop white short = record {
-      white_remark = white.remark;
-      white = white.lemmas;
-      mid = white.shown;
-      black_remark = None;
-      black = [];
-      after = white.shown;
-      text = stopped_text stop old new (remark_line white.remark ++ (lines_of white.lemmas ++ []))
-          (alone (is_whole (Err stop)) old new (remark_line white.remark) (lines_of white.lemmas) white.text);
-      white_remarked = white.remarked;
-      white_line = white.line;
-      black_remarked = inr (refl, refl);
-      black_line = tt;
-      both_remarked = unasked root nodes reach slots stop white.shown None white.below short;
-      white_right = white.right;
-      black_right = refl;
-      white_sided = white.sided;
-      black_sided = tt;
-      white_planned = white.planned;
-      black_planned = tt;
-      verdict = tt;
-      few = omega (arith, white.few, within);
-    }
+module _ (version : Version) (root : Position) (nodes reach : ℕ) (slots : Option ℕ) (before after : Entries) (old new : Option (List ℕ)) (total most : ℕ)
+    (within : most ≤ nodes) where
+  -- the first question stopped
+  pub asks_none : (stop : SearchStop) → AsksSide version root White reach slots [] most (moment before old) (moment after new) total (Err stop)
+      → (stop ≡ Spent → nodes < count (solved_within reach) White root)
+      → Asks version root nodes reach slots old new (Err stop)
+  asks_none stop white short = record {
+    white_remark = white.remark;
+    white = white.lemmas;
+    mid = white.shown;
+    black_remark = None;
+    black = [];
+    after = white.shown;
+    text = stopped_text stop old new (remark_line white.remark ++ (lines_of white.lemmas ++ []))
+        (alone (is_whole (Err stop)) old new (remark_line white.remark) (lines_of white.lemmas) white.text);
+    white_remarked = white.remarked;
+    white_line = white.line;
+    black_remarked = inr (refl, refl);
+    black_line = tt;
+    both_remarked = unasked root nodes reach slots stop white.shown None white.below short;
+    white_right = white.right;
+    black_right = refl;
+    white_sided = white.sided;
+    black_sided = tt;
+    white_planned = white.planned;
+    black_planned = tt;
+    verdict = tt;
+    few = omega (arith, white.few, within);
+  }
 
-    -- White wins
-    pub asks_white : (answer : Answer) (to_move : Side) (v : Verdict)
-        → AsksSide root White reach slots [] most (moment before old) (moment after new) total (Ok answer) → answer.yes ≡ true → to_move ≡ side_to_move root
-        → wins White root ≡ true → v ≡ won_by White to_move answer.lemma → Asks root nodes reach slots old new (Ok v)
-    asks_white answer to_move v white won turn wins_root told = record {
-      white_remark = white.remark;
-      white = white.lemmas;
-      mid = white.shown;
-      black_remark = None;
-      black = [];
-      after = white.shown;
-      text = alone true old new (remark_line white.remark) (lines_of white.lemmas) white.text;
-      white_remarked = white.remarked;
-      white_line = white.line;
-      black_remarked = inr (refl, refl);
-      black_line = tt;
-      both_remarked = λ _. unneeded root nodes reach slots white.shown None v wins_root;
-      white_right = white.right;
-      black_right = refl;
-      white_sided = white.sided;
-      black_sided = tt;
-      white_planned = white.planned;
-      black_planned = tt;
-      verdict = (
-        rw told (won_verdict root white.shown White to_move answer.lemma turn
-            (subst (λ b. Shows white.shown answer.lemma root (claim_for White b)) won white.named)),
-        (λ h. won_known White to_move answer.lemma (sym told ∙ h)),
-      );
-      few = omega (arith, white.few, within);
-    }
+  -- White wins
+  pub asks_white : (answer : Answer) (to_move : Side) (v : Verdict)
+      → AsksSide version root White reach slots [] most (moment before old) (moment after new) total (Ok answer) → answer.yes ≡ true → to_move ≡ side_to_move root
+      → wins White root ≡ true → v ≡ won_by White to_move answer.lemma → Asks version root nodes reach slots old new (Ok v)
+  asks_white answer to_move v white won turn wins_root told = record {
+    white_remark = white.remark;
+    white = white.lemmas;
+    mid = white.shown;
+    black_remark = None;
+    black = [];
+    after = white.shown;
+    text = alone true old new (remark_line white.remark) (lines_of white.lemmas) white.text;
+    white_remarked = white.remarked;
+    white_line = white.line;
+    black_remarked = inr (refl, refl);
+    black_line = tt;
+    both_remarked = λ _. unneeded root nodes reach slots white.shown None v wins_root;
+    white_right = white.right;
+    black_right = refl;
+    white_sided = white.sided;
+    black_sided = tt;
+    white_planned = white.planned;
+    black_planned = tt;
+    verdict = (
+      rw told (won_verdict root white.shown White to_move answer.lemma turn
+          (subst (λ b. Shows white.shown answer.lemma root (claim_for White b)) won white.named)),
+      (λ h. won_known White to_move answer.lemma (sym told ∙ h)),
+    );
+    few = omega (arith, white.few, within);
+  }
 
-module _ (root : Position) (nodes reach : ℕ) (slots : Option ℕ) (before mid after : Entries) (old held new : Option (List ℕ)) (total : ℕ) (first : Answer)
-    (begun : ℕ) (white : AsksSide root White reach slots [] begun (moment before old) (moment mid held) total (Ok first)) (none : first.yes ≡ false)
+module _ (version : Version) (root : Position) (nodes reach : ℕ) (slots : Option ℕ) (before mid after : Entries) (old held new : Option (List ℕ)) (total : ℕ) (first : Answer)
+    (begun : ℕ) (white : AsksSide version root White reach slots [] begun (moment before old) (moment mid held) total (Ok first)) (none : first.yes ≡ false)
     (most counted : ℕ) (within : most ≤ nodes) where
   white_fails : Shows white.shown first.lemma root (claim_for White false)
   white_fails = subst (λ b. Shows white.shown first.lemma root (claim_for White b)) none white.named
 
   -- the second question stopped
-  pub asks_one : (stop : SearchStop) → AsksSide root Black reach slots white.shown most (moment mid held) (moment after new) counted (Err stop)
-      → Asks root nodes reach slots old new (Err stop)
+  pub asks_one : (stop : SearchStop) → AsksSide version root Black reach slots white.shown most (moment mid held) (moment after new) counted (Err stop)
+      → Asks version root nodes reach slots old new (Err stop)
   asks_one stop black = record {
     white_remark = white.remark;
     white = white.lemmas;
@@ -247,9 +247,9 @@ module _ (root : Position) (nodes reach : ℕ) (slots : Option ℕ) (before mid 
     few = omega (arith, black.few, within);
   }
 
-  module _ (second : Answer) (black : AsksSide root Black reach slots white.shown most (moment mid held) (moment after new) counted (Ok second)) where
+  module _ (second : Answer) (black : AsksSide version root Black reach slots white.shown most (moment mid held) (moment after new) counted (Ok second)) where
     -- a verdict behind the lemmas of both questions
-    both_asked : (v : Verdict) → IsVerdict root (white.shown ++ black.shown) v × (v ≢ Unknown) → Asks root nodes reach slots old new (Ok v)
+    both_asked : (v : Verdict) → IsVerdict root (white.shown ++ black.shown) v × (v ≢ Unknown) → Asks version root nodes reach slots old new (Ok v)
     both_asked v verdict = record {
       white_remark = white.remark;
       white = white.lemmas;
@@ -276,7 +276,7 @@ module _ (root : Position) (nodes reach : ℕ) (slots : Option ℕ) (before mid 
 
     -- Black wins
     pub asks_black : (to_move : Side) (v : Verdict) → second.yes ≡ true → to_move ≡ side_to_move root → v ≡ won_by Black to_move second.lemma
-        → Asks root nodes reach slots old new (Ok v)
+        → Asks version root nodes reach slots old new (Ok v)
     asks_black to_move v won turn told = both_asked v (
       rw told (won_verdict root (white.shown ++ black.shown) Black to_move second.lemma turn
           (subst (λ b. Shows (white.shown ++ black.shown) second.lemma root (claim_for Black b)) won black.named)),
@@ -284,7 +284,7 @@ module _ (root : Position) (nodes reach : ℕ) (slots : Option ℕ) (before mid 
     )
 
     -- neither wins
-    pub asks_draw : second.yes ≡ false → Asks root nodes reach slots old new (Ok (Draw first.lemma second.lemma))
+    pub asks_draw : second.yes ≡ false → Asks version root nodes reach slots old new (Ok (Draw first.lemma second.lemma))
     asks_draw never =
         both_asked (Draw first.lemma second.lemma) (
           (
@@ -295,10 +295,10 @@ module _ (root : Position) (nodes reach : ℕ) (slots : Option ℕ) (before mid 
         )
 
 -- a verdict that the lemmas of both questions show is true
-pub asked_truth : (root : Position) (nodes reach : ℕ) (slots : Option ℕ) (old new : Option (List ℕ)) (r : Result Verdict SearchStop)
-    (asks : Asks root nodes reach slots old new r) (v : Verdict)
+pub asked_truth : (version : Version) (root : Position) (nodes reach : ℕ) (slots : Option ℕ) (old new : Option (List ℕ)) (r : Result Verdict SearchStop)
+    (asks : Asks version root nodes reach slots old new r) (v : Verdict)
     → IsVerdict root asks.after v → IsTrueVerdict root v
-asked_truth root nodes reach slots old new r asks v right =
+asked_truth version root nodes reach slots old new r asks v right =
     true_verdict root asks.after v
     (true_lemmas root [] (asks.white ++ asks.black) asks.after
     (AreRight_append root [] asks.mid asks.after asks.white asks.black asks.white_right asks.black_right) AreTrue_none) right
@@ -309,30 +309,30 @@ same_stop r stop other h k = cc
 -- ---- where the questions are put
 
 -- White's question begins with nothing known, over a table without entries
-pub asked_first : (p : Position) (reach : ℕ) (slots : Option ℕ) (count nodes total : ℕ) (table : Entries) (bytes : Option (List ℕ)) (new : Moment)
+pub asked_first : (version : Version) (p : Position) (reach : ℕ) (slots : Option ℕ) (count nodes total : ℕ) (table : Entries) (bytes : Option (List ℕ)) (new : Moment)
     (asked read : Result Answer SearchStop) → count ≡ 0 → table.entries ≡ [] → asked ≡ read
     → ((known : List Shown) → length known ≡ count → FitsTable table known
-    → AsksSide p White reach slots known (count + nodes) (moment table bytes) new total asked)
-    → AsksSide p White reach slots [] (count + nodes) (moment table bytes) new total read
-asked_first p reach slots count nodes total table bytes new asked read none empty same asks =
-    subst (AsksSide p White reach slots [] (count + nodes) (moment table bytes) new total) same (asks [] (sym none) (fits_if_empty table [] empty))
+    → AsksSide version p White reach slots known (count + nodes) (moment table bytes) new total asked)
+    → AsksSide version p White reach slots [] (count + nodes) (moment table bytes) new total read
+asked_first version p reach slots count nodes total table bytes new asked read none empty same asks =
+    subst (AsksSide version p White reach slots [] (count + nodes) (moment table bytes) new total) same (asks [] (sym none) (fits_if_empty table [] empty))
 
 -- what was asked of a position was asked of the same one, with the same result
-pub asked_of : (p q : Position) (nodes reach : ℕ) (slots : Option ℕ) (old new : Option (List ℕ)) (asked read : Result Verdict SearchStop) → p ≡ q → asked ≡ read
-    → Asks p nodes reach slots old new asked → Asks q nodes reach slots old new read
-asked_of p q nodes reach slots old new asked read here same asks = rw (sym here, sym same) asks
+pub asked_of : (version : Version) (p q : Position) (nodes reach : ℕ) (slots : Option ℕ) (old new : Option (List ℕ)) (asked read : Result Verdict SearchStop) → p ≡ q → asked ≡ read
+    → Asks version p nodes reach slots old new asked → Asks version q nodes reach slots old new read
+asked_of version p q nodes reach slots old new asked read here same asks = rw (sym here, sym same) asks
 
 -- ---- the value alone
 
 -- what both questions answer is true of their position, and nothing is known of it only where the budget was spent
-pub told_true : (p : Position) (nodes reach : ℕ) (old new : Option (List ℕ)) (asked : Result Verdict SearchStop) → Asks p nodes reach None old new asked
+pub told_true : (version : Version) (p : Position) (nodes reach : ℕ) (old new : Option (List ℕ)) (asked : Result Verdict SearchStop) → Asks version p nodes reach None old new asked
     → IsTrueVerdict p (result_unwrap_or asked Unknown)
-told_true p nodes reach old new (Ok v) asks = asked_truth p nodes reach None old new (Ok v) asks v asks.verdict.0
-told_true p nodes reach old new (Err stop) asks = tt
+told_true version p nodes reach old new (Ok v) asks = asked_truth version p nodes reach None old new (Ok v) asks v asks.verdict.0
+told_true version p nodes reach old new (Err stop) asks = tt
 
-pub told_unknown : (p : Position) (nodes reach : ℕ) (old new : Option (List ℕ)) (asked : Result Verdict SearchStop) → Asks p nodes reach None old new asked
+pub told_unknown : (version : Version) (p : Position) (nodes reach : ℕ) (old new : Option (List ℕ)) (asked : Result Verdict SearchStop) → Asks version p nodes reach None old new asked
     → (asked ≡ Err Spent → nodes < cost (solved_within reach) p) → (asked ≡ Err WriteFault → ⊥)
     → result_unwrap_or asked Unknown ≡ Unknown → nodes < cost (solved_within reach) p
-told_unknown p nodes reach old new (Ok v) asks short never unknown = absurd (asks.verdict.1 unknown)
-told_unknown p nodes reach old new (Err Spent) asks short never unknown = short refl
-told_unknown p nodes reach old new (Err WriteFault) asks short never unknown = absurd (never refl)
+told_unknown version p nodes reach old new (Ok v) asks short never unknown = absurd (asks.verdict.1 unknown)
+told_unknown version p nodes reach old new (Err Spent) asks short never unknown = short refl
+told_unknown version p nodes reach old new (Err WriteFault) asks short never unknown = absurd (never refl)

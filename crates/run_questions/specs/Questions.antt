@@ -11,7 +11,7 @@ use Rattle.proof_text.specs.Right.{Shown, Shows, AreRight, IsVerdict}
 use Rattle.proof_text.specs.Spelling.{lines_of}
 use Rattle.proof_text.specs.Written.{AreSided, IsRemarkLine, remark_line}
 use Rattle.proof_text.specs.declared.Claim.TheVariants.{WhiteFails}
-use Rattle.proof_text.specs.declared.Version.TheVariants.{One}
+use Rattle.proof_text.specs.declared.Version.{Version}
 use Rattle.proof_text.specs.declared.Verdict.{Verdict}
 use Rattle.proof_text.specs.declared.Verdict.TheVariants.{Win, Loss, Unknown}
 use Rattle.deep_search.specs.Planned.{solved_within, ArePlanned}
@@ -28,7 +28,7 @@ use Rattle.run_questions.specs.Remarks.{IsFrontRemark}
 -- chosen within the reach where one is. The entries of the table name lemmas among them and those that are known, which
 -- are at most so many. The answer names one that shows at the root whether the side wins; where the question is spent, no
 -- lemma of it stands at the root.
-pub record AsksSide (root : Position) (side : Side) (reach : ℕ) (slots : Option ℕ) (known : List Shown) (most : ℕ) (old new : Moment) (total : ℕ) (result : Result Answer SearchStop) : Type 0 where
+pub record AsksSide (version : Version) (root : Position) (side : Side) (reach : ℕ) (slots : Option ℕ) (known : List Shown) (most : ℕ) (old new : Moment) (total : ℕ) (result : Result Answer SearchStop) : Type 0 where
   pub remark : Option (List ℕ)
   pub lemmas : List Lemma
   pub shown : List Shown
@@ -36,7 +36,7 @@ pub record AsksSide (root : Position) (side : Side) (reach : ℕ) (slots : Optio
   pub line : IsRemarkLine remark
   pub text : AppendsPrefix (is_whole result) old.bytes new.bytes (remark_line remark ++ lines_of lemmas)
   pub right : AreRight root known lemmas (known ++ shown)
-  pub sided : AreSided One side lemmas
+  pub sided : AreSided version side lemmas
   pub planned : ArePlanned reach root lemmas
   pub few : length (known ++ shown) ≤ most
   pub counted : IfOk result (λ answer. length (known ++ shown) ≡ total)
@@ -45,12 +45,12 @@ pub record AsksSide (root : Position) (side : Side) (reach : ℕ) (slots : Optio
   pub named : IfOk result (λ answer. Shows (known ++ shown) answer.lemma root (claim_for side answer.yes))
 
 -- White's question was asked, and this lemma shows that White doesn't win.
-pub record AnswersNo (root : Position) (reach : ℕ) (slots : Option ℕ) (lemma : ℕ) (old new : Moment) (total : ℕ) : Type 0 where
+pub record AnswersNo (version : Version) (root : Position) (reach : ℕ) (slots : Option ℕ) (lemma : ℕ) (old new : Moment) (total : ℕ) : Type 0 where
   pub most : ℕ
   pub answer : Answer
   pub is_lemma : answer.lemma ≡ lemma
   pub is_no : answer.yes ≡ false
-  pub asked : AsksSide root White reach slots [] most old new total (Ok answer)
+  pub asked : AsksSide version root White reach slots [] most old new total (Ok answer)
 
 -- ---- both
 
@@ -84,7 +84,7 @@ verdict_told (Err stop) = Unknown
 
 -- What both questions wrote behind the head of a proof: for each its remark and right lemmas, White's first, each on the
 -- plan that is chosen within the reach where one is; and the verdict that they show.
-pub record Asks (root : Position) (nodes reach : ℕ) (slots : Option ℕ) (old new : Option (List ℕ)) (result : Result Verdict SearchStop) : Type 0 where
+pub record Asks (version : Version) (root : Position) (nodes reach : ℕ) (slots : Option ℕ) (old new : Option (List ℕ)) (result : Result Verdict SearchStop) : Type 0 where
   pub white_remark : Option (List ℕ)
   pub white : List Lemma
   pub mid : List Shown
@@ -99,8 +99,8 @@ pub record Asks (root : Position) (nodes reach : ℕ) (slots : Option ℕ) (old 
   pub both_remarked : is_whole_verdict result ≡ true → HasBothRemarks slots nodes reach root mid black_remark (verdict_told result)
   pub white_right : AreRight root [] white mid
   pub black_right : AreRight root mid black after
-  pub white_sided : AreSided One White white
-  pub black_sided : AreSided One Black black
+  pub white_sided : AreSided version White white
+  pub black_sided : AreSided version Black black
   pub white_planned : ArePlanned reach root white
   pub black_planned : ArePlanned reach root black
   pub verdict : IfOk result (λ v. IsVerdict root after v × (v ≢ Unknown))

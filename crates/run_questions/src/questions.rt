@@ -9,7 +9,7 @@ ghost use Rattle.game_rules.specs.declared.Side.TheVariants as sides;
 ghost use Rattle.proof_text.specs.Right.{Shown};
 ghost use Rattle.proof_text.specs.Spelling.{greatest_number};
 ghost use Rattle.deep_search.specs.Planned.{solved_within};
-ghost use Rattle.deep_search.specs.Search.{Moment, moment};
+ghost use Rattle.deep_search.specs.Search.{Moment, moment, version_for};
 ghost use Rattle.deep_search.specs.Tables.{IsTrueTable, FitsTable};
 ghost use Rattle.deep_search.specs.declared.solving.SearchStop.TheVariants as stops;
 ghost use Rattle.run_questions.specs.Questions.{AsksSide, AnswersNo, Asks, won_by};
@@ -17,7 +17,7 @@ ghost use Rattle.run_questions.specs.SizedFronts.{slots_of, IsAfter, IsAfterSome
 
 use crate::fronts::{SizedFront, turn_to_black, write_remark};
 use board_bits::{Position, Question, Side};
-use cert_format::{LemmaOut, Verdict};
+use cert_format::{LemmaOut, Verdict, Version};
 use deep_search::{Answer, SearchStop, search};
 use io_ports::Sink;
 use position_table::Table;
@@ -25,12 +25,14 @@ use rule_chooser::Chooser;
 
 /// Asks whether White wins and, where it doesn't, whether Black does, within one budget of `nodes` positions and with plans
 /// from the first `reach` sets of zones, for which the chooser is lent. What is found is kept in the table, which has no entry
-/// yet, and isn't searched again while it is there. A front, where there is one, is that of White's question and grows before
-/// each. `Spent` comes only where the budget is below the position's cost.
+/// yet, and isn't searched again while it is there; where the lemmas are for a proof of the second version, nor are mirror
+/// images. A front, where there is one, is that of White's question and grows before each. `Spent` comes only where the budget
+/// is below the position's cost.
 pub fn ask<O: Sink>(
     position: &Position,
     nodes: u32,
     reach: u32,
+    version: Version,
     table: &mut Table,
     front: &mut Option<SizedFront>,
     chooser: &mut Chooser,
@@ -39,7 +41,7 @@ pub fn ask<O: Sink>(
     requires nodes { nodes ≤ greatest_number }
     requires empty { table.old.entries ≡ [] }
     requires front { IsAfter position.now sides.White reach 0 front.old }
-    ensures asked { Asks position.now nodes reach (slots_of front.old) (O.written out.old) (O.written out.new) result }
+    ensures asked { Asks version position.now nodes reach (slots_of front.old) (O.written out.old) (O.written out.new) result }
     ensures spent { result ≡ Err stops.Spent → nodes < cost (solved_within reach) position.now }
     ensures later { O.faults out.old ≤ O.faults out.new }
     ensures fault { result ≡ Err stops.WriteFault → Rose (O.faults out.old) (O.faults out.new) }
@@ -50,6 +52,7 @@ pub fn ask<O: Sink>(
         position,
         Question::WhiteWins,
         reach,
+        version,
         &mut budget,
         table,
         front,
@@ -65,6 +68,7 @@ pub fn ask<O: Sink>(
         position,
         white.lemma,
         reach,
+        version,
         &mut budget,
         table,
         front,
@@ -79,6 +83,7 @@ fn ask_black<O: Sink>(
     position: &Position,
     white: u32,
     reach: u32,
+    version: Version,
     budget: &mut u32,
     table: &mut Table,
     front: &mut Option<SizedFront>,
@@ -90,8 +95,8 @@ fn ask_black<O: Sink>(
     requires entries { IsTrueTable table.old lemmas.old }
     requires front { IsAfter position.now sides.Black reach 0 front.old }
     ensures asked { (nodes : ℕ) (before : Moment) → lemmas.old + budget.old ≤ nodes
-        → AnswersNo position.now reach (slots_of front.old) white before (moment table.old (O.written out.old)) lemmas.old
-        → Asks position.now nodes reach (slots_of front.old) before.bytes (O.written out.new) result }
+        → AnswersNo version position.now reach (slots_of front.old) white before (moment table.old (O.written out.old)) lemmas.old
+        → Asks version position.now nodes reach (slots_of front.old) before.bytes (O.written out.new) result }
     ensures spent { result ≡ Err stops.Spent → budget.old < count (solved_within reach) sides.Black position.now }
     ensures later { O.faults out.old ≤ O.faults out.new }
     ensures fault { result ≡ Err stops.WriteFault → Rose (O.faults out.old) (O.faults out.new) }
@@ -100,6 +105,7 @@ fn ask_black<O: Sink>(
         position,
         Question::BlackWins,
         reach,
+        version,
         budget,
         table,
         front,
@@ -119,6 +125,7 @@ fn ask_side<O: Sink>(
     position: &Position,
     question: Question,
     reach: u32,
+    version: Version,
     budget: &mut u32,
     table: &mut Table,
     front: &mut Option<SizedFront>,
@@ -139,15 +146,33 @@ fn ask_side<O: Sink>(
     ensures later { O.faults out.old ≤ O.faults out.new }
     ensures fault { result ≡ Err stops.WriteFault → Rose (O.faults out.old) (O.faults out.new) }
     ensures asked { (known : List Shown) → length known ≡ lemmas.old → FitsTable table.old known
-        → AsksSide position.now (side_asked question) reach (slots_of front.old) known (lemmas.old + budget.old)
+        → AsksSide version position.now (side_asked question) reach (slots_of front.old) known (lemmas.old + budget.old)
         (moment table.old (O.written out.old)) (moment table.new (O.written out.new)) lemmas.new result }
 {
     let Ok(()) = write_remark(front, question.side(), chooser, out) else {
         return Err(SearchStop::WriteFault);
     };
     search(
-        position, question, reach, budget, table, chooser, lemmas, out, false,
+        position,
+        question,
+        reach,
+        budget,
+        table,
+        chooser,
+        lemmas,
+        out,
+        mirrors(version),
     )
+}
+
+/// Whether the search for a proof of this version looks for mirror images.
+fn mirrors(version: Version) -> bool
+    ensures { version_for result ≡ version }
+{
+    match version {
+        Version::One => false,
+        Version::Two => true,
+    }
 }
 
 /// The verdict for the side to move where a side wins by this lemma.

@@ -8,7 +8,7 @@ ghost use Rattle.deep_search.specs.Planned.{solved_within};
 
 use crate::questions::ask;
 use board_bits::Position;
-use cert_format::Verdict;
+use cert_format::{Verdict, Version};
 use io_ports::NullSink;
 use position_table::Table;
 use rule_chooser::Chooser;
@@ -32,6 +32,7 @@ pub fn find_value(
         position,
         nodes,
         reach,
+        Version::One,
         table,
         &mut None,
         chooser,

@@ -11,16 +11,17 @@ fn words_of(alloc: Global, words: &[&str]) -> Result<Vec<String>, AllocError> {
         .try_collect(alloc)
 }
 
-/// The numbers of `--nodes`, `--reach`, `--front` and `--table` that `prove` has.
-const PROVE: [(&[&str], u32, u32, Option<u32>, u32); 12] = [
-    (&["prove"], 1_000_000, 1_000, None, 100_000),
-    (&["prove", "--nodes", "5"], 5, 1_000, None, 100_000),
-    (&["prove", "--nodes=6", "--reach=0"], 6, 0, None, 100_000),
+/// The numbers of `--nodes`, `--reach`, `--front`, `--table` and `--format` that `prove` has.
+const PROVE: [(&[&str], u32, u32, Option<u32>, u32, u32); 15] = [
+    (&["prove"], 1_000_000, 1_000, None, 100_000, 1),
+    (&["prove", "--nodes", "5"], 5, 1_000, None, 100_000, 1),
+    (&["prove", "--nodes=6", "--reach=0"], 6, 0, None, 100_000, 1),
     (
         &["prove", "--reach", "0", "--table=1", "--nodes", "6"],
         6,
         0,
         None,
+        1,
         1,
     ),
     (
@@ -29,6 +30,7 @@ const PROVE: [(&[&str], u32, u32, Option<u32>, u32); 12] = [
         1_000,
         None,
         100_000,
+        1,
     ),
     (
         &["prove", "--reach=1000000", "--nodes", "1"],
@@ -36,6 +38,7 @@ const PROVE: [(&[&str], u32, u32, Option<u32>, u32); 12] = [
         1_000_000,
         None,
         100_000,
+        1,
     ),
     (
         &["prove", "--table", "1000000"],
@@ -43,6 +46,7 @@ const PROVE: [(&[&str], u32, u32, Option<u32>, u32); 12] = [
         1_000,
         None,
         1_000_000,
+        1,
     ),
     (
         &["prove", "--front", "4"],
@@ -50,14 +54,23 @@ const PROVE: [(&[&str], u32, u32, Option<u32>, u32); 12] = [
         1_000,
         Some(4),
         100_000,
+        1,
     ),
-    (&["prove", "--front=1"], 1_000_000, 1_000, Some(1), 100_000),
+    (
+        &["prove", "--front=1"],
+        1_000_000,
+        1_000,
+        Some(1),
+        100_000,
+        1,
+    ),
     (
         &["prove", "--front", "1000000", "--nodes=6"],
         6,
         1_000,
         Some(1_000_000),
         100_000,
+        1,
     ),
     (
         &[
@@ -73,6 +86,7 @@ const PROVE: [(&[&str], u32, u32, Option<u32>, u32); 12] = [
         0,
         Some(3),
         2,
+        1,
     ),
     (
         &["prove", "--nodes=5", "--front", "7", "--table", "8"],
@@ -80,12 +94,37 @@ const PROVE: [(&[&str], u32, u32, Option<u32>, u32); 12] = [
         1_000,
         Some(7),
         8,
+        1,
+    ),
+    (
+        &["prove", "--format", "1"],
+        1_000_000,
+        1_000,
+        None,
+        100_000,
+        1,
+    ),
+    (
+        &["prove", "--reach", "0", "--format", "2"],
+        1_000_000,
+        0,
+        None,
+        100_000,
+        2,
+    ),
+    (
+        &["prove", "--format=2", "--front=3", "--nodes=5", "--table=2"],
+        5,
+        1_000,
+        Some(3),
+        2,
+        2,
     ),
 ];
 
 #[test]
 fn prove_has_its_options_in_any_order_and_spelling(rt: HostRuntime) -> Result<(), Fail> {
-    for (words, nodes, reach, front, table) in PROVE {
+    for (words, nodes, reach, front, table, format) in PROVE {
         let got = read_words(&words_of(rt.alloc(), words)?);
         assert_eq!(rt;
             got,
@@ -93,7 +132,8 @@ fn prove_has_its_options_in_any_order_and_spelling(rt: HostRuntime) -> Result<()
                 nodes,
                 reach,
                 front,
-                table
+                table,
+                format,
             }),
             "{words:?}"
         );
@@ -182,7 +222,7 @@ fn options_stand_before_between_and_after_the_numbers(rt: HostRuntime) -> Result
 }
 
 /// Lists of words that are no form.
-const NONE: [&[&str]; 70] = [
+const NONE: [&[&str]; 79] = [
     &[],
     &[""],
     &["", "prove"],
@@ -240,6 +280,15 @@ const NONE: [&[&str]; 70] = [
     &["prove", "--table=7", "--table", "7"],
     &["explain", "--table=7"],
     &["drill", "4", "4", "12", "1", "1", "--table=7"],
+    &["prove", "--format"],
+    &["prove", "--format", "0"],
+    &["prove", "--format=3"],
+    &["prove", "--format", "02"],
+    &["prove", "--format=2", "--format", "2"],
+    &["check", "--format", "2"],
+    &["explain", "--format=2"],
+    &["drill", "4", "4", "12", "1", "1", "--format=2"],
+    &["prove", "-format", "2"],
     &["check", "--reach", "3"],
     &["play", "--nodes", "3"],
     &["explain", "--nodes", "3"],

@@ -4,9 +4,10 @@ ghost use Rattle.device_rules.specs.Devices.{Reports, Rose};
 ghost use Rattle.victor_words.specs.Words.{IsReadAs, IsWritten, HasRanges};
 ghost use Rattle.victor_words.specs.declared.form.Form.{Form};
 ghost use Rattle.run_frame.specs.Streams.{StillHolds};
-ghost use Rattle.victor_run.specs.Outcome.{Outcome, Completes};
+ghost use Rattle.victor_run.specs.Outcome.{version_named, Outcome, Completes};
 
 use crate::no_form::NoForm;
+use cert_format::Version;
 use io_ports::{Sink, Source};
 use run_check::check;
 use run_drill::drill;
@@ -79,7 +80,20 @@ fn run_form<S: Source, O: Sink, E: Sink>(
             reach,
             front,
             table,
-        } => report(&prove(alloc, nodes, reach, front, table, source, out), err),
+            format,
+        } => report(
+            &prove(
+                alloc,
+                nodes,
+                reach,
+                front,
+                table,
+                version_named(format),
+                source,
+                out,
+            ),
+            err,
+        ),
         Form::Check => report(&check(alloc, source, out), err),
         Form::Play => report(&play(source, out), err),
         Form::Explain { reach } => report(&explain(reach, source, out), err),
@@ -95,5 +109,16 @@ fn run_form<S: Source, O: Sink, E: Sink>(
             err,
         ),
         Form::Threat => report(&threat(source, out), err),
+    }
+}
+
+/// The version of a proof that this number of a format names.
+fn version_named(format: u32) -> Version
+    ensures { result ≡ version_named format }
+{
+    if format == 2 {
+        Version::Two
+    } else {
+        Version::One
     }
 }

@@ -17,7 +17,7 @@ use Rattle.plan_text.specs.Words.{◌>>=◌}
 use Rattle.plan_text.proofs.Spaced.{bind_some, is_text}
 use Rattle.victor_words.specs.Words.{OptionRow, Given, IsNumberOf, IsGiven, FormRow, form_row, row_of, is_drilled, AreGames, HasOwnRanges}
 use Rattle.victor_words.specs.Words.{HasRanges, nodes, reach, front}
-use Rattle.victor_words.specs.Words.{table, options_of, has_only}
+use Rattle.victor_words.specs.Words.{table, format, options_of, has_only}
 use Rattle.victor_words.specs.Reading.{WordsFound, asked, number, own_with, with_none, with_five, board_with, size_from, form_with}
 use Rattle.victor_words.specs.Reading.{prove_form, bare_form, explain_form, drill_form}
 use Rattle.victor_words.specs.declared.form.Form.{Form}
@@ -99,19 +99,20 @@ size_found size h =
 
 prove_told : (found : WordsFound) (form : Form) → prove_form found ≡ Some form → IsFormOf (codes "prove") found form
 prove_told found form h =
-    let own = none_told _ (nodes ∷ reach ∷ front ∷ table ∷ []) found form h in
+    let own = none_told _ (nodes ∷ reach ∷ front ∷ table ∷ format ∷ []) found form h in
     let n = told nodes found.given _ form refl own.2 in
     let k = told reach found.given _ form refl n.rest in
     let f = bind_some (asked front found.given) _ form k.rest in
     let of_f = asked_gives front found.given f.0 refl f.1 in
     let t = told table found.given _ form refl f.2 in
-    let same : Prove n.n k.n f.0 t.n ≡ form = cc (t.rest) in
-    let fits : FitsRow (codes "prove") found (row_of (Prove n.n k.n f.0 t.n)) = record {
+    let v = told format found.given _ form refl t.rest in
+    let same : Prove n.n k.n f.0 t.n v.n ≡ form = cc (v.rest) in
+    let fits : FitsRow (codes "prove") found (row_of (Prove n.n k.n f.0 t.n v.n)) = record {
       command = refl;
       own = own.1;
-      options = (n.is, (k.is, (of_f.0, (t.is, tt))));
+      options = (n.is, (k.is, (of_f.0, (t.is, (v.is, tt)))));
       no_others = own.0;
-      ranges = (n.range, (k.range, (of_f.1, (t.range, tt))));
+      ranges = (n.range, (k.range, (of_f.1, (t.range, (v.range, tt)))));
     } in
     subst (IsFormOf (codes "prove") found) same (fits, tt)
 
@@ -192,13 +193,14 @@ form_told word found form h =
 
 pub form_found : (form : Form) (given : List Given) → AllByRecursion (IsGiven given) (row_of form).options → has_only (options_of form) given ≡ true
     → HasRanges form → form_with (row_of form).command (settled given (row_of form).own) ≡ Some form
-form_found (Prove n k f t) given is only ranges =
+form_found (Prove n k f t v) given is only ranges =
     rw (
       only,
       number_found nodes given n refl is.0 ranges.0.0,
       number_found reach given k refl is.1.0 ranges.0.1.0,
       asked_found front given f refl is.1.1.0 ranges.0.1.1.0,
       number_found table given t refl is.1.1.1.0 ranges.0.1.1.1.0,
+      number_found format given v refl is.1.1.1.1.0 ranges.0.1.1.1.1.0,
     ) refl
 form_found (Explain k) given is only ranges = rw (only, number_found reach given k refl is.0 ranges.0.0) refl
 form_found (Drill size moves seed games n k) given is only ranges =

@@ -7,7 +7,7 @@ use Rattle.game_rules.specs.Board.{Board, is_board}
 use Rattle.game_rules.specs.declared.Length.TheVariants.{Four}
 use Rattle.game_rules.specs.Number.{number_between}
 use Rattle.plan_text.specs.Words.{◌>>=◌, split_once}
-use Rattle.victor_words.specs.Words.{OptionRow, Given, values, has_only, nodes, reach, front, table}
+use Rattle.victor_words.specs.Words.{OptionRow, Given, values, has_only, nodes, reach, front, table, format}
 use Rattle.victor_words.specs.declared.form.Form.{Form}
 use Rattle.victor_words.specs.declared.form.Form.TheVariants.{Prove, Check, Play, Explain, Drill, Threat}
 use Rattle.victor_words.specs.declared.found.Found.{Found}
@@ -109,8 +109,8 @@ with_none form _ = None
 abbrev pub prove_form : WordsFound → Option Form
 prove_form found =
     let given = found.given in
-    with_none (number nodes given >>= λ n. number reach given >>= λ k. asked front given >>= λ f. number table given >>= λ t. Some (Prove n k f t))
-    (own_with (nodes ∷ reach ∷ front ∷ table ∷ []) found)
+    with_none (number nodes given >>= λ n. number reach given >>= λ k. asked front given >>= λ f. number table given >>= λ t. number format given >>= λ v.
+    Some (Prove n k f t v)) (own_with (nodes ∷ reach ∷ front ∷ table ∷ format ∷ []) found)
 
 abbrev pub bare_form : Form → WordsFound → Option Form
 bare_form form found = with_none (Some form) (own_with [] found)

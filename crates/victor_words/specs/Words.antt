@@ -12,7 +12,7 @@ use Rattle.victor_words.specs.declared.form.Form.TheVariants.{Prove, Check, Play
 
 -- what is said of the written forms where the words are none
 abbrev pub usage : List ℕ
-usage = codes "usage: victor prove [--nodes N] [--reach K] [--front F] [--table T] | check | play | explain [--reach K] | drill COLS ROWS MOVES SEED GAMES [--nodes N] [--reach K] | threat"
+usage = codes "usage: victor prove [--nodes N] [--reach K] [--front F] [--table T] [--format V] | check | play | explain [--reach K] | drill COLS ROWS MOVES SEED GAMES [--nodes N] [--reach K] | threat"
 
 -- ---- the options
 
@@ -43,6 +43,10 @@ front = option_row (codes "--front") 1 1000000 None
 abbrev pub table : OptionRow
 table = option_row (codes "--table") 1 1000000 (Some 100000)
 
+-- the version of a proof that is written
+abbrev pub format : OptionRow
+format = option_row (codes "--format") 1 2 (Some 1)
+
 abbrev pub IsNumberOf : OptionRow → ℕ → Type 0
 IsNumberOf option n = IsInRange option.least option.most n
 
@@ -51,6 +55,9 @@ AreSlots n = IsNumberOf front n
 
 abbrev pub IsRoom : ℕ → Type 0
 IsRoom n = IsNumberOf table n
+
+abbrev pub IsFormat : ℕ → Type 0
+IsFormat n = IsNumberOf format n
 
 -- ---- the forms
 
@@ -65,7 +72,8 @@ abbrev pub form_row : List ℕ → List (List ℕ) → List (OptionRow × Option
 form_row command own options = record { command = command; own = own; options = options }
 
 abbrev pub row_of : Form → FormRow
-row_of (Prove n k slots room) = form_row (codes "prove") [] ((nodes, Some n) ∷ (reach, Some k) ∷ (front, slots) ∷ (table, Some room) ∷ [])
+row_of (Prove n k slots room v) =
+    form_row (codes "prove") [] ((nodes, Some n) ∷ (reach, Some k) ∷ (front, slots) ∷ (table, Some room) ∷ (format, Some v) ∷ [])
 row_of Check = form_row (codes "check") [] []
 row_of Play = form_row (codes "play") [] []
 row_of (Explain k) = form_row (codes "explain") [] ((reach, Some k) ∷ [])

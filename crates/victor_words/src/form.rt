@@ -15,6 +15,8 @@ pub enum Form {
         front: Option<u32>,
         /// How many settled positions a table keeps, from 1 to 1,000,000; 100,000 where the words don't say.
         table: u32,
+        /// The version of the proof, 1 or 2; 1 where the words don't say.
+        format: u32,
     },
     /// Read a proof and say whether it is right.
     Check,

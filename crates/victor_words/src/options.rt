@@ -43,3 +43,11 @@ pub(crate) const TABLE: OptionRow = OptionRow {
     most: 1_000_000,
     usual: Some(100_000),
 };
+
+/// The version of a proof that is written.
+pub(crate) const FORMAT: OptionRow = OptionRow {
+    word: "--format",
+    least: 1,
+    most: 2,
+    usual: Some(1),
+};

@@ -7,13 +7,13 @@ ghost use Rattle.victor_words.specs.Reading.{size_from};
 
 use crate::form::Form;
 use crate::found::{Found, found_in};
-use crate::options::{FRONT, NODES, REACH, TABLE};
+use crate::options::{FORMAT, FRONT, NODES, REACH, TABLE};
 use board_bits::Size;
 use text_words::number_between;
 
 /// What is said of the written forms where the words are none.
 pub const USAGE: &[u8] =
-    b"usage: victor prove [--nodes N] [--reach K] [--front F] [--table T] | check | play | explain [--reach K] | drill COLS ROWS MOVES SEED GAMES [--nodes N] [--reach K] | threat\n";
+    b"usage: victor prove [--nodes N] [--reach K] [--front F] [--table T] [--format V] | check | play | explain [--reach K] | drill COLS ROWS MOVES SEED GAMES [--nodes N] [--reach K] | threat\n";
 
 /// The most moves that a game made from a number may be given.
 const MOST_MOVES: u32 = 100;
@@ -65,7 +65,7 @@ fn form_with(command: &str, found: &Found) -> Option<Form>
 fn prove_form(found: &Found) -> Option<Form>
     ensures { result ≡ prove_form (shown found.now) }
 {
-    let [] = found.own_with(&[NODES, REACH, FRONT, TABLE])? else {
+    let [] = found.own_with(&[NODES, REACH, FRONT, TABLE, FORMAT])? else {
         return None;
     };
     Some(Form::Prove {
@@ -73,6 +73,7 @@ fn prove_form(found: &Found) -> Option<Form>
         reach: found.number(&REACH)?,
         front: found.asked(&FRONT)?,
         table: found.number(&TABLE)?,
+        format: found.number(&FORMAT)?,
     })
 }
 

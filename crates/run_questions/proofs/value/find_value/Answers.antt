@@ -1,5 +1,6 @@
 use Rattle.std.proofs.Common.{None, subst, sym, ◌∙◌, arith}
 use Rattle.proof_text.specs.Right.{IsTrueVerdict}
+use Rattle.proof_text.specs.declared.Version.TheVariants.{One}
 use Rattle.run_questions.proofs.Asking.{told_true, told_unknown}
 use Rattle.run_questions.proofs.value.find_value.Goals as goal
 
@@ -7,10 +8,10 @@ pub returns-clause-says : goal.returns-clause-says
 returns-clause-says c =
     let asked = c.ask-asked.ensures in
     subst (IsTrueVerdict c.args.position.now) (sym c.unwrap_or.ensures)
-    (told_true c.args.position.now c.args.nodes c.args.reach None None c.ask-asked.result asked.asked)
+    (told_true One c.args.position.now c.args.nodes c.args.reach None None c.ask-asked.result asked.asked)
 
 pub returns-clause-dear : goal.returns-clause-dear
 returns-clause-dear c = λ unknown.
     let asked = c.ask-asked.ensures in
-    told_unknown c.args.position.now c.args.nodes c.args.reach None None c.ask-asked.result asked.asked asked.spent
+    told_unknown One c.args.position.now c.args.nodes c.args.reach None None c.ask-asked.result asked.asked asked.spent
     (λ failed. omega (arith, asked.fault failed)) (sym c.unwrap_or.ensures ∙ unknown)
