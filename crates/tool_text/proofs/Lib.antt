@@ -1,0 +1,5 @@
+mod Vectors
+pub mod Keeping
+pub mod Reaching
+pub mod Whole
+pub mod Marking
