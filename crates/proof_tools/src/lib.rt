@@ -1,0 +1,7 @@
+//! Tools for whole games and whole proofs: the marks of a game's moves, over anything that tells the value of a position.
+#![tactic(auto)]
+
+mod marks;
+
+pub use marks::{Valuer, annotate};
+pub use tool_text::Mark;
