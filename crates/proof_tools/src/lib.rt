@@ -3,5 +3,5 @@
 
 mod marks;
 
-pub use marks::{Valuer, annotate};
+pub use marks::{Valuer, annotate, position_after};
 pub use tool_text::Mark;

@@ -39,8 +39,8 @@ pub fn annotate<V: Valuer>(
     marks_from(position_after(size, before), marked, valuer)
 }
 
-/// The position of a game that begins on the empty board.
-fn position_after(size: Size, moves: &[Column]) -> Position
+/// The position after the moves of a game that begins on the empty board of this size.
+pub fn position_after(size: Size, moves: &[Column]) -> Position
     requires { IsSome (played (empty_position size) moves.now) }
     ensures { played (empty_position size) moves.now ≡ Some result }
 {

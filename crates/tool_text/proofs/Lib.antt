@@ -3,3 +3,4 @@ pub mod Keeping
 pub mod Reaching
 pub mod Whole
 pub mod Marking
+pub mod Legal

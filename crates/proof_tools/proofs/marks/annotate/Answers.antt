@@ -1,7 +1,7 @@
 use Rattle.std.proofs.Common.{◌∙◌, sym, ap, subst, take, drop, IsSome}
 use Rattle.std.proofs.lemmas.List.{take-append-drop}
 use Rattle.game_rules.specs.Position.{empty_position, played}
-use Rattle.proof_tools.proofs.Marking.{played_parts}
+use Rattle.tool_text.proofs.Legal.{played_parts}
 use Rattle.proof_tools.proofs.marks.annotate.Goals as goal
 
 pub position_after-requires : goal.position_after-requires

@@ -4,7 +4,8 @@ use Rattle.game_rules.specs.Position.{played, after_move, side_to_move}
 use Rattle.game_rules.proofs.FaultReaders.{played_push}
 use Rattle.tool_text.specs.Marks.{Says, AreMarks}
 use Rattle.proof_tools.specs.Marked.{IsTold, mark_by}
-use Rattle.proof_tools.proofs.Marking.{told_kept, mark_says, marks_push, next_legal, next_taken}
+use Rattle.tool_text.proofs.Legal.{next_legal, next_taken}
+use Rattle.proof_tools.proofs.Marking.{told_kept, mark_says, marks_push}
 use Rattle.proof_tools.proofs.marks.marks_from.Goals as goal
 
 pub loop-column-preserved : goal.loop-column-preserved
