@@ -10,7 +10,7 @@ use Rattle.proof_text.specs.Right.{Shown, IsCited, HasReason, AreRight}
 use Rattle.proof_text.specs.declared.Claim.{Claim}
 use Rattle.proof_text.specs.declared.Verdict.{Verdict}
 use Rattle.proof_text.proofs.Append.{Shows_number}
-use Rattle.tool_text.specs.Trim.{numbers_cited, numbers_named, IsReached, Named, Cited, CitesEarlier, has_number, with_cites, wanted_by, is_reached}
+use Rattle.tool_text.specs.Trim.{numbers_cited, numbers_named, IsReached, Named, Cited, IsEarlier, CitesEarlier, has_number, with_cites, wanted_by, is_reached}
 use Rattle.tool_text.proofs.Keeping.{IsClosed}
 
 -- ---- elements
@@ -41,18 +41,18 @@ among_all P (m ∷ ns) each = (each m (inl refl), among_all P ns (λ n among. ea
 -- ---- the order of right lemmas
 
 cites_known : (known : List Shown) (p : Position) (claim : Claim) (cites : List Cite) → AllByRecursion (IsCited known p claim) cites
-    → AllByRecursion (λ n. n < length known + 1) (map (λ cite. cite.lemma) cites)
+    → AllByRecursion (IsEarlier (length known + 1)) (map (λ cite. cite.lemma) cites)
 cites_known known p claim [] cited = tt
 cites_known known p claim (cite ∷ cites) cited =
-    let number = Shows_number known cite.lemma _ claim cited.0 in (omega (arith, number.1), cites_known known p claim cites cited.1)
+    let number = Shows_number known cite.lemma _ claim cited.0 in ((number.0, omega (arith, number.1)), cites_known known p claim cites cited.1)
 
 reason_known : (known : List Shown) (p : Position) (claim : Claim) (reason : Reason) → HasReason known p claim reason
-    → AllByRecursion (λ n. n < length known + 1) (numbers_cited reason)
+    → AllByRecursion (IsEarlier (length known + 1)) (numbers_cited reason)
 reason_known known p claim ByEnd h = tt
-reason_known known p claim (ByOne cite) h = let number = Shows_number known cite.lemma _ claim h.cited in (omega (arith, number.1), tt)
+reason_known known p claim (ByOne cite) h = let number = Shows_number known cite.lemma _ claim h.cited in ((number.0, omega (arith, number.1)), tt)
 reason_known known p claim (ByAll cites) h = cites_known known p claim cites h.cited
 reason_known known p claim (ByPlan ws) h = tt
-reason_known known p claim (ByMirror n) h = let number = Shows_number known n _ claim h in (omega (arith, number.1), tt)
+reason_known known p claim (ByMirror n) h = let number = Shows_number known n _ claim h in ((number.0, omega (arith, number.1)), tt)
 
 pub right_ordered : (root : Position) (known : List Shown) (ls : List Lemma) (after : List Shown) → AreRight root known ls after
     → CitesEarlier (length known + 1) ls
@@ -111,8 +111,8 @@ wanted_anew wanted l n among = elim (cases_Bool (has_number wanted l.number)) [
     ]
 
 -- a larger number isn't among smaller ones
-not_below : (first n : ℕ) (ns : List ℕ) → AllByRecursion (λ m. m < first) ns → first ≤ n → Among n ns → ⊥
-not_below first n ns all large among = let small : n < first = all_among (λ m. m < first) ns all n among in absurd (omega (arith, small, large))
+not_below : (first n : ℕ) (ns : List ℕ) → AllByRecursion (IsEarlier first) ns → first ≤ n → Among n ns → ⊥
+not_below first n ns all large among = let small = all_among (IsEarlier first) ns all n among in absurd (omega (arith, small.1, large))
 
 -- what a wanted lemma cites is wanted
 pub wanted_closed : (v : Verdict) (first : ℕ) (ls : List Lemma) → CitesEarlier first ls → (l : Lemma) → Among l ls → Among l.number (wanted_by v ls)

@@ -1,5 +1,5 @@
 -- Which lemmas of a proof its verdict rests on, and the text that has these alone.
-use Rattle.std.specs.Prelude.{◌≡◌, ◌<◌, ℕ, zero, suc, ◌+◌, Bool, true, false, ◌==◌, if◌then◌else◌, List, [], ◌∷◌, ◌++◌, map, Contains, ⊤}
+use Rattle.std.specs.Prelude.{◌≡◌, ◌<◌, ◌≤◌, ℕ, zero, suc, ◌+◌, Bool, true, false, ◌==◌, if◌then◌else◌, List, [], ◌∷◌, ◌++◌, map, Contains, ⊤}
 use Rattle.std.specs.List.{AllByRecursion, list_any}
 use Rattle.proof_text.specs.Lemma.{Cite, Reason, ByEnd, ByOne, ByAll, ByPlan, ByMirror, Lemma}
 use Rattle.proof_text.specs.Spelling.{lines_of, verdict_line}
@@ -27,10 +27,13 @@ pub data IsReached (ls : List Lemma) (v : Verdict) : ℕ → Type 0 where
   Named : (n : ℕ) → Contains (numbers_named v) n → IsReached ls v n
   Cited : (l : Lemma) (n : ℕ) → Contains ls l → IsReached ls v l.number → Contains (numbers_cited l.reason) n → IsReached ls v n
 
--- Lemmas are numbered one by one from a number on, and each cites smaller numbers alone.
+-- Lemmas are numbered one by one from a number on, and each cites numbers of earlier ones alone, which begin with 1.
+abbrev pub IsEarlier : ℕ → ℕ → Type 0
+IsEarlier number n = (1 ≤ n) × (n < number)
+
 abbrev pub CitesEarlier : ℕ → List Lemma → Type 0
 CitesEarlier first [] = ⊤
-CitesEarlier first (l ∷ ls) = (l.number ≡ first) × AllByRecursion (λ n. n < first) (numbers_cited l.reason) × CitesEarlier (first + 1) ls
+CitesEarlier first (l ∷ ls) = (l.number ≡ first) × AllByRecursion (IsEarlier first) (numbers_cited l.reason) × CitesEarlier (first + 1) ls
 
 -- ---- the test, from the last lemma back
 
