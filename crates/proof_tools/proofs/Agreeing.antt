@@ -7,11 +7,7 @@ use Rattle.std.proofs.lemmas.List.{length-set, length-replicate, get_or-set_same
 use Rattle.proof_text.specs.Lemma.{Lemma}
 use Rattle.proof_text.specs.declared.Verdict.{Verdict}
 use Rattle.tool_text.specs.Trim.{numbers_cited, numbers_named, IsEarlier, CitesEarlier, has_number, with_cites, wanted_by, is_reached, rank}
-use Rattle.proof_tools.specs.Reach.{mark_at, new_number, reach_of, with_mark, marked, passed, all_passed, numbers_from, is_some_number}
-
--- numbers of lemmas among so many
-abbrev pub AreWithin : ℕ → List ℕ → Type 0
-AreWithin most ns = AllByRecursion (λ n. (1 ≤ n) × (n ≤ most)) ns
+use Rattle.proof_tools.specs.Reach.{mark_at, new_number, reach_of, with_mark, marked, passed, all_passed, numbers_from, is_some_number, AreWithin}
 
 -- the marks are of the numbers that are wanted
 abbrev pub Agree : List Bool → List ℕ → Type 0

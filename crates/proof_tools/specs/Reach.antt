@@ -1,5 +1,6 @@
 -- Which lemmas are reached, as a mark for each, and their new numbers.
-use Rattle.std.specs.Prelude.{◌≡◌, ℕ, zero, suc, ◌+◌, Bool, true, false, not, ◌==◌, if◌then◌else◌, List, [], ◌∷◌, map, length, slice_set, slice_index_or, Option, Some, None, Result}
+use Rattle.std.specs.Prelude.{◌≡◌, ◌≤◌, ℕ, zero, suc, ◌+◌, Bool, true, false, not, ◌==◌, if◌then◌else◌, List, [], ◌∷◌, map, length, slice_set, slice_index_or, Option, Some, None, Result}
+use Rattle.std.specs.List.{AllByRecursion}
 use Rattle.proof_text.specs.Lemma.{Lemma}
 use Rattle.proof_text.specs.declared.Verdict.{Verdict}
 use Rattle.tool_text.specs.Trim.{numbers_cited, numbers_named, is_reached, rank}
@@ -45,3 +46,14 @@ numbers_from given (false ∷ marks) = 0 ∷ numbers_from given marks
 
 abbrev pub is_some_number : ℕ → Bool
 is_some_number n = not (n == 0)
+
+-- the marks that are kept as numbers, and which lists of numbers are kept
+abbrev pub reach_kept : List ℕ → List Bool
+reach_kept numbers = map is_some_number numbers
+
+abbrev pub IsReach : List ℕ → Type 0
+IsReach numbers = numbers ≡ numbers_from 0 (reach_kept numbers)
+
+-- numbers of lemmas, where there are so many
+abbrev pub AreWithin : ℕ → List ℕ → Type 0
+AreWithin most ns = AllByRecursion (λ n. (1 ≤ n) × (n ≤ most)) ns
