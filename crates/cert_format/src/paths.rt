@@ -7,8 +7,8 @@ use board_bits::Column;
 /// How many moves are compared at a time.
 const BLOCK: usize = 16;
 
-/// How many of the first moves are the same in both.
-pub(crate) fn shared_moves(left: &[Column], right: &[Column]) -> usize
+/// How many of the first moves are the same in both paths, which are of one length.
+pub fn shared_moves(left: &[Column], right: &[Column]) -> usize
     requires { length left.now ≡ length right.now }
     ensures within { result ≤ length left.now }
     ensures same { take result left.now ≡ take result right.now }

@@ -1,6 +1,6 @@
 use Rattle.std.proofs.Common.{◌+◌, arith}
-use Rattle.cert_checker.proofs.Trails.{same_up_to}
-use Rattle.cert_checker.proofs.shared_moves.shared_blocks.Goals as goal
+use Rattle.cert_format.proofs.Shared.{same_up_to}
+use Rattle.cert_format.proofs.paths.shared_blocks.Goals as goal
 
 pub loop-at-preserved : goal.loop-at-preserved
 loop-at-preserved c = record {
