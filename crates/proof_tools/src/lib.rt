@@ -2,6 +2,8 @@
 #![tactic(auto)]
 
 mod marks;
+mod reach;
 
 pub use marks::{Valuer, annotate, position_after};
+pub use reach::{Reach, reached};
 pub use tool_text::Mark;

@@ -2,9 +2,12 @@
 ghost use Rattle.std.specs.Prelude.{◌≡◌, ℕ, ◌≤◌, ◌<◌, ◌*◌, ◌^◌, length, map, drop, replicate, false, IfOk};
 ghost use Rattle.proof_text.specs.Spelling.{greatest_number};
 ghost use Rattle.tool_text.specs.Trim.{numbers_named, numbers_cited, CitesEarlier};
-ghost use Rattle.proof_tools.specs.Reach.{mark_at, new_number, reach_of, with_mark, marked, numbers_from, AreWithin};
+ghost use Rattle.proof_tools.specs.Reach.{mark_at, new_number, reach_of, with_mark, marked, numbers_from, AreWithin, all_passed};
+ghost use Rattle.proof_text.specs.Lemma.{ByAll};
+ghost use Rattle.cert_format.specs.Entries.{reason_held};
+ghost use Rattle.cert_format.specs.Shape.{cite_of};
 
-use cert_format::{Book, Held, Reason, Verdict};
+use cert_format::{Book, Cite, Held, Reason, Verdict};
 use std::alloc::{AllocError, Global};
 use std::marker::Model;
 
@@ -55,11 +58,21 @@ pub fn reached(alloc: Global, book: &Book, verdict: &Verdict) -> Result<Reach, A
     ensures { IfOk result (λ reach. reach ≡ reach_of book.now verdict.now) }
 {
     let mut marks = vec![in alloc; false; book.len() as usize]?;
-    mark_named(&mut marks, verdict);
-    mark_all(&mut marks, book);
+    mark_reached(&mut marks, book, verdict);
     Ok(Reach {
         numbers: numbers_of(alloc, &marks)?,
     })
+}
+
+/// Marks what is reached, where nothing is marked.
+fn mark_reached(marks: &mut [bool], book: &Book, verdict: &Verdict)
+    requires earlier { CitesEarlier 1 book.now }
+    requires named { AreWithin (length book.now) (numbers_named verdict.now) }
+    requires none { marks.old ≡ replicate (length book.now) false }
+    ensures { marks.new ≡ reach_of book.now verdict.now }
+{
+    mark_named(marks, verdict);
+    mark_all(marks, book);
 }
 
 /// Marks what the verdict names.
@@ -102,4 +115,42 @@ fn numbers_of(alloc: Global, marks: &[bool]) -> Result<Vec<u32>, AllocError>
         }
     }
     Ok(numbers)
+}
+
+/// Marks, from the last lemma back, what each marked lemma cites.
+fn mark_all(marks: &mut [bool], book: &Book)
+    requires earlier { CitesEarlier 1 book.now }
+    requires each { length marks.old ≡ length book.now }
+    ensures { marks.new ≡ all_passed marks.old book.now }
+{
+    let mut n = book.len();
+    while n > 0 {
+        if marks[n as usize - 1] {
+            mark_cited(marks, &book.reason(n));
+        }
+        n -= 1;
+    }
+}
+
+/// Marks the lemmas that a reason cites.
+fn mark_cited(marks: &mut [bool], reason: &Held<'_>)
+    requires { AreWithin (length marks.old) (numbers_cited (reason_held reason.now)) }
+    ensures { marks.new ≡ marked marks.old (numbers_cited (reason_held reason.now)) }
+{
+    match reason {
+        Reason::Ended | Reason::Plan(_) => {}
+        Reason::One(cite) => mark(marks, cite.lemma),
+        Reason::All(cites) => mark_each(marks, cites),
+        Reason::Mirror(n) => mark(marks, *n),
+    }
+}
+
+/// Marks the lemma of each cite.
+fn mark_each(marks: &mut [bool], cites: &[Cite])
+    requires { AreWithin (length marks.old) (numbers_cited (ByAll (map cite_of cites.now))) }
+    ensures { marks.new ≡ marked marks.old (numbers_cited (ByAll (map cite_of cites.now))) }
+{
+    for cite in cites {
+        mark(marks, cite.lemma);
+    }
 }
