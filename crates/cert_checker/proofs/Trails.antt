@@ -62,11 +62,3 @@ pub board_kept : (root last : Position) (columns : List ℕ) (positions : List P
     → board_of (get_or positions moves last) ≡ board_of root
 board_kept root last columns positions moves within kept = board_played root (get_or positions moves last) (take moves columns)
     (sym kept ∙ slice_get-get_or positions moves last within)
-
--- two paths that are the same up to one place, and then up to another
-pub same_up_to : (at end : ℕ) (xs ys : List ℕ) → at ≤ end → take at xs ≡ take at ys → take (end - at) (drop at xs) ≡ take (end - at) (drop at ys)
-    → take end xs ≡ take end ys
-same_up_to at end xs ys ordered first rest =
-    let parts : at + (end - at) ≡ end = omega arith in
-    subst (λ n. take n xs ≡ take n ys) parts (take-add at (end - at) xs ∙ ap (λ a. a ++ take (end - at) (drop at xs)) first ∙ ap (λ b. take at ys ++ b) rest
-    ∙ sym (take-add at (end - at) ys))

@@ -9,7 +9,6 @@ mod index;
 mod known;
 mod moves;
 mod reasons;
-mod shared_moves;
 mod stops;
 mod trail;
 

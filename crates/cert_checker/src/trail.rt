@@ -2,8 +2,8 @@
 ghost use Rattle.std.specs.Prelude.{◌≡◌, ◌+◌, ◌<◌, ◌≤◌, true, false, [], ◌∷◌, ◌++◌, Some, None, if◌then◌else◌, length, take};
 ghost use Rattle.game_rules.specs.Position.{board_of, after_move, end_of, is_legal, played};
 
-use crate::shared_moves::shared_moves;
 use board_bits::{Column, End, MOST_SQUARES, Position};
+use cert_format::shared_moves;
 use std::marker::Model;
 
 /// A position with its end, for which it is looked only once.

@@ -3,3 +3,5 @@ pub mod Rows
 pub mod Names
 pub mod Spaced
 pub mod Words
+pub mod Shared
+pub mod Kept

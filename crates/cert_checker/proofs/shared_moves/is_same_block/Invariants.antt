@@ -1,5 +1,0 @@
-use Rattle.std.proofs.Common.{◌≡◌, true, take}
-use Rattle.cert_checker.proofs.shared_moves.is_same_block.Given as goal
-
-abbrev pub invariant-loop-i : goal.invariant-loop-i
-invariant-loop-i l = l.same ≡ true → take l.i l.left ≡ take l.i l.right

@@ -1,0 +1,6 @@
+mod Vectors
+pub mod Seen
+pub mod Behind
+pub mod Moves
+pub mod Games
+pub mod Steps

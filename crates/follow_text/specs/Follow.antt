@@ -1,0 +1,152 @@
+-- A game that is followed, as a text. The input is a proof up to its verdict, and then a line for each move of the other
+-- side, which is the letter of its column; the output is a line for the holder's first move, where it has one, and a line for
+-- each move of the other side, with its square and the square of the holder's answer. The text is this project's own.
+use Rattle.std.specs.Prelude.{ℕ, suc, ◌+◌, ◌-◌, Bool, true, false, if◌then◌else◌, List, [], ◌∷◌, ◌++◌, length, take, drop, filter_map}
+use Rattle.std.specs.Prelude.{Option, Some, None, is_none, Result, Ok, Err, codes, bytes_eq}
+use Rattle.game_rules.specs.Board.{Board, Square}
+use Rattle.game_rules.specs.Position.{Position, board_of, other, same_side, height, side_to_move, end_of, after_move}
+use Rattle.game_rules.specs.Value.{win_of, same_end}
+use Rattle.game_rules.specs.Text.{game_at}
+use Rattle.game_rules.specs.declared.Side.{Side}
+use Rattle.game_rules.specs.declared.Side.TheVariants as sides
+use Rattle.game_rules.specs.declared.End.{End}
+use Rattle.game_rules.specs.declared.End.TheVariants as ends
+use Rattle.game_rules.specs.declared.InputFault.{InputFault}
+use Rattle.plan_text.specs.Items.{square_text}
+use Rattle.proof_text.specs.Lemma.{Lemma, Line, ALemma, ARemark, AVerdict}
+use Rattle.proof_text.specs.Checked.{Why, lemmas_in}
+use Rattle.proof_text.specs.Spelling.{as_line}
+use Rattle.proof_text.specs.Reading.{read_line}
+use Rattle.proof_text.specs.Texts.{pieces, game_of, behind_game, first_number, first_line, version_of, answer_of, CheckAnswer}
+use Rattle.proof_text.specs.Texts as texts
+use Rattle.proof_text.specs.declared.Verdict.{Verdict}
+use Rattle.proof_text.specs.declared.Verdict.TheVariants.{Win, Loss, Draw, Unknown}
+use Rattle.proof_text.specs.declared.Version.{Version}
+use Rattle.proof_text.specs.declared.Why.TheVariants.{BadLine}
+use Rattle.play_text.specs.Play.{NoMove, AllPlayed, NoReply, Played, ended, behind, column_in, move_refusal}
+use Rattle.play_text.specs.declared.PlayKind.{PlayKind}
+use Rattle.play_text.specs.declared.PlayKind.TheVariants.{BadMove}
+use Rattle.follow_text.specs.Following.{Following, at_lemma, own_move_at, answer_to}
+
+-- ---- a turn
+
+-- what is said of the end of the game; the side that doesn't hold has no line
+abbrev pub end_text : Side → Option End → List ℕ
+end_text holder None = []
+end_text holder (Some ends.Draw) = codes " full"
+end_text holder (Some e) = if same_end (win_of holder) e then codes " won" else []
+
+-- the square to which a man in the column falls
+abbrev pub falls_to : Position → ℕ → Square
+falls_to q column = (column, height q column + 1)
+
+-- the line of the holder's first move, which is its column
+abbrev pub first_text : Side → Position → ℕ → List ℕ
+first_text holder q column = as_line (codes "- " ++ (square_text (falls_to q column) ++ end_text holder (end_of (after_move q column))))
+
+-- the line of a move of the other side's that ended the game
+abbrev pub over_text : Side → Position → ℕ → List ℕ
+over_text holder q column = as_line (square_text (falls_to q column) ++ (codes " -" ++ end_text holder (end_of (after_move q column))))
+
+-- the line of a move of the other side's and the holder's answer, by their columns
+abbrev pub answer_text : Side → Position → ℕ → ℕ → List ℕ
+answer_text holder q column answer =
+    as_line (square_text (falls_to q column) ++ (32 ∷ (square_text (falls_to (after_move q column) answer)
+    ++ end_text holder (end_of (after_move (after_move q column) answer)))))
+
+-- ---- the other side's moves
+
+-- the line of a turn, and what is played behind it
+abbrev pub with_answer : Side → Position → ℕ → Option (ℕ × Following) → (Following → Position → Played) → Played
+with_answer holder q column None later = ended NoReply
+with_answer holder q column (Some (answer, next)) later =
+    behind (answer_text holder q column answer ∷ []) (later next (after_move (after_move q column) answer))
+
+abbrev pub with_move : List Lemma → Side → Following → Position → ℕ → (Following → Position → Played) → Played
+with_move ls holder s q column later =
+    if is_none (end_of (after_move q column)) then with_answer holder q column (answer_to ls s q column) later
+    else behind (over_text holder q column ∷ []) (later s (after_move q column))
+
+-- a line with this number is a move, or it ends play
+abbrev pub with_column : List Lemma → Side → Following → Position → ℕ → Option ℕ → Option PlayKind → (Following → Position → Played) → Played
+with_column ls holder s q at column (Some kind) later = ended (NoMove (record { kind = kind; at = at }))
+with_column ls holder s q at None None later = ended (NoMove (record { kind = BadMove; at = at }))
+with_column ls holder s q at (Some column) None later = with_move ls holder s q column later
+
+-- what is played from a position on by further lines, of which the first has this number
+abbrev pub follow_from : List Lemma → Side → Following → Position → ℕ → List (List ℕ) → Played
+follow_from ls holder s q at [] = ended AllPlayed
+follow_from ls holder s q at (line ∷ lines) =
+    let column = column_in (board_of q) line in
+    with_column ls holder s q at column (move_refusal q column) (λ next r. follow_from ls holder next r (at + 1) lines)
+
+-- the same from a lemma at the root, the holder's first move before it, where there is one
+abbrev pub begin_by : List Lemma → Side → Position → ℕ → ℕ → List (List ℕ) → Option (ℕ × Following) → Played
+begin_by ls holder root n at lines None = follow_from ls holder (at_lemma n false) root at lines
+begin_by ls holder root n at lines (Some (first, next)) =
+    behind (first_text holder root first ∷ []) (follow_from ls holder next (after_move root first) at lines)
+
+abbrev pub follow_at : List Lemma → Side → Position → ℕ → ℕ → List (List ℕ) → Played
+follow_at ls holder root n at lines = begin_by ls holder root n at lines (own_move_at ls (length root.columns) n false)
+
+-- ---- the whole
+
+-- the lemma that a verdict names and that serves the holder, where this side is to move at the root
+abbrev pub named_for : Side → Side → Verdict → Option ℕ
+named_for holder mover (Win n) = if same_side holder mover then Some n else None
+named_for holder mover (Loss n) = if same_side holder (other mover) then Some n else None
+named_for sides.White mover (Draw n m) = Some m
+named_for sides.Black mover (Draw n m) = Some n
+named_for holder mover Unknown = None
+
+-- how many lines there are up to the first that reads as a verdict, with it; where none does, all
+abbrev pub is_verdict : Option Line → Bool
+is_verdict None = false
+is_verdict (Some (ALemma l)) = false
+is_verdict (Some ARemark) = false
+is_verdict (Some (AVerdict v)) = true
+
+abbrev pub lines_to_verdict : Version → Board → List (List ℕ) → ℕ
+lines_to_verdict version board [] = 0
+lines_to_verdict version board (line ∷ lines) = if is_verdict (read_line version board line) then 1 else suc (lines_to_verdict version board lines)
+
+-- what comes of an input: it has no game, a line of its proof is refused, its verdict names no lemma that serves the holder,
+-- which is said of the verdict's line, or play goes on behind the verdict
+pub data Followed : Type 0 where
+  NoGame : InputFault → Followed
+  Refused : ℕ → Why → Followed
+  NoClaim : ℕ → Followed
+  FollowedTo : Played → Followed
+
+-- the lemmas of a proof's lines
+abbrev pub lemmas_of_lines : Version → Board → List (List ℕ) → List Lemma
+lemmas_of_lines version board lines = lemmas_in (filter_map (read_line version board) lines)
+
+abbrev pub follow_named : List Lemma → Side → Position → ℕ → List (List ℕ) → Option ℕ → Followed
+follow_named ls holder root at lines None = NoClaim at
+follow_named ls holder root at lines (Some n) = FollowedTo (follow_at ls holder root n (at + 1) lines)
+
+-- the proof is judged as every proof is; the number is that of its last line
+abbrev pub follow_answer : List Lemma → Side → Position → ℕ → List (List ℕ) → CheckAnswer → Followed
+follow_answer ls holder root at lines (texts.NoGame fault) = NoGame fault
+follow_answer ls holder root at lines (texts.Refused line why) = Refused line why
+follow_answer ls holder root at lines (texts.Accepted v count) = follow_named ls holder root at lines (named_for holder (side_to_move root) v)
+
+-- the lines behind a game: so many of them are the proof's, the others the other side's moves
+abbrev pub follow_cut : Side → Version → Position → List (List ℕ) → ℕ → Followed
+follow_cut holder version root lines count =
+    follow_answer (lemmas_of_lines version (board_of root) (take count lines)) holder root (count + (first_number - 1)) (drop count lines)
+    (answer_of version root (take count lines))
+
+abbrev pub follow_game : Side → Version → Result Position InputFault → List (List ℕ) → Followed
+follow_game holder version (Err fault) lines = NoGame fault
+follow_game holder version (Ok root) lines = follow_cut holder version root lines (lines_to_verdict version (board_of root) lines)
+
+abbrev pub follow_pieces : Side → Version → List (List ℕ) → Followed
+follow_pieces holder version [] = Refused 1 BadLine
+follow_pieces holder version (first ∷ more) =
+    if bytes_eq first (first_line version) then follow_game holder version (game_at (game_of more)) (behind_game more) else Refused 1 BadLine
+
+-- what comes of a whole input
+unfoldable pub follow_of : Side → List ℕ → Followed
+follow_of holder bytes = follow_pieces holder (version_of bytes) (pieces bytes)

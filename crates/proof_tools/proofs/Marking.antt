@@ -1,0 +1,119 @@
+-- Marks of moves, one after the other.
+use Rattle.std.proofs.Common.{◌≡◌, ◌≢◌, ℕ, ◌≤◌, Bool, true, false, ◌||◌, List, [], ◌∷◌, ◌++◌, Option, Some, None, refl, sym, ap, ◌∙◌, subst, inl, inr, arith}
+use Rattle.std.proofs.lemmas.Bool.{cases_Bool, or_left, or_right}
+use Rattle.game_rules.specs.Position.{Position, side_to_move, other, after_move, is_legal, played}
+use Rattle.game_rules.specs.Value.{win_of, same_end, value}
+use Rattle.game_rules.specs.declared.Side.{Side}
+use Rattle.game_rules.specs.declared.Side.TheVariants as sides
+use Rattle.game_rules.specs.declared.End.{End}
+use Rattle.game_rules.specs.declared.End.TheVariants.{White, Black, Draw}
+use Rattle.game_rules.proofs.Lists.{chosen}
+use Rattle.tool_text.specs.Marks.{worth, Says, AreMarks}
+use Rattle.tool_text.specs.declared.Mark.{Mark}
+use Rattle.tool_text.specs.declared.Mark.TheVariants.{Fine, Bad, Open}
+use Rattle.tool_text.proofs.Marking.{move_no_better, move_worse}
+use Rattle.proof_tools.specs.Marked.{IsTold, mark_by}
+
+-- what is told is told of the same meaning
+pub told_kept : (some other : Position → Bool) (p : Position) (told : Option End) → ((q : Position) → other q ≡ some q) → IsTold other p told → IsTold some p told
+told_kept some other p None same h = sym (same p) ∙ h
+told_kept some other p (Some end) same h = h
+
+pub marks_kept : (some other : Position → Bool) → ((q : Position) → other q ≡ some q) → (p : Position) (columns : List ℕ) (marks : List Mark)
+    → AreMarks other p columns marks → AreMarks some p columns marks
+marks_kept some other same p [] [] h = h
+marks_kept some other same p [] (mark ∷ marks) h = absurd h
+marks_kept some other same p (column ∷ columns) [] h = absurd h
+marks_kept some other same p (column ∷ columns) (mark ∷ marks) h =
+    (of mark h.0, marks_kept some other same (after_move p column) columns marks h.1)
+  where
+    of : (mark : Mark) → Says other p (after_move p column) mark → Says some p (after_move p column) mark
+    of Fine h = h
+    of Bad h = h
+    of Open h = ap (λ b. b || some (after_move p column)) (sym (same p)) ∙ ap (λ b. other p || b) (sym (same (after_move p column))) ∙ h
+
+ends_same : (e f : End) → same_end e f ≡ true → e ≡ f
+ends_same White White h = refl
+ends_same White Black h = cc
+ends_same White Draw h = cc
+ends_same Black White h = cc
+ends_same Black Black h = refl
+ends_same Black Draw h = cc
+ends_same Draw White h = cc
+ends_same Draw Black h = cc
+ends_same Draw Draw h = refl
+
+ends_apart : (e f : End) → same_end e f ≡ false → f ≢ e
+ends_apart White White h same = cc
+ends_apart Black Black h same = cc
+ends_apart Draw Draw h same = cc
+ends_apart White Black h same = cc
+ends_apart White Draw h same = cc
+ends_apart Black White h same = cc
+ends_apart Black Draw h same = cc
+ends_apart Draw White h same = cc
+ends_apart Draw Black h same = cc
+
+-- nothing is worse than a loss, and nothing better than a win
+at_loss : (side : Side) (e : End) → worth side e ≤ worth side (win_of (other side)) → e ≡ win_of (other side)
+at_loss sides.White White h = absurd (omega (arith, h))
+at_loss sides.White Black h = refl
+at_loss sides.White Draw h = absurd (omega (arith, h))
+at_loss sides.Black White h = refl
+at_loss sides.Black Black h = absurd (omega (arith, h))
+at_loss sides.Black Draw h = absurd (omega (arith, h))
+
+at_win : (side : Side) (e : End) → worth side (win_of side) ≤ worth side e → e ≡ win_of side
+at_win sides.White White h = refl
+at_win sides.White Black h = absurd (omega (arith, h))
+at_win sides.White Draw h = absurd (omega (arith, h))
+at_win sides.Black White h = absurd (omega (arith, h))
+at_win sides.Black Black h = refl
+at_win sides.Black Draw h = absurd (omega (arith, h))
+
+-- the mark that is made says what it has to
+module _ (may_want : Position → Bool) (p : Position) (column : ℕ) (legal : is_legal p column ≡ true) where
+  q : Position
+  q = after_move p column
+
+  pub mark_says : (before after : Option End) → IsTold may_want p before → IsTold may_want (after_move p column) after
+      → Says may_want p (after_move p column) (mark_by (side_to_move p) before after)
+  mark_says (Some before) (Some after) told later = elim (cases_Bool (same_end before after)) [
+    | inl same ↦ rw same (later ∙ sym (ends_same before after same) ∙ sym told)
+    | inr apart ↦ rw apart (move_worse p column legal (λ e. ends_apart before after apart (sym later ∙ e ∙ told)))
+  ]
+  mark_says (Some before) None told later = elim (cases_Bool (same_end (win_of (other (side_to_move p))) before)) [
+    | inl lost ↦ rw lost (at_end (told ∙ sym (ends_same _ before lost)))
+    | inr not ↦ rw not (or_right (may_want p) (may_want (after_move p column)) later)
+  ]
+    where
+      at_end : value p ≡ win_of (other (side_to_move p)) → value (after_move p column) ≡ value p
+      at_end loss =
+          at_loss (side_to_move p) (value (after_move p column))
+          (subst (λ e. worth (side_to_move p) (value (after_move p column)) ≤ worth (side_to_move p) e) loss (move_no_better p column legal)) ∙ sym loss
+  mark_says None (Some after) told later = elim (cases_Bool (same_end (win_of (side_to_move p)) after)) [
+    | inl won ↦ rw won (at_end (later ∙ sym (ends_same _ after won)))
+    | inr not ↦ rw not (or_left (may_want p) (may_want (after_move p column)) told)
+  ]
+    where
+      at_end : value (after_move p column) ≡ win_of (side_to_move p) → value (after_move p column) ≡ value p
+      at_end win =
+          win ∙ sym (at_win (side_to_move p) (value p)
+          (subst (λ e. worth (side_to_move p) e ≤ worth (side_to_move p) (value p)) win (move_no_better p column legal)))
+  mark_says None None told later = or_left (may_want p) (may_want (after_move p column)) told
+
+-- one more move with its mark
+pub marks_push : (may_want : Position → Bool) (p q : Position) (columns : List ℕ) (marks : List Mark) (column : ℕ) (mark : Mark) → played p columns ≡ Some q
+    → AreMarks may_want p columns marks → Says may_want q (after_move q column) mark → AreMarks may_want p (columns ++ column ∷ []) (marks ++ mark ∷ [])
+marks_push may_want p q [] [] column mark along marked says =
+    let same : p ≡ q = cc in (subst (λ p. Says may_want p (after_move p column) mark) (sym same) says, tt)
+marks_push may_want p q [] (first ∷ marks) column mark along marked says = absurd marked
+marks_push may_want p q (c ∷ columns) [] column mark along marked says = absurd marked
+marks_push may_want p q (c ∷ columns) (first ∷ marks) column mark along marked says =
+    (marked.0, marks_push may_want (after_move p c) q columns marks column mark (later along) marked.1 says)
+  where
+    later : played p (c ∷ columns) ≡ Some q → played (after_move p c) columns ≡ Some q
+    later h = elim (chosen (is_legal p c) (played (after_move p c) columns) None (Some q) h) [
+      | inl going ↦ going.1
+      | inr ended ↦ cc
+    ]
