@@ -13,7 +13,8 @@ use Rattle.plan_text.specs.PlanLine.{PlanFits, plan_text}
 use Rattle.plan_text.proofs.PlanLines.{plan_spelled, plan_length}
 use Rattle.proof_text.specs.Spelling.{longest_line}
 use Rattle.proof_text.specs.Texts.{pieces, game_of, behind_game}
-use Rattle.play_text.specs.Play.{PlayEnd, NoMove, AllPlayed, NoReply, move_line, Played, behind, column_in, move_refusal, Turn, with_turn, with_move, turns_from}
+use Rattle.play_text.specs.Play.{PlayEnd, NoMove, AllPlayed, NoReply, move_line, Played, behind, column_in, move_refusal, Turn, with_turn}
+use Rattle.play_text.specs.Play.{with_move, turns_from}
 use Rattle.play_text.specs.Play.{plan_turn, play_from, first_move, plan_in, play_by, play_list, play_lines, play_game, play_of}
 use Rattle.play_text.specs.Told.{TellsPlay, IsTold}
 use Rattle.play_text.specs.declared.PlayFault.{PlayFault}

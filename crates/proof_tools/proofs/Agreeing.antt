@@ -1,5 +1,6 @@
 -- The marks that are made are those of the test of what is reached, and the new numbers are ranks.
-use Rattle.std.proofs.Common.{◌≡◌, ◌≢◌, ◌⊎◌, ℕ, zero, suc, ◌+◌, ◌-◌, ◌<◌, ◌≤◌, Bool, true, false, not, ◌||◌, ◌==◌, cond, List, [], ◌∷◌, ◌++◌, length, map, set, get_or, drop}
+use Rattle.std.proofs.Common.{◌≡◌, ◌≢◌, ◌⊎◌, ℕ, zero, suc, ◌+◌, ◌-◌, ◌<◌, ◌≤◌, Bool, true, false, not, ◌||◌, ◌==◌, cond, List, [], ◌∷◌, ◌++◌}
+use Rattle.std.proofs.Common.{length, map, set, get_or, drop}
 use Rattle.std.proofs.Common.{replicate, append-nil, Option, Some, None, option_map, refl, sym, ap, ◌∙◌, subst, inl, inr, arith, add-one}
 use Rattle.std.specs.List.{AllByRecursion, list_any, slice_get}
 use Rattle.std.proofs.lemmas.Bool.{cases_eq, cases_lt, both_ways, eq-eqb, ne_eqb}
@@ -8,7 +9,8 @@ use Rattle.game_rules.proofs.Lists.{cons_same}
 use Rattle.proof_text.specs.Lemma.{Reason, Lemma}
 use Rattle.proof_text.specs.declared.Verdict.{Verdict}
 use Rattle.tool_text.specs.Trim.{numbers_cited, numbers_named, IsEarlier, CitesEarlier, has_number, with_cites, wanted_by, is_reached, rank}
-use Rattle.proof_tools.specs.Reach.{mark_at, new_number, reach_of, with_mark, marked, passed, all_passed, numbers_from, is_some_number, reach_kept, IsReach, AreWithin}
+use Rattle.proof_tools.specs.Reach.{mark_at, new_number, reach_of, with_mark, marked, passed, all_passed, numbers_from, is_some_number, reach_kept}
+use Rattle.proof_tools.specs.Reach.{IsReach, AreWithin}
 
 -- the marks are of the numbers that are wanted
 abbrev pub Agree : List Bool → List ℕ → Type 0
@@ -49,7 +51,8 @@ pub within_with : (marks : List Bool) (n : ℕ) (ns : List ℕ) → AreWithin (l
 within_with marks n ns within = subst (λ k. AreWithin k ns) (sym (length_with marks n)) within
 
 -- a number is marked where it was, or is among those that are
-marked_says : (ns : List ℕ) (marks : List Bool) → AreWithin (length marks) ns → (m : ℕ) → 1 ≤ m → mark_at (marked marks ns) m ≡ (has_number ns m || mark_at marks m)
+marked_says : (ns : List ℕ) (marks : List Bool) → AreWithin (length marks) ns → (m : ℕ) → 1 ≤ m
+    → mark_at (marked marks ns) m ≡ (has_number ns m || mark_at marks m)
 marked_says [] marks within m least = refl
 marked_says (n ∷ ns) marks within m least =
     marked_says ns (with_mark marks n) (within_with marks n ns within.1) m least
@@ -121,7 +124,8 @@ rank_first false marks zero = refl
 rank_first b marks (suc i) = of (mark_at marks (suc i)) (rank_first b marks i)
   where
     of : (c : Bool) → rank (mark_at (b ∷ marks)) (suc i) ≡ cond b 1 0 + rank (mark_at marks) i
-        → cond c (rank (mark_at (b ∷ marks)) (suc i) + 1) (rank (mark_at (b ∷ marks)) (suc i)) ≡ cond b 1 0 + cond c (rank (mark_at marks) i + 1) (rank (mark_at marks) i)
+        → cond c (rank (mark_at (b ∷ marks)) (suc i) + 1) (rank (mark_at (b ∷ marks)) (suc i)) ≡ cond b 1 0 + cond c (rank (mark_at marks) i + 1)
+        (rank (mark_at marks) i)
     of true same = omega (arith, same)
     of false same = same
 
@@ -241,7 +245,8 @@ marks_tested v ls ordered named = by_marks v ls ls (all_passed start ls) (length
 
     agree : Agree start (numbers_named v)
     agree n least most =
-        marks_more (numbers_named v) (replicate (length ls) false) [] (subst (λ k. AreWithin k (numbers_named v)) (sym none) named) (none_agree (length ls)) n least most
+        marks_more (numbers_named v) (replicate (length ls) false) [] (subst (λ k. AreWithin k (numbers_named v)) (sym none) named)
+        (none_agree (length ls)) n least most
         ∙ ap (λ ns. has_number ns n) (append-nil (numbers_named v))
 
     tested : (i : ℕ) → i < length ls → get_or (all_passed start ls) i false ≡ is_reached ls v (1 + i)

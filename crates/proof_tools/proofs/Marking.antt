@@ -15,7 +15,8 @@ use Rattle.tool_text.proofs.Marking.{move_no_better, move_worse}
 use Rattle.proof_tools.specs.Marked.{IsTold, mark_by}
 
 -- what is told is told of the same meaning
-pub told_kept : (some other : Position → Bool) (p : Position) (told : Option End) → ((q : Position) → other q ≡ some q) → IsTold other p told → IsTold some p told
+pub told_kept : (some other : Position → Bool) (p : Position) (told : Option End) → ((q : Position) → other q ≡ some q) → IsTold other p told
+    → IsTold some p told
 told_kept some other p None same h = sym (same p) ∙ h
 told_kept some other p (Some end) same h = h
 

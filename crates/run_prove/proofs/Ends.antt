@@ -30,7 +30,8 @@ proves_game version nodes reach slots s p heard ended game (Ok (verdicts.Draw wh
     (record { position = p; game = game; verdict = verdicts.Draw white black; known = λ e. cc; text = h.0; proof = h.1; written = h.2 }, ended)
 proves_game version nodes reach slots s p heard ended game (Ok verdicts.Unknown) h short =
     (record { position = p; game = game; short = short refl; text = h.0; proof = h.1; written = h.2 }, ended)
-proves_game version nodes reach slots s p heard ended game (Err failed) h short = (record { position = p; game = game; text = h.0; stands = h.1; written = h.2 }, ended)
+proves_game version nodes reach slots s p heard ended game
+    (Err failed) h short = (record { position = p; game = game; text = h.0; stands = h.1; written = h.2 }, ended)
 
 pub prove_completes : (version : Version) (nodes reach : ℕ) (slots : Option ℕ) (s : Streams) (end : Proved) → Proves version nodes reach slots s end
     → (end ≡ Input stops.Read → ⊥) → (end ≡ Write → ⊥) → ProveCompletes nodes reach s.input (proved_status end)
@@ -49,7 +50,8 @@ prove_completes version nodes reach slots s Write o unread unwritten = absurd (u
 prove_completes version nodes reach slots s Memory o unread unwritten = of_each s.input _ (λ bytes p game cheap. inr refl)
 
 -- however it ends, what the sink held stands there still
-pub prove_held : (version : Version) (nodes reach : ℕ) (slots : Option ℕ) (s : Streams) (end : Proved) → Proves version nodes reach slots s end → StillHolds s.old s.new
+pub prove_held : (version : Version) (nodes reach : ℕ) (slots : Option ℕ) (s : Streams) (end : Proved) → Proves version nodes reach slots s end
+    → StillHolds s.old s.new
 prove_held version nodes reach slots s Value o = appended_still s.old s.new _ o.holds.0.written
 prove_held version nodes reach slots s Unknown o = appended_still s.old s.new _ o.holds.0.written
 prove_held version nodes reach slots s Write o = cut_still s.old s.new _ o.holds.0.written

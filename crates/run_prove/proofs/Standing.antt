@@ -50,7 +50,8 @@ stands_all b old mid held new head remark white also black last first both rest 
         append_assoc remark (white ++ (also ++ black)) last
         ∙ ap (λ text. remark ++ text) (append_assoc white (also ++ black) last ∙ ap (λ text. white ++ text) (append_assoc also black last))
 
-module _ (version : Version) (nodes reach : ℕ) (slots : Option ℕ) (bytes : List ℕ) (p : Position) (game : IsGameText bytes p) (small : nodes ≤ greatest_number) where
+module _ (version : Version) (nodes reach : ℕ) (slots : Option ℕ) (bytes : List ℕ) (p : Position) (game : IsGameText bytes p)
+    (small : nodes ≤ greatest_number) where
   abbrev the_head : List ℕ
   the_head = head_of version game.board game.columns
 
@@ -113,7 +114,8 @@ module _ (version : Version) (nodes reach : ℕ) (slots : Option ℕ) (bytes : L
       )
 
   -- the head was cut
-  pub writes_head : (old new : Option (List ℕ)) (failed : Failed) → AppendsPrefix false old new the_head → Writes version nodes reach slots bytes p old new (Err failed)
+  pub writes_head : (old new : Option (List ℕ)) (failed : Failed) → AppendsPrefix false old new the_head
+      → Writes version nodes reach slots bytes p old new (Err failed)
   writes_head old new failed stands = (
     the_head,
     record {
@@ -128,7 +130,8 @@ module _ (version : Version) (nodes reach : ℕ) (slots : Option ℕ) (bytes : L
   )
 
   -- a remark or a lemma was cut
-  pub writes_lemmas : (old mid new : Option (List ℕ)) (failed : Failed) (asks : Asks version p nodes reach slots mid new (Err WriteFault)) → Appends old mid the_head
+  pub writes_lemmas : (old mid new : Option (List ℕ)) (failed : Failed) (asks : Asks version p nodes reach slots mid new (Err WriteFault))
+      → Appends old mid the_head
       → Writes version nodes reach slots bytes p old new (Err failed)
   writes_lemmas old mid new failed asks head =
       let text = the_head ++ middle mid new (Err WriteFault) asks in (

@@ -184,7 +184,8 @@ module _ (version : Version) (root : Position) (nodes reach : ℕ) (slots : Opti
 
   -- White wins
   pub asks_white : (answer : Answer) (to_move : Side) (v : Verdict)
-      → AsksSide version root White reach slots [] most (moment before old) (moment after new) total (Ok answer) → answer.yes ≡ true → to_move ≡ side_to_move root
+      → AsksSide version root White reach slots [] most (moment before old) (moment after new) total (Ok answer) → answer.yes ≡ true
+      → to_move ≡ side_to_move root
       → wins White root ≡ true → v ≡ won_by White to_move answer.lemma → Asks version root nodes reach slots old new (Ok v)
   asks_white answer to_move v white won turn wins_root told = record {
     white_remark = white.remark;
@@ -213,7 +214,8 @@ module _ (version : Version) (root : Position) (nodes reach : ℕ) (slots : Opti
     few = omega (arith, white.few, within);
   }
 
-module _ (version : Version) (root : Position) (nodes reach : ℕ) (slots : Option ℕ) (before mid after : Entries) (old held new : Option (List ℕ)) (total : ℕ) (first : Answer)
+module _ (version : Version) (root : Position) (nodes reach : ℕ) (slots : Option ℕ) (before mid after : Entries) (old held new : Option (List ℕ))
+    (total : ℕ) (first : Answer)
     (begun : ℕ) (white : AsksSide version root White reach slots [] begun (moment before old) (moment mid held) total (Ok first)) (none : first.yes ≡ false)
     (most counted : ℕ) (within : most ≤ nodes) where
   white_fails : Shows white.shown first.lemma root (claim_for White false)
@@ -309,7 +311,8 @@ same_stop r stop other h k = cc
 -- ---- where the questions are put
 
 -- White's question begins with nothing known, over a table without entries
-pub asked_first : (version : Version) (p : Position) (reach : ℕ) (slots : Option ℕ) (count nodes total : ℕ) (table : Entries) (bytes : Option (List ℕ)) (new : Moment)
+pub asked_first : (version : Version) (p : Position) (reach : ℕ) (slots : Option ℕ) (count nodes total : ℕ) (table : Entries) (bytes : Option (List ℕ))
+    (new : Moment)
     (asked read : Result Answer SearchStop) → count ≡ 0 → table.entries ≡ [] → asked ≡ read
     → ((known : List Shown) → length known ≡ count → FitsTable table known
     → AsksSide version p White reach slots known (count + nodes) (moment table bytes) new total asked)
@@ -318,19 +321,22 @@ asked_first version p reach slots count nodes total table bytes new asked read n
     subst (AsksSide version p White reach slots [] (count + nodes) (moment table bytes) new total) same (asks [] (sym none) (fits_if_empty table [] empty))
 
 -- what was asked of a position was asked of the same one, with the same result
-pub asked_of : (version : Version) (p q : Position) (nodes reach : ℕ) (slots : Option ℕ) (old new : Option (List ℕ)) (asked read : Result Verdict SearchStop) → p ≡ q → asked ≡ read
+pub asked_of : (version : Version) (p q : Position) (nodes reach : ℕ) (slots : Option ℕ) (old new : Option (List ℕ))
+    (asked read : Result Verdict SearchStop) → p ≡ q → asked ≡ read
     → Asks version p nodes reach slots old new asked → Asks version q nodes reach slots old new read
 asked_of version p q nodes reach slots old new asked read here same asks = rw (sym here, sym same) asks
 
 -- ---- the value alone
 
 -- what both questions answer is true of their position, and nothing is known of it only where the budget was spent
-pub told_true : (version : Version) (p : Position) (nodes reach : ℕ) (old new : Option (List ℕ)) (asked : Result Verdict SearchStop) → Asks version p nodes reach None old new asked
+pub told_true : (version : Version) (p : Position) (nodes reach : ℕ) (old new : Option (List ℕ)) (asked : Result Verdict SearchStop)
+    → Asks version p nodes reach None old new asked
     → IsTrueVerdict p (result_unwrap_or asked Unknown)
 told_true version p nodes reach old new (Ok v) asks = asked_truth version p nodes reach None old new (Ok v) asks v asks.verdict.0
 told_true version p nodes reach old new (Err stop) asks = tt
 
-pub told_unknown : (version : Version) (p : Position) (nodes reach : ℕ) (old new : Option (List ℕ)) (asked : Result Verdict SearchStop) → Asks version p nodes reach None old new asked
+pub told_unknown : (version : Version) (p : Position) (nodes reach : ℕ) (old new : Option (List ℕ)) (asked : Result Verdict SearchStop)
+    → Asks version p nodes reach None old new asked
     → (asked ≡ Err Spent → nodes < cost (solved_within reach) p) → (asked ≡ Err WriteFault → ⊥)
     → result_unwrap_or asked Unknown ≡ Unknown → nodes < cost (solved_within reach) p
 told_unknown version p nodes reach old new (Ok v) asks short never unknown = absurd (asks.verdict.1 unknown)

@@ -45,7 +45,8 @@ module _ (root : Position) (old new : Option (List ℕ)) where
         written = put;
         goes = λ lines.
             told.goes lines
-            ∙ ap (λ (player : ThreatGame). behind (threat_line threat.group threat.pairs ∷ []) (answers_from player.threat.pairs player.stands first_move lines))
+            ∙ ap (λ (player : ThreatGame). behind (threat_line threat.group threat.pairs ∷ [])
+            (answers_from player.threat.pairs player.stands first_move lines))
             (sym begins.0);
       }
   puts_threat threat before after (Err stop) found put begins cut =

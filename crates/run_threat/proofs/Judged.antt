@@ -66,7 +66,8 @@ pub game_caused : (a b : Pending) (before after write_before write_after : ℕ) 
     → IsCaused before after write_before write_after (stops.Input why)
 game_caused a b before after write_before write_after why game = by_game _ why (game.fact [] (λ _. refl)).1
   where
-    by_game : (read : Result Position InputFault) (why : InputStop) → StopsGame read before after why → IsCaused before after write_before write_after (stops.Input why)
+    by_game : (read : Result Position InputFault) (why : InputStop) → StopsGame read before after why
+        → IsCaused before after write_before write_after (stops.Input why)
     by_game read (inputs.NoGame fault) h = tt
     by_game read inputs.Read h = h
 
@@ -84,7 +85,8 @@ head_besides before after stops.Write h = refl
 head_besides before after (stops.Input why) h = absurd h
 head_besides before after (stops.NoMove fault) h = absurd h
 
-pub head_caused : (read_before read_after before after : ℕ) (stop : ThreatStop) → StopsHead before after stop → IsCaused read_before read_after before after stop
+pub head_caused : (read_before read_after before after : ℕ) (stop : ThreatStop) → StopsHead before after stop
+    → IsCaused read_before read_after before after stop
 head_caused read_before read_after before after stops.NoThreat h = tt
 head_caused read_before read_after before after stops.Write h = h
 head_caused read_before read_after before after (stops.Input why) h = absurd h
@@ -148,7 +150,8 @@ turns_cause read_before mid read_after write_before write_mid write_after result
 module _ (a b c : Pending) (player : ThreatGame) (head : List ℕ) (lines : List (List ℕ))
     (start : Reads a b (λ bytes rest. PassesLines 2 bytes rest × (threat_of bytes ≡ behind (head ∷ []) (played_from player first_move rest)))) where
   moves_stop : (stop : TurnStop) → Reads b c (PlaysTurns {T = ⊤} threat_stands player_turn player first_move (Err stop) lines)
-      → Reads a c (λ bytes rest. PassesLines (lines_besides (of_turns stop) + length lines) bytes rest × StopsPlay (threat_of bytes) (head ∷ lines) (of_turns stop))
+      → Reads a c (λ bytes rest. PassesLines (lines_besides (of_turns stop) + length lines) bytes rest
+      × StopsPlay (threat_of bytes) (head ∷ lines) (of_turns stop))
   moves_stop stop moves =
       Reads_then a b c _ _ _ start moves (λ bytes mid rest p q. let n = passed_by stop (length lines) in (
         passes_most (2 + n) (lines_besides (of_turns stop) + length lines) bytes rest (omega (arith, turns_passed stop (length lines)))

@@ -19,7 +19,8 @@ legal_square : (q : Position) (column : ℕ) (last : Square) → is_legal q colu
 legal_square q column last legal lowest = same_Some (top_of q column) last (sym (rw (legal_parts q column legal).1 refl) ∙ lowest)
 
 -- Black's man stands there
-pub moved_to : (threat : Threatened) (q now : Position) (column : ℕ) (last : Square) → IsUnderWay threat q → is_legal q column ≡ true → now ≡ after_move q column
+pub moved_to : (threat : Threatened) (q now : Position) (column : ℕ) (last : Square) → IsUnderWay threat q → is_legal q column ≡ true
+    → now ≡ after_move q column
     → lowest_empty q column ≡ Some last → HasMoved threat now last
 moved_to threat q now column last under legal is lowest =
     subst (HasMoved threat now) (legal_square q column last legal lowest) (record {

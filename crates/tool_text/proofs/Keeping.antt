@@ -11,7 +11,8 @@ use Rattle.proof_text.specs.declared.Claim.{Claim}
 use Rattle.proof_text.specs.declared.Verdict.{Verdict}
 use Rattle.proof_text.specs.declared.Verdict.TheVariants.{Win, Loss, Draw, Unknown}
 use Rattle.proof_text.proofs.Append.{Shows_more, Shows_last}
-use Rattle.tool_text.specs.Trim.{numbers_cited, numbers_named, rank, renumbered_cite, renumbered_reason, renumbered, renumbered_verdict, kept_first, kept_lemmas}
+use Rattle.tool_text.specs.Trim.{numbers_cited, numbers_named, rank, renumbered_cite, renumbered_reason, renumbered, renumbered_verdict}
+use Rattle.tool_text.specs.Trim.{kept_first, kept_lemmas}
 
 -- what a lemma that is kept cites is kept
 abbrev pub IsClosed : (ℕ → Bool) → List Lemma → Type 0
@@ -66,7 +67,8 @@ module _ (keep : ℕ → Bool) (known kept : List Shown) (keeps : Keeps keep kno
       last = subst (λ n. Shows (kept ++ (p, claim) ∷ []) n p claim) (ap (λ n. n + 1) keeps.counted ∙ sym (rank_kept keep (length known) is_kept))
           (Shows_last kept p claim)
 
-      shows : (n : ℕ) (q : Position) (said : Claim) → keep n ≡ true → Shows (known ++ (p, claim) ∷ []) n q said → Shows (kept ++ (p, claim) ∷ []) (rank keep n) q said
+      shows : (n : ℕ) (q : Position) (said : Claim) → keep n ≡ true → Shows (known ++ (p, claim) ∷ []) n q said
+          → Shows (kept ++ (p, claim) ∷ []) (rank keep n) q said
       shows n q said here h = elim (shows_end known n p q claim said h) [
         | inl before ↦ Shows_more kept ((p, claim) ∷ []) (rank keep n) q said (keeps.shows n q said here before)
         | inr at ↦ subst (λ n. Shows (kept ++ (p, claim) ∷ []) (rank keep n) q said) (sym at.0)

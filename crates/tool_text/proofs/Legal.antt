@@ -1,5 +1,6 @@
 -- Moves of a game that are legal one after the other: the first of them, one at a place, and a part of them.
-use Rattle.std.proofs.Common.{◌≡◌, ℕ, ◌+◌, ◌<◌, true, false, List, [], ◌∷◌, ◌++◌, length, take, drop, get_or, Option, Some, None, IsSome, sym, ap, ◌∙◌, subst, inl, inr}
+use Rattle.std.proofs.Common.{◌≡◌, ℕ, ◌+◌, ◌<◌, true, false, List, [], ◌∷◌, ◌++◌, length, take, drop, get_or, Option, Some, None, IsSome, sym, ap}
+use Rattle.std.proofs.Common.{◌∙◌, subst, inl, inr}
 use Rattle.std.proofs.Common.{refl}
 use Rattle.std.proofs.lemmas.Bool.{cases_Bool}
 use Rattle.std.proofs.lemmas.List.{take_more, drop_more}
@@ -29,10 +30,12 @@ next_legal p columns i column low at some =
     (subst (λ columns. IsSome (played p columns)) (drop_more columns i column low ∙ ap (λ c. c ∷ drop (i + 1) columns) (sym at)) some)
 
 -- the moves up to it
-pub next_taken : (columns : List ℕ) (i column : ℕ) → i < length columns → column ≡ get_or columns i column → take (i + 1) columns ≡ take i columns ++ column ∷ []
+pub next_taken : (columns : List ℕ) (i column : ℕ) → i < length columns → column ≡ get_or columns i column
+    → take (i + 1) columns ≡ take i columns ++ column ∷ []
 next_taken columns i column low at = take_more columns i column low ∙ ap (λ c. take i columns ++ c ∷ []) (sym at)
 
-pub played_parts : (p : Position) (xs ys : List ℕ) → IsSome (played p (xs ++ ys)) → IsSome (played p xs) × ((q : Position) → played p xs ≡ Some q → IsSome (played q ys))
+pub played_parts : (p : Position) (xs ys : List ℕ) → IsSome (played p (xs ++ ys)) → IsSome (played p xs)
+    × ((q : Position) → played p xs ≡ Some q → IsSome (played q ys))
 played_parts p [] ys some = (some_here p, λ q same. subst (λ p. IsSome (played p ys)) (same_end same) some)
   where
     some_here : (p : Position) → IsSome (played p [])

@@ -129,10 +129,12 @@ wanted_closed v first (m ∷ ls) ordered l (inl same) wanted n cited =
 
     with_it : Among l.number (wanted_by v ls) → Among n (with_cites (wanted_by v ls) m)
     with_it before =
-        subst (Among n) (sym (with_some (wanted_by v ls) m (number_from (wanted_by v ls) m.number (subst (λ l. Among l.number (wanted_by v ls)) (sym same) before))))
+        subst (Among n) (sym (with_some (wanted_by v ls) m
+        (number_from (wanted_by v ls) m.number (subst (λ l. Among l.number (wanted_by v ls)) (sym same) before))))
         (Among-append_left n (numbers_cited m.reason) (wanted_by v ls) (subst (λ l. Among n (numbers_cited l.reason)) (sym same) cited))
 
-    here : Among l.number (wanted_by v ls) ⊎ (Among m.number (wanted_by v ls) × Among l.number (numbers_cited m.reason)) → Among n (with_cites (wanted_by v ls) m)
+    here : Among l.number (wanted_by v ls) ⊎ (Among m.number (wanted_by v ls) × Among l.number (numbers_cited m.reason))
+        → Among n (with_cites (wanted_by v ls) m)
     here (inl before) = with_it before
     here (inr cites) = absurd (smaller cites.1)
 wanted_closed v first (m ∷ ls) ordered l (inr later) wanted n cited =
@@ -141,7 +143,8 @@ wanted_closed v first (m ∷ ls) ordered l (inr later) wanted n cited =
     before : Among l.number (wanted_by v ls) ⊎ (Among m.number (wanted_by v ls) × Among l.number (numbers_cited m.reason)) → Among l.number (wanted_by v ls)
     before (inl stood) = stood
     before (inr cites) =
-        absurd (not_below first l.number (numbers_cited m.reason) ordered.1 (let more = later_number (first + 1) ls l ordered.2 later in omega (arith, more)) cites.1)
+        absurd (not_below first l.number (numbers_cited m.reason) ordered.1 (let more = later_number (first + 1) ls l ordered.2 later in
+        omega (arith, more)) cites.1)
 
 -- ---- the test and what it finds
 

@@ -21,7 +21,8 @@ loop-column-preserved g c =
     (subst (λ q. IsTold (g.V.Valuer.short c.loop-column.valuer) q c.in_ok-after.after) c.after-next.ensures c.in_ok-after.ensures.told) in
     let mark : c.mark_of.result ≡ mark_by (side_to_move p) c.loop-column.before c.in_ok-after.after =
     c.mark_of.ensures ∙ ap (λ side. mark_by side c.loop-column.before c.in_ok-after.after) c.to_move.ensures in
-    let says = subst (Says short p (after_move p column)) (sym mark) (mark_says short p column next.0 c.loop-column.before c.in_ok-after.after so_far.told after) in
+    let says = subst (Says short p (after_move p column)) (sym mark)
+    (mark_says short p column next.0 c.loop-column.before c.in_ok-after.after so_far.told after) in
     record {
       along =
           ap (played c.args.first) taken ∙ played_push (take i c.args.moves.now) c.args.first p column so_far.along next.0

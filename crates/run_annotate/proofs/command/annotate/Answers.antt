@@ -8,4 +8,5 @@ returns-clause-complete g c = λ unread unwritten.
     (λ failed. unread (ended.read_fault failed)) (λ failed. unwritten (ended.write_fault failed))
 
 pub returns-clause-held : goal.returns-clause-held
-returns-clause-held g c = annotate_held (record { nodes = c.args.nodes; reach = c.args.reach }) c.args.last _ c.annotate_input.result c.annotate_input.ensures.outcome
+returns-clause-held g c = annotate_held (record { nodes = c.args.nodes; reach = c.args.reach }) c.args.last _ c.annotate_input.result
+    c.annotate_input.ensures.outcome

@@ -27,5 +27,6 @@ returns-in-Err-clause-outcome g c =
       new = out;
     } in
     let keeps = Keeps-refl out in
-    no_game Input s (λ taken end. ProvesFrom c.args.version c.args.nodes c.args.reach c.args.slots taken s end) (λ taken fault at whole. (at, whole, keeps)) (λ taken. keeps)
+    no_game Input s (λ taken end. ProvesFrom c.args.version c.args.nodes c.args.reach c.args.slots taken s end)
+    (λ taken fault at whole. (at, whole, keeps)) (λ taken. keeps)
     c.in-Err.stop c.in-Err.ensures.takes

@@ -17,7 +17,8 @@ returns-in_err-put_all-clause-written g c = λ text is_text.
     let same = err_from_is_err_and c.from_residual.result c.from_residual.ensures.1 in
     let game = c.args.game.now in
     let head = c.as_slice.ensures.value ∙ c.head_of.ensures in
-    rw same.1 (writes_head c.args.version c.args.nodes c.args.reach (slots_of c.args.front.now) text game.position (game_in_grammar text game is_text) c.requires.nodes _ _
+    rw same.1 (writes_head c.args.version c.args.nodes c.args.reach (slots_of c.args.front.now) text game.position
+    (game_in_grammar text game is_text) c.requires.nodes _ _
     same.0
     (subst (AppendsPrefix false (g.O.Sink.written c.args.out.now) (g.O.Sink.written c.put_all.new.out)) head c.in_err-put_all.ensures.bytes))
 
@@ -51,5 +52,6 @@ returns-in-Err-WriteFault-clause-written g c = λ text is_text.
     let head = c.as_slice.ensures.value ∙ c.head_of.ensures in
     let stop = ap (λ stop. Err stop) c.in-Err-WriteFault.field-0-is in
     let asks = asked_of c.args.version _ game.position _ _ _ _ _ _ (Err WriteFault) c.position.ensures.position stop c.in-Err-WriteFault.ensures.asked in
-    writes_lemmas c.args.version c.args.nodes c.args.reach (slots_of c.args.front.now) text game.position (game_in_grammar text game is_text) c.requires.nodes _ _ _ _ asks
+    writes_lemmas c.args.version c.args.nodes c.args.reach (slots_of c.args.front.now) text game.position
+    (game_in_grammar text game is_text) c.requires.nodes _ _ _ _ asks
     (subst (Appends (g.O.Sink.written c.args.out.now) (g.O.Sink.written c.put_all.new.out)) head c.in_ok-put_all.ensures.bytes)

@@ -16,7 +16,8 @@ pub returns-in_err-white-clause-asked : goal.returns-in_err-white-clause-asked
 returns-in_err-white-clause-asked g c =
     let same = err_from_is_err_and c.from_residual.result c.from_residual.ensures.1 in
     let white = asked_first c.args.version _ _ _ _ c.args.nodes _ _ _ _ _ _ c.new-lemmas.ensures c.requires.empty c.in_err-white.was c.ask_side.ensures.asked in
-    rw (same.1 ∙ ap (λ e. Err e) same.2) (asks_none c.args.version c.args.position.now c.args.nodes c.args.reach (slots_of c.args.front.now) _ _ _ _ c.ask_side.new.lemmas _
+    rw (same.1 ∙ ap (λ e. Err e) same.2) (asks_none c.args.version c.args.position.now c.args.nodes c.args.reach
+    (slots_of c.args.front.now) _ _ _ _ c.ask_side.new.lemmas _
     (omega (arith, c.new-lemmas.ensures)) c.in_err-white.field-0.0 white (λ spent. c.ask_side.ensures.spent (c.in_err-white.was ∙ ap (λ e. Err e) spent)))
 
 pub returns-in_err-white-clause-spent : goal.returns-in_err-white-clause-spent
@@ -30,7 +31,8 @@ returns-in_err-white-clause-spent g c spent =
 pub returns-then-white-clause-asked : goal.returns-then-white-clause-asked
 returns-then-white-clause-asked g c =
     let white = asked_first c.args.version _ _ _ _ c.args.nodes _ _ _ _ _ _ c.new-lemmas.ensures c.requires.empty c.in_ok-white.was c.ask_side.ensures.asked in
-    asks_white c.args.version c.args.position.now c.args.nodes c.args.reach (slots_of c.args.front.now) _ _ _ _ c.ask_side.new.lemmas _ (omega (arith, c.new-lemmas.ensures))
+    asks_white c.args.version c.args.position.now c.args.nodes c.args.reach (slots_of c.args.front.now) _ _ _ _ c.ask_side.new.lemmas _
+    (omega (arith, c.new-lemmas.ensures))
     c.in_ok-white.white c.to_move.result c.won_by.result white c.if-white.true c.to_move.ensures (sym c.in_ok-white.ensures.answer ∙ c.if-white.true)
     c.won_by.ensures
 
@@ -44,7 +46,8 @@ returns-clause-asked g c =
     record { most = c.new-lemmas.result + c.args.nodes; answer = c.in_ok-white.white; is_lemma = refl; is_no = c.if-white.false; asked = white } in
     let same_slots = c.turn_to_black.ensures.slots ∙ c.ask_side.ensures.slots in
     let within : c.ask_side.new.lemmas + c.ask_side.new.budget ≤ c.args.nodes = omega (arith, c.in_ok-white.ensures.few, c.new-lemmas.ensures) in
-    subst (λ slots. Asks c.args.version p c.args.nodes c.args.reach slots (g.O.Sink.written c.args.out.now) (g.O.Sink.written c.ask_black.new.out) c.ask_black.result)
+    subst (λ slots. Asks c.args.version p c.args.nodes c.args.reach slots (g.O.Sink.written c.args.out.now)
+    (g.O.Sink.written c.ask_black.new.out) c.ask_black.result)
     same_slots (c.ask_black.ensures.asked c.args.nodes before within
     (subst (λ slots. AnswersNo c.args.version p c.args.reach slots c.in_ok-white.white.lemma before held c.ask_side.new.lemmas) (sym same_slots) no))
 

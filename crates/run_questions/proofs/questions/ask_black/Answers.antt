@@ -16,7 +16,8 @@ returns-in_err-black-clause-asked g c = λ nodes before within white.
     let black = subst (λ r. AsksSide c.args.version c.args.position.now Black c.args.reach (slots_of c.args.front.now) white.asked.shown most
     (moment c.args.table.now (g.O.Sink.written c.args.out.now)) (moment c.ask_side.new.table (g.O.Sink.written c.ask_side.new.out)) c.ask_side.new.lemmas r)
     c.in_err-black.was (c.ask_side.ensures.asked white.asked.shown white.asked.counted white.asked.fits) in
-    rw (same.1 ∙ ap (λ e. Err e) same.2) (asks_one c.args.version c.args.position.now nodes c.args.reach (slots_of c.args.front.now) _ _ _ _ _ _ c.args.lemmas.now
+    rw (same.1 ∙ ap (λ e. Err e) same.2) (asks_one c.args.version c.args.position.now nodes c.args.reach
+    (slots_of c.args.front.now) _ _ _ _ _ _ c.args.lemmas.now
     white.answer white.most white.asked white.is_no most c.ask_side.new.lemmas within c.in_err-black.field-0.0 black)
 
 pub returns-in_err-black-clause-spent : goal.returns-in_err-black-clause-spent
@@ -31,7 +32,8 @@ returns-then-black-clause-asked g c = λ nodes before within white.
     let black = subst (λ r. AsksSide c.args.version c.args.position.now Black c.args.reach (slots_of c.args.front.now) white.asked.shown most
     (moment c.args.table.now (g.O.Sink.written c.args.out.now)) (moment c.ask_side.new.table (g.O.Sink.written c.ask_side.new.out)) c.ask_side.new.lemmas r)
     c.in_ok-black.was (c.ask_side.ensures.asked white.asked.shown white.asked.counted white.asked.fits) in
-    asks_black c.args.version c.args.position.now nodes c.args.reach (slots_of c.args.front.now) _ _ _ _ _ _ c.args.lemmas.now white.answer white.most white.asked white.is_no
+    asks_black c.args.version c.args.position.now nodes c.args.reach
+    (slots_of c.args.front.now) _ _ _ _ _ _ c.args.lemmas.now white.answer white.most white.asked white.is_no
     most c.ask_side.new.lemmas within c.in_ok-black.black black c.to_move.result c.won_by.result c.if-black.true c.to_move.ensures c.won_by.ensures
 
 pub returns-clause-asked : goal.returns-clause-asked

@@ -22,7 +22,8 @@ returns-clause-answered c =
     let next_is = c.after-self-inside.ensures ∙ ap (after_move c.in_ok-now.now) c.column.ensures in
     let told = c.turn_line.ensures ∙ ap (answer_line c.unwrap-last.result c.reply-white.result) c.ended.ensures in
     let From : ThreatGame → Type 0 = λ old. player_turn old c.args.column ≡ Some (c.turn_line.result.items, record { threat = threat; stands = next }) in
-    subst From c.self.view_is (turn_answered threat q c.args.column c.self.invariant made.0 c.in_ok-now.now next c.unwrap-last.result c.reply-white.result made.1
+    subst From c.self.view_is (turn_answered threat q c.args.column c.self.invariant made.0 c.in_ok-now.now next c.unwrap-last.result
+    c.reply-white.result made.1
     (sym c.playable.ensures ∙ c.unwrap-last.ensures) c.reply-white.ensures.reply next_is c.turn_line.result.items told)
 
 pub returns-clause-fewer : goal.returns-clause-fewer
