@@ -19,7 +19,7 @@ use Rattle.plan_rules.proofs.Theorems.{plan_answers, plan_kept}
 use Rattle.plan_rules.proofs.Turns.{playable_room}
 use Rattle.plan_rules.proofs.Plans.{plan_gives}
 use Rattle.proof_text.specs.Lemma.{claim_side, claims_win, agrees, claim_of_end, Cite, Reason, ByEnd, ByOne, ByAll, ByPlan, ByMirror, Lemma}
-use Rattle.proof_text.specs.Right.{Shown, Shows, IsCited, HasReason, AreRight, goes_by_one}
+use Rattle.proof_text.specs.Right.{Shown, Shows, IsCited, FollowsFromAll, HasReason, AreRight, goes_by_one}
 use Rattle.proof_text.proofs.Sound.{AreTrue_none, true_lemmas}
 use Rattle.proof_text.specs.declared.Claim.{Claim}
 use Rattle.proof_text.specs.declared.Claim.TheVariants.{WhiteWins, WhiteFails, BlackWins, BlackFails}
@@ -169,6 +169,29 @@ module _ (root : Position) (ls : List Lemma) (after : List Shown) (claim : Claim
             follows = shows;
           }
 
+  -- a legal column is cited, and the lemma shows the claim of the position after it
+  pub cited_for : (cites : List Cite) (turned : Bool) (q : Position) (column : ℕ) → FollowsFromAll after (seen turned q) claim cites → is_legal q column ≡ true
+      → (cite : Cite) × (cite_for cites (seen_column turned (length q.columns) column) ≡ Some cite)
+      × Shows after cite.lemma (seen turned (after_move q column)) claim
+  cited_for cites turned q column h legal =
+      let room = (legal_parts q column legal).1 in
+      let within : column < length q.columns = room_column q column room in
+      let at = seen_column turned (length q.columns) column in
+      let free : has_room (seen turned q) at ≡ true = seen_room turned q column within ∙ room in
+      let found = cite_of cites (open_columns (seen turned q)) at after (seen turned q) claim h.playable
+          (Among-filter (has_room (seen turned q)) (below (length (seen turned q).columns)) at
+          (Among-below (length (seen turned q).columns) at (room_column (seen turned q) at free)) free) h.cited in
+      (found.0, found.1, subst (λ p. Shows after found.0.lemma p claim) (seen_after turned q column within) found.2)
+
+  -- and it names a move, where the game goes on
+  pub cited_answer : (n : ℕ) (turned : Bool) (q : Position) (column : ℕ) → Shows after n (seen turned (after_move q column)) claim
+      → side_to_move q ≡ other (served_by claim) → is_legal q column ≡ true → end_of (after_move q column) ≡ None
+      → HasMove after claim (after_move q column) (own_move_at ls (length q.columns) n turned)
+  cited_answer n turned q column shows turn legal going =
+      let within : column < length q.columns = room_column q column (legal_parts q column legal).1 in
+      subst (λ cols. HasMove after claim (after_move q column) (own_move_at ls cols n turned)) (cols_moved q column)
+      (own_answer n turned (after_move q column) shows (side_moved q column within ∙ ap other turn ∙ other_other (served_by claim)) going)
+
   -- After a legal move of the other side's the claim is held, and while the game goes on the move is answered.
   pub answered : (s : Following) (q : Position) (column : ℕ) → Follows after claim s q → side_to_move q ≡ other (served_by claim) → is_legal q column ≡ true
       → IsHeld claim (after_move q column) × (end_of (after_move q column) ≡ None → HasMove after claim (after_move q column) (answer_to ls s q column))
@@ -188,19 +211,9 @@ module _ (root : Position) (ls : List Lemma) (after : List Shown) (claim : Claim
           × (end_of (after_move q column) ≡ None → HasMove after c (after_move q column) (plan_move ws turned q column))) (sym h.claimed)
           (λ e ended. (let none : None ≡ Some e = sym made.0 ∙ ended in absurd (cc none)), λ going. made.1)
       of_reason (ByAll cites) turned plain h =
-          let room = (legal_parts q column legal).1 in
-          let within : column < length q.columns = room_column q column room in
-          let at = seen_column turned (length q.columns) column in
-          let free : has_room (seen turned q) at ≡ true = seen_room turned q column within ∙ room in
-          let found = cite_of cites (open_columns (seen turned q)) at after (seen turned q) claim h.playable
-          (Among-filter (has_room (seen turned q)) (below (length (seen turned q).columns)) at
-          (Among-below (length (seen turned q).columns) at (room_column (seen turned q) at free)) free) h.cited in
-          let shows : Shows after found.0.lemma (seen turned (after_move q column)) claim =
-          subst (λ p. Shows after found.0.lemma p claim) (seen_after turned q column within) found.2 in (
-            held_shown found.0.lemma turned (after_move q column) shows,
-            λ going. rw found.1 (subst (λ n. HasMove after claim (after_move q column) (own_move_at ls n found.0.lemma turned)) (cols_moved q column)
-                (own_answer found.0.lemma turned (after_move q column) shows
-                (side_moved q column within ∙ ap other turn ∙ other_other (served_by claim)) going)),
+          let found = cited_for cites turned q column h legal in (
+            held_shown found.0.lemma turned (after_move q column) found.2,
+            λ going. rw found.1 (cited_answer found.0.lemma turned q column found.2 turn legal going),
           )
 
       of_place : (place : Place) → FollowsAt after claim place (seen s.turned q)

@@ -34,8 +34,8 @@ returns c =
     let within : n - 1 < length a.entries.items = omega (arith, c.requires.from, c.requires.to, count) in
     ap (λ ls. option_map (λ (l : Lemma). l.path) (slice_get ls (n - 1))) (sym c.self.view_is)
     ∙ ap (option_map (λ (l : Lemma). l.path))
-    (found_entry a.columns.items a.cites.items a.members.items a.entries.items n
-    (n - 1) c.index-entry.result.now c.requires.from refl within c.index-entry.ensures)
+    (found_entry a.columns.items a.cites.items a.members.items a.entries.items n (n - 1) c.index-entry.result.now c.requires.from refl within
+    c.index-entry.ensures)
     ∙ ap (λ (path : List ℕ). Some path)
     (sym (c.part_of.ensures ∙ ap (λ (all : List ℕ). part all c.index-entry.result.now.path_at c.from.result) c.deref.ensures.value
     ∙ ap (part a.columns.items c.index-entry.result.now.path_at) c.from.ensures))

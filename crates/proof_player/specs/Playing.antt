@@ -1,0 +1,76 @@
+-- A game that is followed by the lemmas of a book: where it stands, and what a move makes of it.
+use Rattle.std.specs.Prelude.{◌≡◌, ℕ, Bool, true, List, [], length, Option, Some, None, if◌then◌else◌}
+use Rattle.game_rules.specs.Position.{Position, end_of, is_legal, after_move}
+use Rattle.game_rules.specs.Value.{win_of, same_end}
+use Rattle.game_rules.specs.declared.Side.{Side}
+use Rattle.game_rules.specs.declared.End.{End}
+use Rattle.game_rules.specs.declared.End.TheVariants as ends
+use Rattle.proof_text.specs.Lemma.{Lemma}
+use Rattle.proof_text.specs.Right.{Shown, Shows, AreRight}
+use Rattle.proof_text.specs.declared.Claim.{Claim}
+use Rattle.follow_text.specs.Following.{served_by, seen, Place, AtLemma, InPlan, Following, at_lemma, own_move_at}
+use Rattle.proof_player.specs.declared.follow.FollowReply.{FollowReply}
+use Rattle.proof_player.specs.declared.follow.FollowReply.TheVariants.{Won, Filled, Move}
+use Rattle.proof_player.specs.declared.reasons.Step.{Step}
+
+-- ---- lemmas
+
+-- the number is that of a lemma of a right list
+pub record IsLemmaOf (ls : List Lemma) (n : ℕ) : Type 0 where
+  pub root : Position
+  pub after : List Shown
+  pub at : Position
+  pub claim : Claim
+  pub right : AreRight root [] ls after
+  pub shows : Shows after n at claim
+
+-- the lemma of a right list stands at the position as it is seen
+pub record StandsAt (ls : List Lemma) (n : ℕ) (turned : Bool) (q : Position) : Type 0 where
+  pub root : Position
+  pub after : List Shown
+  pub claim : Claim
+  pub right : AreRight root [] ls after
+  pub shows : Shows after n (seen turned q) claim
+
+-- and it serves this side
+pub record Serves (ls : List Lemma) (n : ℕ) (q : Position) (holder : Side) : Type 0 where
+  pub root : Position
+  pub after : List Shown
+  pub claim : Claim
+  pub right : AreRight root [] ls after
+  pub shows : Shows after n q claim
+  pub serves : served_by claim ≡ holder
+
+abbrev pub step_of : Step → ℕ × Following
+step_of step = (step.column, at_lemma step.lemma step.turned)
+
+-- ---- a game
+
+-- the book's lemmas, the side that plays by them, the position that the game has come to, where play stands, and whether it has begun
+pub record FollowState : Type 0 where
+  pub lemmas : List Lemma
+  pub holder : Side
+  pub now : Position
+  pub at : Following
+  pub begun : Bool
+
+-- the reply that a man of the holder's in a column is, by the end of the game after it; the other side has no line there
+abbrev pub reply_for : Side → Option End → ℕ → FollowReply
+reply_for holder None column = Move column
+reply_for holder (Some ends.Draw) column = Filled column
+reply_for holder (Some e) column = if same_end (win_of holder) e then Won column else Move column
+
+-- the holder's first move, which a lemma alone names
+abbrev pub first_in : List Lemma → Position → Bool → Place → Option (ℕ × Following)
+first_in ls q turned (AtLemma n) = own_move_at ls (length q.columns) n turned
+first_in ls q turned (InPlan ws) = None
+
+abbrev pub first_move : FollowState → Option (ℕ × Following)
+first_move s = first_in s.lemmas s.now s.at.turned s.at.place
+
+-- The first move was played, where there is one.
+abbrev pub HasBegun : FollowState → FollowState → Option FollowReply → Option (ℕ × Following) → Type 0
+HasBegun old new reply None = (reply ≡ None) × (new ≡ record old { begun = true })
+HasBegun old new reply (Some (column, next)) =
+    (reply ≡ Some (reply_for old.holder (end_of (after_move old.now column)) column)) × (is_legal old.now column ≡ true)
+    × (new ≡ record old { now = after_move old.now column; at = next; begun = true })
