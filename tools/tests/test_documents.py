@@ -30,6 +30,7 @@ LEFT_OUT = {
     "python3 tools/tests/mutants.py": "it takes minutes",
     "tools/play.py": "it asks a person; tools/tests/test_play.py plays it",
     "./victor play": "it asks a person; a test below plays it",
+    "./victor threat": "the same",
     "tools/ask.py dddcccbb": "it shows what comes where tools/solve is made",
     "tools/ask.py --seconds 4 dccdcdb": "the same",
 }
@@ -168,6 +169,18 @@ class DocumentsTest(unittest.TestCase):
         self.assertEqual(self.bash("./victor play", text="\n".join(third)), (0, "\n".join(answers[-2:]) + "\n"))
         fewer = ["board 4 4", "moves cccdcd", "plan CE:a1 CE:a3 CE:b1 CE:b3 CE:d3"]
         self.assertEqual(self.bash("./victor play", text="\n".join(fewer)), (4, "refused line 3: Unanswered a3h\n"))
+
+    def test_threat(self):
+        """The game of the page on the odd threat."""
+        self.link(program())
+        text = read(os.path.join(boards.TOP, "docs", "THREAT.md"))
+        lines = [line.strip() for line in text.split("\n") if line.startswith("    ")]
+        start = lines[lines.index("$ ./victor threat") + 1:]
+        answers = [line for line in start if re.fullmatch(r"[a-j]\d+ [a-j]\d+( won)?", line)]
+        typed = [line for line in start if re.fullmatch("[a-j]", line)]
+        self.assertEqual(len(typed), len(answers))
+        played = self.bash("./victor threat", text="\n".join(start[:2] + typed))
+        self.assertEqual(played, (0, "".join(line + "\n" for line in [start[2]] + answers)))
 
 
 if __name__ == "__main__":
