@@ -150,11 +150,11 @@ through_mirror root ls after zero m turned p claim right shows is = absurd (cc s
 through_mirror root ls after (suc i) m turned p claim right shows is =
     let proved = proved_at root [] ls after i (suc i) p claim right (omega arith) shows in
     let same : proved.lemma.reason ≡ ByMirror m =
-        same_Some proved.lemma.reason (ByMirror m) (sym (ap (λ l. option_map (λ (l : Lemma). l.reason) l) proved.found) ∙ is) in
+    same_Some proved.lemma.reason (ByMirror m) (sym (ap (λ l. option_map (λ (l : Lemma). l.reason) l) proved.found) ∙ is) in
     let image : Shows proved.earlier m (mirror p) claim = subst (HasReason proved.earlier p claim) same proved.right in
     let bound = Shows_number proved.earlier m (mirror p) claim image in
     let shows : Shows after m (mirror p) claim = subst (λ k. Shows k m (mirror p) claim) (sym proved.parts)
-        (Shows_more proved.earlier proved.more m (mirror p) claim image) in
+    (Shows_more proved.earlier proved.more m (mirror p) claim image) in
     record {
       lower = omega (arith, bound.1, proved.before);
       shows = shows;

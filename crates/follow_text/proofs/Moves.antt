@@ -179,8 +179,8 @@ module _ (root : Position) (ls : List Lemma) (after : List Shown) (claim : Claim
       let at = seen_column turned (length q.columns) column in
       let free : has_room (seen turned q) at ≡ true = seen_room turned q column within ∙ room in
       let found = cite_of cites (open_columns (seen turned q)) at after (seen turned q) claim h.playable
-          (Among-filter (has_room (seen turned q)) (below (length (seen turned q).columns)) at
-          (Among-below (length (seen turned q).columns) at (room_column (seen turned q) at free)) free) h.cited in
+      (Among-filter (has_room (seen turned q)) (below (length (seen turned q).columns)) at
+      (Among-below (length (seen turned q).columns) at (room_column (seen turned q) at free)) free) h.cited in
       (found.0, found.1, subst (λ p. Shows after found.0.lemma p claim) (seen_after turned q column within) found.2)
 
   -- and it names a move, where the game goes on

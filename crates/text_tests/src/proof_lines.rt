@@ -106,9 +106,7 @@ fn printed(alloc: Global, line: &Line) -> Result<Vec<u8>, AllocError> {
 
 /// What is read of the text is printed as the text with a line feed.
 fn stands_again(alloc: Global, text: &str, size: Size, version: Version) -> Result<(), Fail> {
-    let line = read_line(text.as_bytes(), size, version)
-        .ok()
-        .ok_or(text)?;
+    let line = read_line(text.as_bytes(), size, version).ok().ok_or(text)?;
     match printed(alloc, &line)?.as_slice() {
         [read @ .., b'\n'] if read == text.as_bytes() => Ok(()),
         _ => Err(text.into()),
