@@ -28,6 +28,7 @@ LEFT_OUT = {
     "tools/check.py tools/solve/usual.txt": "the same",
     "tools/batch": "tools/tests/test_batch.py runs it, and Slurm is elsewhere",
     "python3 tools/tests/mutants.py": "it takes minutes",
+    "tools/board": "it serves until it is interrupted; tools/tests/test_board.py asks it",
     "tools/play.py": "it asks a person; tools/tests/test_play.py plays it",
     "./victor play": "it asks a person; a test below plays it",
     "./victor threat": "the same",
