@@ -1,4 +1,6 @@
 //! Whom the marks of a game's moves ask, and how often.
+ghost use Rattle.std.specs.Prelude.{true};
+
 use board_bits::{End, Position, read_game_moves};
 use proof_tools::{Mark, Valuer, annotate};
 use std::alloc::AllocError;
