@@ -3,7 +3,6 @@ ghost use Rattle.std.specs.Prelude.{None};
 
 use crate::running::words_of;
 use io_ports::{Failed, NullSink, Sink, Source};
-use std::alloc::{AllocError, Global};
 use std::cell::Cell;
 use std::test::Fail;
 use victor_run::run;
@@ -72,27 +71,32 @@ impl Source for Player<'_> {
     }
 }
 
-/// The status of a run whose source gives these lines, how many bytes were shown at each call, and how many calls came.
-fn shown_by(
-    alloc: Global,
-    word: &str,
-    lines: [&'static [u8]; 5],
-) -> Result<(u8, [usize; 6], usize), AllocError> {
-    let screen = Screen {
-        held: Cell::new(0),
-        shown: Cell::new(0),
-    };
-    let mut source = Player {
-        screen: &screen,
-        lines,
-        seen: [0; 6],
-        asked: 0,
-        last_read: 0,
-    };
-    let mut out = Printer { screen: &screen };
-    let words = words_of(alloc, &[word])?;
-    let status = run(alloc, &words, &mut source, &mut out, &mut NullSink::new());
-    Ok((status, source.seen, source.asked))
+/// The status of a run whose source gives these lines, how many bytes were shown at each call, and how many calls came. It
+/// is written out in each test, since the borrow checker doesn't follow it as a function.
+macro_rules! shown_by {
+    ($rt:expr, $word:expr, $lines:expr) => {{
+        let screen = Screen {
+            held: Cell::new(0),
+            shown: Cell::new(0),
+        };
+        let mut source = Player {
+            screen: &screen,
+            lines: $lines,
+            seen: [0; 6],
+            asked: 0,
+            last_read: 0,
+        };
+        let mut out = Printer { screen: &screen };
+        let words = words_of($rt.alloc(), &[$word])?;
+        let status = run(
+            $rt.alloc(),
+            &words,
+            &mut source,
+            &mut out,
+            &mut NullSink::new(),
+        );
+        (status, source.seen, source.asked)
+    }};
 }
 
 #[test]
@@ -106,7 +110,7 @@ fn each_answer_of_play_is_flushed_before_the_next_line_is_read(
         b"a\n",
         b"b\n",
     ];
-    let (status, seen, asked) = shown_by(rt.alloc(), "play", lines)?;
+    let (status, seen, asked) = shown_by!(rt, "play", lines);
     assert_eq!(rt; status, 0);
     // The answers are `a1 a2` and `b1 b2 won`, each with its line feed; the last call finds the end of the input.
     assert_eq!(rt; seen, [0, 0, 0, 0, 6, 16]);
@@ -119,7 +123,7 @@ fn each_line_of_threat_is_flushed_before_the_next_line_is_read(
     rt: HostRuntime,
 ) -> Result<(), Fail> {
     let lines: [&[u8]; 5] = [b"board 4 4\n", b"moves dccbbdbaddc\n", b"c\n", b"a\n", b""];
-    let (status, seen, asked) = shown_by(rt.alloc(), "threat", lines)?;
+    let (status, seen, asked) = shown_by!(rt, "threat", lines);
     assert_eq!(rt; status, 0);
     // First comes `threat a3h BI:b4,c4`, then `c4 b4` and `a2 a3 won`; the last call finds the end of the input.
     assert_eq!(rt; seen, [0, 0, 20, 26, 36, 0]);
@@ -130,7 +134,7 @@ fn each_line_of_threat_is_flushed_before_the_next_line_is_read(
 #[test]
 fn no_line_is_asked_for_where_there_is_no_threat(rt: HostRuntime) -> Result<(), Fail> {
     let lines: [&[u8]; 5] = [b"board 4 4\n", b"moves -\n", b"a\n", b"b\n", b""];
-    let (status, seen, asked) = shown_by(rt.alloc(), "threat", lines)?;
+    let (status, seen, asked) = shown_by!(rt, "threat", lines);
     assert_eq!(rt; status, 5);
     assert_eq!(rt; seen, [0; 6]);
     assert_eq!(rt; asked, 2);
