@@ -5,6 +5,7 @@
 
 mod follow;
 mod place;
+mod plans;
 mod reasons;
 mod seen;
 
