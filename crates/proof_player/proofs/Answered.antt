@@ -1,6 +1,6 @@
 -- Answers to the other side's moves: by the lemma that is cited, by a plan, and what they make of the game.
-use Rattle.std.proofs.Common.{◌≡◌, ℕ, ◌+◌, ◌<◌, Bool, true, false, ◌==◌, cond, List, [], length, map, Option, Some, None, is_none, is_some, Result, Ok, Err, IsOk, IfErr}
-use Rattle.std.proofs.Common.{refl, sym, ap, ◌∙◌, subst}
+use Rattle.std.proofs.Common.{◌≡◌, ℕ, ◌+◌, ◌<◌, Bool, true, false, ◌==◌, cond, List, length, map, Option, Some, None, is_none, is_some, Result}
+use Rattle.std.proofs.Common.{Ok, Err, IsOk, IfErr, refl, sym, ap, ◌∙◌, subst}
 use Rattle.std.specs.List.{find}
 use Rattle.std.specs.Option.{option_map}
 use Rattle.std.proofs.lemmas.Option.{same_Some, some_pair_parts}
@@ -27,13 +27,13 @@ use Rattle.board_bits.specs.declared.position.MoveFault.{MoveFault}
 use Rattle.reply_player.specs.Playing.{Playing, reply_for, HasAnswered, IsRefused}
 use Rattle.reply_player.specs.declared.session.Reply.{Reply}
 use Rattle.proof_text.specs.Lemma.{claim_of_end, Cite, Reason, ByAll, Lemma}
-use Rattle.proof_text.specs.Right.{Shown, Shows, HasReason, AreRight}
+use Rattle.proof_text.specs.Right.{Shown, Shows, HasReason}
 use Rattle.proof_text.specs.declared.Claim.{Claim}
 use Rattle.proof_text.specs.declared.Claim.TheVariants.{WhiteWins, WhiteFails, BlackWins, BlackFails}
 use Rattle.cert_format.specs.Shape.{cite_of}
 use Rattle.cert_format.specs.declared.lines.Cite.{Cite as CodeCite}
 use Rattle.follow_text.specs.Following.{served_by, seen, seen_column, Following, at_lemma, in_plan, behind_mirrors, own_move_at, plan_move}
-use Rattle.follow_text.specs.Following.{cite_for, move_at_cite, answer_by, answer_to, Follows, IsHeld, HasMove}
+use Rattle.follow_text.specs.Following.{cite_for, move_at_cite, answer_by, answer_to, Follows, IsHeld}
 use Rattle.follow_text.proofs.Seen.{seen_cols, seen_legal, seen_after, seen_move, column_within}
 use Rattle.follow_text.proofs.Behind.{behind_it}
 use Rattle.follow_text.proofs.Moves.{cited_for, cited_answer, answered}
@@ -43,7 +43,8 @@ use Rattle.proof_player.specs.Places.{CanAnswerAt, column_in}
 
 -- ---- the lemma that is cited
 
-cite_seen : (cites : List CodeCite) (column : ℕ) → cite_for (map cite_of cites) column ≡ option_map cite_of (find (λ (cite : CodeCite). cite.column == column) cites)
+cite_seen : (cites : List CodeCite) (column : ℕ)
+    → cite_for (map cite_of cites) column ≡ option_map cite_of (find (λ (cite : CodeCite). cite.column == column) cites)
 cite_seen cites column = find_map (λ (cite : Cite). cite.column == column) cite_of cites
 
 some_mapped : {X Y : Type 0} (f : X → Y) (found : Option X) (y : Y) → option_map f found ≡ Some y → is_some found ≡ true
@@ -68,7 +69,8 @@ pub record IsAnsweredBy (ls : List Lemma) (cites : List CodeCite) (turned : Bool
 
 pub by_cite : (ls : List Lemma) (cites : List CodeCite) (turned : Bool) (q : Position) (column : ℕ) (cite : CodeCite)
     → CitesAll ls (map cite_of cites) turned q column
-    → find (λ (cite : CodeCite). cite.column == seen_column turned (length q.columns) column) cites ≡ Some cite → IsAnsweredBy ls cites turned q column cite.lemma
+    → find (λ (cite : CodeCite). cite.column == seen_column turned (length q.columns) column) cites ≡ Some cite
+    → IsAnsweredBy ls cites turned q column cite.lemma
 by_cite ls cites turned q column cite is first =
     let found = cited_for is.root ls is.after is.claim is.right (map cite_of cites) turned q column is.follows is.legal in
     let seen_there : cite_for (map cite_of cites) (seen_column turned (length q.columns) column) ≡ Some (cite_of cite) =
@@ -154,7 +156,7 @@ session_column turned q stands column is legal =
     let within : column < length q.columns = room_column q column (legal_parts q column legal).1 in
     let at = seen_column turned (length q.columns) column in (
       subst (λ (p : Position). at < length p.columns) (sym is)
-      (subst (λ n. at < n) (sym (seen_cols turned q)) (column_within turned (length q.columns) column within)),
+          (subst (λ n. at < n) (sym (seen_cols turned q)) (column_within turned (length q.columns) column within)),
       ap (λ p. is_legal p at) is ∙ seen_legal turned q column within ∙ legal,
     )
 

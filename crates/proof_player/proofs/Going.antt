@@ -1,5 +1,5 @@
 -- How a game goes on after the other side's move: with the holder's answer, or it has ended with a full board.
-use Rattle.std.proofs.Common.{◌≡◌, ℕ, Bool, true, false, List, [], Option, Some, None, is_some, Ok, refl, sym, ap, ◌∙◌, subst}
+use Rattle.std.proofs.Common.{◌≡◌, ℕ, Bool, true, false, Option, Some, None, is_some, Ok, refl, sym, ap, ◌∙◌, subst}
 use Rattle.game_rules.specs.Position.{Position, other, side_to_move, has_room, end_of, is_legal, after_move}
 use Rattle.game_rules.specs.declared.End.{End}
 use Rattle.game_rules.proofs.Ends.{legal_parts}
@@ -85,7 +85,7 @@ module _ (a : Inside) (column : ℕ) (now : Position) (inv : IsFollowing a) (beg
   can_answer none = record { can = there_at none; session = stood.2 }
 
   module _ (none : is_some (end_of now) ≡ false) (answer : ℕ) (place : Place) (turned : Bool)
-    (is : answer_to a.book.now (following a.place a.turned) a.now column ≡ Some (answer, following place turned)) where
+      (is : answer_to a.book.now (following a.place a.turned) a.now column ≡ Some (answer, following place turned)) where
     lead : Leads inv.after inv.claim (after_move a.now column) answer (following place turned)
     lead = leads a.book.now (following a.place a.turned) a.now column answer (following place turned)
         (there_at none) is

@@ -1,5 +1,5 @@
 -- A game that is followed by the lemmas of a book: where it stands, and what a move makes of it.
-use Rattle.std.specs.Prelude.{◌≡◌, ℕ, Bool, true, false, List, [], length, Option, Some, None, Err, if◌then◌else◌}
+use Rattle.std.specs.Prelude.{◌≡◌, ℕ, Bool, true, List, [], length, Option, Some, None, Err, if◌then◌else◌}
 use Rattle.game_rules.specs.Position.{Position, other, side_to_move, end_of, is_legal, after_move}
 use Rattle.game_rules.specs.Value.{win_of, same_end}
 use Rattle.game_rules.specs.declared.Side.{Side}

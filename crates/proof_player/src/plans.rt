@@ -33,7 +33,12 @@ pub(crate) fn answer_by_plan(list: &[Instance], turned: bool, before: &Position,
 }
 
 /// The answer by a plan under way, which stands at the position as it is seen.
-pub(crate) fn answer_in_plan(session: &mut Session, turned: bool, before: &Position, c: Column) -> Column
+pub(crate) fn answer_in_plan(
+    session: &mut Session,
+    turned: bool,
+    before: &Position,
+    c: Column,
+) -> Column
     requires stands { session.old.stands ≡ seen turned before.now }
     requires legal { is_legal before.now c ≡ true }
     ensures plan { session.new.plan ≡ session.old.plan }

@@ -1,4 +1,4 @@
-use Rattle.std.proofs.Common.{◌≡◌, map, Some, ap, ◌∙◌, subst}
+use Rattle.std.proofs.Common.{map, Some, ap, ◌∙◌, subst}
 use Rattle.cert_format.specs.Shape.{cite_of}
 use Rattle.cert_format.specs.Entries.{reason_held, HeldFits}
 use Rattle.proof_text.specs.Lemma.{ByAll, ByPlan}
@@ -38,6 +38,7 @@ answer_by_plan-requires c =
     let is = c.settled-reason.ensures.is ∙ ap (λ held. Some (reason_held held, board)) c.in-Plan.is in
     record {
       few = subst HeldFits c.in-Plan.is c.settled-reason.ensures.fits;
-      plan = (reason_there c.args.book.now c.args.lemma c.args.turned board c.args.before.now c.args.c (ByPlan (written_list c.in-Plan.list.now)) c.requires is).plan;
+      plan = (reason_there c.args.book.now c.args.lemma c.args.turned board c.args.before.now c.args.c (ByPlan (written_list c.in-Plan.list.now))
+          c.requires is).plan;
       legal = c.requires.legal;
     }

@@ -1,4 +1,4 @@
-use Rattle.std.proofs.Common.{◌≡◌, ◌<◌, length, Some, IfOk, sym, ap, ◌∙◌, subst, arith}
+use Rattle.std.proofs.Common.{◌≡◌, ◌<◌, length, Some, IfOk, sym, ap, ◌∙◌, subst}
 use Rattle.game_rules.specs.Board.{Board}
 use Rattle.game_rules.specs.Position.{is_legal, after_move}
 use Rattle.rule_compat.specs.Planned.{members}
