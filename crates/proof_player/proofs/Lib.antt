@@ -1,2 +1,4 @@
 pub mod Settled
 pub mod Begun
+pub mod Answered
+pub mod Going

@@ -1,16 +1,18 @@
 -- A game that is followed by the lemmas of a book: where it stands, and what a move makes of it.
-use Rattle.std.specs.Prelude.{◌≡◌, ℕ, Bool, true, List, [], length, Option, Some, None, if◌then◌else◌}
-use Rattle.game_rules.specs.Position.{Position, end_of, is_legal, after_move}
+use Rattle.std.specs.Prelude.{◌≡◌, ℕ, Bool, true, List, [], length, Option, Some, None, Err, if◌then◌else◌}
+use Rattle.game_rules.specs.Position.{Position, other, side_to_move, end_of, is_legal, after_move}
 use Rattle.game_rules.specs.Value.{win_of, same_end}
 use Rattle.game_rules.specs.declared.Side.{Side}
 use Rattle.game_rules.specs.declared.End.{End}
 use Rattle.game_rules.specs.declared.End.TheVariants as ends
-use Rattle.proof_text.specs.Lemma.{Lemma}
-use Rattle.proof_text.specs.Right.{Shown, Shows, AreRight}
+use Rattle.proof_text.specs.Lemma.{Cite, Lemma}
+use Rattle.proof_text.specs.Right.{Shown, Shows, FollowsFromAll, AreRight}
 use Rattle.proof_text.specs.declared.Claim.{Claim}
-use Rattle.follow_text.specs.Following.{served_by, seen, Place, AtLemma, InPlan, Following, at_lemma, own_move_at}
+use Rattle.board_bits.specs.Move.{moved_into}
+use Rattle.board_bits.specs.declared.position.MoveFault.{MoveFault}
+use Rattle.follow_text.specs.Following.{served_by, seen, Place, AtLemma, InPlan, Following, at_lemma, own_move_at, answer_to}
 use Rattle.proof_player.specs.declared.follow.FollowReply.{FollowReply}
-use Rattle.proof_player.specs.declared.follow.FollowReply.TheVariants.{Won, Filled, Move}
+use Rattle.proof_player.specs.declared.follow.FollowReply.TheVariants.{Over, Won, Filled, Move}
 use Rattle.proof_player.specs.declared.reasons.Step.{Step}
 
 -- ---- lemmas
@@ -40,6 +42,18 @@ pub record Serves (ls : List Lemma) (n : ℕ) (q : Position) (holder : Side) : T
   pub right : AreRight root [] ls after
   pub shows : Shows after n q claim
   pub serves : served_by claim ≡ holder
+
+-- These cites are why a claim holds of the position as it is seen, where the other side is to move into the column, which is
+-- legal and doesn't end the game.
+pub record CitesAll (ls : List Lemma) (cites : List Cite) (turned : Bool) (q : Position) (column : ℕ) : Type 0 where
+  pub root : Position
+  pub after : List Shown
+  pub claim : Claim
+  pub right : AreRight root [] ls after
+  pub follows : FollowsFromAll after (seen turned q) claim cites
+  pub turn : side_to_move q ≡ other (served_by claim)
+  pub legal : is_legal q column ≡ true
+  pub going : end_of (after_move q column) ≡ None
 
 abbrev pub step_of : Step → ℕ × Following
 step_of step = (step.column, at_lemma step.lemma step.turned)
@@ -74,3 +88,25 @@ HasBegun old new reply None = (reply ≡ None) × (new ≡ record old { begun = 
 HasBegun old new reply (Some (column, next)) =
     (reply ≡ Some (reply_for old.holder (end_of (after_move old.now column)) column)) × (is_legal old.now column ≡ true)
     × (new ≡ record old { now = after_move old.now column; at = next; begun = true })
+
+-- the answer to the other side's move, and the state after it
+pub record HasReplied (old new : FollowState) (now : Position) (answer : Option (ℕ × Following)) (reply : FollowReply) : Type 0 where
+  pub column : ℕ
+  pub next : Following
+  pub is : answer ≡ Some (column, next)
+  pub legal : is_legal now column ≡ true
+  pub reply_is : reply ≡ reply_for old.holder (end_of (after_move now column)) column
+  pub state : new ≡ record old { now = after_move now column; at = next }
+
+-- The other side's man went into the column; either it filled the board, or the holder's answer was played.
+abbrev pub HasGoneOn : FollowState → FollowState → ℕ → FollowReply → Option End → Type 0
+HasGoneOn old new column reply (Some e) = (e ≡ ends.Draw) × (reply ≡ Over) × (new ≡ record old { now = after_move old.now column })
+HasGoneOn old new column reply None = HasReplied old new (after_move old.now column) (answer_to old.lemmas old.at old.now column) reply
+
+pub record HasFollowed (old new : FollowState) (column : ℕ) (reply : FollowReply) : Type 0 where
+  pub legal : is_legal old.now column ≡ true
+  pub gone : HasGoneOn old new column reply (end_of (after_move old.now column))
+
+-- Nothing was changed, and the fault is why no man can be dropped into the column.
+abbrev pub IsRefused : FollowState → FollowState → ℕ → MoveFault → Type 0
+IsRefused old new column fault = (new ≡ old) × (moved_into old.now column ≡ Err fault)

@@ -1,19 +1,21 @@
 //! The player: where a game that is followed stands, and the holder's moves.
-ghost use Rattle.std.specs.Prelude.{◌≡◌, ◌≢◌, ◌↔◌, false, None, option_map};
+ghost use Rattle.std.specs.Prelude.{◌≡◌, ◌≢◌, ◌↔◌, ◌<◌, true, false, length, None, option_map, IfOk, IfErr};
 ghost use Rattle.game_rules.specs.Position.{end_of, side_to_move};
 ghost use Rattle.follow_text.specs.Following.{at_lemma};
 ghost use Rattle.proof_player.specs.Places.{place_of, CanBegin};
-ghost use Rattle.proof_player.specs.Playing.{Serves, step_of, reply_for, first_in, first_move, HasBegun};
+ghost use Rattle.proof_player.specs.Playing.{Serves, step_of, reply_for, first_in, first_move, HasBegun, HasFollowed, IsRefused};
 
-use crate::place::Place;
+use crate::place::{Place, go_on};
 use crate::reasons::{Step, own_move};
-use board_bits::{Column, End, Position, Side};
+use board_bits::{Column, End, MoveFault, Position, Side};
 use cert_format::Book;
 use std::marker::Model;
 
 /// The holder's move: the column of its man, and what that man ended.
 #[derive(Clone, Copy)]
 pub enum FollowReply {
+    /// The other side's man filled the board, and no side has a line.
+    Over,
     /// The holder made a line.
     Won(Column),
     /// The holder's man filled the board, and no side has a line.
@@ -106,6 +108,30 @@ impl<'a> Follow<'a> {
         self.turned = step.turned;
         self.begun = true;
         Some(reply)
+    }
+
+    /// Plays the other side's man into the column, and then the holder's answer, where the game goes on. The game has begun.
+    ///
+    /// `GameOver` comes exactly where the game has ended, else `ColumnFull` exactly where the column, which is on the
+    /// board, has as many men as the board has rows. Nothing is changed then.
+    pub fn answer(&mut self, c: Column) -> Result<FollowReply, MoveFault>
+        requires column { c < length self.old.now.columns }
+        requires begun { self.old.begun ≡ true }
+        ensures ok { IfOk result (HasFollowed self.old self.new c) }
+        ensures err { IfErr result (IsRefused self.old self.new c) }
+    {
+        let before = self.now;
+        let now = before.play(c)?;
+        if now.ended().is_some() {
+            self.now = now;
+            return Ok(FollowReply::Over);
+        }
+        let (column, turned) = go_on(self.book, &mut self.place, self.turned, &before, c);
+        let last = now.after(column);
+        let reply = FollowReply::of(self.holder, last.ended(), column);
+        self.now = last;
+        self.turned = turned;
+        Ok(reply)
     }
 }
 

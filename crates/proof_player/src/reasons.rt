@@ -1,12 +1,14 @@
 //! What a lemma's reason says to play.
-ghost use Rattle.std.specs.Prelude.{◌≡◌, length, Some, option_map};
+ghost use Rattle.std.specs.Prelude.{◌≡◌, ◌==◌, length, Some, option_map};
+ghost use Rattle.std.specs.List.{find};
 ghost use Rattle.follow_text.specs.Following.{behind_mirrors, own_move_at};
 ghost use Rattle.cert_format.specs.Entries.{reason_held, HeldFits};
+ghost use Rattle.cert_format.specs.declared.lines.Cite.{Cite as CodeCite};
 ghost use Rattle.proof_player.specs.Playing.{IsLemmaOf, StandsAt, step_of};
 
 use crate::seen::seen_column;
 use board_bits::{Column, Position};
-use cert_format::{Book, Held, Reason};
+use cert_format::{Book, Cite, Held, Reason};
 
 /// The reason at which play stands at a lemma, which is its own or the one behind the mirror images that it names, and
 /// whether the board is turned there.
@@ -46,4 +48,16 @@ pub(crate) fn own_move(book: &Book, now: &Position, lemma: u32, turned: bool) ->
         }),
         _ => None,
     }
+}
+
+/// The first cite of the column.
+pub(crate) fn cite_for(cites: &[Cite], column: Column) -> Option<Cite>
+    ensures { result ≡ find (λ (cite : CodeCite). cite.column == column) cites.now }
+{
+    for cite in cites {
+        if cite.column == column {
+            return Some(*cite);
+        }
+    }
+    None
 }
