@@ -150,8 +150,6 @@ class DocumentsTest(unittest.TestCase):
             self.skipTest("another program than that of the checkout is tested")
         program()  # built where it isn't
         self.link(launcher)
-        wrong = "printf 'board 7 6\\nmoves Dcdcdc\\n' > wrong.txt"
-        self.bash(wrong)
         self.try_commands("docs/USE.md", dict(os.environ, VICTOR_EXPLAIN="1"))
 
     def test_play(self):
