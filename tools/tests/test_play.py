@@ -131,7 +131,9 @@ class TerminalTest(ToolTest):
         leader, follower = pty.openpty()
         self.addCleanup(os.close, leader)
         words = COMMAND + ["--board", "4x4", "--victor", program()]
+        # An interrupt is heard, also where whoever began the tests in the background had it ignored.
         run = subprocess.Popen(words, stdin=follower, stdout=follower, stderr=follower, start_new_session=True,
+                               preexec_fn=lambda: signal.signal(signal.SIGINT, signal.SIG_DFL),
                                env={**os.environ, "NO_COLOR": "", "TERM": "xterm", **environment})
         os.close(follower)
         shown = b""
