@@ -4,4 +4,3 @@ pub mod Names
 pub mod Spaced
 pub mod Words
 pub mod Shared
-pub mod Kept

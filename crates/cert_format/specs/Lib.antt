@@ -3,5 +3,3 @@ pub mod Names
 pub mod Shape
 pub mod Rooms
 pub mod Words
-pub mod Entries
-pub mod BookFields

@@ -1,6 +1,7 @@
 -- What is in the room that a line is read into.
-use Rattle.std.specs.Prelude.{◌≡◌, map, Option, Some, None, Result, Ok, Err}
-use Rattle.proof_text.specs.Lemma.{Reason as PlainReason, Lemma as PlainLemma, Line as PlainLine, ALemma, ARemark, AVerdict}
+use Rattle.std.specs.Prelude.{◌≡◌, [], map, Option, Some, None, Result, Ok, Err}
+use Rattle.proof_text.specs.Lemma.{Reason as PlainReason, Lemma as PlainLemma, Line as PlainLine, ByEnd, ALemma, ARemark, AVerdict}
+use Rattle.proof_text.specs.declared.Claim.TheVariants.{WhiteWins}
 use Rattle.rule_compat.specs.Written.{written_list}
 use Rattle.cert_format.specs.Shape.{cite_of, reason_by, viewed}
 use Rattle.cert_format.specs.declared.lines.LineView.{LineView}
@@ -15,6 +16,10 @@ reason_in room = reason_by (λ _. map cite_of room.cites.items) (λ _. written_l
 
 abbrev pub lemma_in : LemmaRoom → PlainLemma
 lemma_in room = record { number = room.number; path = room.path.items; claim = room.claim; reason = reason_in room.reason }
+
+-- what is in a room before a line was read into it
+abbrev pub unread_lemma : PlainLemma
+unread_lemma = record { number = 0; path = []; claim = WhiteWins; reason = ByEnd }
 
 abbrev pub kept_in : LemmaRoom → Kind → PlainLine
 kept_in room kinds.Lemma = ALemma (lemma_in room)

@@ -1,11 +1,10 @@
 //! The lines of a proof's text and the lines of plans, written and read, and the texts of squares, groups, instances
-//! and plan faults for reports; and the book of a proof's lemmas. What each text says, how it is spelled and how it is read is
-//! defined in `proof_text` and `plan_text`, whose definitions each contract here cites. No call but those of the book takes
+//! and plan faults for reports. What each text says, how it is spelled and how it is read is
+//! defined in `proof_text` and `plan_text`, whose definitions each contract here cites. No call takes
 //! memory.
 #![tactic(auto)]
 
 mod back_line;
-mod book;
 mod instance_text;
 mod items;
 mod lines;
@@ -17,7 +16,6 @@ mod reading;
 mod room;
 mod verdict_line;
 
-pub use book::{Book, Held};
 pub use items::{Item, print_item, push_group, push_plan_fault, push_square};
 pub use lines::{
     Cite, Lemma, LemmaView, Line, LineFault, LineView, Reason, ReasonView, first_line,

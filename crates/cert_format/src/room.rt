@@ -1,9 +1,10 @@
 //! Room into which lines are read, kept from line to line, so that no lemma is moved where it is read and looked at: a
 //! lemma's plan alone may have three hundred instances.
 ghost use Rattle.std.specs.Prelude.{◌≡◌};
+ghost use Rattle.proof_text.specs.Lemma.{ByEnd};
 ghost use Rattle.proof_text.specs.Reading.{read_line};
 ghost use Rattle.cert_format.specs.Shape.{reason_of, reason_viewed, lemma_of, lemma_viewed};
-ghost use Rattle.cert_format.specs.Rooms.{reason_in, lemma_in, Views};
+ghost use Rattle.cert_format.specs.Rooms.{reason_in, lemma_in, unread_lemma, Views};
 
 use crate::lines::{
     Cite, LONGEST_PATH, Lemma, LemmaView, LineFault, LineView, MOST_CITES, Reason, ReasonKind,
@@ -24,7 +25,9 @@ pub struct LineBuffer {
 
 impl LineBuffer {
     /// Room in which no line was read yet.
-    pub fn new() -> LineBuffer {
+    pub fn new() -> LineBuffer
+        ensures { lemma_in result.room ≡ unread_lemma }
+    {
         LineBuffer {
             room: LemmaRoom::new(),
         }
@@ -64,7 +67,9 @@ pub(crate) struct ReasonRoom {
 }
 
 impl ReasonRoom {
-    fn new() -> ReasonRoom {
+    fn new() -> ReasonRoom
+        ensures { reason_in result ≡ ByEnd }
+    {
         ReasonRoom {
             kind: Reason::Ended,
             cites: ArrayVec::new(),
@@ -98,7 +103,9 @@ pub(crate) struct LemmaRoom {
 
 impl LemmaRoom {
     /// Room in which no lemma was read yet.
-    pub(crate) fn new() -> LemmaRoom {
+    pub(crate) fn new() -> LemmaRoom
+        ensures { lemma_in result ≡ unread_lemma }
+    {
         LemmaRoom {
             number: 0,
             path: ArrayVec::new(),

@@ -9,13 +9,6 @@ use crate::{Failed, Sink};
 #[derive(Clone, Copy, Debug, Default)]
 pub struct NullSink;
 
-impl NullSink {
-    /// A sink that keeps nothing.
-    pub fn new() -> NullSink {
-        NullSink
-    }
-}
-
 impl Sink for NullSink {
     ghost written = { λ _. None };
 

@@ -8,7 +8,7 @@ ghost use Rattle.proof_player.specs.Playing.{Serves, step_of, reply_for, first_i
 use crate::place::{Place, go_on};
 use crate::reasons::{Step, own_move};
 use board_bits::{Column, End, MoveFault, Position, Side};
-use cert_format::Book;
+use proof_book::Book;
 use std::marker::Model;
 
 /// The holder's move: the column of its man, and what that man ended.

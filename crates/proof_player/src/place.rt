@@ -11,7 +11,8 @@ use crate::plans::{answer_by_plan, answer_in_plan};
 use crate::reasons::{cite_for, own_move, settled};
 use crate::seen::seen_column;
 use board_bits::{Column, Position};
-use cert_format::{Book, Cite, Reason};
+use cert_format::{Cite, Reason};
+use proof_book::Book;
 use reply_player::Session;
 
 /// Where play stands: at a lemma of the book, or within the play by a plan.

@@ -4,10 +4,11 @@ ghost use Rattle.proof_text.specs.Spelling.{greatest_number};
 ghost use Rattle.tool_text.specs.Trim.{numbers_named, numbers_cited, CitesEarlier};
 ghost use Rattle.proof_tools.specs.Reach.{mark_at, new_number, reach_of, with_mark, marked, numbers_from, AreWithin, all_passed};
 ghost use Rattle.proof_text.specs.Lemma.{ByAll};
-ghost use Rattle.cert_format.specs.Entries.{reason_held};
+ghost use Rattle.proof_book.specs.Entries.{reason_held};
 ghost use Rattle.cert_format.specs.Shape.{cite_of};
 
-use cert_format::{Book, Cite, Held, Reason, Verdict};
+use cert_format::{Cite, Reason, Verdict};
+use proof_book::{Book, Held};
 use std::alloc::{AllocError, Global};
 use std::marker::Model;
 

@@ -33,7 +33,7 @@ pub fn run_into_memory<S: Source>(
     ensures proved { (nodes reach table format : ℕ) (front : Option ℕ) → IsWritten (map string_bytes words.now) (forms.Prove nodes reach front table format) → (result ≡ 0) ⊎ (result ≡ 5)
         → HoldsProof (version_named format) nodes reach front out.old.written out.new.written }
 {
-    run(alloc, words, source, out, &mut NullSink::new())
+    run(alloc, words, source, out, &mut NullSink)
 }
 
 /// Proves a game whose cost is within the budget that the arguments give: where no stream failed, the run ends as one that
@@ -49,5 +49,5 @@ pub fn prove_within_budget<S: Source, O: Sink>(
         → (Rose (S.faults source.old) (S.faults source.new) → ⊥) → (Rose (O.faults out.old) (O.faults out.new) → ⊥)
         → (end : Proved) × (result ≡ proved_status end) × ((end ≡ ends.Value) ⊎ (end ≡ ends.Memory)) }
 {
-    run(alloc, words, source, out, &mut NullSink::new())
+    run(alloc, words, source, out, &mut NullSink)
 }

@@ -36,7 +36,7 @@ pub fn find_value(
         table,
         &mut None,
         chooser,
-        &mut NullSink::new(),
+        &mut NullSink,
     );
     asked.unwrap_or(Verdict::Unknown)
 }

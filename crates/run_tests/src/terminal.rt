@@ -93,7 +93,7 @@ macro_rules! shown_by {
             &words,
             &mut source,
             &mut out,
-            &mut NullSink::new(),
+            &mut NullSink,
         );
         (status, source.seen, source.asked)
     }};

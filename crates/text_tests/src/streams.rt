@@ -92,7 +92,7 @@ fn a_sink_in_memory_fails_at_its_numbers_and_without_room(rt: HostRuntime) -> Re
 
 #[test]
 fn a_sink_that_keeps_nothing_takes_all(rt: HostRuntime) {
-    let mut sink = NullSink::new();
+    let mut sink = NullSink;
     assert_eq!(rt; put_all(&mut sink, TEXT), Ok(()));
     assert_eq!(rt; sink.flush(), Ok(()));
 }

@@ -1,6 +1,6 @@
 use Rattle.std.proofs.Common.{◌≡◌, ◌+◌, ◌-◌, suc, length, drop, sym, ap, ◌∙◌, subst, arith}
 use Rattle.tool_text.specs.Trim.{numbers_cited}
-use Rattle.cert_format.specs.Entries.{reason_held}
+use Rattle.proof_book.specs.Entries.{reason_held}
 use Rattle.proof_tools.specs.Reach.{marked, all_passed, AreWithin}
 use Rattle.proof_tools.proofs.Agreeing.{cites_within, lemma_ordered, passed_marked, passed_unmarked, lemma_lent}
 use Rattle.proof_tools.proofs.reach.mark_all.Goals.{then-marks-n, else-marks-n}

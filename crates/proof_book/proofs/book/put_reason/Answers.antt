@@ -2,8 +2,8 @@ use Rattle.std.proofs.Common.{sym, ap, ◌∙◌}
 use Rattle.proof_text.specs.Lemma.{ByPlan}
 use Rattle.rule_compat.specs.Written.{written_list}
 use Rattle.cert_format.specs.Shape.{reason_viewed}
-use Rattle.cert_format.proofs.Kept.{keeps_none, keeps_members}
-use Rattle.cert_format.proofs.book.put_reason.Goals as goal
+use Rattle.proof_book.proofs.Kept.{keeps_none, keeps_members}
+use Rattle.proof_book.proofs.book.put_reason.Goals as goal
 
 pub returns-in-Ended-clause-put : goal.returns-in-Ended-clause-put
 returns-in-Ended-clause-put c = keeps_none _ _ _ _ tt (sym (ap reason_viewed c.in-Ended.is))

@@ -5,11 +5,10 @@ ghost use Rattle.std.specs.Prelude.{◌≡◌, ℕ, ◌+◌, ◌-◌, ◌*◌, �
 ghost use Rattle.proof_text.specs.Lemma.{Lemma as PlainLemma};
 ghost use Rattle.proof_text.specs.Spelling.{greatest_number, longest_path};
 ghost use Rattle.cert_format.specs.Shape.{lemma_of, lemma_viewed, reason_viewed};
-ghost use Rattle.cert_format.specs.Entries.{part, reason_kept, reason_held, HeldFits, IsReasonWithin, KeepsReason};
+ghost use Rattle.proof_book.specs.Entries.{part, reason_kept, reason_held, HeldFits, IsReasonWithin, KeepsReason};
 
-use crate::lines::{Cite, Lemma, LemmaView, Reason, ReasonView};
-use crate::paths::shared_moves;
 use board_bits::Column;
+use cert_format::{Cite, Lemma, LemmaView, Reason, ReasonView, shared_moves};
 use proof_text::Claim;
 use rule_compat::Instance;
 use std::alloc::{AllocError, Global};
@@ -55,7 +54,7 @@ impl Model for Book {
 
     ghost Value = { List PlainLemma };
 
-    ghost use Rattle.cert_format.specs.BookFields.{all_kept, IsBook};
+    ghost use Rattle.proof_book.specs.BookFields.{all_kept, IsBook};
 
     ghost view = { all_kept };
 
@@ -132,7 +131,8 @@ impl Book {
     pub fn path(&self, n: u32) -> &[Column]
         requires from { 1 ≤ n }
         requires to { n ≤ length self.now }
-        ensures { option_map (λ (l : PlainLemma). l.path) (slice_get self.now (n - 1)) ≡ Some result.now }
+        ensures value { option_map (λ (l : PlainLemma). l.path) (slice_get self.now (n - 1)) ≡ Some result.now }
+        ensures short { length result.now ≤ longest_path }
     {
         let entry = &self.entries[n as usize - 1];
         part_of(&self.columns, entry.path_at, usize::from(entry.path_len))

@@ -3,15 +3,15 @@ use Rattle.std.specs.Prelude.{◌≡◌, ℕ, ◌+◌, ◌≤◌, List, [], ◌�
 use Rattle.std.specs.Borrow.{Bor}
 use Rattle.plan_rules.specs.declared.TheConstants.{MOST_MEMBERS}
 use Rattle.proof_text.specs.Lemma.{Reason as PlainReason, Lemma as PlainLemma}
-use Rattle.proof_text.specs.Spelling.{most_cites}
+use Rattle.proof_text.specs.Spelling.{longest_path, most_cites}
 use Rattle.rule_compat.specs.Written.{written_list}
 use Rattle.rule_compat.specs.declared.instance.Instance.{Instance}
 use Rattle.cert_format.specs.Shape.{cite_of, reason_by}
 use Rattle.cert_format.specs.declared.lines.Cite.{Cite}
 use Rattle.cert_format.specs.declared.lines.Reason.{Reason}
 use Rattle.cert_format.specs.declared.lines.Reason.TheVariants as reasons
-use Rattle.cert_format.specs.declared.book.Span.{Span}
-use Rattle.cert_format.specs.declared.book.Entry.{Entry}
+use Rattle.proof_book.specs.declared.book.Span.{Span}
+use Rattle.proof_book.specs.declared.book.Entry.{Entry}
 
 -- so many elements of a list, from a place on
 abbrev pub part : {X : Type 0} → List X → ℕ → ℕ → List X
@@ -57,9 +57,10 @@ pub record KeepsReason (cites : List Cite) (members : List Instance) (more_cites
   pub within : IsReasonWithin (length more_cites) (length more_members) kept
   pub is : reason_kept more_cites more_members kept ≡ reason
 
--- an entry's path too lies within the list of all columns
+-- an entry's path too lies within the list of all columns, and is no longer than a line can have
 pub record IsEntry (columns cites members : ℕ) (entry : Entry) : Type 0 where
   pub path : entry.path_at + entry.path_len ≤ columns
+  pub short : entry.path_len ≤ longest_path
   pub reason : IsReasonWithin cites members entry.reason
 
 -- the lemma that an entry keeps, which has this number

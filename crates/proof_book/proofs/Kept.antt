@@ -6,16 +6,19 @@ use Rattle.std.proofs.lemmas.List.{length-append, length-drop, take-append-le, t
 use Rattle.std.proofs.lemmas.List.Elements.{All-push, All-weaker, All-get_or, recursion_from_All}
 use Rattle.std.proofs.lemmas.Option.{slice_get-get_or, same_Some}
 use Rattle.plan_rules.specs.declared.TheConstants.{MOST_MEMBERS}
-use Rattle.proof_text.specs.Lemma.{Reason as PlainReason, ByAll, ByPlan}
+use Rattle.proof_text.specs.Lemma.{Reason as PlainReason, Lemma, ByAll, ByPlan}
+use Rattle.proof_text.specs.Spelling.{longest_path}
 use Rattle.rule_compat.specs.Written.{written_list}
 use Rattle.rule_compat.specs.declared.instance.Instance.{Instance}
 use Rattle.cert_format.specs.Shape.{cite_of}
-use Rattle.cert_format.specs.Entries.{part, IsReasonWithin, reason_kept, KeepsReason, IsEntry, lemma_in_entry, lemmas_from}
+use Rattle.proof_book.specs.BookFields.{all_kept, IsBook}
+use Rattle.proof_book.specs.Entries.{part, IsReasonWithin, reason_kept, KeepsReason, IsEntry, lemma_in_entry, lemmas_from}
 use Rattle.cert_format.specs.declared.lines.Cite.{Cite}
 use Rattle.cert_format.specs.declared.lines.Reason.{Reason}
 use Rattle.cert_format.specs.declared.lines.Reason.TheVariants as reasons
-use Rattle.cert_format.specs.declared.book.Span.{Span}
-use Rattle.cert_format.specs.declared.book.Entry.{Entry}
+use Rattle.proof_book.specs.declared.book.Book.TheInside.{Inside}
+use Rattle.proof_book.specs.declared.book.Span.{Span}
+use Rattle.proof_book.specs.declared.book.Entry.{Entry}
 
 -- ---- parts
 
@@ -41,7 +44,7 @@ within_more cites members more_cites more_members (reasons.Mirror lemma) c m wit
 pub entry_more : (columns cites members more_columns more_cites more_members : ℕ) (entry : Entry) → columns ≤ more_columns → cites ≤ more_cites
     → members ≤ more_members → IsEntry columns cites members entry → IsEntry more_columns more_cites more_members entry
 entry_more columns cites members more_columns more_cites more_members entry p c m is =
-    record { path = omega (arith, is.path); reason = within_more cites members more_cites more_members entry.reason c m is.reason }
+    record { path = omega (arith, is.path); short = is.short; reason = within_more cites members more_cites more_members entry.reason c m is.reason }
 
 reason_more : (cites more_cites : List Cite) (members more_members : List Instance) (reason : Reason Span Span)
     → IsReasonWithin (length cites) (length members) reason
@@ -107,14 +110,32 @@ lemma_there columns cites members n (first ∷ entries) (suc i) entry at =
     lemma_there columns cites members (n + 1) entries i entry at
     ∙ ap (λ m. Some (lemma_in_entry columns cites members m entry)) (let same : n + 1 + i ≡ n + suc i = omega arith in same)
 
--- the lemma with a number, by its entry
-pub found_entry : (columns : List ℕ) (cites : List Cite) (members : List Instance) (entries : List Entry) (n i : ℕ) (entry : Entry) → 1 ≤ n → i ≡ n - 1
-    → i < length entries → entry ≡ get_or entries i entry
-    → slice_get (lemmas_from columns cites members 1 entries) (n - 1) ≡ Some (lemma_in_entry columns cites members n entry)
-found_entry columns cites members entries n i entry some is within at =
-    ap (slice_get (lemmas_from columns cites members 1 entries)) (sym is)
-    ∙ lemma_there columns cites members 1 entries i entry (slice_get-get_or entries i entry within ∙ ap Some (sym at))
-    ∙ ap (λ n. Some (lemma_in_entry columns cites members n entry)) (let same : 1 + i ≡ n = omega arith in same)
+-- ---- a book's lemmas
+
+-- What a book keeps of these lemmas, and the entry of the one with a number.
+module _ (a : Inside) (lemmas : List Lemma) (kept : all_kept a ≡ lemmas) where
+  -- a book has as many lemmas as entries
+  pub counted : length lemmas ≡ length a.entries.items
+  counted = ap length (sym kept) ∙ lemma_count a.columns.items a.cites.items a.members.items 1 a.entries.items
+
+  module _ (n : ℕ) (from : 1 ≤ n) (to : n ≤ length lemmas) where
+    pub has_entry : n - 1 < length a.entries.items
+    has_entry = omega (arith, counted, from, to)
+
+    module _ (entry : Entry) (there : entry ≡ get_or a.entries.items (n - 1) entry) where
+      -- the entry is the lemma's
+      pub entry_found : slice_get lemmas (n - 1) ≡ Some (lemma_in_entry a.columns.items a.cites.items a.members.items n entry)
+      entry_found =
+          ap (λ all. slice_get all (n - 1)) (sym kept)
+          ∙ lemma_there a.columns.items a.cites.items a.members.items 1 a.entries.items (n - 1) entry
+          (slice_get-get_or a.entries.items (n - 1) entry has_entry ∙ ap Some (sym there))
+          ∙ ap (λ n. Some (lemma_in_entry a.columns.items a.cites.items a.members.items n entry)) (let same : 1 + (n - 1) ≡ n = omega (arith, from) in same)
+
+      -- and its parts lie within the book's lists
+      pub entry_fits : IsBook a → IsEntry (length a.columns.items) (length a.cites.items) (length a.members.items) entry
+      entry_fits book =
+          subst (IsEntry (length a.columns.items) (length a.cites.items) (length a.members.items)) (sym there)
+          (All-get_or (IsEntry (length a.columns.items) (length a.cites.items) (length a.members.items)) a.entries.items (n - 1) entry has_entry book.entries)
 
 -- ---- what a reason adds
 
@@ -153,12 +174,6 @@ keeps_members cites members more list span reason appended few at count same =
       is = ap (λ (found : List Instance). ByPlan (written_list found)) found ∙ same;
     }
 
--- the parts of the entry at a place lie within the lists
-pub entry_there : (columns cites members : ℕ) (entries : List Entry) (i : ℕ) (entry : Entry) → All (IsEntry columns cites members) entries → i < length entries
-    → entry ≡ get_or entries i entry → IsEntry columns cites members entry
-entry_there columns cites members entries i entry are within at =
-    subst (IsEntry columns cites members) (sym at) (All-get_or (IsEntry columns cites members) entries i entry within are)
-
 -- ---- one lemma more
 
 -- the parts of a lemma that was put, in lists that were longer or as they were
@@ -167,9 +182,9 @@ module _ (columns more_columns path : List ℕ) (cites more_cites : List Cite) (
   -- every entry's parts lie in the lists
   pub entries_more : more_entries ≡ entries ++ entry ∷ [] → ((new : List ℕ) × (more_columns ≡ columns ++ new) × (length new ≤ length path))
       → KeepsReason cites members more_cites more_members reason entry.reason → entry.path_at + length path ≤ length more_columns
-      → entry.path_len ≡ length path → All (IsEntry (length columns) (length cites) (length members)) entries
+      → entry.path_len ≡ length path → length path ≤ longest_path → All (IsEntry (length columns) (length cites) (length members)) entries
       → All (IsEntry (length more_columns) (length more_cites) (length more_members)) more_entries
-  entries_more pushed (new, longer, few) keeps within count are =
+  entries_more pushed (new, longer, few) keeps within count short are =
       let p = ap length longer ∙ length-append columns new in
       let c = ap length keeps.are_cites ∙ length-append cites keeps.new_cites in
       let m = ap length keeps.are_members ∙ length-append members keeps.new_members in
@@ -178,7 +193,7 @@ module _ (columns more_columns path : List ℕ) (cites more_cites : List Cite) (
       (All-weaker (IsEntry (length columns) (length cites) (length members)) (IsEntry (length more_columns) (length more_cites) (length more_members))
       (λ e is. entry_more (length columns) (length cites) (length members) (length more_columns) (length more_cites) (length more_members) e
       (omega (arith, p)) (omega (arith, c)) (omega (arith, m)) is) entries are)
-      (record { path = omega (arith, within, count); reason = keeps.within }))
+      (record { path = omega (arith, within, count); short = omega (arith, short, count); reason = keeps.within }))
 
   -- and the lemma stands behind those before
   pub lemma_put : more_entries ≡ entries ++ entry ∷ [] → ((new : List ℕ) × (more_columns ≡ columns ++ new) × (length new ≤ length path))

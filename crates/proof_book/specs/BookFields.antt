@@ -4,8 +4,8 @@ use Rattle.std.specs.List.{All}
 use Rattle.plan_rules.specs.declared.TheConstants.{MOST_MEMBERS}
 use Rattle.proof_text.specs.Lemma.{Lemma as PlainLemma}
 use Rattle.proof_text.specs.Spelling.{greatest_number, longest_path, most_cites}
-use Rattle.cert_format.specs.Entries.{IsEntry, lemmas_from}
-use Rattle.cert_format.specs.declared.book.Book.TheInside.{Inside}
+use Rattle.proof_book.specs.Entries.{IsEntry, lemmas_from}
+use Rattle.proof_book.specs.declared.book.Book.TheInside.{Inside}
 
 abbrev pub all_kept : Inside → List PlainLemma
 all_kept a = lemmas_from a.columns.items a.cites.items a.members.items 1 a.entries.items

@@ -1,9 +1,9 @@
 use Rattle.std.proofs.Common.{◌≡◌, ℕ, ◌+◌, List, [], ◌∷◌, ◌++◌, length, refl, sym, ap, ◌∙◌, arith, length-append}
 use Rattle.proof_text.specs.Lemma.{Lemma}
 use Rattle.cert_format.specs.Shape.{reason_viewed}
-use Rattle.cert_format.specs.declared.book.Entry.{Entry}
-use Rattle.cert_format.proofs.Kept.{lemma_count, entries_more, lemma_put}
-use Rattle.cert_format.proofs.book.Book.keep_parts.Goals as goal
+use Rattle.proof_book.specs.declared.book.Entry.{Entry}
+use Rattle.proof_book.proofs.Kept.{counted, entries_more, lemma_put}
+use Rattle.proof_book.proofs.book.Book.keep_parts.Goals as goal
 
 pub invariant_of-self-2 : goal.invariant_of-self-2
 invariant_of-self-2 c =
@@ -17,13 +17,12 @@ invariant_of-self-2 c =
     let one : length c.push_reserved.new.self.items ≡ length a.entries.items + 1 = ap length pushed ∙ length-append a.entries.items (entry ∷ []) in
     let longer : c.put_path-path_at.new.columns.items ≡ a.columns.items ++ more.0 =
     more.1 ∙ ap (λ (all : List ℕ). all ++ more.0) c.in_ok-try_reserve-2.ensures.items in
-    let count : length c.args.self.now ≡ length a.entries.items =
-    ap length (sym c.self.view_is) ∙ lemma_count a.columns.items a.cites.items a.members.items 1 a.entries.items in
+    let count = counted a c.args.self.now c.self.view_is in
     record {
       few = omega (arith, one, count, c.requires.few);
       entries = entries_more a.columns.items c.put_path-path_at.new.columns.items path a.cites.items c.put_reason.new.cites.items a.members.items
           c.put_reason.new.members.items a.entries.items c.push_reserved.new.self.items entry (reason_viewed c.args.reason.now) pushed
-          (more.0, longer, more.2) keeps c.put_path-path_at.ensures.within refl c.self.invariant.entries;
+          (more.0, longer, more.2) keeps c.put_path-path_at.ensures.within refl c.requires.short c.self.invariant.entries;
       few_columns = omega (arith, one, ap length longer ∙ length-append a.columns.items more.0, more.2, c.requires.short, c.self.invariant.few_columns);
       few_cites = omega (arith, one, ap length keeps.are_cites ∙ length-append a.cites.items keeps.new_cites, keeps.few_cites, c.self.invariant.few_cites);
       few_members =
@@ -41,8 +40,7 @@ returns-clause-kept c =
     c.push_reserved.ensures.items ∙ ap (λ (all : List Entry). all ++ entry ∷ []) c.in_ok-try_reserve.ensures.items in
     let longer : c.put_path-path_at.new.columns.items ≡ a.columns.items ++ more.0 =
     more.1 ∙ ap (λ (all : List ℕ). all ++ more.0) c.in_ok-try_reserve-2.ensures.items in
-    let count : length c.args.self.now ≡ length a.entries.items =
-    ap length (sym c.self.view_is) ∙ lemma_count a.columns.items a.cites.items a.members.items 1 a.entries.items in
+    let count = counted a c.args.self.now c.self.view_is in
     let behind : ℕ → List Lemma → List Lemma =
     λ number before. before ++ record { number = number; path = path; claim = c.args.claim; reason = reason } ∷ [] in
     let number : 1 + length a.entries.items ≡ length c.args.self.now + 1 = omega (arith, count) in

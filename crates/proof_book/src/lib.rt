@@ -1,0 +1,6 @@
+//! A book of a proof's lemmas, kept whole, for whoever plays by the proof or looks for what its verdict rests on.
+#![tactic(auto)]
+
+mod book;
+
+pub use book::{Book, Held};
