@@ -1,11 +1,11 @@
 -- Answers to the other side's moves: by the lemma that is cited, by a plan, and what they make of the game.
 use Rattle.std.proofs.Common.{◌≡◌, ℕ, ◌+◌, ◌<◌, Bool, true, false, ◌==◌, cond, List, length, map, Option, Some, None, is_none, is_some, Result}
-use Rattle.std.proofs.Common.{Ok, Err, IsOk, IfErr, refl, sym, ap, ◌∙◌, subst}
+use Rattle.std.proofs.Common.{Ok, Err, IsOk, IfOk, IfErr, refl, sym, ap, ◌∙◌, subst}
 use Rattle.std.specs.List.{find}
 use Rattle.std.specs.Option.{option_map}
 use Rattle.std.proofs.lemmas.Option.{same_Some, some_pair_parts}
-use Rattle.game_rules.specs.Board.{Square}
-use Rattle.game_rules.specs.Position.{Position, other, height, side_to_move, has_room, has_line, is_full, end_of, is_legal, after_move}
+use Rattle.game_rules.specs.Board.{Board, Square}
+use Rattle.game_rules.specs.Position.{Position, board_of, other, height, side_to_move, has_room, has_line, is_full, end_of, is_legal, after_move}
 use Rattle.game_rules.specs.declared.Side.{Side}
 use Rattle.game_rules.specs.declared.Side.TheVariants.{White, Black}
 use Rattle.game_rules.specs.declared.End.{End}
@@ -107,7 +107,7 @@ plan_accepted p ws result told is = passes result (ap is_none told ∙ refusal_i
     passes (Err fault) h = absurd (cc h)
 
 -- a legal move is answered by a session
-pub session_answers : (old new : Playing) (column : ℕ) (result : Result Reply MoveFault) → IfErr result (IsRefused old new column)
+session_answers : (old new : Playing) (column : ℕ) (result : Result Reply MoveFault) → IfErr result (IsRefused old new column)
     → is_legal old.stands column ≡ true → IsOk result
 session_answers old new column (Ok reply) refused legal = refl
 session_answers old new column (Err fault) refused legal =
@@ -126,7 +126,7 @@ pub record IsSeen (old new : Playing) (turned : Bool) (q : Position) (column to 
   pub answer : plan_move (members old.plan) turned q column ≡ Some (seen_column turned (length q.columns) to, in_plan (members old.plan) turned)
   pub stands : new.stands ≡ seen turned (after_move (after_move q column) (seen_column turned (length q.columns) to))
 
-pub answer_seen : (old new : Playing) (turned : Bool) (q : Position) (column : ℕ) (reply : Reply) → old.stands ≡ seen turned q → is_legal q column ≡ true
+answer_seen : (old new : Playing) (turned : Bool) (q : Position) (column : ℕ) (reply : Reply) → old.stands ≡ seen turned q → is_legal q column ≡ true
     → HasAnswered old new (seen_column turned (length q.columns) column) reply → IsSeen old new turned q column (column_in reply)
 answer_seen old new turned q column reply stands legal has =
     let cols = length q.columns in
@@ -149,7 +149,7 @@ answer_seen old new turned q column reply stands legal has =
     subst (IsSeen old new turned q column) is (record { within = low; answer = told; stands = next })
 
 -- a session takes a column as it is seen
-pub session_column : (turned : Bool) (q stands : Position) (column : ℕ) → stands ≡ seen turned q → is_legal q column ≡ true
+session_column : (turned : Bool) (q stands : Position) (column : ℕ) → stands ≡ seen turned q → is_legal q column ≡ true
     → (seen_column turned (length q.columns) column < length stands.columns)
     × (is_legal stands (seen_column turned (length q.columns) column) ≡ true)
 session_column turned q stands column is legal =
@@ -159,6 +159,34 @@ session_column turned q stands column is legal =
           (subst (λ n. at < n) (sym (seen_cols turned q)) (column_within turned (length q.columns) column within)),
       ap (λ p. is_legal p at) is ∙ seen_legal turned q column within ∙ legal,
     )
+
+-- The call: a session is asked about the column as it is seen, by the board's size, and its reply is turned back.
+module _ (old new : Playing) (turned : Bool) (q : Position) (column : ℕ) (stands : old.stands ≡ seen turned q) (legal : is_legal q column ≡ true)
+    (size : Board) (sized : size ≡ board_of q) (asked : ℕ) (asked_is : asked ≡ seen_column turned size.cols column)
+    (result : Result Reply MoveFault) where
+  on_board : (to : ℕ) → seen_column turned size.cols to ≡ seen_column turned (length q.columns) to
+  on_board to = ap (λ (b : Board). seen_column turned b.cols to) sized
+
+  pub is_replied : IfErr result (IsRefused old new asked) → IsOk result
+  is_replied refused =
+      session_answers old new asked result refused
+      (ap (is_legal old.stands) (asked_is ∙ on_board column) ∙ (session_column turned q old.stands column stands legal).1)
+
+  module _ (reply : Reply) (is : result ≡ Ok reply) (answers : IfOk result (HasAnswered old new asked)) (to : ℕ) (to_is : to ≡ column_in reply) where
+    is_seen : IsSeen old new turned q column to
+    is_seen =
+        subst (IsSeen old new turned q column) (sym to_is) (answer_seen old new turned q column reply stands legal
+        (subst (λ n. HasAnswered old new n reply) (asked_is ∙ on_board column) (subst (λ r. IfOk r (HasAnswered old new asked)) is answers)))
+
+    pub within_size : to < size.cols
+    within_size = subst (λ (b : Board). to < b.cols) (sym sized) is_seen.within
+
+    module _ (back : ℕ) (back_is : back ≡ seen_column turned size.cols to) where
+      pub reply_told : plan_move (members old.plan) turned q column ≡ Some (back, in_plan (members old.plan) turned)
+      reply_told = is_seen.answer ∙ ap (λ n. Some (n, in_plan (members old.plan) turned)) (sym (back_is ∙ on_board to))
+
+      pub session_stands : new.stands ≡ seen turned (after_move (after_move q column) back)
+      session_stands = is_seen.stands ∙ ap (λ n. seen turned (after_move (after_move q column) n)) (sym (back_is ∙ on_board to))
 
 -- ---- the game
 

@@ -51,15 +51,22 @@ of_each (Some bytes) Q each = each bytes
 pub same_position : (bytes : List ℕ) (p q : Position) → game_at bytes ≡ Ok p → game_at bytes ≡ Ok q → p ≡ q
 same_position bytes p q one another = let same : Ok p ≡ Ok q = sym one ∙ another in cc
 
+-- the streams of a run that wrote nothing
+abbrev pub unwritten : (input left : Option (List ℕ)) → ℕ → Option (List ℕ) → Streams
+unwritten input left last_read out = record { input = input; left = left; last_read = last_read; old = out; new = out }
+
 -- where no game was read, a run keeps what it promises of a fault and of a source that failed, whatever its ends are
-pub no_game : {E : Type 0} (ended : InputStop → E) (s : Streams) (Holds : List ℕ → E → Type 0)
-    → ((taken : List ℕ) (fault : InputFault) → game_at taken ≡ Err fault → IfSome s.input (λ bytes. game_at bytes ≡ Err fault)
-    → Holds taken (ended (NoGame fault)))
-    → ((taken : List ℕ) → Holds taken (ended Read))
-    → (stop : InputStop) → TakesGame s.input s.left (Err stop) → Took s most_input (λ taken. Holds taken (ended stop))
-no_game ended s Holds faulty failed (NoGame fault) takes =
+pub no_game : {E : Type 0} (ended : InputStop → E) (Holds : List ℕ → Streams → E → Type 0) (input left : Option (List ℕ)) (last_read : ℕ)
+    (out : Option (List ℕ))
+    → ((taken : List ℕ) (fault : InputFault) → game_at taken ≡ Err fault → IfSome input (λ bytes. game_at bytes ≡ Err fault)
+    → Holds taken (unwritten input left last_read out) (ended (NoGame fault)))
+    → ((taken : List ℕ) → Holds taken (unwritten input left last_read out) (ended Read))
+    → (stop : InputStop) → TakesGame input left (Err stop)
+    → Took (unwritten input left last_read out) most_input (λ taken. Holds taken (unwritten input left last_read out) (ended stop))
+no_game ended Holds input left last_read out faulty failed (NoGame fault) takes =
     record { taken = takes.0; gave = takes.1.gave; few = takes.1.few; holds = faulty takes.0 fault takes.2 takes.3 }
-no_game ended s Holds faulty failed Read takes = record { taken = takes.0; gave = takes.1.gave; few = takes.1.few; holds = failed takes.0 }
+no_game ended Holds input left last_read out faulty failed Read takes =
+    record { taken = takes.0; gave = takes.1.gave; few = takes.1.few; holds = failed takes.0 }
 
 -- what was kept, or written behind what was there, or begun to be, stands behind what was there
 pub kept_still : (before after : Option (List ℕ)) → Keeps before after → StillHolds before after

@@ -57,10 +57,9 @@ won_known winner to_move n h = elim (cases_Bool (same_side winner to_move)) [
 -- ---- texts
 
 -- a text that stops stands as its search does
-stopped_text : (stop : SearchStop) (old new : Option (List ℕ)) (text : List ℕ) → AppendsPrefix (is_whole (Err stop)) old new text
-    → AppendsPrefix (is_whole_verdict (Err stop)) old new text
-stopped_text Spent old new text h = h
-stopped_text WriteFault old new text h = h
+same_whole : (stop : SearchStop) → is_whole {Answer} (Err stop) ≡ is_whole_verdict (Err stop)
+same_whole Spent = refl
+same_whole WriteFault = refl
 
 -- the remark and the lemmas of one question alone
 alone : (b : Bool) (old new : Option (List ℕ)) (remark lemmas : List ℕ) → AppendsPrefix b old new (remark ++ lemmas)
@@ -154,65 +153,52 @@ in_turn slots reach root mid remark lemmas (inr none) some = absurd (some none.1
 
 module _ (version : Version) (root : Position) (nodes reach : ℕ) (slots : Option ℕ) (before after : Entries) (old new : Option (List ℕ)) (total most : ℕ)
     (within : most ≤ nodes) where
-  -- the first question stopped
-  pub asks_none : (stop : SearchStop) → AsksSide version root White reach slots [] most (moment before old) (moment after new) total (Err stop)
-      → (stop ≡ Spent → nodes < count (solved_within reach) White root)
-      → Asks version root nodes reach slots old new (Err stop)
-  asks_none stop white short = record {
+  -- White's question alone was asked
+  one_asked : (asked : Result Answer SearchStop) (r : Result Verdict SearchStop)
+      → (white : AsksSide version root White reach slots [] most (moment before old) (moment after new) total asked) → is_whole asked ≡ is_whole_verdict r
+      → (is_whole_verdict r ≡ true → HasBothRemarks slots nodes reach root white.shown None (verdict_told r))
+      → IfOk r (λ v. IsVerdict root white.shown v × (v ≢ Unknown)) → Asks version root nodes reach slots old new r
+  one_asked asked r white whole remarked verdict = record {
     white_remark = white.remark;
     white = white.lemmas;
     mid = white.shown;
     black_remark = None;
     black = [];
     after = white.shown;
-    text = stopped_text stop old new (remark_line white.remark ++ (lines_of white.lemmas ++ []))
-        (alone (is_whole (Err stop)) old new (remark_line white.remark) (lines_of white.lemmas) white.text);
+    text = subst (λ b. AppendsPrefix b old new (remark_line white.remark ++ (lines_of white.lemmas ++ []))) whole
+        (alone (is_whole asked) old new (remark_line white.remark) (lines_of white.lemmas) white.text);
     white_remarked = white.remarked;
     white_line = white.line;
     black_remarked = inr (refl, refl);
     black_line = tt;
-    both_remarked = unasked root nodes reach slots stop white.shown None white.below short;
+    both_remarked = remarked;
     white_right = white.right;
     black_right = refl;
     white_sided = white.sided;
     black_sided = tt;
     white_planned = white.planned;
     black_planned = tt;
-    verdict = tt;
+    verdict = verdict;
     few = omega (arith, white.few, within);
   }
+
+  -- the first question stopped
+  pub asks_none : (stop : SearchStop) → AsksSide version root White reach slots [] most (moment before old) (moment after new) total (Err stop)
+      → (stop ≡ Spent → nodes < count (solved_within reach) White root)
+      → Asks version root nodes reach slots old new (Err stop)
+  asks_none stop white short = one_asked (Err stop) (Err stop) white (same_whole stop) (unasked root nodes reach slots stop white.shown None white.below short) tt
 
   -- White wins
   pub asks_white : (answer : Answer) (to_move : Side) (v : Verdict)
       → AsksSide version root White reach slots [] most (moment before old) (moment after new) total (Ok answer) → answer.yes ≡ true
       → to_move ≡ side_to_move root
       → wins White root ≡ true → v ≡ won_by White to_move answer.lemma → Asks version root nodes reach slots old new (Ok v)
-  asks_white answer to_move v white won turn wins_root told = record {
-    white_remark = white.remark;
-    white = white.lemmas;
-    mid = white.shown;
-    black_remark = None;
-    black = [];
-    after = white.shown;
-    text = alone true old new (remark_line white.remark) (lines_of white.lemmas) white.text;
-    white_remarked = white.remarked;
-    white_line = white.line;
-    black_remarked = inr (refl, refl);
-    black_line = tt;
-    both_remarked = λ _. unneeded root nodes reach slots white.shown None v wins_root;
-    white_right = white.right;
-    black_right = refl;
-    white_sided = white.sided;
-    black_sided = tt;
-    white_planned = white.planned;
-    black_planned = tt;
-    verdict = (
-      rw told (won_verdict root white.shown White to_move answer.lemma turn
-          (subst (λ b. Shows white.shown answer.lemma root (claim_for White b)) won white.named)),
-      (λ h. won_known White to_move answer.lemma (sym told ∙ h)),
-    );
-    few = omega (arith, white.few, within);
-  }
+  asks_white answer to_move v white won turn wins_root told =
+      one_asked (Ok answer) (Ok v) white refl (λ _. unneeded root nodes reach slots white.shown None v wins_root) (
+        rw told (won_verdict root white.shown White to_move answer.lemma turn
+            (subst (λ b. Shows white.shown answer.lemma root (claim_for White b)) won white.named)),
+        (λ h. won_known White to_move answer.lemma (sym told ∙ h)),
+      )
 
 module _ (version : Version) (root : Position) (nodes reach : ℕ) (slots : Option ℕ) (before mid after : Entries) (old held new : Option (List ℕ))
     (total : ℕ) (first : Answer)
@@ -221,18 +207,21 @@ module _ (version : Version) (root : Position) (nodes reach : ℕ) (slots : Opti
   white_fails : Shows white.shown first.lemma root (claim_for White false)
   white_fails = subst (λ b. Shows white.shown first.lemma root (claim_for White b)) none white.named
 
-  -- the second question stopped
-  pub asks_one : (stop : SearchStop) → AsksSide version root Black reach slots white.shown most (moment mid held) (moment after new) counted (Err stop)
-      → Asks version root nodes reach slots old new (Err stop)
-  asks_one stop black = record {
+  -- both questions were asked
+  two_asked : (asked : Result Answer SearchStop) (r : Result Verdict SearchStop)
+      → (black : AsksSide version root Black reach slots white.shown most (moment mid held) (moment after new) counted asked)
+      → is_whole asked ≡ is_whole_verdict r → IfOk r (λ v. IsVerdict root (white.shown ++ black.shown) v × (v ≢ Unknown))
+      → Asks version root nodes reach slots old new r
+  two_asked asked r black whole verdict = record {
     white_remark = white.remark;
     white = white.lemmas;
     mid = white.shown;
     black_remark = black.remark;
     black = black.lemmas;
     after = (white.shown ++ black.shown);
-    text = stopped_text stop old new (remark_line white.remark ++ (lines_of white.lemmas ++ (remark_line black.remark ++ lines_of black.lemmas)))
-        (together (is_whole (Err stop)) old held new (remark_line white.remark) (lines_of white.lemmas) (remark_line black.remark) (lines_of black.lemmas)
+    text = subst (λ b. AppendsPrefix b old new
+        (remark_line white.remark ++ (lines_of white.lemmas ++ (remark_line black.remark ++ lines_of black.lemmas)))) whole
+        (together (is_whole asked) old held new (remark_line white.remark) (lines_of white.lemmas) (remark_line black.remark) (lines_of black.lemmas)
         white.text black.text);
     white_remarked = white.remarked;
     white_line = white.line;
@@ -245,41 +234,20 @@ module _ (version : Version) (root : Position) (nodes reach : ℕ) (slots : Opti
     black_sided = black.sided;
     white_planned = white.planned;
     black_planned = black.planned;
-    verdict = tt;
+    verdict = verdict;
     few = omega (arith, black.few, within);
   }
 
-  module _ (second : Answer) (black : AsksSide version root Black reach slots white.shown most (moment mid held) (moment after new) counted (Ok second)) where
-    -- a verdict behind the lemmas of both questions
-    both_asked : (v : Verdict) → IsVerdict root (white.shown ++ black.shown) v × (v ≢ Unknown) → Asks version root nodes reach slots old new (Ok v)
-    both_asked v verdict = record {
-      white_remark = white.remark;
-      white = white.lemmas;
-      mid = white.shown;
-      black_remark = black.remark;
-      black = black.lemmas;
-      after = (white.shown ++ black.shown);
-      text = together true old held new (remark_line white.remark) (lines_of white.lemmas) (remark_line black.remark) (lines_of black.lemmas) white.text
-          black.text;
-      white_remarked = white.remarked;
-      white_line = white.line;
-      black_remarked = inl (black.remarked, first.lemma, white_fails);
-      black_line = black.line;
-      both_remarked = λ _ _ _. black.remarked;
-      white_right = white.right;
-      black_right = black.right;
-      white_sided = white.sided;
-      black_sided = black.sided;
-      white_planned = white.planned;
-      black_planned = black.planned;
-      verdict = verdict;
-      few = omega (arith, black.few, within);
-    }
+  -- the second question stopped
+  pub asks_one : (stop : SearchStop) → AsksSide version root Black reach slots white.shown most (moment mid held) (moment after new) counted (Err stop)
+      → Asks version root nodes reach slots old new (Err stop)
+  asks_one stop black = two_asked (Err stop) (Err stop) black (same_whole stop) tt
 
+  module _ (second : Answer) (black : AsksSide version root Black reach slots white.shown most (moment mid held) (moment after new) counted (Ok second)) where
     -- Black wins
     pub asks_black : (to_move : Side) (v : Verdict) → second.yes ≡ true → to_move ≡ side_to_move root → v ≡ won_by Black to_move second.lemma
         → Asks version root nodes reach slots old new (Ok v)
-    asks_black to_move v won turn told = both_asked v (
+    asks_black to_move v won turn told = two_asked (Ok second) (Ok v) black refl (
       rw told (won_verdict root (white.shown ++ black.shown) Black to_move second.lemma turn
           (subst (λ b. Shows (white.shown ++ black.shown) second.lemma root (claim_for Black b)) won black.named)),
       (λ h. won_known Black to_move second.lemma (sym told ∙ h)),
@@ -288,7 +256,7 @@ module _ (version : Version) (root : Position) (nodes reach : ℕ) (slots : Opti
     -- neither wins
     pub asks_draw : second.yes ≡ false → Asks version root nodes reach slots old new (Ok (Draw first.lemma second.lemma))
     asks_draw never =
-        both_asked (Draw first.lemma second.lemma) (
+        two_asked (Ok second) (Ok (Draw first.lemma second.lemma)) black refl (
           (
             Shows_more white.shown black.shown first.lemma root (claim_for White false) white_fails,
             subst (λ b. Shows (white.shown ++ black.shown) second.lemma root (claim_for Black b)) never black.named,

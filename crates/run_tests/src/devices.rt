@@ -51,191 +51,82 @@ pub(crate) const THREAT: &[&str] = &["threat"];
 
 const DRILL: &[&str] = &["drill", "4", "4", "12", "1", "1"];
 
-/// The words of a run and its input, its devices, its status, and what it writes and reports.
-type Failing = (
-    &'static [&'static str],
-    &'static str,
-    Devices<'static>,
-    u8,
-    &'static str,
-    &'static str,
-);
+/// Where a device fails: the source, which gives so many bytes a call, at this call; the sink at this call; or the sink
+/// behind so many bytes, for more of which it has no room.
+#[derive(Clone, Copy)]
+enum Fault {
+    Read(usize, &'static [u32]),
+    Write(&'static [u32]),
+    Full(usize),
+}
 
-const FAILING: [Failing; 15] = [
-    (
-        PROVE_BY_SEARCH,
-        TWO_SQUARES_LEFT,
-        Devices {
-            piece: 4,
-            source_fails: &[2],
-            ..SOUND
-        },
-        6,
-        "",
-        "read fault\n",
-    ),
-    (
-        PROVE_BY_SEARCH,
-        TWO_SQUARES_LEFT,
-        Devices {
-            source_fails: &[1],
-            err_fails: &[1],
-            ..SOUND
-        },
-        6,
-        "",
-        "",
-    ),
-    (
-        PROVE_BY_SEARCH,
-        TWO_SQUARES_LEFT,
-        Devices {
-            out_fails: &[1],
-            ..SOUND
-        },
-        7,
-        "",
-        "write fault\n",
-    ),
-    (
-        PROVE_BY_SEARCH,
-        TWO_SQUARES_LEFT,
-        Devices {
-            out_fails: &[3],
-            ..SOUND
-        },
-        7,
-        FIRST_LEMMA,
-        "write fault\n",
-    ),
-    (
-        PROVE_BY_SEARCH,
-        TWO_SQUARES_LEFT,
-        Devices {
-            out_fails: &[9],
-            ..SOUND
-        },
-        7,
-        TWO_SQUARES_PROOF,
-        "write fault\n",
-    ),
-    (
-        PROVE_BY_SEARCH,
-        TWO_SQUARES_LEFT,
-        Devices { room: 46, ..SOUND },
-        7,
-        CUT_LEMMA,
-        "write fault\n",
-    ),
-    (
-        CHECK,
-        TWO_SQUARES_PROOF,
-        Devices {
-            piece: 4,
-            source_fails: &[2],
-            ..SOUND
-        },
-        6,
-        "",
-        "read fault\n",
-    ),
-    (
-        CHECK,
-        TWO_SQUARES_PROOF,
-        Devices {
-            out_fails: &[1],
-            ..SOUND
-        },
-        7,
-        "",
-        "write fault\n",
-    ),
+/// The devices with that fault, and the status and the report of a run that meets it.
+fn met(fault: Fault) -> (Devices<'static>, u8, &'static [u8]) {
+    match fault {
+        Fault::Read(piece, source_fails) => {
+            let devices = Devices {
+                piece,
+                source_fails,
+                ..SOUND
+            };
+            (devices, 6, b"read fault\n")
+        }
+        Fault::Write(out_fails) => (Devices { out_fails, ..SOUND }, 7, b"write fault\n"),
+        Fault::Full(room) => (Devices { room, ..SOUND }, 7, b"write fault\n"),
+    }
+}
+
+/// The words of a run and its input, the fault that it meets, and what it has written then.
+type Failing = (&'static [&'static str], &'static str, Fault, &'static str);
+
+const FAILING: [Failing; 13] = [
+    (PROVE_BY_SEARCH, TWO_SQUARES_LEFT, Fault::Read(4, &[2]), ""),
+    (PROVE_BY_SEARCH, TWO_SQUARES_LEFT, Fault::Write(&[1]), ""),
+    (PROVE_BY_SEARCH, TWO_SQUARES_LEFT, Fault::Write(&[3]), FIRST_LEMMA),
+    (PROVE_BY_SEARCH, TWO_SQUARES_LEFT, Fault::Write(&[9]), TWO_SQUARES_PROOF),
+    (PROVE_BY_SEARCH, TWO_SQUARES_LEFT, Fault::Full(46), CUT_LEMMA),
+    (CHECK, TWO_SQUARES_PROOF, Fault::Read(4, &[2]), ""),
+    (CHECK, TWO_SQUARES_PROOF, Fault::Write(&[1]), ""),
     // the line is written, and then it can't be handed on
-    (
-        CHECK,
-        TWO_SQUARES_PROOF,
-        Devices {
-            out_fails: &[2],
-            ..SOUND
-        },
-        7,
-        "accepted draw 6\n",
-        "write fault\n",
-    ),
-    (
-        CHECK,
-        TWO_SQUARES_PROOF,
-        Devices { room: 9, ..SOUND },
-        7,
-        "accepted ",
-        "write fault\n",
-    ),
-    (
-        PLAY,
-        DUEL,
-        Devices {
-            piece: 70,
-            source_fails: &[2],
-            ..SOUND
-        },
-        6,
-        "",
-        "read fault\n",
-    ),
-    (
-        PLAY,
-        DUEL,
-        Devices {
-            piece: 75,
-            source_fails: &[2],
-            ..SOUND
-        },
-        6,
-        "c1 d1\nc2 c3\n",
-        "read fault\n",
-    ),
-    (
-        PLAY,
-        DUEL,
-        Devices { room: 9, ..SOUND },
-        7,
-        "c1 d1\nc2 ",
-        "write fault\n",
-    ),
-    // a drill reads nothing
-    (
-        DRILL,
-        "",
-        Devices {
-            source_fails: &[1],
-            ..SOUND
-        },
-        0,
-        "drill win 1 draw 0 loss 0 unknown 0\n",
-        "",
-    ),
-    (
-        DRILL,
-        "",
-        Devices {
-            source_fails: &[1],
-            room: 11,
-            ..SOUND
-        },
-        7,
-        "drill win 1",
-        "write fault\n",
-    ),
+    (CHECK, TWO_SQUARES_PROOF, Fault::Write(&[2]), "accepted draw 6\n"),
+    (CHECK, TWO_SQUARES_PROOF, Fault::Full(9), "accepted "),
+    (PLAY, DUEL, Fault::Read(70, &[2]), ""),
+    (PLAY, DUEL, Fault::Read(75, &[2]), "c1 d1\nc2 c3\n"),
+    (PLAY, DUEL, Fault::Full(9), "c1 d1\nc2 "),
+    (DRILL, "", Fault::Full(11), "drill win 1"),
 ];
 
 #[test]
 fn a_failing_stream_has_its_status_and_leaves_a_prefix(rt: HostRuntime) -> Result<(), Fail> {
-    for (words, input, devices, status, out, reported) in FAILING {
+    for (words, input, fault, out) in FAILING {
+        let (devices, status, reported) = met(fault);
         let got = run_over(rt.alloc(), words, input.as_bytes(), devices)?;
         assert_eq!(rt; got.status, status, "{words:?} {out}");
         assert_eq!(rt; got.out.as_slice(), out.as_bytes(), "{words:?} {out}");
-        assert_eq!(rt; got.err.as_slice(), reported.as_bytes(), "{words:?} {out}");
+        assert_eq!(rt; got.err.as_slice(), reported, "{words:?} {out}");
     }
+    Ok(())
+}
+
+#[test]
+fn a_report_that_cant_be_written_leaves_the_status(rt: HostRuntime) -> Result<(), Fail> {
+    let devices = Devices {
+        source_fails: &[1],
+        err_fails: &[1],
+        ..SOUND
+    };
+    let got = run_over(rt.alloc(), PROVE_BY_SEARCH, TWO_SQUARES_LEFT.as_bytes(), devices)?;
+    assert_eq!(rt; got.status, 6);
+    assert_eq!(rt; got.out.len() + got.err.len(), 0);
+    Ok(())
+}
+
+#[test]
+fn a_drill_reads_nothing(rt: HostRuntime) -> Result<(), Fail> {
+    let (devices, _, _) = met(Fault::Read(1, &[1]));
+    let got = run_over(rt.alloc(), DRILL, b"", devices)?;
+    assert_eq!(rt; got.status, 0);
+    assert_eq!(rt; got.out.as_slice(), b"drill win 1 draw 0 loss 0 unknown 0\n".as_slice());
     Ok(())
 }
 
