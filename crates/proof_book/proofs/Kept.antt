@@ -2,7 +2,7 @@
 use Rattle.std.proofs.Common.{◌≡◌, ℕ, zero, suc, ◌+◌, ◌-◌, ◌<◌, ◌≤◌, List, [], ◌∷◌, ◌++◌, take, drop, map, length, get_or, Some, refl, sym, ap, ◌∙◌, subst}
 use Rattle.std.proofs.Common.{arith, append-nil}
 use Rattle.std.specs.List.{All, AllByRecursion, slice_get}
-use Rattle.std.proofs.lemmas.List.{length-append, length-drop, take-append-le, take_all, drop_at, drop-append-le}
+use Rattle.std.proofs.lemmas.List.{length-append, length-drop, length-take-le, take-append-le, take_all, drop_at, drop-append-le}
 use Rattle.std.proofs.lemmas.List.Elements.{All-push, All-weaker, All-get_or, recursion_from_All}
 use Rattle.std.proofs.lemmas.Option.{slice_get-get_or, same_Some}
 use Rattle.plan_rules.specs.declared.TheConstants.{MOST_MEMBERS}
@@ -26,6 +26,10 @@ use Rattle.proof_book.specs.declared.book.Entry.{Entry}
 pub part_more : {X : Type 0} (xs more : List X) (at count : ℕ) → at + count ≤ length xs → part (xs ++ more) at count ≡ part xs at count
 part_more xs more at count within =
     ap (take count) (drop-append-le at xs more (omega arith)) ∙ take-append-le count (drop at xs) more (omega (arith, length-drop at xs))
+
+-- a part within a list has as many elements as it is to have
+pub part_length : {X : Type 0} (xs : List X) (at count : ℕ) → at + count ≤ length xs → length (part xs at count) ≡ count
+part_length xs at count within = length-take-le count (drop at xs) (omega (arith, within, length-drop at xs))
 
 -- what was appended is a part
 pub part_new : {X : Type 0} (xs new : List X) → part (xs ++ new) (length xs) (length new) ≡ new

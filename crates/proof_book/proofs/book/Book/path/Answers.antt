@@ -2,11 +2,11 @@ use Rattle.std.proofs.Common.{◌≡◌, ℕ, List, length, Some, sym, ap, ◌�
 use Rattle.std.specs.Option.{option_map}
 use Rattle.proof_text.specs.Lemma.{Lemma}
 use Rattle.proof_book.specs.Entries.{part}
-use Rattle.proof_book.proofs.Kept.{has_entry, entry_found, entry_fits}
+use Rattle.proof_book.proofs.Kept.{part_length, has_entry, entry_found, entry_fits}
 use Rattle.proof_book.proofs.book.Book.path.Goals as goal
 
 pub index-entry-requires : goal.index-entry-requires
-index-entry-requires c = has_entry c.self.inside c.args.self.now c.self.view_is c.args.n c.requires.from c.requires.to
+index-entry-requires c = omega (arith, has_entry c.self.inside c.args.self.now c.self.view_is c.args.n c.requires.from c.requires.to)
 
 pub part_of-requires : goal.part_of-requires
 part_of-requires c =
@@ -28,4 +28,6 @@ pub returns-clause-short : goal.returns-clause-short
 returns-clause-short c =
     let fits = entry_fits c.self.inside c.args.self.now c.self.view_is c.args.n c.requires.from c.requires.to c.index-entry.result.now c.index-entry.ensures
     c.self.invariant in
-    omega (arith, fits.short, c.from.ensures, ap length c.part_of.ensures)
+    let long = part_length c.deref.result.now c.index-entry.result.now.path_at c.from.result
+    (omega (arith, fits.path, c.from.ensures, ap length c.deref.ensures.value)) in
+    omega (arith, fits.short, c.from.ensures, ap length c.part_of.ensures ∙ long)

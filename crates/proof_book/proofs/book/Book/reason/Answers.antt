@@ -1,4 +1,4 @@
-use Rattle.std.proofs.Common.{◌≡◌, List, length, Some, sym, ap, ◌∙◌, subst}
+use Rattle.std.proofs.Common.{◌≡◌, List, length, Some, sym, ap, ◌∙◌, subst, arith}
 use Rattle.std.specs.Option.{option_map}
 use Rattle.proof_text.specs.Lemma.{Lemma}
 use Rattle.rule_compat.specs.declared.instance.Instance.{Instance}
@@ -8,7 +8,7 @@ use Rattle.proof_book.proofs.Kept.{has_entry, entry_found, entry_fits}
 use Rattle.proof_book.proofs.book.Book.reason.Goals as goal
 
 pub index-requires : goal.index-requires
-index-requires c = has_entry c.self.inside c.args.self.now c.self.view_is c.args.n c.requires.from c.requires.to
+index-requires c = omega (arith, has_entry c.self.inside c.args.self.now c.self.view_is c.args.n c.requires.from c.requires.to)
 
 pub lend_reason-requires : goal.lend_reason-requires
 lend_reason-requires c =
