@@ -1,5 +1,5 @@
 -- How a game begins: with the move that the lemma names, or with none, where the other side is to move or the game has ended.
-use Rattle.std.proofs.Common.{◌≡◌, ◌≢◌, ◌↔◌, ℕ, Bool, true, false, List, [], Option, Some, None, is_some, refl, sym, ap, ◌∙◌, subst}
+use Rattle.std.proofs.Common.{◌≡◌, ◌≢◌, ◌↔◌, ℕ, Bool, true, false, List, [], Option, Some, None, is_some, sym, ap, ◌∙◌, subst}
 use Rattle.std.proofs.lemmas.Option.{some_pair_parts}
 use Rattle.game_rules.specs.Position.{Position, other, side_to_move, has_room, end_of, is_legal, after_move}
 use Rattle.game_rules.specs.declared.Side.{Side}

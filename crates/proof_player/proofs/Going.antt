@@ -82,7 +82,7 @@ module _ (a : Inside) (s : FollowState) (view : state_of a ≡ s) (started : s.b
       goes_on : end_of (after_move a.now column) ≡ None
       goes_on = ap end_of (sym same_now) ∙ none_of (end_of now) (is_over ∙ none)
 
-      there_at : CanAnswerAt a.book.now (following a.place a.turned) a.now column
+      abbrev there_at : CanAnswerAt a.book.now (following a.place a.turned) a.now column
       there_at =
           record {
             root = inv.on.root;

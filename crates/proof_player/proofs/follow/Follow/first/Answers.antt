@@ -1,5 +1,4 @@
 use Rattle.std.proofs.Common.{refl, ap, ◌∙◌}
-use Rattle.game_rules.specs.Position.{end_of}
 use Rattle.proof_player.specs.Playing.{reply_for}
 use Rattle.proof_player.proofs.Begun.{waits_following, none_wanted, first_room, first_following, has_begun, some_wanted}
 use Rattle.proof_player.proofs.follow.Follow.first.Goals as goal
