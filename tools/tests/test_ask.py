@@ -1,6 +1,7 @@
 """tools/ask.py: positions as people write them, and one sentence from a checked proof."""
 
 import json
+import lzma
 import os
 import random
 import re
@@ -13,6 +14,7 @@ from unittest import mock
 from common import TOOLS, ToolTest, boards, example, heard, program, read, tool
 import ask
 import mutants
+import settle
 import victor
 
 TOLD = re.compile(r"(ask\.py: [a-z]+ has taken [0-9.]+( of [0-9.]+)? seconds for [-a-j]+\n)*")
@@ -270,13 +272,13 @@ class EngineTest(ToolTest):
     def test_what_is_asked(self):
         """Where nothing else is said, both are asked where tools/solve was made, and else prove alone."""
         with mock.patch.object(victor, "SOLVER", "/no/such"):
-            self.assertEqual(ask.engines_of(None, None), ("prove",))
-            self.assertEqual(ask.engines_of(None, "a path"), ("solve", "prove"))
-            self.assertEqual(ask.engines_of("both", None), ("solve", "prove"))
+            self.assertEqual(settle.engines_of(None, None), ("prove",))
+            self.assertEqual(settle.engines_of(None, "a path"), ("solve", "prove"))
+            self.assertEqual(settle.engines_of("both", None), ("solve", "prove"))
             self.assertRaises(boards.Fault, victor.find_solver)
         with mock.patch.object(victor, "SOLVER", program()):
-            self.assertEqual(ask.engines_of(None, None), ("solve", "prove"))
-            self.assertEqual(ask.engines_of("prove", None), ("prove",))
+            self.assertEqual(settle.engines_of(None, None), ("solve", "prove"))
+            self.assertEqual(settle.engines_of("prove", None), ("prove",))
 
     def test_refused(self):
         """A proof of solve's that isn't accepted is told, whatever prove would say."""
@@ -338,6 +340,46 @@ class EngineTest(ToolTest):
     @unittest.skipUnless(os.access(victor.SOLVER, os.X_OK), "tools/solve isn't built: make -C tools/solve")
     def test_solve_itself(self):
         self.says("is a draw for White, who is to move (found by solve, ", "--board", "4x4", "-")
+
+
+class KnownTest(ToolTest):
+    """Positions that a proof of the whole game has, and best lines."""
+
+    def says(self, said, *words):
+        status, out, err = tool("ask.py", "--by", "prove", "--victor", program(), *words)
+        self.assertIn(said, out, err)
+        return status, out
+
+    def test_from_a_proof(self):
+        """The lemmas of a proof answer for their positions, those of other orders and their images; else a search does."""
+        proof = example("forced-win.proof")
+        self.says("White, who is to move, wins after dccbbdbbddcc on 4 by 4 (found in ", "--from", proof, "--board", "4x4",
+                  "dccbbdbbddcc")
+        lines = [line.split() for line in read(proof).split("\n")[3:] if line[:1].isdigit()]
+        path = next(words[1] for words in lines if words[2] == "W+" and len(words[1]) > 1)
+        for moves in ("dccbbdbbddcc" + path, ("dccbbdbbddcc" + path).translate(str.maketrans("abcd", "dcba"))):
+            self.says("found in ", "--from", proof, "--board", "4x4", moves)
+        self.assertNotIn("found in", self.says("on 4 by 4 (", "--from", proof, "--board", "4x4", "abababab")[1])
+        self.refuses("ask.py", "--from", example("forced-win.txt"), "-", said="is no proof")
+
+    def test_packed(self):
+        with tempfile.TemporaryDirectory() as folder:
+            packed = os.path.join(folder, "proof.txt.xz")
+            with lzma.open(packed, "wb") as out:
+                out.write(read(example("forced-win.proof")).encode())
+            self.says("found in ", "--from", packed, "--board", "4x4", "dccbbdbbddcc")
+
+    def test_line(self):
+        """A best line ends the game as the value says, and each of its moves keeps that value."""
+        for moves, board in (("dccbbdbbddcc", "4x4"), ("cdccddcdaaaabb", "4x4"), ("abab", "4x4"), ("dcdcdc", "7x6"),
+                             ("eefddgbfadfeaafcebdfbbgdcefe", "7x6")):
+            status, out = self.says("A best line: ", "--line", "--json", "--board", board, moves)
+            data = json.loads(out)
+            game = boards.Game.read(moves + data["line"], boards.board_size(board))
+            self.assertTrue(game.is_over, data)
+            winner = None if not game.line else "WB"[game.side == "W"]
+            mover = data["side"][0]
+            self.assertEqual(data["value"], "draw" if winner is None else "win" if winner == mover else "loss", data)
 
 
 class ValueTest(ToolTest):

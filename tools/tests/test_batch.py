@@ -66,7 +66,7 @@ class BatchTest(ToolTest):
 
     def words(self, *more, slow=False):
         victor = self.slow if slow else program()
-        return [self.list, self.out, "--nodes", "100000", "-j", "2", "--victor", victor, *more]
+        return [self.list, self.out, "--by", "prove", "--nodes", "100000", "-j", "2", "--victor", victor, *more]
 
     def proofs(self):
         names = os.listdir(self.out) if os.path.isdir(self.out) else []
@@ -164,7 +164,10 @@ class BatchTest(ToolTest):
         self.assertEqual(self.proofs(), [])
         commands = read(os.path.join(self.out, ".work", "commands")).split("\n")[:-1]
         self.assertEqual(len(commands), 4)
-        self.assertEqual(subprocess.run(["bash", "-c", commands[1]], stdin=subprocess.DEVNULL).returncode, 0)
+        self.assertNotIn(os.path.dirname(TOOLS), "".join(commands))
+        elsewhere = {**os.environ, "BATCH": os.path.join(TOOLS, "batch"), "VICTOR": program()}
+        run = subprocess.run(["bash", "-c", commands[1]], stdin=subprocess.DEVNULL, cwd=self.out, env=elsewhere)
+        self.assertEqual(run.returncode, 0)
         self.assertEqual(self.proofs(), [self.names[0]])
         self.assertTrue(self.is_whole(self.names[0]))
 
@@ -192,7 +195,7 @@ class BatchTest(ToolTest):
     def test_unknown(self):
         """What is unknown within a budget is run again with another one alone."""
         write(self.list, "-\n4\n")
-        words = [self.list, self.out, "--board", "4x4", "--reach", "0", "--victor", program()]
+        words = [self.list, self.out, "--board", "4x4", "--by", "prove", "--reach", "0", "--victor", program()]
         status, out, _ = tool("batch", *words, "--nodes", "50")
         self.assertEqual((status, out.split("\n")[1]), (0, "batch: 2 unknown"))
         status, out, _ = tool("batch", *words, "--nodes", "50")
@@ -248,12 +251,37 @@ class BatchTest(ToolTest):
             self.assertEqual((status, row["accepted"], row["value"]), (1, "none", ""))
             self.assertIn("0 done before, 1 to prove", tool("batch", *self.words())[1])
 
+    @with_make
+    def test_bad_lines(self):
+        """All lines that are none are told at once, and the rest is done."""
+        name = self.names[0]
+        write(self.list, "48\n%s\n444 2 3\nxyz\n" % name)
+        status, out, err = tool("batch", *self.words())
+        said = ("batch: line 1: move 2: the board has no column 8", "batch: line 3: '3' stands behind the position: a "
+                "line has one word, and maybe a score", "batch: line 4: move 1: 'x' is no column of this board (a to g)")
+        self.assertEqual((status, tuple(err.split("\n")[:3])), (1, said), out)
+        self.assertEqual([row["position"] for row in self.rows()], [name])
+
+    @with_make
+    def test_scores(self):
+        """A score behind a position is no move. It is compared with the value that the proof shows."""
+        found = {}
+        write(self.list, "\n".join(self.names[:4]) + "\n")
+        self.assertEqual(tool("batch", *self.words())[0], 0)
+        for row in self.rows():
+            found[row["position"]] = {"win": 3, "draw": 0, "loss": -7}[row["value"]]
+        write(self.list, "".join("%s %d\n" % pair for pair in found.items()))
+        status, _, err = tool("batch", *self.words())
+        self.assertEqual((status, err), (0, ""))
+        write(self.list, "".join("%s %d\n" % (name, score or 1) for name, score in found.items()).replace(" -", " "))
+        status, _, err = tool("batch", *self.words())
+        others = [name for name, score in found.items() if score <= 0]
+        self.assertEqual((status, err.count("the score says win")), (1 if others else 0, len(others)), err)
+
     def test_faults(self):
         self.helps("batch")
-        write(self.list, "444\n48\n")
-        self.refuses("batch", *self.words(), said="line 2: move 2: the board has no column 8")
-        write(self.list, "444\n44455554221 2\n")
-        self.refuses("batch", *self.words(), said="line 2: '2' stands behind the position")
+        write(self.list, "48\n")
+        self.assertEqual(tool("batch", *self.words())[:2], (2, ""))
         write(self.list, "# none\n")
         self.refuses("batch", *self.words(), said="no position")
         write(self.list, "444\n")
