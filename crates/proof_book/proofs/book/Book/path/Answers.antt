@@ -1,12 +1,13 @@
-use Rattle.std.proofs.Common.{◌≡◌, ℕ, List, length, Some, sym, ap, ◌∙◌, arith}
+use Rattle.std.proofs.Common.{◌≡◌, ℕ, List, length, drop, Some, sym, ap, ◌∙◌, arith}
+use Rattle.std.proofs.lemmas.List.{length-take}
 use Rattle.std.specs.Option.{option_map}
 use Rattle.proof_text.specs.Lemma.{Lemma}
 use Rattle.proof_book.specs.Entries.{part}
-use Rattle.proof_book.proofs.Kept.{has_entry, entry_found, entry_fits}
+use Rattle.proof_book.proofs.Kept.{counted, entry_found, entry_fits}
 use Rattle.proof_book.proofs.book.Book.path.Goals as goal
 
 pub index-entry-requires : goal.index-entry-requires
-index-entry-requires c = has_entry c.self.inside c.args.self.now c.self.view_is c.args.n c.requires.from c.requires.to
+index-entry-requires c = omega (arith, counted c.self.inside c.args.self.now c.self.view_is, c.requires.from, c.requires.to)
 
 pub part_of-requires : goal.part_of-requires
 part_of-requires c =
@@ -28,4 +29,5 @@ pub returns-clause-short : goal.returns-clause-short
 returns-clause-short c =
     let fits = entry_fits c.self.inside c.args.self.now c.self.view_is c.args.n c.requires.from c.requires.to c.index-entry.result.now c.index-entry.ensures
     c.self.invariant in
-    omega (arith, fits.short, c.from.ensures, ap length c.part_of.ensures)
+    omega (arith, fits.short, c.from.ensures, ap length c.part_of.ensures,
+    length-take c.from.result (drop c.index-entry.result.now.path_at c.deref.result.now))

@@ -1,14 +1,14 @@
-use Rattle.std.proofs.Common.{◌≡◌, List, length, Some, sym, ap, ◌∙◌, subst}
+use Rattle.std.proofs.Common.{◌≡◌, List, length, Some, sym, ap, ◌∙◌, subst, arith}
 use Rattle.std.specs.Option.{option_map}
 use Rattle.proof_text.specs.Lemma.{Lemma}
 use Rattle.rule_compat.specs.declared.instance.Instance.{Instance}
 use Rattle.cert_format.specs.declared.lines.Cite.{Cite}
 use Rattle.proof_book.specs.Entries.{IsReasonWithin, reason_kept}
-use Rattle.proof_book.proofs.Kept.{has_entry, entry_found, entry_fits}
+use Rattle.proof_book.proofs.Kept.{counted, entry_found, entry_fits}
 use Rattle.proof_book.proofs.book.Book.reason.Goals as goal
 
 pub index-requires : goal.index-requires
-index-requires c = has_entry c.self.inside c.args.self.now c.self.view_is c.args.n c.requires.from c.requires.to
+index-requires c = omega (arith, counted c.self.inside c.args.self.now c.self.view_is, c.requires.from, c.requires.to)
 
 pub lend_reason-requires : goal.lend_reason-requires
 lend_reason-requires c =
