@@ -57,7 +57,7 @@ won_known winner to_move n h = elim (cases_Bool (same_side winner to_move)) [
 -- ---- texts
 
 -- a text that stops stands as its search does
-same_whole : (stop : SearchStop) → is_whole {Answer} (Err stop) ≡ is_whole_verdict (Err stop)
+same_whole : (stop : SearchStop) → is_whole (Err stop) ≡ is_whole_verdict (Err stop)
 same_whole Spent = refl
 same_whole WriteFault = refl
 
