@@ -272,7 +272,7 @@ dropped [] i l at = absurd (cc at)
 dropped (m ∷ ls) zero l at = let same : m ≡ l = cc at in ap (λ l. l ∷ ls) same
 dropped (m ∷ ls) (suc i) l at = dropped ls i l at
 
-at_within : (ls : List Lemma) (i : ℕ) → i < length ls → (l : Lemma) × (slice_get ls i ≡ Some l)
+pub at_within : (ls : List Lemma) (i : ℕ) → i < length ls → (l : Lemma) × (slice_get ls i ≡ Some l)
 at_within [] i low = absurd (omega (arith, low))
 at_within (l ∷ ls) zero low = (l, refl)
 at_within (l ∷ ls) (suc i) low = at_within ls i (omega (arith, low))

@@ -1,2 +1,4 @@
 pub mod Marking
 pub mod Agreeing
+pub mod Putting
+pub mod Printing

@@ -55,53 +55,19 @@ ends_apart Black Draw h same = cc
 ends_apart Draw White h same = cc
 ends_apart Draw Black h same = cc
 
--- nothing is worse than a loss, and nothing better than a win
-at_loss : (side : Side) (e : End) → worth side e ≤ worth side (win_of (other side)) → e ≡ win_of (other side)
-at_loss sides.White White h = absurd (omega (arith, h))
-at_loss sides.White Black h = refl
-at_loss sides.White Draw h = absurd (omega (arith, h))
-at_loss sides.Black White h = refl
-at_loss sides.Black Black h = absurd (omega (arith, h))
-at_loss sides.Black Draw h = absurd (omega (arith, h))
-
-at_win : (side : Side) (e : End) → worth side (win_of side) ≤ worth side e → e ≡ win_of side
-at_win sides.White White h = refl
-at_win sides.White Black h = absurd (omega (arith, h))
-at_win sides.White Draw h = absurd (omega (arith, h))
-at_win sides.Black White h = absurd (omega (arith, h))
-at_win sides.Black Black h = refl
-at_win sides.Black Draw h = absurd (omega (arith, h))
-
 -- the mark that is made says what it has to
 module _ (may_want : Position → Bool) (p : Position) (column : ℕ) (legal : is_legal p column ≡ true) where
   q : Position
   q = after_move p column
 
   pub mark_says : (before after : Option End) → IsTold may_want p before → IsTold may_want (after_move p column) after
-      → Says may_want p (after_move p column) (mark_by (side_to_move p) before after)
+      → Says may_want p (after_move p column) (mark_by before after)
   mark_says (Some before) (Some after) told later = elim (cases_Bool (same_end before after)) [
     | inl same ↦ rw same (later ∙ sym (ends_same before after same) ∙ sym told)
     | inr apart ↦ rw apart (move_worse p column legal (λ e. ends_apart before after apart (sym later ∙ e ∙ told)))
   ]
-  mark_says (Some before) None told later = elim (cases_Bool (same_end (win_of (other (side_to_move p))) before)) [
-    | inl lost ↦ rw lost (at_end (told ∙ sym (ends_same _ before lost)))
-    | inr not ↦ rw not (or_right (may_want p) (may_want (after_move p column)) later)
-  ]
-    where
-      at_end : value p ≡ win_of (other (side_to_move p)) → value (after_move p column) ≡ value p
-      at_end loss =
-          at_loss (side_to_move p) (value (after_move p column))
-          (subst (λ e. worth (side_to_move p) (value (after_move p column)) ≤ worth (side_to_move p) e) loss (move_no_better p column legal)) ∙ sym loss
-  mark_says None (Some after) told later = elim (cases_Bool (same_end (win_of (side_to_move p)) after)) [
-    | inl won ↦ rw won (at_end (later ∙ sym (ends_same _ after won)))
-    | inr not ↦ rw not (or_left (may_want p) (may_want (after_move p column)) told)
-  ]
-    where
-      at_end : value (after_move p column) ≡ win_of (side_to_move p) → value (after_move p column) ≡ value p
-      at_end win =
-          win ∙ sym (at_win (side_to_move p) (value p)
-          (subst (λ e. worth (side_to_move p) e ≤ worth (side_to_move p) (value p)) win (move_no_better p column legal)))
-  mark_says None None told later = or_left (may_want p) (may_want (after_move p column)) told
+  mark_says (Some before) None told later = or_right (may_want p) (may_want (after_move p column)) later
+  mark_says None after told later = or_left (may_want p) (may_want (after_move p column)) told
 
 -- one more move with its mark
 pub marks_push : (may_want : Position → Bool) (p q : Position) (columns : List ℕ) (marks : List Mark) (column : ℕ) (mark : Mark) → played p columns ≡ Some q

@@ -5,7 +5,7 @@ ghost use Rattle.tool_text.specs.Marks.{AreMarks, AreLastMarks};
 ghost use Rattle.proof_tools.specs.Marked.{IsTold, mark_by};
 
 use arrayvec::ArrayVec;
-use board_bits::{Column, End, MOST_SQUARES, Position, Side, Size};
+use board_bits::{Column, End, MOST_SQUARES, Position, Size};
 use std::alloc::AllocError;
 use tool_text::Mark;
 
@@ -71,16 +71,16 @@ fn marks_from<V: Valuer>(
     for column in moves {
         let next = position.after(*column);
         let after = valuer.value_of(&next)?;
-        marks.push(mark_of(position.to_move(), before, after));
+        marks.push(mark_of(before, after));
         position = next;
         before = after;
     }
     Ok(marks)
 }
 
-/// The mark of a side's move, by what is told of the positions before and after it.
-fn mark_of(mover: Side, before: Option<End>, after: Option<End>) -> Mark
-    ensures { result ≡ mark_by mover before after }
+/// The mark of a move, by what is told of the positions before and after it.
+fn mark_of(before: Option<End>, after: Option<End>) -> Mark
+    ensures { result ≡ mark_by before after }
 {
     match (before, after) {
         (Some(before), Some(after)) => {
@@ -90,8 +90,6 @@ fn mark_of(mover: Side, before: Option<End>, after: Option<End>) -> Mark
                 Mark::Bad
             }
         }
-        (Some(before), None) if before == mover.other().win() => Mark::Fine,
-        (None, Some(after)) if after == mover.win() => Mark::Fine,
         _ => Mark::Open,
     }
 }

@@ -2,7 +2,9 @@
 use Rattle.std.proofs.Common.{◌≡◌, ℕ, ◌+◌, ◌-◌, ◌≤◌, Bool, true, List, [], ◌++◌, length, Option, Result, Ok, Err}
 use Rattle.std.proofs.Common.{refl, sym, ap, ◌∙◌, subst, arith, append_assoc, append-nil}
 use Rattle.game_rules.specs.Position.{Position}
+use Rattle.game_rules.specs.Game.{Game, IsTextOf}
 use Rattle.game_rules.specs.Text.{game_at}
+use Rattle.game_rules.proofs.Games.{game_is_read}
 use Rattle.proof_text.specs.Checked.{CheckerState}
 use Rattle.proof_text.specs.Lemma.{Lemma}
 use Rattle.proof_text.specs.Texts as answers
@@ -15,7 +17,9 @@ use Rattle.run_proof.specs.Whole.{judged, most_lines_read, most_taken}
 use Rattle.run_proof.specs.Stops.{IsStopped}
 use Rattle.run_frame.specs.Streams.{Streams}
 use Rattle.run_proof.specs.Taken.{text_lemmas, Gains, BeginWith}
-use Rattle.run_proof.specs.Steps.{Adds, StopsBy, StopsWith, Judges, Place, AtHead, AtGame, AtLine, GoesOn, Gets, lines_from, lemmas_at, lines_read_until}
+use Rattle.run_proof.specs.Steps.{Adds, IsNamed, IsStopAt, StopsBy, StopsWith, Judges, Place, AtHead, AtGame, AtLine, GoesOn, Gets, lines_from, lemmas_at, lines_read_until}
+use Rattle.run_proof.specs.Heads.{HasHead, JudgesWhole}
+use Rattle.run_proof.specs.declared.reading.ProofRead.{ProofRead}
 use Rattle.io_ports.specs.Reading.{Pending, Reads, PassesLines}
 use Rattle.run_frame.specs.Reading.{StopsGame}
 use Rattle.run_frame.specs.declared.game_input.InputStop.{InputStop}
@@ -56,23 +60,46 @@ stops_earlier one two bytes mid ls a b c (stops.Input inputs.Read) goes later h 
 stops_earlier one two bytes mid ls a b c (stops.Refused r) goes later h = goes.answer ∙ h
 stops_earlier one two bytes mid ls a b c stops.Memory goes later h = goes.reaches h
 
+-- it is a later line than those that were read
+pub stop_at : (at : ℕ) (stop : ProofStop) → at ≤ most_lines_read → IsStopAt at stop → (at ≤ lines_read_until stop) × (lines_read_until stop ≤ most_lines_read)
+stop_at at (stops.Refused r) few here = (omega (arith, here), omega (arith, here, few))
+stop_at at (stops.Input (inputs.NoGame fault)) few here = absurd here
+stop_at at (stops.Input inputs.Read) few here = (few, omega arith)
+stop_at at stops.Memory few here = (few, omega arith)
+
+-- behind the game its lines are gone through
+pub game_goes : (version : Version) (bytes rest : List ℕ) (root : Position) → game_at (game_of (pieces bytes)) ≡ Ok root
+    → behind_game (pieces bytes) ≡ lines_in (pieces rest) → GoesOn (AtGame version) bytes (AtLine version (start root) first_number) rest []
+game_goes version bytes rest root game behind = record {
+  answer = game_read version bytes rest root game behind;
+  reaches = game_reaches version bytes rest root game behind;
+  says = game_says version bytes rest root game behind;
+}
+
+-- what the line that names the version decides, without the line itself
+pub head_goes : (asked : Option Version) (version : Version) (a b : Pending)
+    → Reads a b (λ bytes rest. PassesLines 1 bytes rest × (GoesOn (AtHead asked) bytes (AtGame version) rest [] × IsNamed version bytes rest))
+    → Reads a b (λ bytes rest. PassesLines 1 bytes rest × GoesOn (AtHead asked) bytes (AtGame version) rest [])
+head_goes asked version a b head = Reads_more a b _ _ head (λ bytes rest p. (p.0, p.1.0))
+
 -- the head and the game
+pub game_headed : (asked : Option Version) (version : Version) (a b c : Pending) (game : Game)
+    → Reads a b (λ bytes rest. PassesLines 1 bytes rest × (GoesOn (AtHead asked) bytes (AtGame version) rest [] × IsNamed version bytes rest))
+    → Reads b c (λ bytes rest. PassesLines 2 bytes rest × (IsTextOf (game_of (pieces bytes)) game × (behind_game (pieces bytes) ≡ lines_in (pieces rest))))
+    → Reads a c (λ bytes rest. PassesLines 3 bytes rest
+    × (GoesOn (AtHead asked) bytes (AtLine version (start game.position) first_number) rest [] × HasHead bytes version game))
+game_headed asked version a b c game head read =
+    Reads_then a b c _ _ _ head read (λ bytes mid rest p q. (
+      passes_then 1 2 bytes mid rest p.0 q.0,
+      (
+        goes_then (AtHead asked) (AtGame version) _ bytes mid rest [] [] p.1.0
+            (game_goes version mid rest game.position (game_is_read (game_of (pieces mid)) game q.1.0) q.1.1),
+        record { more = p.1.1.more; cut = p.1.1.cut; text = subst (λ text. IsTextOf text game) (sym p.1.1.game) q.1.0 },
+      ),
+    ))
+
 module _ (asked : Option Version) (version : Version) (a b c : Pending)
     (head : Reads a b (λ bytes rest. PassesLines 1 bytes rest × GoesOn (AtHead asked) bytes (AtGame version) rest [])) where
-  pub game_known : (root : Position)
-      → Reads b c (λ bytes rest. PassesLines 2 bytes rest
-      × ((game_at (game_of (pieces bytes)) ≡ Ok root) × (behind_game (pieces bytes) ≡ lines_in (pieces rest))))
-      → Reads a c (λ bytes rest. PassesLines 3 bytes rest × GoesOn (AtHead asked) bytes (AtLine version (start root) first_number) rest [])
-  game_known root game =
-      Reads_then a b c _ _ _ head game (λ bytes mid rest p q. (
-        passes_then 1 2 bytes mid rest p.0 q.0,
-        goes_then (AtHead asked) (AtGame version) _ bytes mid rest [] [] p.1 (record {
-          answer = game_read version mid rest root q.1.0 q.1.1;
-          reaches = game_reaches version mid rest root q.1.0 q.1.1;
-          says = game_says version mid rest root q.1.0 q.1.1;
-        }),
-      ))
-
   pub game_stops : (before mid after : ℕ) (why : InputStop) → before ≤ mid
       → Reads b c (λ bytes rest. PassesLines 2 bytes rest × StopsGame (game_at (game_of (pieces bytes))) mid after why)
       → Reads a c (λ bytes rest. PassesLines 3 bytes rest × StopsBy (AtHead asked) bytes before after (stops.Input why))
@@ -94,11 +121,12 @@ game_lines inputs.Read = omega arith
 
 -- and the lines behind them
 module _ (asked : Option Version) (version : Version) (a b c : Pending) (x y : Option (List Lemma)) (root : Position) (s t : CheckerState)
-    (began : s ≡ start root)
-    (game : Reads a b (λ bytes rest. PassesLines 3 bytes rest × GoesOn (AtHead asked) bytes (AtLine version (start root) first_number) rest [])) where
+    (began : s ≡ start root) (Head : List ℕ → Type 0)
+    (game : Reads a b (λ bytes rest. PassesLines 3 bytes rest
+    × (GoesOn (AtHead asked) bytes (AtLine version (start root) first_number) rest [] × Head bytes))) where
   gets_behind : (P Q : List Lemma → List ℕ → List ℕ → Type 0)
       → ((ls : List Lemma) (bytes mid rest : List ℕ) → PassesLines 3 bytes mid
-      × GoesOn (AtHead asked) bytes (AtLine version (start root) first_number) mid [] → P ls mid rest
+      × (GoesOn (AtHead asked) bytes (AtLine version (start root) first_number) mid [] × Head bytes) → P ls mid rest
       → Q ls bytes rest)
       → Gets b c x y P → Gets a c x y Q
   gets_behind P Q more lines = record { lemmas = lines.lemmas; gains = lines.gains; reads = Reads_then a b c _ _ _ game lines.reads (more lines.lemmas) }
@@ -108,7 +136,7 @@ module _ (asked : Option Version) (version : Version) (a b c : Pending) (x y : O
       → Gets a c x y (λ ls bytes rest. PassesLines n bytes rest × StopsWith (AtHead asked) ls bytes before after stop)
   lines_stop n before mid after stop later from lines =
       gets_behind _ _ (λ ls bytes m rest p q.
-      let goes = subst (λ s. GoesOn (AtHead asked) bytes (AtLine version s first_number) m []) (sym began) p.1 in (
+      let goes = subst (λ s. GoesOn (AtHead asked) bytes (AtLine version s first_number) m []) (sym began) p.1.0 in (
         passes_most (3 + (n - 3)) n bytes rest (omega (arith, from)) (passes_then 3 (n - 3) bytes m rest p.0 q.0),
         (
           stops_earlier (AtHead asked) (AtLine version s first_number) bytes m [] before mid after stop goes later q.1.0,
@@ -120,15 +148,21 @@ module _ (asked : Option Version) (version : Version) (a b c : Pending) (x y : O
       → Gets b c x y (λ ls bytes rest. PassesLines (end - 3) bytes rest
       × ((lines_from version s first_number bytes ≡ verdict_answer end (length t.known) t.verdict) × (lemmas_at (AtLine version s first_number) bytes ≡ ls)))
       → (answer : CheckAnswer) → verdict_answer end (length t.known) t.verdict ≡ answer
-      → Gets a c x y (λ ls bytes rest. PassesLines end bytes rest × ((judged asked bytes ≡ answer) × (text_lemmas asked bytes ≡ ls)))
+      → Gets a c x y (λ ls bytes rest. PassesLines end bytes rest × (((judged asked bytes ≡ answer) × (text_lemmas asked bytes ≡ ls)) × Head bytes))
   lines_known end from lines answer is =
       gets_behind _ _ (λ ls bytes m rest p q. (
         passes_most (3 + (end - 3)) end bytes rest (omega (arith, from)) (passes_then 3 (end - 3) bytes m rest p.0 q.0),
-        (
-          p.1.answer ∙ ap (λ s. lines_from version s first_number m) (sym began) ∙ q.1.0 ∙ is,
-          p.1.says ∙ ap (λ s. lemmas_at (AtLine version s first_number) m) (sym began) ∙ q.1.1,
-        ),
+        ((
+          p.1.0.answer ∙ ap (λ s. lines_from version s first_number m) (sym began) ∙ q.1.0 ∙ is,
+          p.1.0.says ∙ ap (λ s. lemmas_at (AtLine version s first_number) m) (sym began) ∙ q.1.1,
+        ), p.1.1),
       )) lines
+
+-- without what is known of the head
+pub gets_bare : (a c : Pending) (x y : Option (List Lemma)) (P Q : List Lemma → List ℕ → List ℕ → Type 0) (Head : List ℕ → Type 0)
+    → Gets a c x y (λ ls bytes rest. P ls bytes rest × (Q ls bytes rest × Head bytes)) → Gets a c x y (λ ls bytes rest. P ls bytes rest × Q ls bytes rest)
+gets_bare a c x y P Q Head gets =
+    record { lemmas = gets.lemmas; gains = gets.gains; reads = Reads_more a c _ _ gets.reads (λ bytes rest p. (p.0, p.1.0)) }
 
 -- ---- how it was judged
 
@@ -176,20 +210,27 @@ judged_unended asked old begun last had has n before after r gets few all =
     } in
     judged_stop asked old begun last had has n before after (stops.Refused r) stopped few all
 
-pub judged_right : (asked : Option Version) (old : Option (List ℕ)) (begun : ℕ) (last : Pending) (had has : Option (List Lemma)) (n before after : ℕ)
-    (accepted : Accepted)
-    → Gets (fresh old begun) last had has
-    (λ ls bytes rest. PassesLines n bytes rest × ((judged asked bytes ≡ answers.Accepted accepted.verdict accepted.lemmas) × (text_lemmas asked bytes ≡ ls)))
-    → last.ended ≡ true → n ≤ most_lines_read → Judges asked old last.left last.last_read before after had has (Ok accepted)
-judged_right asked old begun last had has n before after accepted gets ended all =
-    let Right : List ℕ → Type 0 = λ bytes. (judged asked bytes ≡ answers.Accepted accepted.verdict accepted.lemmas) × (text_lemmas asked bytes ≡ gets.lemmas) in
+pub judged_whole : (asked : Option Version) (old : Option (List ℕ)) (begun : ℕ) (last : Pending) (had has : Option (List Lemma)) (n before after : ℕ)
+    (proof : ProofRead)
+    → Gets (fresh old begun) last had has (λ ls bytes rest. PassesLines n bytes rest
+    × (((judged asked bytes ≡ answers.Accepted proof.accepted.verdict proof.accepted.lemmas) × (text_lemmas asked bytes ≡ ls))
+    × HasHead bytes proof.version proof.game))
+    → last.ended ≡ true → n ≤ most_lines_read → JudgesWhole asked old last.left last.last_read before after had has (Ok proof)
+judged_whole asked old begun last had has n before after proof gets ended all =
+    let verdict = proof.accepted.verdict in
+    let count = proof.accepted.lemmas in
+    let Right : List ℕ → Type 0 = λ bytes. ((judged asked bytes ≡ answers.Accepted verdict count) × (text_lemmas asked bytes ≡ gets.lemmas))
+    × HasHead bytes proof.version proof.game in
     let taken = of_taken old begun last n most_lines_read Right gets.reads in
     record {
-      taken = gets.reads.taken;
-      gave = gets.reads.gave;
-      answer = right_input asked gets.reads.taken last.left accepted.verdict accepted.lemmas taken.0 (gets.reads.last (λ never. absurd (cc never)) ended);
-      lemmas = subst (Gains had has) (sym taken.1) gets.gains;
-      lines = of_lines old begun last n most_lines_read Right gets.reads all;
+      judged = record {
+        taken = gets.reads.taken;
+        gave = gets.reads.gave;
+        answer = right_input asked gets.reads.taken last.left verdict count taken.0.0 (gets.reads.last (λ never. absurd (cc never)) ended);
+        lemmas = subst (Gains had has) (sym taken.0.1) gets.gains;
+        lines = of_lines old begun last n most_lines_read Right gets.reads all;
+      };
+      head = taken.1;
     }
 
 -- what stopped the reading is what is said of it

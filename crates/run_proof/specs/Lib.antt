@@ -2,3 +2,4 @@ pub mod Whole
 pub mod Stops
 pub mod Taken
 pub mod Steps
+pub mod Heads

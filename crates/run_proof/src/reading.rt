@@ -6,30 +6,39 @@ ghost use Rattle.cert_checker.specs.Checking.{IsLemma};
 ghost use Rattle.cert_format.specs.Shape.{viewed};
 ghost use Rattle.proof_text.specs.Checked.{lemmas_in};
 ghost use Rattle.proof_text.specs.Texts.{first_number, bytes_refusal, with_bytes, verdict_answer};
-ghost use Rattle.run_proof.specs.Whole.{version_named, most_lines_read};
+ghost use Rattle.run_proof.specs.Whole.{version_named, IsAsked, most_lines_read};
 ghost use Rattle.run_proof.specs.Taken.{lemmas_said, Gains, MayHandOn, InStep, HasNone};
-ghost use Rattle.run_proof.specs.Steps.{lines_from, lemmas_at, AtHead, AtGame, AtLine, GoesOn, Gets, Adds, IsAccepted, StopsBy, StopsWith, StopsAtLine, lines_read_until, Judges};
+ghost use Rattle.run_proof.specs.Steps.{lines_from, lemmas_at, AtHead, AtGame, AtLine, GoesOn, Gets, Adds, IsAccepted, IsNamed, IsStopAt, StopsBy, StopsWith, StopsAtLine, lines_read_until, Judges};
+ghost use Rattle.run_proof.specs.Heads.{JudgesWhole};
 ghost use Rattle.io_ports.specs.Reading.{pending, Reads, PassesLines};
 ghost use Rattle.run_proof.specs.declared.stop.ProofStop.TheVariants as stops;
 ghost use Rattle.proof_text.specs.declared.Why.TheVariants as whys;
 
 use crate::stop::ProofStop;
 use crate::taker::{LemmaTaker, NotTaken};
-use board_bits::Size;
+use board_bits::{Game, Size};
 use cert_checker::{Accepted, AddStop, Checker, MOST_LEMMAS, Refusal, Why};
 use cert_format::{LineBuffer, LineView, Version, first_line};
 use io_ports::{LineGot, Lines, Source};
-use run_frame::{InputStop, read_game_lines};
+use run_frame::{InputStop, read_played_game};
 use std::alloc::Global;
 
 /// The number of the first line behind the game.
-const FIRST_NUMBER: u64 = 4;
+pub const FIRST_NUMBER: u64 = 4;
 
 /// A proof has no more lines.
 const MOST_LINES: u64 = 20_000_000;
 
 /// For so many lemmas room is made at a time.
 const RESERVE: u32 = 1024;
+
+/// What was read of a proof that is right: the version that it names, its game, and what it says.
+#[derive(Drop)]
+pub struct ProofRead {
+    pub version: Version,
+    pub game: Game,
+    pub accepted: Accepted,
+}
 
 /// Reads a proof to its end, or to what stops the reading: the first line that is refused, a game that is none, a source
 /// that failed, or a lemma for which memory ran out or which the taker didn't take. An accepted proof is right, and what it
@@ -44,29 +53,51 @@ pub fn read_proof<S: Source, T: LemmaTaker>(
     ensures { Judges asked (S.left source.old) (S.left source.new) (S.last_read source.new) (S.faults source.old) (S.faults source.new)
         (T.lemmas taker.old) (T.lemmas taker.new) result }
 {
+    match read_whole_proof(alloc, asked, source, taker) {
+        Ok(proof) => Ok(proof.accepted),
+        Err(stop) => Err(stop),
+    }
+}
+
+/// The same, with the head of the proof.
+pub fn read_whole_proof<S: Source, T: LemmaTaker>(
+    alloc: Global,
+    asked: Option<Version>,
+    source: &mut S,
+    taker: &mut T,
+) -> Result<ProofRead, ProofStop>
+    requires { HasNone (T.lemmas taker.old) }
+    ensures { JudgesWhole asked (S.left source.old) (S.left source.new) (S.last_read source.new) (S.faults source.old) (S.faults source.new)
+        (T.lemmas taker.old) (T.lemmas taker.new) result }
+{
     let mut lines = Lines::new();
     let version = read_head(asked, &mut lines, source)?;
-    let root = read_game_lines(&mut lines, source)?;
-    let size = root.size();
+    let game = read_played_game(&mut lines, source)?;
+    let root = *game.position();
     let mut checker = Checker::new(alloc, root);
-    let end = add_lines(&mut checker, taker, size, version, &mut lines, source)?;
+    let end = add_lines(&mut checker, taker, root.size(), version, &mut lines, source)?;
     match checker.finish(end) {
-        Ok(accepted) => Ok(accepted),
+        Ok(accepted) => Ok(ProofRead {
+            version,
+            game,
+            accepted,
+        }),
         Err(refusal) => Err(ProofStop::Refused(refusal)),
     }
 }
 
 /// Reads the line that names the format, and answers the version, which is one that is asked for.
-fn read_head<S: Source>(
+pub fn read_head<S: Source>(
     asked: Option<Version>,
     lines: &mut Lines,
     source: &mut S,
 ) -> Result<Version, ProofStop>
     ensures answer { Reads (pending lines.old (S.left source.old) (S.last_read source.old))
         (pending lines.new (S.left source.new) (S.last_read source.new))
-        (λ bytes rest. PassesLines 1 bytes rest × MatchResult result (λ version. GoesOn (AtHead asked) bytes (AtGame version) rest [])
+        (λ bytes rest. PassesLines 1 bytes rest × MatchResult result (λ version. GoesOn (AtHead asked) bytes (AtGame version) rest [] × IsNamed version bytes rest)
         (StopsBy (AtHead asked) bytes (S.faults source.old) (S.faults source.new))) }
-    ensures stops { IfErr result (λ stop. 1 ≤ lines_read_until stop) }
+    ensures named { IfOk result (IsAsked asked) }
+    ensures stops { IfErr result (IsStopAt 1) }
     ensures later { S.faults source.old ≤ S.faults source.new }
 {
     if let LineGot::Failed = lines.next(source) {
@@ -239,7 +270,7 @@ fn hand_on<T: LemmaTaker>(taker: &mut T, line: &LineView<'_>) -> Result<(), Proo
 }
 
 /// The line at this number is none of a proof.
-fn bad_line(at: u64) -> ProofStop
+pub fn bad_line(at: u64) -> ProofStop
     ensures { result ≡ stops.Refused (record { at = at; why = whys.BadLine }) }
 {
     ProofStop::Refused(Refusal {

@@ -1,9 +1,9 @@
 use Rattle.std.proofs.Common.{◌≡◌, ◌∙◌, sym, ap, subst, ◌+◌, [], ◌∷◌, ◌++◌, take, drop, length, Some, IsSome}
 use Rattle.std.proofs.lemmas.List.{length-append}
-use Rattle.game_rules.specs.Position.{played, after_move, side_to_move}
+use Rattle.game_rules.specs.Position.{played, after_move}
 use Rattle.game_rules.proofs.FaultReaders.{played_push}
 use Rattle.tool_text.specs.Marks.{Says, AreMarks}
-use Rattle.proof_tools.specs.Marked.{IsTold, mark_by}
+use Rattle.proof_tools.specs.Marked.{IsTold}
 use Rattle.tool_text.proofs.Legal.{next_legal, next_taken}
 use Rattle.proof_tools.proofs.Marking.{told_kept, mark_says, marks_push}
 use Rattle.proof_tools.proofs.marks.marks_from.Goals as goal
@@ -19,9 +19,7 @@ loop-column-preserved g c =
     let taken = next_taken c.args.moves.now i column c.loop-column-test.true c.column-item.is in
     let after = told_kept short (g.V.Valuer.short c.loop-column.valuer) (after_move p column) c.in_ok-after.after so_far.kept
     (subst (λ q. IsTold (g.V.Valuer.short c.loop-column.valuer) q c.in_ok-after.after) c.after-next.ensures c.in_ok-after.ensures.told) in
-    let mark : c.mark_of.result ≡ mark_by (side_to_move p) c.loop-column.before c.in_ok-after.after =
-    c.mark_of.ensures ∙ ap (λ side. mark_by side c.loop-column.before c.in_ok-after.after) c.to_move.ensures in
-    let says = subst (Says short p (after_move p column)) (sym mark)
+    let says = subst (Says short p (after_move p column)) (sym c.mark_of.ensures)
     (mark_says short p column next.0 c.loop-column.before c.in_ok-after.after so_far.told after) in
     record {
       along =

@@ -1,0 +1,47 @@
+//! What is written of a proof: its head, the lemmas that are reached, and its verdict.
+ghost use Rattle.std.specs.Prelude.{◌≡◌, ◌++◌, length, is_ok};
+ghost use Rattle.device_rules.specs.Devices.{HasCause, AppendsPrefix};
+ghost use Rattle.game_rules.specs.Game.{board_played};
+ghost use Rattle.proof_text.specs.Texts.{head_of};
+ghost use Rattle.tool_text.specs.Trim.{CitesEarlier, numbers_named, trimmed_lines};
+ghost use Rattle.proof_tools.specs.Reach.{reach_of, AreWithin};
+
+use board_bits::Game;
+use cert_format::{Verdict, Version, first_line};
+use io_ports::{Failed, Sink, put_all};
+use proof_book::Book;
+use proof_tools::{Reach, print_trimmed};
+use text_words::{LineText, push_game, push_text};
+
+/// Writes the head of a proof, and those of its lemmas that are reached with its verdict, and hands on what was written.
+pub(crate) fn write_trimmed<O: Sink>(
+    version: Version,
+    game: &Game,
+    book: &Book,
+    reach: &Reach,
+    verdict: &Verdict,
+    out: &mut O,
+) -> Result<(), Failed>
+    requires earlier { CitesEarlier 1 book.now }
+    requires named { AreWithin (length book.now) (numbers_named verdict.now) }
+    requires made { reach.now ≡ reach_of book.now verdict.now }
+    ensures written { AppendsPrefix (is_ok result) (O.written out.old) (O.written out.new)
+        (head_of version (board_played game.now) game.now.moves ++ trimmed_lines book.now verdict.now) }
+    ensures cause { HasCause (O.faults out.old) (O.faults out.new) result }
+{
+    put_head(version, game, out)?;
+    print_trimmed(book, reach, verdict, out)?;
+    out.flush()
+}
+
+/// Writes the line that names the version, and the two lines of the game.
+fn put_head<O: Sink>(version: Version, game: &Game, out: &mut O) -> Result<(), Failed>
+    ensures written { AppendsPrefix (is_ok result) (O.written out.old) (O.written out.new) (head_of version (board_played game.now) game.now.moves) }
+    ensures cause { HasCause (O.faults out.old) (O.faults out.new) result }
+{
+    let mut head = LineText::new();
+    push_text(&mut head, first_line(version));
+    head.push(b'\n');
+    push_game(&mut head, game);
+    put_all(out, head.as_slice())
+}
