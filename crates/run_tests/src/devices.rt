@@ -109,19 +109,6 @@ fn a_failing_stream_has_its_status_and_leaves_a_prefix(rt: HostRuntime) -> Resul
 }
 
 #[test]
-fn a_report_that_cant_be_written_leaves_the_status(rt: HostRuntime) -> Result<(), Fail> {
-    let devices = Devices {
-        source_fails: &[1],
-        err_fails: &[1],
-        ..SOUND
-    };
-    let got = run_over(rt.alloc(), PROVE_BY_SEARCH, TWO_SQUARES_LEFT.as_bytes(), devices)?;
-    assert_eq!(rt; got.status, 6);
-    assert_eq!(rt; got.out.len() + got.err.len(), 0);
-    Ok(())
-}
-
-#[test]
 fn a_drill_reads_nothing(rt: HostRuntime) -> Result<(), Fail> {
     let (devices, _, _) = met(Fault::Read(1, &[1]));
     let got = run_over(rt.alloc(), DRILL, b"", devices)?;
