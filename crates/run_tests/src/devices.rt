@@ -76,34 +76,58 @@ fn met(fault: Fault) -> (Devices<'static>, u8, &'static [u8]) {
     }
 }
 
-/// The words of a run and its input, the fault that it meets, and what it has written then.
-type Failing = (&'static [&'static str], &'static str, Fault, &'static str);
+/// The words of a run and its input, and for each fault that it may meet what it has written then.
+type Failing = (
+    &'static [&'static str],
+    &'static str,
+    &'static [(Fault, &'static str)],
+);
 
-const FAILING: [Failing; 13] = [
-    (PROVE_BY_SEARCH, TWO_SQUARES_LEFT, Fault::Read(4, &[2]), ""),
-    (PROVE_BY_SEARCH, TWO_SQUARES_LEFT, Fault::Write(&[1]), ""),
-    (PROVE_BY_SEARCH, TWO_SQUARES_LEFT, Fault::Write(&[3]), FIRST_LEMMA),
-    (PROVE_BY_SEARCH, TWO_SQUARES_LEFT, Fault::Write(&[9]), TWO_SQUARES_PROOF),
-    (PROVE_BY_SEARCH, TWO_SQUARES_LEFT, Fault::Full(46), CUT_LEMMA),
-    (CHECK, TWO_SQUARES_PROOF, Fault::Read(4, &[2]), ""),
-    (CHECK, TWO_SQUARES_PROOF, Fault::Write(&[1]), ""),
-    // the line is written, and then it can't be handed on
-    (CHECK, TWO_SQUARES_PROOF, Fault::Write(&[2]), "accepted draw 6\n"),
-    (CHECK, TWO_SQUARES_PROOF, Fault::Full(9), "accepted "),
-    (PLAY, DUEL, Fault::Read(70, &[2]), ""),
-    (PLAY, DUEL, Fault::Read(75, &[2]), "c1 d1\nc2 c3\n"),
-    (PLAY, DUEL, Fault::Full(9), "c1 d1\nc2 "),
-    (DRILL, "", Fault::Full(11), "drill win 1"),
+const FAILING: [Failing; 4] = [
+    (
+        PROVE_BY_SEARCH,
+        TWO_SQUARES_LEFT,
+        &[
+            (Fault::Read(4, &[2]), ""),
+            (Fault::Write(&[1]), ""),
+            (Fault::Write(&[3]), FIRST_LEMMA),
+            (Fault::Write(&[9]), TWO_SQUARES_PROOF),
+            (Fault::Full(46), CUT_LEMMA),
+        ],
+    ),
+    (
+        CHECK,
+        TWO_SQUARES_PROOF,
+        &[
+            (Fault::Read(4, &[2]), ""),
+            (Fault::Write(&[1]), ""),
+            // the line is written, and then it can't be handed on
+            (Fault::Write(&[2]), "accepted draw 6\n"),
+            (Fault::Full(9), "accepted "),
+        ],
+    ),
+    (
+        PLAY,
+        DUEL,
+        &[
+            (Fault::Read(70, &[2]), ""),
+            (Fault::Read(75, &[2]), "c1 d1\nc2 c3\n"),
+            (Fault::Full(9), "c1 d1\nc2 "),
+        ],
+    ),
+    (DRILL, "", &[(Fault::Full(11), "drill win 1")]),
 ];
 
 #[test]
 fn a_failing_stream_has_its_status_and_leaves_a_prefix(rt: HostRuntime) -> Result<(), Fail> {
-    for (words, input, fault, out) in FAILING {
-        let (devices, status, reported) = met(fault);
-        let got = run_over(rt.alloc(), words, input.as_bytes(), devices)?;
-        assert_eq!(rt; got.status, status, "{words:?} {out}");
-        assert_eq!(rt; got.out.as_slice(), out.as_bytes(), "{words:?} {out}");
-        assert_eq!(rt; got.err.as_slice(), reported, "{words:?} {out}");
+    for (words, input, faults) in FAILING {
+        for (fault, out) in faults {
+            let (devices, status, reported) = met(*fault);
+            let got = run_over(rt.alloc(), words, input.as_bytes(), devices)?;
+            assert_eq!(rt; got.status, status, "{words:?} {out}");
+            assert_eq!(rt; got.out.as_slice(), out.as_bytes(), "{words:?} {out}");
+            assert_eq!(rt; got.err.as_slice(), reported, "{words:?} {out}");
+        }
     }
     Ok(())
 }
@@ -113,7 +137,10 @@ fn a_drill_reads_nothing(rt: HostRuntime) -> Result<(), Fail> {
     let (devices, _, _) = met(Fault::Read(1, &[1]));
     let got = run_over(rt.alloc(), DRILL, b"", devices)?;
     assert_eq!(rt; got.status, 0);
-    assert_eq!(rt; got.out.as_slice(), b"drill win 1 draw 0 loss 0 unknown 0\n".as_slice());
+    assert_eq!(rt;
+        got.out.as_slice(),
+        b"drill win 1 draw 0 loss 0 unknown 0\n".as_slice()
+    );
     Ok(())
 }
 

@@ -11,61 +11,30 @@ fn words_of(alloc: Global, words: &[&str]) -> Result<Vec<String>, AllocError> {
         .try_collect(alloc)
 }
 
-/// The numbers of `--nodes`, `--reach`, `--front`, `--table` and `--format` that `prove` has.
-const PROVE: [(&[&str], u32, u32, Option<u32>, u32, u32); 15] = [
-    (&["prove"], 1_000_000, 1_000, None, 100_000, 1),
-    (&["prove", "--nodes", "5"], 5, 1_000, None, 100_000, 1),
-    (&["prove", "--nodes=6", "--reach=0"], 6, 0, None, 100_000, 1),
+/// The form that a command's word is with the words of a text behind it.
+fn read_behind(alloc: Global, command: &str, text: &str) -> Result<Option<Form>, AllocError> {
+    let mut words = words_of(alloc, &[command])?;
+    for word in text.split(' ') {
+        if !word.is_empty() {
+            words.push(String::from_str(alloc, word)?)?;
+        }
+    }
+    Ok(read_words(&words))
+}
+
+/// What stands behind `prove`, and the numbers of `--nodes`, `--reach`, `--front`, `--table` and `--format` that it has then.
+const PROVE: [(&str, u32, u32, Option<u32>, u32, u32); 15] = [
+    ("", 1_000_000, 1_000, None, 100_000, 1),
+    ("--nodes 5", 5, 1_000, None, 100_000, 1),
+    ("--nodes=6 --reach=0", 6, 0, None, 100_000, 1),
+    ("--reach 0 --table=1 --nodes 6", 6, 0, None, 1, 1),
+    ("--nodes 10000000", 10_000_000, 1_000, None, 100_000, 1),
+    ("--reach=1000000 --nodes 1", 1, 1_000_000, None, 100_000, 1),
+    ("--table 1000000", 1_000_000, 1_000, None, 1_000_000, 1),
+    ("--front 4", 1_000_000, 1_000, Some(4), 100_000, 1),
+    ("--front=1", 1_000_000, 1_000, Some(1), 100_000, 1),
     (
-        &["prove", "--reach", "0", "--table=1", "--nodes", "6"],
-        6,
-        0,
-        None,
-        1,
-        1,
-    ),
-    (
-        &["prove", "--nodes", "10000000"],
-        10_000_000,
-        1_000,
-        None,
-        100_000,
-        1,
-    ),
-    (
-        &["prove", "--reach=1000000", "--nodes", "1"],
-        1,
-        1_000_000,
-        None,
-        100_000,
-        1,
-    ),
-    (
-        &["prove", "--table", "1000000"],
-        1_000_000,
-        1_000,
-        None,
-        1_000_000,
-        1,
-    ),
-    (
-        &["prove", "--front", "4"],
-        1_000_000,
-        1_000,
-        Some(4),
-        100_000,
-        1,
-    ),
-    (
-        &["prove", "--front=1"],
-        1_000_000,
-        1_000,
-        Some(1),
-        100_000,
-        1,
-    ),
-    (
-        &["prove", "--front", "1000000", "--nodes=6"],
+        "--front 1000000 --nodes=6",
         6,
         1_000,
         Some(1_000_000),
@@ -73,47 +42,18 @@ const PROVE: [(&[&str], u32, u32, Option<u32>, u32, u32); 15] = [
         1,
     ),
     (
-        &[
-            "prove",
-            "--table=2",
-            "--front=3",
-            "--reach",
-            "0",
-            "--nodes",
-            "5",
-        ],
+        "--table=2 --front=3 --reach 0 --nodes 5",
         5,
         0,
         Some(3),
         2,
         1,
     ),
+    ("--nodes=5 --front 7 --table 8", 5, 1_000, Some(7), 8, 1),
+    ("--format 1", 1_000_000, 1_000, None, 100_000, 1),
+    ("--reach 0 --format 2", 1_000_000, 0, None, 100_000, 2),
     (
-        &["prove", "--nodes=5", "--front", "7", "--table", "8"],
-        5,
-        1_000,
-        Some(7),
-        8,
-        1,
-    ),
-    (
-        &["prove", "--format", "1"],
-        1_000_000,
-        1_000,
-        None,
-        100_000,
-        1,
-    ),
-    (
-        &["prove", "--reach", "0", "--format", "2"],
-        1_000_000,
-        0,
-        None,
-        100_000,
-        2,
-    ),
-    (
-        &["prove", "--format=2", "--front=3", "--nodes=5", "--table=2"],
+        "--format=2 --front=3 --nodes=5 --table=2",
         5,
         1_000,
         Some(3),
@@ -124,8 +64,8 @@ const PROVE: [(&[&str], u32, u32, Option<u32>, u32, u32); 15] = [
 
 #[test]
 fn prove_has_its_options_in_any_order_and_spelling(rt: HostRuntime) -> Result<(), Fail> {
-    for (words, nodes, reach, front, table, format) in PROVE {
-        let got = read_words(&words_of(rt.alloc(), words)?);
+    for (text, nodes, reach, front, table, format) in PROVE {
+        let got = read_behind(rt.alloc(), "prove", text)?;
         assert_eq!(rt;
             got,
             Some(Form::Prove {
@@ -135,7 +75,7 @@ fn prove_has_its_options_in_any_order_and_spelling(rt: HostRuntime) -> Result<()
                 table,
                 format,
             }),
-            "{words:?}"
+            "{text}"
         );
     }
     Ok(())
@@ -161,53 +101,26 @@ fn other_commands_have_their_own_words(rt: HostRuntime) -> Result<(), Fail> {
 /// The columns, rows, moves, first number and games of `drill`, and its numbers of `--nodes` and `--reach`.
 type Numbers = (u8, u8, u32, u32, u32, u32, u32);
 
-const DRILL: [(&[&str], Numbers); 6] = [
+const DRILL: [(&str, Numbers); 6] = [
+    ("4 4 12 1 1", (4, 4, 12, 1, 1, 1_000_000, 1_000)),
     (
-        &["drill", "4", "4", "12", "1", "1"],
-        (4, 4, 12, 1, 1, 1_000_000, 1_000),
-    ),
-    (
-        &[
-            "drill", "7", "6", "36", "7", "20", "--nodes", "20000", "--reach", "20",
-        ],
+        "7 6 36 7 20 --nodes 20000 --reach 20",
         (7, 6, 36, 7, 20, 20_000, 20),
     ),
+    ("--nodes=1 4 4 12 2 --reach=0 1", (4, 4, 12, 2, 1, 1, 0)),
     (
-        &["drill", "--nodes=1", "4", "4", "12", "2", "--reach=0", "1"],
-        (4, 4, 12, 2, 1, 1, 0),
-    ),
-    (
-        &[
-            "drill",
-            "--reach",
-            "3",
-            "10",
-            "10",
-            "100",
-            "--nodes",
-            "40",
-            "2147483646",
-            "1000",
-        ],
+        "--reach 3 10 10 100 --nodes 40 2147483646 1000",
         (10, 10, 100, 2_147_483_646, 1_000, 40, 3),
     ),
-    (
-        &[
-            "drill", "4", "--reach", "3", "4", "--nodes", "200", "12", "1", "1",
-        ],
-        (4, 4, 12, 1, 1, 200, 3),
-    ),
-    (
-        &["drill", "7", "4", "0", "1", "1"],
-        (7, 4, 0, 1, 1, 1_000_000, 1_000),
-    ),
+    ("4 --reach 3 4 --nodes 200 12 1 1", (4, 4, 12, 1, 1, 200, 3)),
+    ("7 4 0 1 1", (7, 4, 0, 1, 1, 1_000_000, 1_000)),
 ];
 
 #[test]
 fn options_stand_before_between_and_after_the_numbers(rt: HostRuntime) -> Result<(), Fail> {
-    for (words, (cols, rows, moves, seed, games, nodes, reach)) in DRILL {
+    for (text, (cols, rows, moves, seed, games, nodes, reach)) in DRILL {
         let size = Size::new(cols, rows)?;
-        let got = read_words(&words_of(rt.alloc(), words)?);
+        let got = read_behind(rt.alloc(), "drill", text)?;
         let wanted = Form::Drill {
             size,
             moves,
@@ -216,7 +129,7 @@ fn options_stand_before_between_and_after_the_numbers(rt: HostRuntime) -> Result
             nodes,
             reach,
         };
-        assert_eq!(rt; got, Some(wanted), "{words:?}");
+        assert_eq!(rt; got, Some(wanted), "{text}");
     }
     Ok(())
 }
