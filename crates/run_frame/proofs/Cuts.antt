@@ -209,3 +209,26 @@ game_left bytes board moves root first second game =
     absurd (long_no_game (kept_of board) moves [] root size (ap (λ kept. game_at (kept_of board ++ kept)) (append-nil (kept_of moves)) ∙ game))))
     (λ fed none cut. ap behind_game cut ∙ ap (λ (line : Cut). lines_in (pieces line.rest)) (sym (second ∙ ap next_line none)))
     (λ first more cut longer size prefix. absurd (long_no_game [] board (kept_of moves) root size game))
+
+-- and what is kept of the two lines is then the text of the game
+pub game_same : (bytes : List ℕ) (board moves : Cut) (root : Position) → board ≡ next_line bytes → moves ≡ next_line board.rest
+    → game_at (kept_of board ++ kept_of moves) ≡ Ok root
+    → kept_of board ++ kept_of moves ≡ game_of (pieces bytes)
+game_same bytes board moves root first second game =
+    by_piece bytes board (kept_of board ++ kept_of moves ≡ game_of (pieces bytes)) first
+    (λ fed cut. ap (λ kept. kept ++ kept_of moves) (kept_fed board fed) ∙ append_assoc (take game_prefix board.text) (10 ∷ []) (kept_of moves) ∙ both cut)
+    (λ fed none cut. ap (λ kept. kept ++ kept_of moves) (kept_last board fed)
+    ∙ ap (λ kept. take game_prefix board.text ++ kept) (ap kept_of (second ∙ ap next_line none))
+    ∙ append-nil (take game_prefix board.text) ∙ ap game_of (sym cut))
+    (λ first more cut longer size prefix. absurd (long_no_game [] board (kept_of moves) root size game))
+  where
+    both : pieces bytes ≡ board.text ∷ pieces board.rest → take game_prefix board.text ++ 10 ∷ kept_of moves ≡ game_of (pieces bytes)
+    both cut =
+        by_piece board.rest moves (take game_prefix board.text ++ 10 ∷ kept_of moves ≡ game_of (pieces bytes)) second
+        (λ fed also. let some = pieces_some moves.rest in
+        ap (λ kept. take game_prefix board.text ++ 10 ∷ kept) (kept_fed moves fed)
+        ∙ ap game_of (sym (cut ∙ ap (λ ps. board.text ∷ ps) also ∙ ap (λ ps. board.text ∷ moves.text ∷ ps) some.2)))
+        (λ fed none also. ap (λ kept. take game_prefix board.text ++ 10 ∷ kept) (kept_last moves fed)
+        ∙ ap game_of (sym (cut ∙ ap (λ ps. board.text ∷ ps) also)))
+        (λ first more also longer size prefix.
+        absurd (long_no_game (kept_of board) moves [] root size (ap (λ kept. game_at (kept_of board ++ kept)) (append-nil (kept_of moves)) ∙ game)))

@@ -7,14 +7,16 @@ use Rattle.io_ports.specs.Lines.{next_line, feed, Gives}
 use Rattle.io_ports.specs.declared.line_reader.LineGot.{LineGot}
 use Rattle.io_ports.specs.declared.line_reader.LineGot.TheVariants.{Line, Long, Done, Failed}
 use Rattle.game_rules.specs.Position.{Position}
+use Rattle.game_rules.specs.Game.{Game, IsTextOf}
 use Rattle.game_rules.specs.Text.{game_at}
+use Rattle.game_rules.proofs.Games.{game_is_read}
 use Rattle.game_rules.specs.declared.InputFault.{InputFault}
 use Rattle.proof_text.specs.Texts.{pieces, lines_in, game_prefix, game_of, behind_game}
 use Rattle.io_ports.specs.Reading.{Pending, Reads, PassesLines}
 use Rattle.run_frame.specs.Reading.{kept_of, KeepsLine, StopsGame}
 use Rattle.run_frame.specs.declared.game_input.InputStop.{InputStop}
 use Rattle.run_frame.specs.declared.game_input.InputStop.TheVariants as stops
-use Rattle.run_frame.proofs.Cuts.{game_kept, game_left}
+use Rattle.run_frame.proofs.Cuts.{game_kept, game_left, game_same}
 use Rattle.io_ports.proofs.Reading.{Reads_more, Reads_then, passes_then, passes_most, passes_line}
 
 -- what a reader of lines gives, unless its source failed
@@ -64,16 +66,17 @@ module _ (a b c : Pending) (one two : List ℕ) (first : Reads a b (λ bytes res
       → two ≡ kept_of (next_line bytes) ++ kept_of (next_line mid)
   both bytes mid put after more = more ∙ ap (λ text. text ++ kept_of (next_line mid)) put
 
-  pub game_known : (root : Position) → game_at two ≡ Ok root
+  pub game_known : (game : Game) → IsTextOf two game
       → Reads a c (λ bytes rest. PassesLines 2 bytes rest
-      × ((game_at (game_of (pieces bytes)) ≡ Ok root) × (behind_game (pieces bytes) ≡ lines_in (pieces rest))))
-  game_known root game =
+      × (IsTextOf (game_of (pieces bytes)) game × (behind_game (pieces bytes) ≡ lines_in (pieces rest))))
+  game_known game text =
       Reads_then a b c _ _ _ first second (λ bytes mid rest p q.
-      let kept = sym (ap game_at (both bytes mid p.1.0 p.1.1 q.1.0)) ∙ game in (
+      let is = both bytes mid p.1.0 p.1.1 q.1.0 in
+      let kept = sym (ap game_at is) ∙ game_is_read two game text in (
         passes_then 1 1 bytes mid rest p.0 q.0,
         (
-          sym (game_kept bytes (next_line bytes) (next_line mid) refl (ap next_line p.1.1)) ∙ kept,
-          game_left bytes (next_line bytes) (next_line mid) root refl (ap next_line p.1.1) kept ∙ ap (λ rest. lines_in (pieces rest)) (sym q.1.1),
+          subst (λ text. IsTextOf text game) (is ∙ game_same bytes (next_line bytes) (next_line mid) game.position refl (ap next_line p.1.1) kept) text,
+          game_left bytes (next_line bytes) (next_line mid) game.position refl (ap next_line p.1.1) kept ∙ ap (λ rest. lines_in (pieces rest)) (sym q.1.1),
         ),
       ))
 

@@ -3,6 +3,7 @@
 ghost use Rattle.std.specs.Prelude.{◌≡◌, ◌+◌, ◌≤◌, length, Ok, Err, IfOk, IfErr, MatchResult};
 ghost use Rattle.device_rules.specs.Devices.{Rose};
 ghost use Rattle.arrayvec.specs.ArrayVec.{array_vec_len};
+ghost use Rattle.game_rules.specs.Game.{IsTextOf};
 ghost use Rattle.game_rules.specs.Text.{game_at};
 ghost use Rattle.proof_text.specs.Texts.{pieces, lines_in, game_of, behind_game};
 ghost use Rattle.io_ports.specs.Lines.{IsUndecided};
@@ -12,7 +13,7 @@ ghost use Rattle.run_frame.specs.declared.game_input.InputStop.TheVariants as st
 
 use crate::game_input::InputStop;
 use arrayvec::ArrayVec;
-use board_bits::{Position, read_game};
+use board_bits::{Game, Position, read_game_moves};
 use io_ports::{LineGot, Lines, Source};
 use text_words::push_text;
 
@@ -32,11 +33,27 @@ pub fn read_game_lines<S: Source>(lines: &mut Lines, source: &mut S) -> Result<P
     ensures waiting { result ≡ Err stops.Read → IsUndecided lines.new.ahead }
     ensures later { S.faults source.old ≤ S.faults source.new }
 {
+    match read_played_game(lines, source) {
+        Ok(game) => Ok(*game.position()),
+        Err(stop) => Err(stop),
+    }
+}
+
+/// Reads the two lines of a game, and answers it with its moves.
+pub fn read_played_game<S: Source>(lines: &mut Lines, source: &mut S) -> Result<Game, InputStop>
+    ensures answer { Reads (pending lines.old (S.left source.old) (S.last_read source.old))
+        (pending lines.new (S.left source.new) (S.last_read source.new))
+        (λ bytes rest. PassesLines 2 bytes rest × MatchResult result
+        (λ game. IsTextOf (game_of (pieces bytes)) game × (behind_game (pieces bytes) ≡ lines_in (pieces rest)))
+        (StopsGame (game_at (game_of (pieces bytes))) (S.faults source.old) (S.faults source.new))) }
+    ensures waiting { result ≡ Err stops.Read → IsUndecided lines.new.ahead }
+    ensures later { S.faults source.old ≤ S.faults source.new }
+{
     let mut text = ArrayVec::new();
     keep_line(&mut text, lines, source)?;
     keep_line(&mut text, lines, source)?;
-    match read_game(text.as_slice()) {
-        Ok(root) => Ok(root),
+    match read_game_moves(text.as_slice()) {
+        Ok(game) => Ok(game),
         Err(fault) => Err(InputStop::NoGame(fault)),
     }
 }

@@ -10,5 +10,5 @@ mod output;
 
 pub use ending::{Ending, report};
 pub use game_input::{InputStop, read_game_input};
-pub use game_lines::read_game_lines;
+pub use game_lines::{read_game_lines, read_played_game};
 pub use output::{memory_text, put_line, write_text};

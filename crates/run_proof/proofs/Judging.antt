@@ -15,7 +15,7 @@ use Rattle.run_proof.specs.Whole.{judged, most_lines_read, most_taken}
 use Rattle.run_proof.specs.Stops.{IsStopped}
 use Rattle.run_frame.specs.Streams.{Streams}
 use Rattle.run_proof.specs.Taken.{text_lemmas, Gains, BeginWith}
-use Rattle.run_proof.specs.Steps.{Adds, StopsBy, StopsWith, Judges, Place, AtHead, AtGame, AtLine, GoesOn, Gets, lines_from, lemmas_at, lines_read_until}
+use Rattle.run_proof.specs.Steps.{Adds, IsNamed, IsStopAt, StopsBy, StopsWith, Judges, Place, AtHead, AtGame, AtLine, GoesOn, Gets, lines_from, lemmas_at, lines_read_until}
 use Rattle.io_ports.specs.Reading.{Pending, Reads, PassesLines}
 use Rattle.run_frame.specs.Reading.{StopsGame}
 use Rattle.run_frame.specs.declared.game_input.InputStop.{InputStop}
@@ -56,6 +56,28 @@ stops_earlier one two bytes mid ls a b c (stops.Input inputs.Read) goes later h 
 stops_earlier one two bytes mid ls a b c (stops.Refused r) goes later h = goes.answer ∙ h
 stops_earlier one two bytes mid ls a b c stops.Memory goes later h = goes.reaches h
 
+-- it is a later line than those that were read
+pub stop_at : (at : ℕ) (stop : ProofStop) → at ≤ most_lines_read → IsStopAt at stop → (at ≤ lines_read_until stop) × (lines_read_until stop ≤ most_lines_read)
+stop_at at (stops.Refused r) few here = (omega (arith, here), omega (arith, here, few))
+stop_at at (stops.Input (inputs.NoGame fault)) few here = absurd here
+stop_at at (stops.Input inputs.Read) few here = (few, omega arith)
+stop_at at stops.Memory few here = (few, omega arith)
+
+-- behind the game its lines are gone through
+pub game_goes : (version : Version) (bytes rest : List ℕ) (root : Position) → game_at (game_of (pieces bytes)) ≡ Ok root
+    → behind_game (pieces bytes) ≡ lines_in (pieces rest) → GoesOn (AtGame version) bytes (AtLine version (start root) first_number) rest []
+game_goes version bytes rest root game behind = record {
+  answer = game_read version bytes rest root game behind;
+  reaches = game_reaches version bytes rest root game behind;
+  says = game_says version bytes rest root game behind;
+}
+
+-- what the line that names the version decides, without the line itself
+pub head_goes : (asked : Option Version) (version : Version) (a b : Pending)
+    → Reads a b (λ bytes rest. PassesLines 1 bytes rest × GoesOn (AtHead asked) bytes (AtGame version) rest [] × IsNamed version bytes rest)
+    → Reads a b (λ bytes rest. PassesLines 1 bytes rest × GoesOn (AtHead asked) bytes (AtGame version) rest [])
+head_goes asked version a b head = Reads_more a b _ _ head (λ bytes rest p. (p.0, p.1))
+
 -- the head and the game
 module _ (asked : Option Version) (version : Version) (a b c : Pending)
     (head : Reads a b (λ bytes rest. PassesLines 1 bytes rest × GoesOn (AtHead asked) bytes (AtGame version) rest [])) where
@@ -66,11 +88,7 @@ module _ (asked : Option Version) (version : Version) (a b c : Pending)
   game_known root game =
       Reads_then a b c _ _ _ head game (λ bytes mid rest p q. (
         passes_then 1 2 bytes mid rest p.0 q.0,
-        goes_then (AtHead asked) (AtGame version) _ bytes mid rest [] [] p.1 (record {
-          answer = game_read version mid rest root q.1.0 q.1.1;
-          reaches = game_reaches version mid rest root q.1.0 q.1.1;
-          says = game_says version mid rest root q.1.0 q.1.1;
-        }),
+        goes_then (AtHead asked) (AtGame version) _ bytes mid rest [] [] p.1 (game_goes version mid rest root q.1.0 q.1.1),
       ))
 
   pub game_stops : (before mid after : ℕ) (why : InputStop) → before ≤ mid

@@ -20,13 +20,13 @@ use Rattle.proof_text.specs.Lemma.{Lemma, Line as Said, ALemma, ARemark, AVerdic
 use Rattle.cert_checker.specs.Checking.{why_of, IsLemma}
 use Rattle.run_proof.specs.Taken.{lemmas_said, lemmas_from_lines, Gains, InStep}
 use Rattle.run_proof.specs.Whole.{judged, version_named, IsRightInput, SaysTruth}
-use Rattle.run_proof.specs.Steps.{lines_from, IsNextLemma, LinesReach, AtHead, AtGame, AtLine, GoesOn, Gets, StopsBy, StopsWith, StopsAtLine}
+use Rattle.run_proof.specs.Steps.{lines_from, IsNamed, IsNextLemma, LinesReach, AtHead, AtGame, AtLine, GoesOn, Gets, StopsBy, StopsWith, StopsAtLine}
 use Rattle.io_ports.specs.Reading.{Pending, Reads, PassesLines}
 use Rattle.device_rules.specs.Devices.{Rose}
 use Rattle.run_frame.specs.declared.game_input.InputStop.TheVariants as inputs
 use Rattle.run_frame.proofs.GameRead.{given, by_line}
 use Rattle.run_proof.proofs.Taking.{gains_none, step_more, stops_bare}
-use Rattle.run_proof.proofs.Lines.{line_says, none_says, head_says}
+use Rattle.run_proof.proofs.Lines.{line_says, none_says, head_says, head_cut}
 use Rattle.run_proof.proofs.Lines.{head_named, head_reaches, head_other, line_refused, line_stands, line_reaches, lemma_reached, long_got, none_got}
 use Rattle.run_proof.specs.declared.stop.ProofStop.{ProofStop}
 use Rattle.run_proof.specs.declared.stop.ProofStop.TheVariants as stops
@@ -36,15 +36,18 @@ use Rattle.run_proof.specs.declared.stop.ProofStop.TheVariants as stops
 module _ (a b : Pending) (got : LineGot) (text : List ℕ) (fed : Bool) (gives : Reads a b (λ bytes rest. Gives bytes rest got text fed))
     (asked : Option Version) where
   pub head_known : (version : Version) → (got ≡ Failed → ⊥) → version_named asked text ≡ Some version
-      → Reads a b (λ bytes rest. PassesLines 1 bytes rest × GoesOn (AtHead asked) bytes (AtGame version) rest [])
+      → Reads a b (λ bytes rest. PassesLines 1 bytes rest × GoesOn (AtHead asked) bytes (AtGame version) rest [] × IsNamed version bytes rest)
   head_known version other named = by_line a b got text fed gives _ (λ bytes rest h.
       let line : Cut = record { got = got; text = text; fed = fed; rest = rest } in
       let is = given bytes rest text got fed h other in
-      record {
-        answer = head_named asked version bytes line is named;
-        reaches = head_reaches asked version bytes line is named;
-        says = head_says asked version bytes line is named;
-      })
+      (
+        record {
+          answer = head_named asked version bytes line is named;
+          reaches = head_reaches asked version bytes line is named;
+          says = head_says asked version bytes line is named;
+        },
+        head_cut asked version bytes line is named,
+      ))
 
   pub head_stops : (got ≡ Failed → ⊥) → version_named asked text ≡ None
       → Reads a b (λ bytes rest. PassesLines 1 bytes rest × (judged asked bytes ≡ Refused 1 BadLine))
@@ -63,6 +66,20 @@ with_bytes_root version s bytes = of_line (read_line version (board_of s.root) b
     of_line (Some (AVerdict v)) = refl
 
 module _ (version : Version) (a b : Pending) (text : List ℕ) (fed : Bool) (s : CheckerState) (at : ℕ) (had has : Option (List Lemma)) where
+  -- it goes on behind a line that isn't refused
+  pub line_goes : (bytes rest : List ℕ) → Gives bytes rest Line text fed → bytes_refusal version s at text ≡ None → (t : CheckerState)
+      → t ≡ with_bytes version s text
+      → GoesOn (AtLine version s at) bytes (AtLine version t (at + 1)) rest (lemmas_said version (board_of s.root) (text ∷ []))
+  line_goes bytes rest is stands t next =
+      let line : Cut = record { got = Line; text = text; fed = fed; rest = rest } in
+      record {
+        answer = line_stands version s at bytes line is refl stands ∙ ap (λ t. lines_from version t (at + 1) rest) (sym next);
+        reaches = λ later. line_reaches version s at bytes line is refl stands (subst (λ t. LinesReach version t (at + 1) rest) next later);
+        says = line_says version (board_of s.root) bytes line is refl
+            ∙ ap (λ root. lemmas_said version (board_of s.root) (text ∷ []) ++ lemmas_from_lines version (board_of root) rest)
+            (sym (ap (λ t. t.root) next ∙ with_bytes_root version s text));
+      }
+
   pub line_known : Reads a b (λ bytes rest. Gives bytes rest Line text fed) → bytes_refusal version s at text ≡ None → (t : CheckerState)
       → t ≡ with_bytes version s text
       → Gains had has (lemmas_said version (board_of s.root) (text ∷ []))
@@ -70,15 +87,7 @@ module _ (version : Version) (a b : Pending) (text : List ℕ) (fed : Bool) (s :
   line_known gives stands t next gains = record {
     lemmas = lemmas_said version (board_of s.root) (text ∷ []);
     gains = gains;
-    reads = by_line a b Line text fed gives _ (λ bytes rest is.
-        let line : Cut = record { got = Line; text = text; fed = fed; rest = rest } in
-        record {
-          answer = line_stands version s at bytes line is refl stands ∙ ap (λ t. lines_from version t (at + 1) rest) (sym next);
-          reaches = λ later. line_reaches version s at bytes line is refl stands (subst (λ t. LinesReach version t (at + 1) rest) next later);
-          says = line_says version (board_of s.root) bytes line is refl
-              ∙ ap (λ root. lemmas_said version (board_of s.root) (text ∷ []) ++ lemmas_from_lines version (board_of root) rest)
-              (sym (ap (λ t. t.root) next ∙ with_bytes_root version s text));
-        });
+    reads = by_line a b Line text fed gives _ (λ bytes rest is. line_goes bytes rest is stands t next);
   }
 
   pub none_known : Reads a b (λ bytes rest. Gives bytes rest Done text fed) → has ≡ had
@@ -129,13 +138,13 @@ module _ (version : Version) (s : CheckerState) (at : ℕ) (bytes : List ℕ) (s
   here : read_line version (board_of s.root) bytes ≡ Some line
   here = ap (λ board. read_line version board bytes) board ∙ said
 
-  none : bytes_refusal version s at bytes ≡ None
-  none = ap (λ few. or_then (unless few BadLine) (said_refusal s (read_line version (board_of s.root) bytes))) (le-leb at most_lines within)
+  pub not_refused : bytes_refusal version s at bytes ≡ None
+  not_refused = ap (λ few. or_then (unless few BadLine) (said_refusal s (read_line version (board_of s.root) bytes))) (le-leb at most_lines within)
       ∙ ap (said_refusal s) here ∙ stands
 
   -- being a lemma
   pub next_lemma : IsLemma line → IsNextLemma version s at bytes
-  next_lemma lemma = let found = lemma_of line lemma in (none, found.0, here ∙ ap (λ line. Some line) found.1)
+  next_lemma lemma = let found = lemma_of line lemma in (not_refused, found.0, here ∙ ap (λ line. Some line) found.1)
     where
       lemma_of : (line : Said) → IsLemma line → (l : Lemma) × (line ≡ ALemma l)
       lemma_of (ALemma l) is = (l, refl)
@@ -151,7 +160,7 @@ module _ (version : Version) (s : CheckerState) (at : ℕ) (bytes : List ℕ) (s
   handed t had has (Ok x) added step h =
       let next : t ≡ with_bytes version s bytes = added ∙ ap (with_said s) (sym here) in
       let gains : Gains had has (lemmas_said version (board_of s.root) (bytes ∷ [])) = rw here h in
-      ((none, next), gains, step_more version s bytes at t had has none next step gains)
+      ((not_refused, next), gains, step_more version s bytes at t had has not_refused next step gains)
 
 -- ---- a whole text
 

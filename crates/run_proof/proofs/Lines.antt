@@ -9,7 +9,7 @@ use Rattle.game_rules.specs.declared.InputFault.{InputFault}
 use Rattle.proof_text.specs.Checked.{Why, CheckerState}
 use Rattle.proof_text.specs.Lemma.{Line as Said, ALemma, ARemark, AVerdict}
 use Rattle.proof_text.specs.Reading.{read_line}
-use Rattle.proof_text.specs.Texts.{pieces, lines_in, first_number, game_of, behind_game, bytes_refusal, NoGame, Refused, verdict_answer, line_answer}
+use Rattle.proof_text.specs.Texts.{pieces, lines_in, first_number, game_of, behind_game, first_line, bytes_refusal, NoGame, Refused, verdict_answer, line_answer}
 use Rattle.proof_text.specs.Texts.{with_bytes, check_from, start, game_answer}
 use Rattle.proof_text.proofs.Fold.{answer_by_lines}
 use Rattle.proof_text.proofs.First.{out_of_bounds}
@@ -17,9 +17,9 @@ use Rattle.proof_text.specs.declared.Why.TheVariants.{BadLine}
 use Rattle.run_proof.specs.Taken.{lemmas_said, game_lemmas, version_lemmas, pieces_lemmas, text_lemmas, lemmas_from_game, lemmas_from_lines}
 use Rattle.proof_text.specs.declared.Version.{Version}
 use Rattle.run_proof.specs.Whole.{judged, version_named, BeginsProof}
-use Rattle.run_proof.specs.Steps.{game_from, lines_from, IsNextLemma, ReachLemma, LinesReach, GameReaches}
+use Rattle.run_proof.specs.Steps.{game_from, lines_from, IsNamed, IsNextLemma, ReachLemma, LinesReach, GameReaches}
 use Rattle.run_proof.proofs.Begun.{begins_proof}
-use Rattle.run_proof.proofs.Named.{named_short, long_unnamed, head_answer, head_none}
+use Rattle.run_proof.proofs.Named.{named_first, named_short, long_unnamed, head_answer, head_none}
 use Rattle.run_frame.proofs.Cuts.{by_piece, line_first, long_first, none_left}
 
 -- ---- a line among further lines
@@ -90,6 +90,21 @@ module _ (asked : Option Version) (version : Version) (bytes : List ℕ) (line :
       (λ fed none cut. absurd (subst (λ rest. ReachLemma version (start reach.0) first_number (behind_game (pieces rest))) none reach.2))
       (λ first more cut longer size prefix. absurd (omega (arith, size, named_short asked line.text version named)))
 
+  pub head_cut : version_named asked line.text ≡ Some version → IsNamed version bytes line.rest
+  head_cut named =
+      by_piece bytes line (IsNamed version bytes line.rest) is
+      (λ fed cut. record { more = pieces line.rest; cut = cut ∙ first_named (pieces line.rest); game = refl; behind = refl })
+      (λ fed none cut. record {
+        more = [];
+        cut = cut ∙ first_named [];
+        game = ap (λ rest. game_of (pieces rest)) (sym none);
+        behind = ap (λ rest. behind_game (pieces rest)) (sym none);
+      })
+      (λ first more cut longer size prefix. absurd (omega (arith, size, named_short asked line.text version named)))
+    where
+      first_named : (more : List (List ℕ)) → line.text ∷ more ≡ first_line version ∷ more
+      first_named more = ap (λ first. first ∷ more) (named_first asked line.text version named)
+
   pub head_says : version_named asked line.text ≡ Some version → text_lemmas asked bytes ≡ lemmas_from_game version line.rest
   unfolding text_lemmas lemmas_from_game
   head_says named =
@@ -131,7 +146,7 @@ game_fault version bytes fault game = ap (λ r. game_answer version r (behind_ga
 -- ---- the lemmas that are said
 
 -- a line says its own, and then come those of the others
-said_first : (version : Version) (board : Board) (line : List ℕ) (lines : List (List ℕ))
+pub said_first : (version : Version) (board : Board) (line : List ℕ) (lines : List (List ℕ))
     → lemmas_said version board (line ∷ lines) ≡ lemmas_said version board (line ∷ []) ++ lemmas_said version board lines
 said_first version board line lines = of_read (read_line version board line) refl
   where

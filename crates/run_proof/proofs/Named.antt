@@ -1,5 +1,5 @@
 -- What the first line of a text names, and what that decides.
-use Rattle.std.proofs.Common.{◌≡◌, ◌⊎◌, ℕ, ◌<◌, ◌≤◌, Bool, true, false, cond, List, ◌∷◌, length, Option, Some, None, refl, ap, ◌∙◌, inl, inr, arith}
+use Rattle.std.proofs.Common.{◌≡◌, ◌⊎◌, ℕ, ◌<◌, ◌≤◌, Bool, true, false, cond, List, ◌∷◌, length, Option, Some, None, refl, sym, ap, ◌∙◌, subst, inl, inr, arith}
 use Rattle.std.proofs.lemmas.Slice.Eq.{bytes_eq-Decides}
 use Rattle.std.specs.Str.{bytes_eq}
 use Rattle.game_rules.specs.Text.{game_at}
@@ -8,10 +8,10 @@ use Rattle.proof_text.specs.declared.Version.{Version}
 use Rattle.proof_text.specs.declared.Version.TheVariants.{One, Two}
 use Rattle.proof_text.specs.declared.Why.TheVariants.{BadLine}
 use Rattle.proof_text.proofs.First.{no_head, with_head, answer_named, unnamed}
-use Rattle.run_proof.specs.Whole.{judged, version_named}
+use Rattle.run_proof.specs.Whole.{judged, version_named, IsAsked}
 
 -- a version's first line names it, where it is asked for
-named_first : (asked : Option Version) (first : List ℕ) (version : Version) → version_named asked first ≡ Some version → first ≡ first_line version
+pub named_first : (asked : Option Version) (first : List ℕ) (version : Version) → version_named asked first ≡ Some version → first ≡ first_line version
 named_first (Some asked) first version h = of_eq (bytes_eq first (first_line asked)) refl h
   where
     of_eq : (b : Bool) → bytes_eq first (first_line asked) ≡ b → cond b (Some asked) None ≡ Some version → first ≡ first_line version
@@ -34,6 +34,13 @@ named_asked (Some asked) first version h = of_eq (bytes_eq first (first_line ask
     of_eq : (b : Bool) → cond b (Some asked) None ≡ Some version → (Some asked ≡ None) ⊎ (Some asked ≡ Some version)
     of_eq true h = inr h
     of_eq false h = cc
+
+pub named_is_asked : (asked : Option Version) (first : List ℕ) (version : Version) → version_named asked first ≡ Some version → IsAsked asked version
+named_is_asked asked first version h = of_asked (named_asked asked first version h)
+  where
+    of_asked : (asked ≡ None) ⊎ (asked ≡ Some version) → IsAsked asked version
+    of_asked (inl e) = subst (λ asked. IsAsked asked version) (sym e) tt
+    of_asked (inr e) = subst (λ asked. IsAsked asked version) (sym e) refl
 
 pub named_short : (asked : Option Version) (first : List ℕ) (version : Version) → version_named asked first ≡ Some version → length first ≤ 8
 named_short asked first version h = of_version version (named_first asked first version h)

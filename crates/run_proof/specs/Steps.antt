@@ -8,7 +8,7 @@ use Rattle.game_rules.specs.Text.{game_at}
 use Rattle.proof_text.specs.Checked.{CheckerState, line_refusal, with_line}
 use Rattle.proof_text.specs.Lemma.{Lemma, Line, ALemma}
 use Rattle.proof_text.specs.Reading.{read_line}
-use Rattle.proof_text.specs.Texts.{most_lines, pieces, lines_in, first_number, game_of, behind_game, bytes_refusal, with_bytes, start, CheckAnswer, NoGame, Refused, game_answer, verdict_answer, check_from}
+use Rattle.proof_text.specs.Texts.{most_lines, pieces, lines_in, first_number, game_of, behind_game, first_line, bytes_refusal, with_bytes, start, CheckAnswer, NoGame, Refused, game_answer, verdict_answer, check_from}
 use Rattle.cert_checker.specs.Checking.{why_of}
 use Rattle.cert_checker.specs.declared.stops.Accepted.{Accepted}
 use Rattle.io_ports.specs.Reading.{Pending, Reads}
@@ -119,6 +119,20 @@ lines_read_until (stops.Refused r) = r.at
 lines_read_until (stops.Input (inputs.NoGame fault)) = 3
 lines_read_until (stops.Input inputs.Read) = most_lines_read
 lines_read_until stops.Memory = most_lines_read
+
+-- it is the line with this number that stops the reading
+abbrev pub IsStopAt : ℕ → ProofStop → Type 0
+IsStopAt at (stops.Refused r) = r.at ≡ at
+IsStopAt at (stops.Input (inputs.NoGame fault)) = ⊥
+IsStopAt at (stops.Input inputs.Read) = ⊤
+IsStopAt at stops.Memory = ⊤
+
+-- The bytes begin with the line that names the version, and behind it stands what they have of a game and of lines behind it.
+pub record IsNamed (version : Version) (bytes rest : List ℕ) : Type 0 where
+  pub more : List (List ℕ)
+  pub cut : pieces bytes ≡ first_line version ∷ more
+  pub game : game_of more ≡ game_of (pieces rest)
+  pub behind : behind_game more ≡ behind_game (pieces rest)
 
 -- What was read of a proof, to its end or to what stopped the reading: the bytes that were taken are right, or they stopped
 -- it; and so did all of the input, where the source tells it. A taker that tells its lemmas has got all that the bytes say, where

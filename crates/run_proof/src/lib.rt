@@ -7,6 +7,6 @@ mod reading;
 mod stop;
 mod taker;
 
-pub use reading::{accept_line, read_proof};
+pub use reading::{FIRST_NUMBER, accept_line, bad_line, read_head, read_proof};
 pub use stop::ProofStop;
 pub use taker::{KeepsNone, LemmaTaker, NotTaken};

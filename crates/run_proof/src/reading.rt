@@ -6,9 +6,9 @@ ghost use Rattle.cert_checker.specs.Checking.{IsLemma};
 ghost use Rattle.cert_format.specs.Shape.{viewed};
 ghost use Rattle.proof_text.specs.Checked.{lemmas_in};
 ghost use Rattle.proof_text.specs.Texts.{first_number, bytes_refusal, with_bytes, verdict_answer};
-ghost use Rattle.run_proof.specs.Whole.{version_named, most_lines_read};
+ghost use Rattle.run_proof.specs.Whole.{version_named, IsAsked, most_lines_read};
 ghost use Rattle.run_proof.specs.Taken.{lemmas_said, Gains, MayHandOn, InStep, HasNone};
-ghost use Rattle.run_proof.specs.Steps.{lines_from, lemmas_at, AtHead, AtGame, AtLine, GoesOn, Gets, Adds, IsAccepted, StopsBy, StopsWith, StopsAtLine, lines_read_until, Judges};
+ghost use Rattle.run_proof.specs.Steps.{lines_from, lemmas_at, AtHead, AtGame, AtLine, GoesOn, Gets, Adds, IsAccepted, IsNamed, IsStopAt, StopsBy, StopsWith, StopsAtLine, lines_read_until, Judges};
 ghost use Rattle.io_ports.specs.Reading.{pending, Reads, PassesLines};
 ghost use Rattle.run_proof.specs.declared.stop.ProofStop.TheVariants as stops;
 ghost use Rattle.proof_text.specs.declared.Why.TheVariants as whys;
@@ -23,7 +23,7 @@ use run_frame::{InputStop, read_game_lines};
 use std::alloc::Global;
 
 /// The number of the first line behind the game.
-const FIRST_NUMBER: u64 = 4;
+pub const FIRST_NUMBER: u64 = 4;
 
 /// A proof has no more lines.
 const MOST_LINES: u64 = 20_000_000;
@@ -57,16 +57,17 @@ pub fn read_proof<S: Source, T: LemmaTaker>(
 }
 
 /// Reads the line that names the format, and answers the version, which is one that is asked for.
-fn read_head<S: Source>(
+pub fn read_head<S: Source>(
     asked: Option<Version>,
     lines: &mut Lines,
     source: &mut S,
 ) -> Result<Version, ProofStop>
     ensures answer { Reads (pending lines.old (S.left source.old) (S.last_read source.old))
         (pending lines.new (S.left source.new) (S.last_read source.new))
-        (λ bytes rest. PassesLines 1 bytes rest × MatchResult result (λ version. GoesOn (AtHead asked) bytes (AtGame version) rest [])
+        (λ bytes rest. PassesLines 1 bytes rest × MatchResult result (λ version. GoesOn (AtHead asked) bytes (AtGame version) rest [] × IsNamed version bytes rest)
         (StopsBy (AtHead asked) bytes (S.faults source.old) (S.faults source.new))) }
-    ensures stops { IfErr result (λ stop. 1 ≤ lines_read_until stop) }
+    ensures named { IfOk result (IsAsked asked) }
+    ensures stops { IfErr result (IsStopAt 1) }
     ensures later { S.faults source.old ≤ S.faults source.new }
 {
     if let LineGot::Failed = lines.next(source) {
@@ -239,7 +240,7 @@ fn hand_on<T: LemmaTaker>(taker: &mut T, line: &LineView<'_>) -> Result<(), Proo
 }
 
 /// The line at this number is none of a proof.
-fn bad_line(at: u64) -> ProofStop
+pub fn bad_line(at: u64) -> ProofStop
     ensures { result ≡ stops.Refused (record { at = at; why = whys.BadLine }) }
 {
     ProofStop::Refused(Refusal {

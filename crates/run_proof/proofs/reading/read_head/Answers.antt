@@ -1,5 +1,6 @@
 use Rattle.std.proofs.Common.{sym, ap, ◌∙◌}
 use Rattle.run_proof.specs.Whole.{version_named}
+use Rattle.run_proof.proofs.Named.{named_is_asked}
 use Rattle.run_proof.proofs.Known.{head_known, head_stops}
 use Rattle.run_proof.proofs.reading.read_head.Goals as goal
 
@@ -12,3 +13,6 @@ pub returns-in-None-clause-answer : goal.returns-in-None-clause-answer
 returns-in-None-clause-answer g c = rw c.bad_line.ensures (
     head_stops _ _ c.next.result c.next.new.self.text c.next.new.self.fed c.next.ensures.gives c.args.asked c.in_default.not-Failed
     (sym (ap (version_named c.args.asked) c.text.ensures) ∙ sym c.in-None.ensures))
+
+pub returns-in-Some-clause-named : goal.returns-in-Some-clause-named
+returns-in-Some-clause-named g c = named_is_asked c.args.asked c.text.result.now c.in-Some.version (sym c.in-Some.ensures)
