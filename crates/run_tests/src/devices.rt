@@ -25,6 +25,24 @@ const FIRST_LEMMA: &str = "victor 1\nboard 4 4\nmoves cdccddcdaaaabb\n1 bb W- en
 /// The same up to a part of it.
 const CUT_LEMMA: &str = "victor 1\nboard 4 4\nmoves cdccddcdaaaabb\n1 bb W";
 
+/// What becomes of the proof of the two squares.
+pub(crate) const UPGRADED: &str = "victor 2\n\
+    board 4 4\n\
+    moves cdccddcdaaaabb\n\
+    1 bb W- end\n\
+    2 b W- one b 1\n\
+    3 - W- all b:2\n\
+    4 bb B- end\n\
+    5 b B- all b:4\n\
+    6 - B- one b 5\n\
+    value draw 3 6\n";
+
+/// The same up to its first lemma.
+const FIRST_UPGRADED: &str = "victor 2\nboard 4 4\nmoves cdccddcdaaaabb\n1 bb W- end\n";
+
+/// The same up to a part of it.
+const CUT_UPGRADED: &str = "victor 2\nboard 4 4\nmoves cdccddcdaaaabb\n1 bb W";
+
 /// A game by a plan up to a full board.
 pub(crate) const DUEL: &str =
     "board 4 4\nmoves -\nplan CE:a1 CE:a3 CE:b1 CE:b3 BI:c1,d1 LI:c2-c4,d2-d4\n\
@@ -38,6 +56,8 @@ pub(crate) const DUEL_ANSWERS: &str =
 pub(crate) const PROVE_BY_SEARCH: &[&str] = &["prove", "--reach", "0"];
 
 const CHECK: &[&str] = &["check"];
+
+pub(crate) const UPGRADE: &[&str] = &["upgrade"];
 
 pub(crate) const PLAY: &[&str] = &["play"];
 
@@ -61,7 +81,7 @@ type Failing = (
     &'static str,
 );
 
-const FAILING: [Failing; 15] = [
+const FAILING: [Failing; 21] = [
     (
         PROVE_BY_SEARCH,
         TWO_SQUARES_LEFT,
@@ -171,6 +191,72 @@ const FAILING: [Failing; 15] = [
         "write fault\n",
     ),
     (
+        UPGRADE,
+        TWO_SQUARES_PROOF,
+        Devices {
+            piece: 4,
+            source_fails: &[2],
+            ..SOUND
+        },
+        6,
+        "",
+        "read fault\n",
+    ),
+    (
+        UPGRADE,
+        TWO_SQUARES_PROOF,
+        Devices {
+            piece: 52,
+            source_fails: &[2],
+            ..SOUND
+        },
+        6,
+        FIRST_UPGRADED,
+        "read fault\n",
+    ),
+    (
+        UPGRADE,
+        TWO_SQUARES_PROOF,
+        Devices {
+            out_fails: &[1],
+            ..SOUND
+        },
+        7,
+        "",
+        "write fault\n",
+    ),
+    (
+        UPGRADE,
+        TWO_SQUARES_PROOF,
+        Devices {
+            out_fails: &[3],
+            ..SOUND
+        },
+        7,
+        FIRST_UPGRADED,
+        "write fault\n",
+    ),
+    (
+        UPGRADE,
+        TWO_SQUARES_PROOF,
+        Devices { room: 46, ..SOUND },
+        7,
+        CUT_UPGRADED,
+        "write fault\n",
+    ),
+    // all is written, and then it can't be handed on
+    (
+        UPGRADE,
+        TWO_SQUARES_PROOF,
+        Devices {
+            out_fails: &[9],
+            ..SOUND
+        },
+        7,
+        UPGRADED,
+        "write fault\n",
+    ),
+    (
         PLAY,
         DUEL,
         Devices {
@@ -255,7 +341,7 @@ type Cut = (
     &'static str,
 );
 
-const CUT: [Cut; 9] = [
+const CUT: [Cut; 12] = [
     (PROVE_BY_SEARCH, TWO_SQUARES_LEFT, 0, TWO_SQUARES_PROOF, ""),
     (
         PROVE_BY_SEARCH,
@@ -293,6 +379,15 @@ const CUT: [Cut; 9] = [
         "",
         "refused line 4: EndedEarly\n",
     ),
+    (UPGRADE, TWO_SQUARES_PROOF, 0, UPGRADED, ""),
+    (
+        UPGRADE,
+        FIRST_LEMMA,
+        4,
+        FIRST_UPGRADED,
+        "refused line 5: EndedEarly\n",
+    ),
+    (UPGRADE, UPGRADED, 4, "", "refused line 1: BadLine\n"),
     (PLAY, DUEL, 0, DUEL_ANSWERS, ""),
     (
         PLAY,
