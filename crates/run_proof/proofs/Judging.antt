@@ -74,9 +74,9 @@ game_goes version bytes rest root game behind = record {
 
 -- what the line that names the version decides, without the line itself
 pub head_goes : (asked : Option Version) (version : Version) (a b : Pending)
-    → Reads a b (λ bytes rest. PassesLines 1 bytes rest × GoesOn (AtHead asked) bytes (AtGame version) rest [] × IsNamed version bytes rest)
+    → Reads a b (λ bytes rest. PassesLines 1 bytes rest × (GoesOn (AtHead asked) bytes (AtGame version) rest [] × IsNamed version bytes rest))
     → Reads a b (λ bytes rest. PassesLines 1 bytes rest × GoesOn (AtHead asked) bytes (AtGame version) rest [])
-head_goes asked version a b head = Reads_more a b _ _ head (λ bytes rest p. (p.0, p.1))
+head_goes asked version a b head = Reads_more a b _ _ head (λ bytes rest p. (p.0, p.1.0))
 
 -- the head and the game
 module _ (asked : Option Version) (version : Version) (a b c : Pending)

@@ -36,7 +36,7 @@ use Rattle.run_proof.specs.declared.stop.ProofStop.TheVariants as stops
 module _ (a b : Pending) (got : LineGot) (text : List ℕ) (fed : Bool) (gives : Reads a b (λ bytes rest. Gives bytes rest got text fed))
     (asked : Option Version) where
   pub head_known : (version : Version) → (got ≡ Failed → ⊥) → version_named asked text ≡ Some version
-      → Reads a b (λ bytes rest. PassesLines 1 bytes rest × GoesOn (AtHead asked) bytes (AtGame version) rest [] × IsNamed version bytes rest)
+      → Reads a b (λ bytes rest. PassesLines 1 bytes rest × (GoesOn (AtHead asked) bytes (AtGame version) rest [] × IsNamed version bytes rest))
   head_known version other named = by_line a b got text fed gives _ (λ bytes rest h.
       let line : Cut = record { got = got; text = text; fed = fed; rest = rest } in
       let is = given bytes rest text got fed h other in

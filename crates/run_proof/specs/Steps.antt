@@ -1,6 +1,6 @@
 -- How a proof is gone through: at each step the answer to the bytes that were not given yet is that to those that
 -- are not given after it, or the step ends the reading with an answer, or for want of memory.
-use Rattle.std.specs.Prelude.{◌≡◌, ◌⊎◌, ℕ, ◌+◌, ◌≤◌, Bool, true, false, List, [], ◌∷◌, ◌++◌, length, Option, Some, None, Ok, IfSome, Result, MatchResult}
+use Rattle.std.specs.Prelude.{◌≡◌, ◌⊎◌, ℕ, ◌+◌, ◌≤◌, Bool, true, false, List, [], ◌∷◌, ◌++◌, length, Option, Some, None, Ok, IfSome, Result, MatchResult, ⊤}
 use Rattle.std.specs.Io.KnownBytes.{Consumes}
 use Rattle.device_rules.specs.Devices.{Rose}
 use Rattle.game_rules.specs.Position.{Position, board_of}

@@ -53,19 +53,19 @@ first_few (stops.Input (inputs.NoGame fault)) first = omega arith
 first_few (stops.Input inputs.Read) first = omega arith
 first_few stops.Memory first = absurd first
 
-module _ (a b c : Pending) (head : Reads a b (λ bytes rest. PassesLines 1 bytes rest × GoesOn (AtHead (Some One)) bytes (AtGame One) rest []
-    × IsNamed One bytes rest)) where
+module _ (a b c : Pending) (head : Reads a b (λ bytes rest. PassesLines 1 bytes rest
+    × (GoesOn (AtHead (Some One)) bytes (AtGame One) rest [] × IsNamed One bytes rest))) where
   pub begins_known : (game : Game) → Reads b c (λ bytes rest. PassesLines 2 bytes rest
       × (IsTextOf (game_of (pieces bytes)) game × (behind_game (pieces bytes) ≡ lines_in (pieces rest))))
       → Reads a c (λ bytes rest. PassesLines 3 bytes rest × Begins game bytes rest)
   begins_known game reads = Reads_then a b c _ _ _ head reads (λ bytes mid rest p q. (
     passes_then 1 2 bytes mid rest p.0 q.0,
     record {
-      goes = goes_then _ _ _ bytes mid rest [] [] p.1 (game_goes One mid rest game.position (game_is_read (game_of (pieces mid)) game q.1.0) q.1.1);
-      more = p.2.more;
-      cut = p.2.cut;
-      text = subst (λ text. IsTextOf text game) (sym p.2.game) q.1.0;
-      behind = p.2.behind ∙ q.1.1;
+      goes = goes_then _ _ _ bytes mid rest [] [] p.1.0 (game_goes One mid rest game.position (game_is_read (game_of (pieces mid)) game q.1.0) q.1.1);
+      more = p.1.1.more;
+      cut = p.1.1.cut;
+      text = subst (λ text. IsTextOf text game) (sym p.1.1.game) q.1.0;
+      behind = p.1.1.behind ∙ q.1.1;
     },
   ))
 

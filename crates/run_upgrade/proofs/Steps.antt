@@ -182,31 +182,35 @@ module _ (s : CheckerState) (at : ℕ) (a b c : Pending) (old mid new : Option (
       let within = leb-true at most_lines (bytes_of_none One s at next.line next.added.0).3 in (
         at + 1,
         omega (arith, within),
-        t.known,
-        record {
-          lines = more.lines;
-          counted = more.counted;
-          right = more.right;
-          written = more.written;
-          reads = Reads_more a c _ _ more.reads (λ bytes rest p. (p.few, (lines_in (pieces rest), p.cut)));
-        },
+        (
+          t.known,
+          record {
+            lines = more.lines;
+            counted = more.counted;
+            right = more.right;
+            written = more.written;
+            reads = Reads_more a c _ _ more.reads (λ bytes rest p. (p.few, (lines_in (pieces rest), p.cut)));
+          },
+        ),
       )
   wrote_stopped t before held after (Proof stop) later few next = (
     at,
     few,
     next.here,
-    s.known,
-    record {
-      lines = wrote.lines;
-      counted = wrote.counted;
-      right = wrote.right;
-      written = Appends-kept old mid new (lines_of (upgraded s.root [] (said s.root wrote.lines))) wrote.written next.kept;
-      reads = Reads_then a b c _ _ _ wrote.reads next.reads (λ bytes m rest p q. record {
-          few = passes_most (at - first_number + 1) (at - 3) bytes rest (omega (arith, wrote.counted)) (passes_then (at - first_number) 1 bytes m rest p.few q.0);
-          stopped = stops_earlier _ _ bytes m (said s.root wrote.lines) before held after stop p.goes later q.1;
-          begins = (lines_in (pieces m), p.cut);
-        });
-    },
+    (
+      s.known,
+      record {
+        lines = wrote.lines;
+        counted = wrote.counted;
+        right = wrote.right;
+        written = Appends-kept old mid new (lines_of (upgraded s.root [] (said s.root wrote.lines))) wrote.written next.kept;
+        reads = Reads_then a b c _ _ _ wrote.reads next.reads (λ bytes m rest p q. record {
+            few = passes_most (at - first_number + 1) (at - 3) bytes rest (omega (arith, wrote.counted)) (passes_then (at - first_number) 1 bytes m rest p.few q.0);
+            stopped = stops_earlier _ _ bytes m (said s.root wrote.lines) before held after stop p.goes later q.1;
+            begins = (lines_in (pieces m), p.cut);
+          });
+      },
+    ),
   )
 
 -- ---- the counts of faults
