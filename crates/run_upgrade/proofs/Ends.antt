@@ -6,7 +6,7 @@ use Rattle.std.proofs.KnownBytes.{Appends-trans}
 use Rattle.device_rules.specs.Devices.{AppendsPrefix}
 use Rattle.device_rules.proofs.DeviceLaws.{AppendsPrefix_take, AppendsPrefix_more}
 use Rattle.game_rules.specs.Game.{Game, board_played, IsTextOf}
-use Rattle.game_rules.specs.Text.{game_at}
+use Rattle.game_rules.specs.Position.{Position}
 use Rattle.game_rules.proofs.Games.{game_is_read}
 use Rattle.io_ports.specs.Reading.{Pending, Reads, PassesLines}
 use Rattle.io_ports.proofs.Reading.{Reads_more, Reads_then, passes_then, passes_most}
@@ -29,29 +29,24 @@ use Rattle.run_frame.specs.declared.game_input.InputStop.TheVariants as inputs
 use Rattle.run_frame.proofs.Inputs.{of_each, IfSome_more, kept_still, appended_still, cut_still}
 use Rattle.run_frame.proofs.Passing.{takes_bytes}
 use Rattle.run_frame.proofs.Taken.{fresh, of_taken, of_input, of_lines}
-use Rattle.run_proof.specs.Steps.{AtHead, AtGame, AtLine, GoesOn, IsNamed, StopsBy, IsStopAt, lines_from, lines_read_until}
+use Rattle.run_proof.specs.Steps.{AtHead, AtGame, AtLine, GoesOn, IsFirstStop, IsNamed, StopsBy, IsStopAt, lines_from, lines_read_until}
 use Rattle.run_proof.specs.Stops.{IsStopped}
 use Rattle.run_proof.specs.Taken.{lemmas_said, text_lemmas, lemmas_from_lines}
 use Rattle.run_proof.specs.Whole.{judged, most_lines_read}
 use Rattle.run_proof.specs.declared.stop.ProofStop.{ProofStop}
 use Rattle.run_proof.specs.declared.stop.ProofStop.TheVariants as stops
-use Rattle.run_proof.proofs.Judging.{goes_then, stops_earlier, stop_at, game_goes}
+use Rattle.run_proof.proofs.Judging.{goes_then, stops_earlier, stop_at, first_stop, game_goes}
 use Rattle.run_proof.proofs.Known.{right_input}
 use Rattle.run_proof.proofs.Lines.{game_fault}
-use Rattle.run_upgrade.specs.Steps.{said, IsFirstStop, Begins, ReadsBeginning, Wrote, AreAll, Passes, StopsBehind, SourceRose}
+use Rattle.run_upgrade.specs.Steps.{said, Begins, ReadsBeginning, Wrote, AreAll, Passes, StopsBehind, WritesLines, SourceRose}
 use Rattle.run_upgrade.specs.Upgrades.{upgrade_status, HasLines, HasWritten, HasUpgraded, StopsWriting, UpgradesFrom, Upgrades, UpgradeCompletes}
 use Rattle.run_upgrade.specs.declared.upgraded.UpgradeEnd.{UpgradeEnd}
 use Rattle.run_upgrade.specs.declared.upgraded.UpgradeEnd.TheVariants.{Done, Stopped}
+use Rattle.run_upgrade.specs.declared.upgraded.UpgradeStop.{UpgradeStop}
 use Rattle.run_upgrade.specs.declared.upgraded.UpgradeStop.TheVariants.{Proof, Write}
 use Rattle.run_upgrade.proofs.Right.{accepted_all, right_all, upgraded_all}
 
 -- ---- the head and the game
-
-first_few : (stop : ProofStop) → IsFirstStop stop → lines_read_until stop ≤ most_lines_read
-first_few (stops.Refused r) first = omega (arith, first)
-first_few (stops.Input (inputs.NoGame fault)) first = omega arith
-first_few (stops.Input inputs.Read) first = omega arith
-first_few stops.Memory first = absurd first
 
 module _ (a b c : Pending) (head : Reads a b (λ bytes rest. PassesLines 1 bytes rest
     × (GoesOn (AtHead (Some One)) bytes (AtGame One) rest [] × IsNamed One bytes rest))) where
@@ -113,19 +108,19 @@ module _ (input : Option (List ℕ)) (begun : ℕ) (last : Pending) (old new : O
   pub ends_first : (stop : ProofStop) (before after : ℕ) → IsFirstStop stop → Keeps old new
       → Reads (fresh input begun) last (ReadsBeginning before after (Err stop)) → Upgrades (over input last old new) (Stopped (Proof stop))
   ends_first stop before after first kept reads =
-      took (lines_read_until stop) _ (Stopped (Proof stop)) (first_few stop first) reads (λ taken here all lines.
+      took (lines_read_until stop) _ (Stopped (Proof stop)) (first_stop stop first).1 reads (λ taken here all lines.
       (is_stopped stop before after taken here all lines, first_writes taken stop first kept))
 
 -- a source that failed has a count that rose
 pub first_rose : (a b : Pending) (before after : ℕ) (stop : ProofStop) → Reads a b (ReadsBeginning before after (Err stop))
     → SourceRose before after (Proof stop)
-first_rose a b before after stop reads = by stop (reads.fact [] (λ _. refl)).1
+first_rose a b before after stop reads = by stop _ (reads.fact [] (λ _. refl)).1
   where
-    by : (stop : ProofStop) → {bytes : List ℕ} → StopsBy (AtHead (Some One)) bytes before after stop → SourceRose before after (Proof stop)
-    by (stops.Input (inputs.NoGame fault)) h = tt
-    by (stops.Input inputs.Read) h = h
-    by (stops.Refused r) h = tt
-    by stops.Memory h = tt
+    by : (stop : ProofStop) (bytes : List ℕ) → StopsBy (AtHead (Some One)) bytes before after stop → SourceRose before after (Proof stop)
+    by (stops.Input (inputs.NoGame fault)) bytes h = tt
+    by (stops.Input inputs.Read) bytes h = h
+    by (stops.Refused r) bytes h = tt
+    by stops.Memory bytes h = tt
 
 -- ---- behind the game
 
@@ -218,12 +213,25 @@ module _ (input : Option (List ℕ)) (begun : ℕ) (game : Game) (mid : Pending)
         )))
         (λ taken here all lines. (at, [], here))
 
+    -- either of that
+    pub ends_lines : (root : Position) (t : CheckerState) (first before after : ℕ) (stop : UpgradeStop) → root ≡ game.position → first ≤ before
+        → WritesLines root t mid last before after held new (Err stop) → Upgrades (over input last old new) (Stopped stop)
+    ends_lines root t first before after stop same later writes =
+        let W : Position → Type 0 = λ root. WritesLines root t mid last before after held new (Err stop) in
+        by stop (subst W same writes)
+      where
+        by : (stop : UpgradeStop) → WritesLines game.position t mid last before after held new (Err stop) → Upgrades (over input last old new) (Stopped stop)
+        by Write (at, few, (shown, wrote)) = ends_cut at shown few wrote
+        by (Proof stop) (at, few, here, (shown, wrote)) = ends_stop at first before after stop shown few later here wrote
+
   module _ (put : Appends old held head_text) (last : Pending) (at : ℕ) (few : at ≤ most_lines_read) (t : CheckerState) where
     -- there was no verdict
-    pub ends_short : (first before after : ℕ) (r : Refusal) → first ≤ before → t.verdict ≡ None → r ≡ record { at = at; why = EndedEarly }
-        → Wrote true game.position t.known at mid last held new (AreAll game.position t at)
+    pub ends_short : (root : Position) (first before after : ℕ) (r : Refusal) → root ≡ game.position → first ≤ before → t.verdict ≡ None
+        → r ≡ record { at = at; why = EndedEarly } → Wrote true root t.known at mid last held new (AreAll root t at)
         → Upgrades (over input last old new) (Stopped (Proof (stops.Refused r)))
-    ends_short first before after r later none is wrote =
+    ends_short root first before after r same later none is given =
+        let W : Position → Type 0 = λ root. Wrote true root t.known at mid last held new (AreAll root t at) in
+        let wrote = subst W same given in
         let stopped : Wrote true game.position t.known at mid last held new (StopsBehind game.position before after (stops.Refused r) at) = record {
           lines = wrote.lines;
           counted = wrote.counted;
@@ -247,7 +255,10 @@ module _ (input : Option (List ℕ)) (begun : ℕ) (game : Game) (mid : Pending)
 
   module _ (put : Appends old held head_text) (last : Pending) (at : ℕ) (few : at ≤ most_lines_read) (t : CheckerState) (all : Option (List ℕ)) (right : Right)
       (is : t.verdict ≡ Some right.verdict) (counted : right.lemmas ≡ length t.known)
-      (wrote : Wrote true game.position t.known at mid last held all (AreAll game.position t at)) where
+      (root : Position) (same : root ≡ game.position) (given : Wrote true root t.known at mid last held all (AreAll root t at)) where
+    wrote : Wrote true game.position t.known at mid last held all (AreAll game.position t at)
+    wrote = let W : Position → Type 0 = λ root. Wrote true root t.known at mid last held all (AreAll root t at) in subst W same given
+
     says_lines : (rest : List ℕ) → lines_in (pieces rest) ≡ wrote.lines → lemmas_from_lines One (board_played game) rest ≡ said game.position wrote.lines
     unfolding lemmas_from_lines
     says_lines rest cut = ap (lemmas_said One (board_played game)) cut

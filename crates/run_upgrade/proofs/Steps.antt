@@ -29,7 +29,7 @@ use Rattle.run_proof.specs.Whole.{most_lines_read}
 use Rattle.run_proof.specs.declared.stop.ProofStop.{ProofStop}
 use Rattle.run_proof.specs.declared.stop.ProofStop.TheVariants as stops
 use Rattle.run_proof.proofs.Judging.{goes_then, stops_earlier}
-use Rattle.run_proof.proofs.Known.{line_goes, line_stops, long_stops, unread_stops}
+use Rattle.run_proof.proofs.Known.{with_bytes_root, line_goes, line_stops, long_stops, unread_stops}
 use Rattle.run_proof.proofs.Lines.{none_got, said_first}
 use Rattle.run_upgrade.specs.Steps.{said, text_behind, IsAdded, WritesLine, PassesLine, AddsNext, LeavesNone, StopsNext, WritesNext}
 use Rattle.run_upgrade.specs.Steps.{Wrote, IsBehind, AreAll, Passes, StopsBehind, WritesLines, SourceRose, SinkRose}
@@ -62,11 +62,11 @@ module _ (a b : Pending) (text : List ℕ) (fed : Bool) (s : CheckerState) (at :
       → IsAdded s t at text → AppendsPrefix whole old new (text_behind s (text ∷ [])) → AddsNext whole a b s t at old new
   next_added whole t old new gives added put = record { line = text; added = added; written = put; reads = passes_next t gives added }
 
-  pub next_stopped : {X : Type 0} (t : CheckerState) (before after : ℕ) (old new : Option (List ℕ)) (stop : UpgradeStop)
-      → Reads a b (λ bytes rest. Gives bytes rest Line text fed) → WritesLine {X} s t at text old new (Err stop)
+  pub next_stopped : (X : Type 0) (t : CheckerState) (before after : ℕ) (old new : Option (List ℕ)) (stop : UpgradeStop)
+      → Reads a b (λ bytes rest. Gives bytes rest Line text fed) → WritesLine s t at text old new {X = X} (Err stop)
       → WritesNext a b s t at before after old new (Err stop)
-  next_stopped t before after old new Write gives (added, put) = next_added false t old new gives added put
-  next_stopped t before after old new (Proof stop) gives (stopped, kept) = record {
+  next_stopped X t before after old new Write gives (added, put) = next_added false t old new gives added put
+  next_stopped X t before after old new (Proof stop) gives (stopped, kept) = record {
     here = stops_here s at text stop stopped;
     kept = kept;
     reads = bare a b (AtLine One s at) before after stop (line_stops One a b text fed s at None None gives refl before after stop stopped);
@@ -77,7 +77,7 @@ module _ (a b : Pending) (text : List ℕ) (fed : Bool) (s : CheckerState) (at :
   next_long before after old gives = record {
     here = refl;
     kept = Keeps-refl old;
-    reads = bare a b (AtLine One s at) before after _ (long_stops One a b text fed s at None None gives refl before after);
+    reads = bare a b (AtLine One s at) before after (stops.Refused (record { at = at; why = BadLine })) (long_stops One a b text fed s at None None gives refl before after);
   }
 
   pub next_unread : (before after : ℕ) (old : Option (List ℕ)) → Reads a b (λ bytes rest. Gives bytes rest Failed text fed) → Rose before after
@@ -85,7 +85,7 @@ module _ (a b : Pending) (text : List ℕ) (fed : Bool) (s : CheckerState) (at :
   next_unread before after old gives rose = record {
     here = tt;
     kept = Keeps-refl old;
-    reads = bare a b (AtLine One s at) before after _ (unread_stops One a b text fed s at None None gives refl before after rose);
+    reads = bare a b (AtLine One s at) before after (stops.Input inputs.Read) (unread_stops One a b text fed s at None None gives refl before after rose);
   }
 
   pub next_none : (old : Option (List ℕ)) → Reads a b (λ bytes rest. Gives bytes rest Done text fed) → LeavesNone a b s s at old old
@@ -125,6 +125,10 @@ wrote_none s a old begins = record {
 
 module _ (s : CheckerState) (at : ℕ) (a b c : Pending) (old mid new : Option (List ℕ))
     (wrote : Wrote true s.root s.known at a b old mid (IsBehind s.root s at)) where
+  -- no proof has more lines
+  within : (t : CheckerState) (line : List ℕ) → IsAdded s t at line → at + 1 ≤ most_lines_read
+  within t line added = omega (arith, leb-true at most_lines (bytes_of_none One s at line added.0).3)
+
   lines_more : (whole : Bool) (t : CheckerState) → AddsNext whole b c s t at mid new
       → Wrote whole s.root t.known (at + 1) a c old new (IsBehind s.root t (at + 1))
   lines_more whole t next =
@@ -153,16 +157,17 @@ module _ (s : CheckerState) (at : ℕ) (a b c : Pending) (old mid new : Option (
           });
       }
 
-  -- it was added, and the state has the root that it had
-  pub wrote_more : (t : CheckerState) → t.root ≡ s.root → AddsNext true b c s t at mid new
-      → Wrote true t.root t.known (at + 1) a c old new (IsBehind t.root t (at + 1))
-  wrote_more t same next =
+  -- it was added, and the root stays
+  pub wrote_more : (t : CheckerState) (before after : ℕ) (more : Bool) → more ≡ true → WritesNext b c s t at before after mid new (Ok more)
+      → (t.root ≡ s.root) × (at + 1 ≤ most_lines_read) × Wrote true t.root t.known (at + 1) a c old new (IsBehind t.root t (at + 1))
+  wrote_more t before after false never next = absurd (cc never)
+  wrote_more t before after true more next =
       let W : Position → Type 0 = λ root. Wrote true root t.known (at + 1) a c old new (IsBehind root t (at + 1)) in
-      subst W (sym same) (lines_more true t next)
+      let same : t.root ≡ s.root = ap (λ t. t.root) next.added.1 ∙ with_bytes_root One s next.line in
+      (same, within t next.line next.added, subst W (sym same) (lines_more true t next))
 
-  -- there was none
-  pub wrote_all : (t : CheckerState) → LeavesNone b c s t at mid new → Wrote true s.root t.known at a c old new (AreAll s.root t at)
-  wrote_all t none = record {
+  all_lines : (t : CheckerState) → LeavesNone b c s t at mid new → Wrote true s.root t.known at a c old new (AreAll s.root t at)
+  all_lines t none = record {
     lines = wrote.lines;
     counted = wrote.counted;
     right = subst (λ t. AreRight s.root [] (said s.root wrote.lines) t.known) (sym none.same) wrote.right;
@@ -174,14 +179,21 @@ module _ (s : CheckerState) (at : ℕ) (a b c : Pending) (old mid new : Option (
       });
   }
 
+  -- there was none
+  pub wrote_all : (root : Position) → s.root ≡ root → (t : CheckerState) (before after : ℕ) (more : Bool) → more ≡ false
+      → WritesNext b c s t at before after mid new (Ok more) → Wrote true root t.known at a c old new (AreAll root t at)
+  wrote_all root same t before after true never next = absurd (cc never)
+  wrote_all root same t before after false more next =
+      let W : Position → Type 0 = λ root. Wrote true root t.known at a c old new (AreAll root t at) in
+      subst W same (all_lines t next)
+
   -- it was the last that was gone through
-  pub wrote_stopped : (t : CheckerState) (before held after : ℕ) (stop : UpgradeStop) → before ≤ held → at ≤ most_lines_read
+  stopped_lines : (t : CheckerState) (before held after : ℕ) (stop : UpgradeStop) → before ≤ held → at ≤ most_lines_read
       → WritesNext b c s t at held after mid new (Err stop) → WritesLines s.root t a c before after old new (Err stop)
-  wrote_stopped t before held after Write later few next =
-      let more = lines_more false t next in
-      let within = leb-true at most_lines (bytes_of_none One s at next.line next.added.0).3 in (
+  stopped_lines t before held after Write later few next =
+      let more = lines_more false t next in (
         at + 1,
-        omega (arith, within),
+        within t next.line next.added,
         (
           t.known,
           record {
@@ -193,7 +205,7 @@ module _ (s : CheckerState) (at : ℕ) (a b c : Pending) (old mid new : Option (
           },
         ),
       )
-  wrote_stopped t before held after (Proof stop) later few next = (
+  stopped_lines t before held after (Proof stop) later few next = (
     at,
     few,
     next.here,
@@ -212,6 +224,12 @@ module _ (s : CheckerState) (at : ℕ) (a b c : Pending) (old mid new : Option (
       },
     ),
   )
+
+  pub wrote_stopped : (root : Position) → s.root ≡ root → (t : CheckerState) (before held after : ℕ) (stop : UpgradeStop) → before ≤ held
+      → at ≤ most_lines_read → WritesNext b c s t at held after mid new (Err stop) → WritesLines root t a c before after old new (Err stop)
+  wrote_stopped root same t before held after stop later few next =
+      let W : Position → Type 0 = λ root. WritesLines root t a c before after old new (Err stop) in
+      subst W same (stopped_lines t before held after stop later few next)
 
 -- ---- the counts of faults
 

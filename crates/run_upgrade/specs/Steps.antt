@@ -1,6 +1,6 @@
 -- How a proof is upgraded line by line: what is written of a lemma, of a line and of further lines, and how a step goes on or
 -- stops.
-use Rattle.std.specs.Prelude.{◌≡◌, ℕ, ◌+◌, ◌-◌, ◌≤◌, Bool, true, false, List, [], ◌∷◌, ◌++◌, length, Option, Some, Result, Ok, Err, ⊤}
+use Rattle.std.specs.Prelude.{◌≡◌, ℕ, ◌+◌, ◌-◌, ◌≤◌, Bool, true, false, List, [], ◌∷◌, ◌++◌, length, Option, Some, None, Result, Ok, Err, ⊤}
 use Rattle.std.specs.Io.KnownBytes.{Keeps as KeepsBytes, Appends}
 use Rattle.device_rules.specs.Devices.{Rose, AppendsPrefix}
 use Rattle.game_rules.specs.Game.{Game, IsTextOf}
@@ -44,12 +44,6 @@ SinkRose before after (Proof stop) = ⊤
 SinkRose before after Write = Rose before after
 
 -- ---- the head and the game
-
--- what stops the reading before a line behind the game
-abbrev pub IsFirstStop : ProofStop → Type 0
-IsFirstStop (stops.Refused r) = r.at ≡ 1
-IsFirstStop (stops.Input why) = ⊤
-IsFirstStop stops.Memory = ⊥
 
 -- The bytes begin with the line that names the first version and with the text of this game, and these stand behind them.
 pub record Begins (game : Game) (bytes rest : List ℕ) : Type 0 where

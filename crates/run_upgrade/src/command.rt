@@ -5,18 +5,19 @@ ghost use Rattle.io_ports.specs.Reading.{pending, Reads};
 ghost use Rattle.run_frame.specs.Streams.{StillHolds};
 ghost use Rattle.run_frame.specs.declared.game_input.InputStop.TheVariants as inputs;
 ghost use Rattle.run_proof.specs.declared.stop.ProofStop.TheVariants as proofs;
-ghost use Rattle.run_upgrade.specs.Steps.{end_of, ReadsBeginning, IsFirstStop, SourceRose, SinkRose};
+ghost use Rattle.run_proof.specs.Steps.{IsFirstStop};
+ghost use Rattle.run_upgrade.specs.Steps.{end_of, ReadsBeginning, SourceRose, SinkRose};
 ghost use Rattle.run_upgrade.specs.Upgrades.{upgrade_status, Upgrades, UpgradeCompletes};
 ghost use Rattle.run_upgrade.specs.declared.upgraded.UpgradeEnd.TheVariants as ends;
 ghost use Rattle.run_upgrade.specs.declared.upgraded.UpgradeStop.TheVariants as stops;
 
 use crate::lines::upgrade_lines;
 use crate::upgraded::{UpgradeEnd, UpgradeStop};
-use crate::writing::{Writer, put_head, put_verdict};
+use crate::writing::{Writer, head_of, put_verdict};
 use board_bits::Game;
 use cert_checker::Checker;
 use cert_format::Version;
-use io_ports::{Lines, Sink, Source};
+use io_ports::{Lines, Sink, Source, put_all};
 use run_frame::read_played_game;
 use run_proof::{ProofStop, read_head};
 use std::alloc::Global;
@@ -55,7 +56,7 @@ fn upgrade_all<S: Source, O: Sink>(
 {
     let mut lines = Lines::new();
     let game = read_beginning(&mut lines, source)?;
-    put_head(&game, out)?;
+    put_all(out, head_of(Version::Two, &game).as_slice())?;
     let mut checker = Checker::new(alloc, *game.position());
     let mut writer = Writer::new(alloc);
     let size = game.position().size();

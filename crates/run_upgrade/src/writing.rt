@@ -4,7 +4,6 @@ ghost use Rattle.device_rules.specs.Devices.{HasCause, Rose, AppendsPrefix};
 ghost use Rattle.game_rules.specs.Game.{board_played};
 ghost use Rattle.proof_text.specs.Spelling.{greatest_number, longest_path, verdict_line};
 ghost use Rattle.proof_text.specs.Texts.{head_of};
-ghost use Rattle.proof_text.specs.declared.Version.TheVariants as versions;
 ghost use Rattle.cert_format.specs.Shape.{lemma_viewed};
 ghost use Rattle.run_upgrade.specs.Steps.{WritesLemma, SinkRose};
 
@@ -12,7 +11,7 @@ use crate::upgraded::UpgradeStop;
 use board_bits::{Game, Position};
 use cert_checker::MirrorIndex;
 use cert_format::{LemmaOut, LemmaView, Line, Reason, Verdict, Version, first_line, print_line};
-use io_ports::{Failed, Sink, put_all};
+use io_ports::{Failed, Sink};
 use run_proof::ProofStop;
 use std::alloc::Global;
 use text_words::{LineText, push_game, push_text};
@@ -55,26 +54,30 @@ impl Writer {
         if self.index.keep(position, lemma.claim, lemma.number).is_err() {
             return Err(UpgradeStop::Proof(ProofStop::Memory));
         }
-        let reason = match image {
-            Some(earlier) => Reason::Mirror(earlier),
-            None => lemma.reason,
+        let path = lemma.path.as_slice();
+        let put = match image {
+            Some(earlier) => {
+                self.lemmas
+                    .put_view(out, path, lemma.claim, &Reason::Mirror(earlier))
+            }
+            None => self.lemmas.put_view(out, path, lemma.claim, &lemma.reason),
         };
-        self.lemmas
-            .put_view(out, lemma.path.as_slice(), lemma.claim, &reason)?;
-        Ok(())
+        match put {
+            Ok(_) => Ok(()),
+            Err(Failed) => Err(UpgradeStop::Write),
+        }
     }
 }
 
-/// Writes the head: the line that names the second version, and the two lines of the game.
-pub(crate) fn put_head<O: Sink>(game: &Game, out: &mut O) -> Result<(), Failed>
-    ensures written { AppendsPrefix (is_ok result) (O.written out.old) (O.written out.new) (head_of versions.Two (board_played game.now) game.now.moves) }
-    ensures cause { HasCause (O.faults out.old) (O.faults out.new) result }
+/// The head of a proof: the line that names its version, and the two lines of the game.
+pub(crate) fn head_of(version: Version, game: &Game) -> LineText
+    ensures { result.items ≡ head_of version (board_played game.now) game.now.moves }
 {
     let mut head = LineText::new();
-    push_text(&mut head, first_line(Version::Two));
+    push_text(&mut head, first_line(version));
     head.push(b'\n');
     push_game(&mut head, game);
-    put_all(out, head.as_slice())
+    head
 }
 
 /// Writes the line of the verdict, and hands on what was written.

@@ -5,7 +5,7 @@ use Rattle.cert_checker.specs.Checking.{why_of}
 use Rattle.run_proof.specs.Steps.{lines_read_until}
 use Rattle.run_proof.specs.declared.stop.ProofStop.TheVariants as stops
 use Rattle.run_frame.proofs.Taken.{from_fresh}
-use Rattle.run_proof.proofs.Judging.{stop_at, head_goes, judged_bare, judged_unended, game_known, game_stops, game_lines, lines_stop, lines_known, judged_stop, judged_right}
+use Rattle.run_proof.proofs.Judging.{first_stop, head_goes, judged_bare, judged_unended, game_known, game_stops, game_lines, lines_stop, lines_known, judged_stop, judged_right}
 use Rattle.run_proof.proofs.reading.read_proof.Goals as goal
 
 pub returns-in_err-version : goal.returns-in_err-version
@@ -13,7 +13,7 @@ returns-in_err-version g c =
     let same = err_from_is_err_and c.from_residual.result c.from_residual.ensures.1 in
     let head = from_fresh _ _ _ _ _ c.new-lines.ensures c.in_err-version.ensures.answer in
     rw (same.1, same.2) (judged_bare c.args.asked _ _ _ _ 1 _ _ c.in_err-version.field-0.0 head
-    (stop_at 1 c.in_err-version.field-0.0 (omega arith) c.in_err-version.ensures.stops).0 (omega arith))
+    (first_stop c.in_err-version.field-0.0 c.in_err-version.ensures.stops).0 (omega arith))
 
 pub returns-in_err-root : goal.returns-in_err-root
 returns-in_err-root g c =
