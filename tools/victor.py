@@ -565,10 +565,10 @@ def solve(game: Game, *, book: Optional[Path] = None, into: Optional[Path] = Non
 
 
 def written_proof(name: str, words: list[str], game: Game, into: Optional[Path], good: Iterable[int] = (0,),
-                  **limits) -> Proof:
-    """Runs what writes a proof of a game."""
+                  read: Optional[Text] = None, **limits) -> Proof:
+    """Runs what writes a proof of a game, and reads the game, or another text."""
     with place_for(into) as path:
-        with file_of(game.text()) as source, open(path, "wb") as out:
+        with file_of(game.text() if read is None else read) as source, open(path, "wb") as out:
             status = run(name, words, source, out, good, **limits)
         return proof_in(path, game, status, into is not None)
 
@@ -617,6 +617,13 @@ def check(proof: Union[Proof, Text], game: Optional[Game] = None, *, program: Op
     if len(words) != 3 or words[0] != "accepted" or not words[2].isdecimal():
         raise Failed("victor check", status, "", text)
     return Accepted(words[1], int(words[2]), text, status)
+
+
+def upgrade(proof: Proof, *, into: Optional[Path] = None, program: Optional[str] = None, **limits) -> Proof:
+    """What `victor upgrade` writes of a proof of the first version, which is one of the second. It is Failed where that is
+    refused, with status 4. With `into`, the path of another file, it is written there."""
+    words = [find_program(program), "upgrade"]
+    return written_proof("victor upgrade", words, proof.game, into, read=proof.source, **limits)
 
 
 def prove_by_move(game: Game, column: int, after: Proof, into: Optional[Path] = None) -> Proof:

@@ -93,6 +93,16 @@ class RunTest(ToolTest):
             self.assertEqual(victor.check(given, self.game), victor.Accepted("win", 2, "accepted win 2\n", 0))
         self.fails(victor.OtherGame, victor.check, path, self.game.after(0))
 
+    def test_upgrade(self):
+        game = victor.Game.read("abdcbacdabdc", (4, 4))
+        proof = victor.prove(game, reach=0)
+        upgraded = victor.upgrade(proof)
+        self.assertEqual((upgraded.value, upgraded.lemmas, upgraded.status), ("draw", 29, 0))
+        self.assertEqual(upgraded.text.count(" mirror "), 8)
+        self.assertEqual(victor.check(upgraded), victor.Accepted("draw", 29, "accepted draw 29\n", 0))
+        fault = self.fails(victor.Failed, victor.upgrade, upgraded)
+        self.assertEqual((fault.status, fault.text), (4, "refused line 1: BadLine\n"))
+
     def test_unknown(self):
         game = victor.Game.read("-", (4, 4))
         proof = victor.prove(game, nodes=3, reach=0)

@@ -1,6 +1,6 @@
 //! The checker: what stands after the lines so far, and the tests of the next.
 ghost use Rattle.std.specs.Prelude.{◌≡◌, ◌+◌, ◌^◌, ◌<◌, ◌≤◌, [], ◌∷◌, ◌++◌, Some, None, map, length, MatchResult, IfOk, OnOk, OnErr, IfErr};
-ghost use Rattle.game_rules.specs.Position.{board_of};
+ghost use Rattle.game_rules.specs.Position.{board_of, played};
 ghost use Rattle.proof_text.specs.Lemma.{ALemma, AVerdict};
 ghost use Rattle.proof_text.specs.Checked.{lemma_refusal, line_refusal, with_line};
 ghost use Rattle.proof_text.specs.Texts.{start};
@@ -13,7 +13,7 @@ use crate::known::Known;
 use crate::reasons::{check_reason, verdict_stands};
 use crate::stops::{Accepted, AddStop, Refusal, Why};
 use crate::trail::Trail;
-use board_bits::Position;
+use board_bits::{Column, MOST_SQUARES, Position};
 use cert_format::{LemmaView, Line, LineView};
 use proof_text::Verdict;
 use std::alloc::{AllocError, Global};
@@ -80,6 +80,20 @@ impl Checker {
         ensures full { OnErr result (self.old.spare < lemmas) }
     {
         self.known.reserve(lemmas)
+    }
+
+    /// The position that a path leads to from the root, where each of its moves is legal at its turn. For the path of the
+    /// last lemma no move is made again.
+    pub fn position_after(&mut self, path: &[Column]) -> Option<Position>
+        requires { length path.now ≤ MOST_SQUARES }
+        ensures position { result ≡ played self.old.stands.root path.now }
+        ensures same { self.new ≡ self.old }
+    {
+        if self.trail.follow(path) {
+            Some(*self.trail.last().position())
+        } else {
+            None
+        }
     }
 
     /// Adds the line that stands at this line number. It is refused exactly where the definitions refuse it, by the

@@ -17,7 +17,7 @@ use Rattle.run_proof.specs.Whole.{judged, most_lines_read, most_taken}
 use Rattle.run_proof.specs.Stops.{IsStopped}
 use Rattle.run_frame.specs.Streams.{Streams}
 use Rattle.run_proof.specs.Taken.{text_lemmas, Gains, BeginWith}
-use Rattle.run_proof.specs.Steps.{Adds, IsNamed, IsStopAt, StopsBy, StopsWith, Judges, Place, AtHead, AtGame, AtLine, GoesOn, Gets, lines_from, lemmas_at, lines_read_until}
+use Rattle.run_proof.specs.Steps.{Adds, IsFirstStop, IsNamed, IsStopAt, StopsBy, StopsWith, Judges, Place, AtHead, AtGame, AtLine, GoesOn, Gets, lines_from, lemmas_at, lines_read_until}
 use Rattle.run_proof.specs.Heads.{HasHead, JudgesWhole}
 use Rattle.run_proof.specs.declared.reading.ProofRead.{ProofRead}
 use Rattle.io_ports.specs.Reading.{Pending, Reads, PassesLines}
@@ -66,6 +66,12 @@ stop_at at (stops.Refused r) few here = (omega (arith, here), omega (arith, here
 stop_at at (stops.Input (inputs.NoGame fault)) few here = absurd here
 stop_at at (stops.Input inputs.Read) few here = (few, omega arith)
 stop_at at stops.Memory few here = (few, omega arith)
+
+pub first_stop : (stop : ProofStop) → IsFirstStop stop → (1 ≤ lines_read_until stop) × (lines_read_until stop ≤ most_lines_read)
+first_stop (stops.Refused r) first = (omega (arith, first), omega (arith, first))
+first_stop (stops.Input (inputs.NoGame fault)) first = (omega arith, omega arith)
+first_stop (stops.Input inputs.Read) first = (omega arith, omega arith)
+first_stop stops.Memory first = absurd first
 
 -- behind the game its lines are gone through
 pub game_goes : (version : Version) (bytes rest : List ℕ) (root : Position) → game_at (game_of (pieces bytes)) ≡ Ok root

@@ -127,6 +127,12 @@ IsStopAt at (stops.Input (inputs.NoGame fault)) = ⊥
 IsStopAt at (stops.Input inputs.Read) = ⊤
 IsStopAt at stops.Memory = ⊤
 
+-- it is the first line, or the input
+abbrev pub IsFirstStop : ProofStop → Type 0
+IsFirstStop (stops.Refused r) = r.at ≡ 1
+IsFirstStop (stops.Input why) = ⊤
+IsFirstStop stops.Memory = ⊥
+
 -- The bytes begin with the line that names the version, and behind it stands what they have of a game and of lines behind it.
 pub record IsNamed (version : Version) (bytes rest : List ℕ) : Type 0 where
   pub more : List (List ℕ)

@@ -8,7 +8,7 @@ ghost use Rattle.proof_text.specs.Checked.{lemmas_in};
 ghost use Rattle.proof_text.specs.Texts.{first_number, bytes_refusal, with_bytes, verdict_answer};
 ghost use Rattle.run_proof.specs.Whole.{version_named, IsAsked, most_lines_read};
 ghost use Rattle.run_proof.specs.Taken.{lemmas_said, Gains, MayHandOn, InStep, HasNone};
-ghost use Rattle.run_proof.specs.Steps.{lines_from, lemmas_at, AtHead, AtGame, AtLine, GoesOn, Gets, Adds, IsAccepted, IsNamed, IsStopAt, StopsBy, StopsWith, StopsAtLine, lines_read_until, Judges};
+ghost use Rattle.run_proof.specs.Steps.{lines_from, lemmas_at, AtHead, AtGame, AtLine, GoesOn, Gets, Adds, IsAccepted, IsFirstStop, IsNamed, IsStopAt, StopsBy, StopsWith, StopsAtLine, lines_read_until, Judges};
 ghost use Rattle.run_proof.specs.Heads.{JudgesWhole};
 ghost use Rattle.io_ports.specs.Reading.{pending, Reads, PassesLines};
 ghost use Rattle.run_proof.specs.declared.stop.ProofStop.TheVariants as stops;
@@ -98,6 +98,7 @@ pub fn read_head<S: Source>(
         (StopsBy (AtHead asked) bytes (S.faults source.old) (S.faults source.new))) }
     ensures named { IfOk result (IsAsked asked) }
     ensures stops { IfErr result (IsStopAt 1) }
+    ensures first { IfErr result IsFirstStop }
     ensures later { S.faults source.old ≤ S.faults source.new }
 {
     if let LineGot::Failed = lines.next(source) {

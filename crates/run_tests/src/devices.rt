@@ -25,6 +25,24 @@ const FIRST_LEMMA: &str = "victor 1\nboard 4 4\nmoves cdccddcdaaaabb\n1 bb W- en
 /// The same up to a part of it.
 const CUT_LEMMA: &str = "victor 1\nboard 4 4\nmoves cdccddcdaaaabb\n1 bb W";
 
+/// What becomes of the proof of the two squares.
+pub(crate) const UPGRADED: &str = "victor 2\n\
+    board 4 4\n\
+    moves cdccddcdaaaabb\n\
+    1 bb W- end\n\
+    2 b W- one b 1\n\
+    3 - W- all b:2\n\
+    4 bb B- end\n\
+    5 b B- all b:4\n\
+    6 - B- one b 5\n\
+    value draw 3 6\n";
+
+/// The same up to its first lemma.
+const FIRST_UPGRADED: &str = "victor 2\nboard 4 4\nmoves cdccddcdaaaabb\n1 bb W- end\n";
+
+/// The same up to a part of it.
+const CUT_UPGRADED: &str = "victor 2\nboard 4 4\nmoves cdccddcdaaaabb\n1 bb W";
+
 /// A game by a plan up to a full board.
 pub(crate) const DUEL: &str =
     "board 4 4\nmoves -\nplan CE:a1 CE:a3 CE:b1 CE:b3 BI:c1,d1 LI:c2-c4,d2-d4\n\
@@ -38,6 +56,8 @@ pub(crate) const DUEL_ANSWERS: &str =
 pub(crate) const PROVE_BY_SEARCH: &[&str] = &["prove", "--reach", "0"];
 
 const CHECK: &[&str] = &["check"];
+
+pub(crate) const UPGRADE: &[&str] = &["upgrade"];
 
 pub(crate) const PLAY: &[&str] = &["play"];
 
@@ -83,7 +103,7 @@ type Failing = (
     &'static [(Fault, &'static str)],
 );
 
-const FAILING: [Failing; 4] = [
+const FAILING: [Failing; 5] = [
     (
         PROVE_BY_SEARCH,
         TWO_SQUARES_LEFT,
@@ -104,6 +124,19 @@ const FAILING: [Failing; 4] = [
             // the line is written, and then it can't be handed on
             (Fault::Write(&[2]), "accepted draw 6\n"),
             (Fault::Full(9), "accepted "),
+        ],
+    ),
+    (
+        UPGRADE,
+        TWO_SQUARES_PROOF,
+        &[
+            (Fault::Read(4, &[2]), ""),
+            (Fault::Read(52, &[2]), FIRST_UPGRADED),
+            (Fault::Write(&[1]), ""),
+            (Fault::Write(&[3]), FIRST_UPGRADED),
+            (Fault::Full(46), CUT_UPGRADED),
+            // all is written, and then it can't be handed on
+            (Fault::Write(&[9]), UPGRADED),
         ],
     ),
     (
@@ -160,7 +193,7 @@ type Cut = (
     &'static str,
 );
 
-const CUT: [Cut; 9] = [
+const CUT: [Cut; 12] = [
     (PROVE_BY_SEARCH, TWO_SQUARES_LEFT, 0, TWO_SQUARES_PROOF, ""),
     (
         PROVE_BY_SEARCH,
@@ -198,6 +231,15 @@ const CUT: [Cut; 9] = [
         "",
         "refused line 4: EndedEarly\n",
     ),
+    (UPGRADE, TWO_SQUARES_PROOF, 0, UPGRADED, ""),
+    (
+        UPGRADE,
+        FIRST_LEMMA,
+        4,
+        FIRST_UPGRADED,
+        "refused line 5: EndedEarly\n",
+    ),
+    (UPGRADE, UPGRADED, 4, "", "refused line 1: BadLine\n"),
     (PLAY, DUEL, 0, DUEL_ANSWERS, ""),
     (
         PLAY,

@@ -1,7 +1,7 @@
 //! Each call of a device failed in turn, up to the first run that has no call of that number.
 use crate::devices::{
     DUEL, DUEL_ANSWERS, PLAY, PROVE_BY_SEARCH, THREAT, TWO_SQUARES_LEFT, TWO_SQUARES_PROOF,
-    ZUGZWANG, ZUGZWANG_ANSWERS,
+    UPGRADE, UPGRADED, ZUGZWANG, ZUGZWANG_ANSWERS,
 };
 use crate::running::{Devices, SOUND, run_over};
 use std::test::Fail;
@@ -12,8 +12,9 @@ const MOST_CALLS: u32 = 200;
 /// The words of a run, its input, and what it writes where no call fails.
 type Whole = (&'static [&'static str], &'static str, &'static str);
 
-const WHOLE: [Whole; 3] = [
+const WHOLE: [Whole; 4] = [
     (PROVE_BY_SEARCH, TWO_SQUARES_LEFT, TWO_SQUARES_PROOF),
+    (UPGRADE, TWO_SQUARES_PROOF, UPGRADED),
     (PLAY, DUEL, DUEL_ANSWERS),
     (THREAT, ZUGZWANG, ZUGZWANG_ANSWERS),
 ];
@@ -67,7 +68,7 @@ fn each_failing_call_of_the_source_leaves_whole_lines(rt: HostRuntime) -> Result
                 break;
             }
             let answered = got.out.as_slice();
-            let by_line = words == PLAY || words == THREAT;
+            let by_line = words == UPGRADE || words == PLAY || words == THREAT;
             let lines = answered.is_empty() || (by_line && answered.ends_with(b"\n"));
             assert_eq!(rt; got.status, 6, "{words:?} {call}");
             assert!(rt;

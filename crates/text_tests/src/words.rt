@@ -83,9 +83,10 @@ fn prove_has_its_options_in_any_order_and_spelling(rt: HostRuntime) -> Result<()
 
 #[test]
 fn other_commands_have_their_own_words(rt: HostRuntime) -> Result<(), Fail> {
-    let rows: [(&[&str], Form); 6] = [
+    let rows: [(&[&str], Form); 7] = [
         (&["check"], Form::Check),
         (&["play"], Form::Play),
+        (&["upgrade"], Form::Upgrade),
         (&["threat"], Form::Threat),
         (&["explain"], Form::Explain { reach: 1_000 }),
         (&["explain", "--reach=7"], Form::Explain { reach: 7 }),
@@ -135,13 +136,16 @@ fn options_stand_before_between_and_after_the_numbers(rt: HostRuntime) -> Result
 }
 
 /// Lists of words that are no form.
-const NONE: [&[&str]; 79] = [
+const NONE: [&[&str]; 82] = [
     &[],
     &[""],
     &["", "prove"],
     &["--help"],
     &["help"],
     &["Prove"],
+    &["upgrades"],
+    &["upgrade", "x"],
+    &["upgrade", "--format", "2"],
     &["threats"],
     &["threat", "x"],
     &["threat", "--reach", "3"],

@@ -7,13 +7,14 @@ use Rattle.proof_text.specs.declared.Version.TheVariants.{One, Two}
 use Rattle.drill_games.specs.Games.{games_from}
 use Rattle.victor_words.specs.Words.{usage}
 use Rattle.victor_words.specs.declared.form.Form.{Form}
-use Rattle.victor_words.specs.declared.form.Form.TheVariants.{Prove, Check, Play, Explain, Drill, Threat}
+use Rattle.victor_words.specs.declared.form.Form.TheVariants.{Prove, Check, Play, Explain, Drill, Upgrade, Threat}
 use Rattle.run_frame.specs.Streams.{Streams, IsUnread}
 use Rattle.run_prove.specs.Proves.{ProveRuns, ProveCompletes}
 use Rattle.run_check.specs.Checks.{CheckRuns, CheckCompletes}
 use Rattle.run_play.specs.Plays.{PlayRuns, PlayCompletes}
 use Rattle.run_explain.specs.Explains.{ExplainRuns, ExplainCompletes}
 use Rattle.run_drill.specs.Drills.{DrillRuns, DrillCompletes}
+use Rattle.run_upgrade.specs.Upgrades.{UpgradeRuns, UpgradeCompletes}
 use Rattle.run_threat.specs.Threatens.{ThreatRuns, ThreatCompletes}
 
 -- the version of a proof that this number of a format names, which is 1 or 2
@@ -28,6 +29,7 @@ Outcome (Some Check) s status text = CheckRuns s status text
 Outcome (Some Play) s status text = PlayRuns s status text
 Outcome (Some (Explain reach)) s status text = ExplainRuns reach s status text
 Outcome (Some (Drill size moves seed games nodes reach)) s status text = DrillRuns (games_from games size moves seed) nodes reach s status text
+Outcome (Some Upgrade) s status text = UpgradeRuns s status text
 Outcome (Some Threat) s status text = ThreatRuns s status text
 
 -- how it has to end where no stream failed, from all of its input, where the source tells it
@@ -37,4 +39,5 @@ Completes Check unread unwritten input status = (unread → ⊥) → (unwritten 
 Completes Play unread unwritten input status = (unread → ⊥) → (unwritten → ⊥) → PlayCompletes input status
 Completes (Explain reach) unread unwritten input status = (unread → ⊥) → (unwritten → ⊥) → ExplainCompletes reach input status
 Completes (Drill size moves seed games nodes reach) unread unwritten input status = (unwritten → ⊥) → DrillCompletes status
+Completes Upgrade unread unwritten input status = (unread → ⊥) → (unwritten → ⊥) → UpgradeCompletes input status
 Completes Threat unread unwritten input status = (unread → ⊥) → (unwritten → ⊥) → ThreatCompletes input status

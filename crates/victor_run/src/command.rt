@@ -16,6 +16,7 @@ use run_frame::report;
 use run_play::play;
 use run_prove::prove;
 use run_threat::threat;
+use run_upgrade::upgrade;
 use std::alloc::Global;
 use victor_words::{Form, read_words};
 
@@ -23,8 +24,8 @@ use victor_words::{Form, read_words};
 /// of a fault goes to `err`, whole unless the count of faults of `err` rose.
 ///
 /// What a command reads and writes, and with which status and text it ends, its own crate says: [`prove`], [`check`],
-/// [`play`], [`explain`], [`drill`], [`threat`]. Where the words are no written form, the status is 2 and nothing is read or written.
-/// What stops a run first decides its end. `prove`, `check` and `drill` alone take memory.
+/// [`play`], [`explain`], [`drill`], [`upgrade`], [`threat`]. Where the words are no written form, the status is 2 and nothing is read or written.
+/// What stops a run first decides its end. `prove`, `check`, `drill` and `upgrade` alone take memory.
 pub fn run<S: Source, O: Sink, E: Sink>(
     alloc: Global,
     words: &[String],
@@ -44,7 +45,7 @@ pub fn run<S: Source, O: Sink, E: Sink>(
     ensures write_fault { result ≡ 7 → Rose (O.faults out.old) (O.faults out.new) }
 
     // Where no stream failed and the budget suffices, the value is written with its proof, and a proof that is right is
-    // accepted, unless memory runs out; a game, a plan and moves of White's are played to their end; a plan is explained
+    // accepted, unless memory runs out, and one of the first version upgraded; a game, a plan and moves of White's are played to their end; a plan is explained
     // where the position is solved within the reach, and is said to be none where it isn't; and games are made and counted,
     // unless memory runs out.
     ensures complete { (form : Form) → IsWritten (map string_bytes words.now) form
@@ -108,6 +109,7 @@ fn run_form<S: Source, O: Sink, E: Sink>(
             &drill(alloc, size, moves, seed, games, nodes, reach, out),
             err,
         ),
+        Form::Upgrade => report(&upgrade(alloc, source, out), err),
         Form::Threat => report(&threat(source, out), err),
     }
 }

@@ -21,7 +21,7 @@ use Rattle.victor_words.specs.Words.{table, format, options_of, has_only}
 use Rattle.victor_words.specs.Reading.{WordsFound, asked, number, own_with, with_none, with_five, board_with, size_from, form_with}
 use Rattle.victor_words.specs.Reading.{prove_form, bare_form, explain_form, drill_form}
 use Rattle.victor_words.specs.declared.form.Form.{Form}
-use Rattle.victor_words.specs.declared.form.Form.TheVariants.{Prove, Check, Play, Explain, Drill, Threat}
+use Rattle.victor_words.specs.declared.form.Form.TheVariants.{Prove, Check, Play, Explain, Drill, Upgrade, Threat}
 use Rattle.victor_words.proofs.Saying.{settled}
 use Rattle.victor_words.proofs.Numbers.{is_right, asked_gives, asked_found}
 
@@ -187,7 +187,8 @@ form_told word found form h =
     (command_told word (codes "play") found _ _ form (bare_told (codes "play") found Play form refl tt)
     (command_told word (codes "explain") found _ _ form (explain_told found form)
     (command_told word (codes "drill") found _ _ form (drill_told found form)
-    (command_told word (codes "threat") found _ None form (bare_told (codes "threat") found Threat form refl tt) (λ h. cc)))))) h
+    (command_told word (codes "upgrade") found _ _ form (bare_told (codes "upgrade") found Upgrade form refl tt)
+    (command_told word (codes "threat") found _ None form (bare_told (codes "threat") found Threat form refl tt) (λ h. cc))))))) h
 
 -- ---- the form is what is read
 

@@ -9,7 +9,7 @@ use Rattle.game_rules.specs.Number.{number_between}
 use Rattle.plan_text.specs.Words.{◌>>=◌, split_once}
 use Rattle.victor_words.specs.Words.{OptionRow, Given, values, has_only, nodes, reach, front, table, format}
 use Rattle.victor_words.specs.declared.form.Form.{Form}
-use Rattle.victor_words.specs.declared.form.Form.TheVariants.{Prove, Check, Play, Explain, Drill, Threat}
+use Rattle.victor_words.specs.declared.form.Form.TheVariants.{Prove, Check, Play, Explain, Drill, Upgrade, Threat}
 use Rattle.victor_words.specs.declared.found.Found.{Found}
 use Rattle.victor_words.specs.declared.found.Given.{Given as Lent}
 use Rattle.victor_words.specs.declared.options.OptionRow.{OptionRow as Row}
@@ -139,4 +139,5 @@ form_with word found =
     if bytes_eq word (codes "prove") then prove_form found else (if bytes_eq word (codes "check") then bare_form Check found else
     (if bytes_eq word (codes "play") then bare_form Play found else (if bytes_eq word (codes "explain") then explain_form found else
     (if bytes_eq word (codes "drill") then drill_form found else
-    (if bytes_eq word (codes "threat") then bare_form Threat found else None)))))
+    (if bytes_eq word (codes "upgrade") then bare_form Upgrade found else
+    (if bytes_eq word (codes "threat") then bare_form Threat found else None))))))

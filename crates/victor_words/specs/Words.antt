@@ -8,11 +8,11 @@ use Rattle.std.specs.Fmt.{decimal}
 use Rattle.game_rules.specs.Board.{Board, is_board, same_length}
 use Rattle.victor_words.specs.declared.form.Form.{Form}
 use Rattle.game_rules.specs.declared.Length.TheVariants.{Four}
-use Rattle.victor_words.specs.declared.form.Form.TheVariants.{Prove, Check, Play, Explain, Drill, Threat}
+use Rattle.victor_words.specs.declared.form.Form.TheVariants.{Prove, Check, Play, Explain, Drill, Upgrade, Threat}
 
 -- what is said of the written forms where the words are none
 abbrev pub usage : List ℕ
-usage = codes "usage: victor prove [--nodes N] [--reach K] [--front F] [--table T] [--format V] | check | play | explain [--reach K] | drill COLS ROWS MOVES SEED GAMES [--nodes N] [--reach K] | threat"
+usage = codes "usage: victor prove [--nodes N] [--reach K] [--front F] [--table T] [--format V] | check | play | explain [--reach K] | drill COLS ROWS MOVES SEED GAMES [--nodes N] [--reach K] | upgrade | threat"
 
 -- ---- the options
 
@@ -79,6 +79,7 @@ row_of Play = form_row (codes "play") [] []
 row_of (Explain k) = form_row (codes "explain") [] ((reach, Some k) ∷ [])
 row_of (Drill size moves seed games n k) =
     form_row (codes "drill") (map decimal (size.cols ∷ size.rows ∷ moves ∷ seed ∷ games ∷ [])) ((nodes, Some n) ∷ (reach, Some k) ∷ [])
+row_of Upgrade = form_row (codes "upgrade") [] []
 row_of Threat = form_row (codes "threat") [] []
 
 -- a drill's words tell no length of lines, so its boards have lines of four

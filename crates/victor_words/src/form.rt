@@ -42,6 +42,8 @@ pub enum Form {
         /// How many sets of zones a walk looks at, as for `Prove`.
         reach: u32,
     },
+    /// Read a proof of the first version and write it in the second.
+    Upgrade,
     /// Read a game and Black's moves, and play White's by an odd threat.
     Threat,
 }

@@ -13,7 +13,7 @@ use text_words::number_between;
 
 /// What is said of the written forms where the words are none.
 pub const USAGE: &[u8] =
-    b"usage: victor prove [--nodes N] [--reach K] [--front F] [--table T] [--format V] | check | play | explain [--reach K] | drill COLS ROWS MOVES SEED GAMES [--nodes N] [--reach K] | threat\n";
+    b"usage: victor prove [--nodes N] [--reach K] [--front F] [--table T] [--format V] | check | play | explain [--reach K] | drill COLS ROWS MOVES SEED GAMES [--nodes N] [--reach K] | upgrade | threat\n";
 
 /// The most moves that a game made from a number may be given.
 const MOST_MOVES: u32 = 100;
@@ -57,6 +57,7 @@ fn form_with(command: &str, found: &Found) -> Option<Form>
         "play" => bare_form(Form::Play, found),
         "explain" => explain_form(found),
         "drill" => drill_form(found),
+        "upgrade" => bare_form(Form::Upgrade, found),
         "threat" => bare_form(Form::Threat, found),
         _ => None,
     }

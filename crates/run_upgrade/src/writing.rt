@@ -1,0 +1,90 @@
+//! What is written of a proof: its head, what becomes of each lemma, and its verdict.
+ghost use Rattle.std.specs.Prelude.{◌≡◌, ◌+◌, ◌≤◌, ◌<◌, [], is_ok, length, IfErr, OnOk};
+ghost use Rattle.device_rules.specs.Devices.{HasCause, Rose, AppendsPrefix};
+ghost use Rattle.game_rules.specs.Game.{board_played};
+ghost use Rattle.proof_text.specs.Spelling.{greatest_number, longest_path, verdict_line};
+ghost use Rattle.proof_text.specs.Texts.{head_of};
+ghost use Rattle.cert_format.specs.Shape.{lemma_viewed};
+ghost use Rattle.run_upgrade.specs.Steps.{WritesLemma, SinkRose};
+
+use crate::upgraded::UpgradeStop;
+use board_bits::{Game, Position};
+use cert_checker::MirrorIndex;
+use cert_format::{LemmaOut, LemmaView, Line, Reason, Verdict, Version, first_line, print_line};
+use io_ports::{Failed, Sink};
+use run_proof::ProofStop;
+use std::alloc::Global;
+use text_words::{LineText, push_game, push_text};
+
+/// What is kept of the lemmas that were written: their numbers by their positions, and how many there are.
+#[derive(Drop)]
+pub(crate) struct Writer {
+    index: MirrorIndex,
+    lemmas: LemmaOut,
+}
+
+impl Writer {
+    /// Nothing was written yet. No memory is taken.
+    pub(crate) fn new(alloc: Global) -> Writer
+        ensures { result ≡ record { index = record { wins = []; fails = [] }; lemmas = 0 } }
+    {
+        Writer {
+            index: MirrorIndex::new(alloc),
+            lemmas: LemmaOut::new(),
+        }
+    }
+
+    /// Writes what becomes of the next lemma, which stands at this position: where an earlier one shows the same claim at
+    /// the mirror image, it rests on the first such lemma. Its own number is kept for those behind it.
+    pub(crate) fn put<O: Sink>(
+        &mut self,
+        lemma: &LemmaView<'_>,
+        position: &Position,
+        out: &mut O,
+    ) -> Result<(), UpgradeStop>
+        requires next { lemma.now.number ≡ self.old.lemmas + 1 }
+        requires room { self.old.lemmas < greatest_number }
+        requires short { length lemma.now.path.now.items ≤ longest_path }
+        ensures written { WritesLemma position.now (lemma_viewed lemma.now) self.old.index self.new.index (O.written out.old) (O.written out.new) result }
+        ensures counted { OnOk result (self.new.lemmas ≡ self.old.lemmas + 1) }
+        ensures later { O.faults out.old ≤ O.faults out.new }
+        ensures write_fault { IfErr result (SinkRose (O.faults out.old) (O.faults out.new)) }
+    {
+        let image = self.index.find(position, lemma.claim);
+        if self.index.keep(position, lemma.claim, lemma.number).is_err() {
+            return Err(UpgradeStop::Proof(ProofStop::Memory));
+        }
+        let path = lemma.path.as_slice();
+        let put = match image {
+            Some(earlier) => {
+                self.lemmas
+                    .put_view(out, path, lemma.claim, &Reason::Mirror(earlier))
+            }
+            None => self.lemmas.put_view(out, path, lemma.claim, &lemma.reason),
+        };
+        match put {
+            Ok(_) => Ok(()),
+            Err(Failed) => Err(UpgradeStop::Write),
+        }
+    }
+}
+
+/// The head of a proof: the line that names its version, and the two lines of the game.
+pub(crate) fn head_of(version: Version, game: &Game) -> LineText
+    ensures { result.items ≡ head_of version (board_played game.now) game.now.moves }
+{
+    let mut head = LineText::new();
+    push_text(&mut head, first_line(version));
+    head.push(b'\n');
+    push_game(&mut head, game);
+    head
+}
+
+/// Writes the line of the verdict, and hands on what was written.
+pub(crate) fn put_verdict<O: Sink>(verdict: Verdict, out: &mut O) -> Result<(), Failed>
+    ensures written { AppendsPrefix (is_ok result) (O.written out.old) (O.written out.new) (verdict_line verdict) }
+    ensures cause { HasCause (O.faults out.old) (O.faults out.new) result }
+{
+    print_line(&Line::Verdict(verdict), out)?;
+    out.flush()
+}
