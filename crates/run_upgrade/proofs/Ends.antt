@@ -1,5 +1,5 @@
 -- How a run of `upgrade` ends.
-use Rattle.std.proofs.Common.{◌≡◌, ℕ, ◌+◌, ◌-◌, ◌≤◌, Bool, true, false, List, [], ◌∷◌, ◌++◌, length, Option, Some, None, Ok, Err, IfSome, refl, sym, ap, ◌∙◌, subst}
+use Rattle.std.proofs.Common.{◌≡◌, ℕ, ◌+◌, ◌-◌, ◌≤◌, Bool, true, false, List, [], ◌++◌, length, Option, Some, None, Err, IfSome, refl, sym, ap, ◌∙◌, subst}
 use Rattle.std.proofs.Common.{append-nil, inl, inr, arith}
 use Rattle.std.specs.Io.KnownBytes.{Keeps, Appends, IsAtEnd}
 use Rattle.std.proofs.KnownBytes.{Appends-trans}
@@ -24,12 +24,11 @@ use Rattle.cert_checker.specs.Checking.{why_of}
 use Rattle.cert_checker.specs.declared.stops.Accepted.{Accepted as Right}
 use Rattle.cert_checker.specs.declared.stops.Refusal.{Refusal}
 use Rattle.run_frame.specs.Streams.{Streams, TakesLines, StillHolds}
-use Rattle.run_frame.specs.declared.game_input.InputStop.{InputStop}
 use Rattle.run_frame.specs.declared.game_input.InputStop.TheVariants as inputs
 use Rattle.run_frame.proofs.Inputs.{of_each, IfSome_more, kept_still, appended_still, cut_still}
 use Rattle.run_frame.proofs.Passing.{takes_bytes}
 use Rattle.run_frame.proofs.Taken.{fresh, of_taken, of_input, of_lines}
-use Rattle.run_proof.specs.Steps.{AtHead, AtGame, AtLine, GoesOn, IsFirstStop, IsNamed, StopsBy, IsStopAt, lines_from, lines_read_until}
+use Rattle.run_proof.specs.Steps.{AtHead, AtGame, GoesOn, IsFirstStop, IsNamed, StopsBy, IsStopAt, lines_from, lines_read_until}
 use Rattle.run_proof.specs.Stops.{IsStopped}
 use Rattle.run_proof.specs.Taken.{lemmas_said, text_lemmas, lemmas_from_lines}
 use Rattle.run_proof.specs.Whole.{judged, most_lines_read}
@@ -37,9 +36,8 @@ use Rattle.run_proof.specs.declared.stop.ProofStop.{ProofStop}
 use Rattle.run_proof.specs.declared.stop.ProofStop.TheVariants as stops
 use Rattle.run_proof.proofs.Judging.{goes_then, stops_earlier, stop_at, first_stop, game_goes}
 use Rattle.run_proof.proofs.Known.{right_input}
-use Rattle.run_proof.proofs.Lines.{game_fault}
 use Rattle.run_upgrade.specs.Steps.{said, Begins, ReadsBeginning, Wrote, AreAll, Passes, StopsBehind, WritesLines, SourceRose}
-use Rattle.run_upgrade.specs.Upgrades.{upgrade_status, HasLines, HasWritten, HasUpgraded, StopsWriting, UpgradesFrom, Upgrades, UpgradeCompletes}
+use Rattle.run_upgrade.specs.Upgrades.{upgrade_status, HasLines, HasWritten, StopsWriting, UpgradesFrom, Upgrades, UpgradeCompletes}
 use Rattle.run_upgrade.specs.declared.upgraded.UpgradeEnd.{UpgradeEnd}
 use Rattle.run_upgrade.specs.declared.upgraded.UpgradeEnd.TheVariants.{Done, Stopped}
 use Rattle.run_upgrade.specs.declared.upgraded.UpgradeStop.{UpgradeStop}

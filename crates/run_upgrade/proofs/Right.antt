@@ -1,11 +1,11 @@
 -- What becomes of all lines of a proof that is accepted.
-use Rattle.std.proofs.Common.{◌≡◌, ℕ, ◌+◌, true, List, [], ◌∷◌, ◌++◌, map, length, Some, refl, sym, ap, ◌∙◌, subst}
+use Rattle.std.proofs.Common.{◌≡◌, ℕ, true, List, [], ◌∷◌, ◌++◌, map, refl, sym, ap, ◌∙◌, subst}
 use Rattle.std.specs.List.{AllByRecursion}
 use Rattle.game_rules.specs.Board.{Board}
 use Rattle.game_rules.specs.Game.{Game, board_played, IsTextOf}
 use Rattle.game_rules.specs.Grammar.{last_feed}
 use Rattle.game_rules.specs.Position.{Position}
-use Rattle.proof_text.specs.Lemma.{Lemma, ALemma, ARemark, AVerdict}
+use Rattle.proof_text.specs.Lemma.{ALemma, ARemark, AVerdict}
 use Rattle.proof_text.specs.Right.{AreRight}
 use Rattle.proof_text.specs.Spelling.{lemma_text, verdict_text, VerdictFits}
 use Rattle.proof_text.specs.Texts.{pieces, lines_in, first_number, start, Accepted, Entry, LemmaEntry, RemarkEntry, entry_text, entry_lines, lemmas_among}

@@ -7,11 +7,11 @@ use Rattle.device_rules.specs.Devices.{AppendsPrefix}
 use Rattle.game_rules.specs.Mirror.{mirror}
 use Rattle.game_rules.specs.Position.{Position, board_of, played}
 use Rattle.proof_text.specs.Checked.{CheckerState, line_refusal, shown_of, with_line, lemmas_in}
-use Rattle.proof_text.specs.Lemma.{Lemma, Line as Said, ALemma, ARemark, AVerdict}
+use Rattle.proof_text.specs.Lemma.{Lemma, Line as Said, ALemma}
 use Rattle.proof_text.specs.Reading.{read_line}
 use Rattle.proof_text.specs.Right.{IsRight}
 use Rattle.proof_text.specs.Spelling.{Fits, lemma_line, lines_of}
-use Rattle.proof_text.specs.Texts.{most_lines, with_bytes, with_said}
+use Rattle.proof_text.specs.Texts.{most_lines, with_said}
 use Rattle.proof_text.specs.Upgrade.{image_at, upgraded_lemma, upgraded, resting_on}
 use Rattle.proof_text.specs.declared.Version.TheVariants.{One}
 use Rattle.proof_text.proofs.Accepted.{shown_along}
