@@ -1,8 +1,8 @@
 -- Following goes line by line, and never lacks an answer.
-use Rattle.std.proofs.Common.{◌≡◌, ◌≢◌, ◌⊎◌, ℕ, suc, ◌+◌, Bool, true, false, cond, List, [], ◌∷◌, ◌++◌, length, Option, Some}
-use Rattle.std.proofs.Common.{None, refl, sym, ap, ◌∙◌, subst, inl, inr, arith}
+use Rattle.std.proofs.Common.{◌≡◌, ◌≢◌, ℕ, ◌+◌, Bool, true, false, cond, List, [], ◌++◌, length, Option, Some, None, refl, sym, ◌∙◌, subst}
+use Rattle.std.specs.Bool.{⊤}
 use Rattle.std.proofs.lemmas.Option.{same_Some}
-use Rattle.game_rules.specs.Position.{Position, board_of, other, same_side, side_to_move, end_of, is_legal, after_move}
+use Rattle.game_rules.specs.Position.{Position, other, same_side, side_to_move, end_of, is_legal, after_move}
 use Rattle.game_rules.proofs.Ends.{legal_parts}
 use Rattle.game_rules.proofs.Moves.{same_side_is}
 use Rattle.game_rules.specs.declared.Side.{Side}
@@ -14,11 +14,11 @@ use Rattle.proof_text.specs.declared.Claim.{Claim}
 use Rattle.proof_text.specs.declared.Claim.TheVariants.{WhiteFails, BlackFails}
 use Rattle.proof_text.specs.declared.Verdict.{Verdict}
 use Rattle.proof_text.specs.declared.Verdict.TheVariants.{Win, Loss, Draw, Unknown}
-use Rattle.play_text.specs.Play.{AllPlayed, NoReply, Played, behind, column_in, move_refusal}
-use Rattle.play_text.proofs.Turns.{unrefused_legal}
-use Rattle.play_text.specs.declared.PlayKind.{PlayKind}
+use Rattle.play_text.specs.Play.{AllPlayed, NoReply, behind}
+use Rattle.play_text.proofs.Steps.{play_stops, play_more}
+use Rattle.play_text.proofs.Turned.{HasTurn, played_in_turns}
 use Rattle.follow_text.specs.Following.{served_by, Following, at_lemma, own_move_at, answer_to, Follows}
-use Rattle.follow_text.specs.Follow.{over_text, answer_text, with_move, follow_from, follow_at, named_for}
+use Rattle.follow_text.specs.Follow.{over_text, answer_text, follow_turn, follow_from, follow_at, named_for}
 use Rattle.follow_text.proofs.Moves.{own_answer, answered}
 use Rattle.follow_text.proofs.Games.{names_move, names_none, turn_passed, turn_given}
 
@@ -29,32 +29,35 @@ module _ (root : Position) (ls : List Lemma) (after : List Shown) (claim : Claim
   abbrev pub Stands : Following → Position → Type 0
   Stands s q = end_of q ≡ None → Follows after claim s q × (side_to_move q ≡ other (served_by claim))
 
-  pub never_lacks_from : (lines : List (List ℕ)) (holder : Side) (s : Following) (q : Position) (at : ℕ) → Stands s q
-      → (follow_from ls holder s q at lines).end ≢ NoReply
-  never_lacks_from [] holder s q at stands = λ same. cc
-  never_lacks_from (line ∷ lines) holder s q at stands =
-      of_column (column_in (board_of q) line) (move_refusal q (column_in (board_of q) line)) refl refl
-      (λ next r stands. never_lacks_from lines holder next r (at + 1) stands)
+  -- a legal move is answered, where it doesn't end the game
+  answered_by : (holder : Side) (x : Following × Position) (column : ℕ) → Stands x.0 x.1 → is_legal x.1 column ≡ true
+      → HasTurn (follow_turn ls holder) (λ x column line next. ⊤) (λ x. Stands x.0 x.1) x column
+  answered_by holder (s, q) column stands legal = of_end (end_of (after_move q column)) refl
     where
-      of_end : (column : ℕ) (end : Option End) → end_of (after_move q column) ≡ end → is_legal q column ≡ true
-          → ((next : Following) (r : Position) → Stands next r → (follow_from ls holder next r (at + 1) lines).end ≢ NoReply)
-          → (with_move ls holder s q column (λ next r. follow_from ls holder next r (at + 1) lines)).end ≢ NoReply
-      of_end column (Some e) ended legal later =
-          rw ended (later s (after_move q column) (λ going. let none : None ≡ Some e = sym going ∙ ended in absurd (cc none)))
-      of_end column None going legal later =
+      of_end : (end : Option End) → end_of (after_move q column) ≡ end
+          → HasTurn (follow_turn ls holder) (λ x column line next. ⊤) (λ x. Stands x.0 x.1) (s, q) column
+      of_end (Some e) ended = record {
+        line = over_text holder q column;
+        next = (s, after_move q column);
+        made = rw ended refl;
+        fact = tt;
+        kept = λ going. let none : None ≡ Some e = sym going ∙ ended in absurd (cc none);
+      }
+      of_end None going =
           let here = stands (legal_parts q column legal).0 in
           let has = (answered root ls after claim right s q column here.0 here.1 legal).1 going in
-          rw (going, has.is) (later has.next (after_move (after_move q column) has.column)
-          (λ on. (has.follows, turn_passed claim (after_move q column) has.column (turn_given claim q column here.1 legal) has.legal)))
+          record {
+            line = answer_text holder q column has.column;
+            next = (has.next, after_move (after_move q column) has.column);
+            made = rw (going, has.is) refl;
+            fact = tt;
+            kept = λ on. (has.follows, turn_passed claim (after_move q column) has.column (turn_given claim q column here.1 legal) has.legal);
+          }
 
-      of_column : (column : Option ℕ) (refusal : Option PlayKind) → column_in (board_of q) line ≡ column
-          → move_refusal q (column_in (board_of q) line) ≡ refusal
-          → ((next : Following) (r : Position) → Stands next r → (follow_from ls holder next r (at + 1) lines).end ≢ NoReply)
-          → (follow_from ls holder s q at (line ∷ lines)).end ≢ NoReply
-      of_column column (Some kind) e f later = rw f (λ same. cc)
-      of_column None None e f later = absurd (cc (rw e at f))
-      of_column (Some column) None e f later = rw (e, rw e at f) (of_end column (end_of (after_move q column)) refl
-          (unrefused_legal q column (let unrefused : move_refusal q (Some column) ≡ None = rw e at f in unrefused)) later)
+  never_lacks_from : (lines : List (List ℕ)) (holder : Side) (s : Following) (q : Position) (at : ℕ) → Stands s q
+      → (follow_from ls holder s q at lines).end ≢ NoReply
+  never_lacks_from lines holder s q at stands =
+      (played_in_turns (λ x. x.1) (follow_turn ls holder) (λ x column line next. ⊤) (λ x. Stands x.0 x.1) (answered_by holder) (s, q) at lines stands).answered
 
   pub never_lacks : (holder : Side) (n at : ℕ) (lines : List (List ℕ)) → Shows after n root claim → (follow_at ls holder root n at lines).end ≢ NoReply
   never_lacks holder n at lines shows = of_found (own_move_at ls (length root.columns) n false) refl
@@ -97,78 +100,14 @@ named_serves root after holder Unknown n verdict named = absurd (cc named)
 
 -- ---- lines behind lines
 
--- Some lines stop play, whatever follows them; or all are played, and it goes on behind them.
-abbrev pub GoesOn : List Lemma → Side → Following → Position → ℕ → List (List ℕ) → List (List ℕ) → Type 0
-GoesOn ls holder s q at xs ys =
-    (((follow_from ls holder s q at xs).end ≢ AllPlayed) × (follow_from ls holder s q at (xs ++ ys) ≡ follow_from ls holder s q at xs))
-    ⊎ (((follow_from ls holder s q at xs).end ≡ AllPlayed)
-    × ((next : Following) × (r : Position)
-    × (follow_from ls holder s q at (xs ++ ys) ≡ behind (follow_from ls holder s q at xs).lines (follow_from ls holder next r (at + length xs) ys))))
-
--- one line more at the beginning
-goes_on_behind : (ls : List Lemma) (holder : Side) (line : List ℕ) (s : Following) (q : Position) (at : ℕ) (xs ys : List (List ℕ)) (now whole : Played)
-    → now ≡ behind (line ∷ []) (follow_from ls holder s q (at + 1) xs) → whole ≡ behind (line ∷ []) (follow_from ls holder s q (at + 1) (xs ++ ys))
-    → GoesOn ls holder s q (at + 1) xs ys
-    → ((now.end ≢ AllPlayed) × (whole ≡ now))
-    ⊎ ((now.end ≡ AllPlayed)
-    × ((next : Following) × (r : Position) × (whole ≡ behind now.lines (follow_from ls holder next r (at + suc (length xs)) ys))))
-goes_on_behind ls holder line s q at xs ys now whole e f (inl (stops, same)) =
-    inl (λ all. stops (ap (λ (played : Played). played.end) (sym e) ∙ all), f ∙ ap (behind (line ∷ [])) same ∙ sym e)
-goes_on_behind ls holder line s q at xs ys now whole e f (inr (all, (next, r, same))) =
-    inr (
-      ap (λ (played : Played). played.end) e ∙ all,
-      (
-        next,
-        r,
-        f ∙ ap (behind (line ∷ [])) same
-            ∙ ap (λ n. behind (line ∷ (follow_from ls holder s q (at + 1) xs).lines) (follow_from ls holder next r n ys))
-            (let more : at + 1 + length xs ≡ at + suc (length xs) = omega arith in more)
-            ∙ ap (λ (played : Played). behind played.lines (follow_from ls holder next r (at + suc (length xs)) ys)) (sym e),
-      ),
-    )
-
-pub goes_on : (xs : List (List ℕ)) (ls : List Lemma) (holder : Side) (s : Following) (q : Position) (at : ℕ) (ys : List (List ℕ))
-    → GoesOn ls holder s q at xs ys
-goes_on [] ls holder s q at ys = inr (refl, (s, q, ap (λ at. follow_from ls holder s q at ys) (let same : at ≡ at + 0 = omega arith in same)))
-goes_on (x ∷ xs) ls holder s q at ys =
-    of_column (column_in (board_of q) x) (move_refusal q (column_in (board_of q) x)) refl refl (λ next r. goes_on xs ls holder next r (at + 1) ys)
-  where
-    of_answer : (column : ℕ) (answer : Option (ℕ × Following)) → answer_to ls s q column ≡ answer → end_of (after_move q column) ≡ None
-        → column_in (board_of q) x ≡ Some column → move_refusal q (column_in (board_of q) x) ≡ None
-        → ((next : Following) (r : Position) → GoesOn ls holder next r (at + 1) xs ys) → GoesOn ls holder s q at (x ∷ xs) ys
-    of_answer column None g d e f later = rw (f, e, d, g) (inl (λ same. cc, refl))
-    of_answer column (Some (answer, next)) g d e f later = goes_on_behind ls holder (answer_text holder q column answer) next
-        (after_move (after_move q column) answer) at xs ys _ _ (rw (f, e, d, g) refl) (rw (f, e, d, g) refl)
-        (later next (after_move (after_move q column) answer))
-
-    of_end : (column : ℕ) (end : Option End) → end_of (after_move q column) ≡ end → column_in (board_of q) x ≡ Some column
-        → move_refusal q (column_in (board_of q) x) ≡ None
-        → ((next : Following) (r : Position) → GoesOn ls holder next r (at + 1) xs ys) → GoesOn ls holder s q at (x ∷ xs) ys
-    of_end column None d e f later = of_answer column (answer_to ls s q column) refl d e f later
-    of_end column (Some end) d e f later = goes_on_behind ls holder (over_text holder q column) s (after_move q column) at xs ys _ _
-        (rw (f, e, d) refl) (rw (f, e, d) refl) (later s (after_move q column))
-
-    of_column : (column : Option ℕ) (refusal : Option PlayKind) → column_in (board_of q) x ≡ column → move_refusal q (column_in (board_of q) x) ≡ refusal
-        → ((next : Following) (r : Position) → GoesOn ls holder next r (at + 1) xs ys) → GoesOn ls holder s q at (x ∷ xs) ys
-    of_column column (Some kind) e f later = rw f (inl (λ same. cc, refl))
-    of_column None None e f later = absurd (cc (rw e at f))
-    of_column (Some column) None e f later = of_end column (end_of (after_move q column)) refl e f later
-
 pub follow_stops : (ls : List Lemma) (holder : Side) (s : Following) (q : Position) (at : ℕ) (xs ys : List (List ℕ))
     → (follow_from ls holder s q at xs).end ≢ AllPlayed → follow_from ls holder s q at (xs ++ ys) ≡ follow_from ls holder s q at xs
-follow_stops ls holder s q at xs ys stops = of_case (goes_on xs ls holder s q at ys)
-  where
-    of_case : GoesOn ls holder s q at xs ys → follow_from ls holder s q at (xs ++ ys) ≡ follow_from ls holder s q at xs
-    of_case (inl (other, same)) = same
-    of_case (inr (all, some)) = absurd (stops all)
+follow_stops ls holder s q at xs ys stops = play_stops (λ x. x.1) (follow_turn ls holder) (s, q) at xs ys stops
 
 pub follow_more : (ls : List Lemma) (holder : Side) (s : Following) (q : Position) (at : ℕ) (xs ys : List (List ℕ))
     → (follow_from ls holder s q at xs).end ≡ AllPlayed
     → (next : Following) × (r : Position)
     × (follow_from ls holder s q at (xs ++ ys) ≡ behind (follow_from ls holder s q at xs).lines (follow_from ls holder next r (at + length xs) ys))
-follow_more ls holder s q at xs ys all = of_case (goes_on xs ls holder s q at ys)
-  where
-    of_case : GoesOn ls holder s q at xs ys → (next : Following) × (r : Position)
-        × (follow_from ls holder s q at (xs ++ ys) ≡ behind (follow_from ls holder s q at xs).lines (follow_from ls holder next r (at + length xs) ys))
-    of_case (inl (stops, same)) = absurd (stops all)
-    of_case (inr (also, some)) = some
+follow_more ls holder s q at xs ys all =
+    let more = play_more (λ x. x.1) (follow_turn ls holder) (s, q) at xs ys all in
+    (more.0.0, more.0.1, more.1)

@@ -2,7 +2,7 @@
 -- side, which is the letter of its column; the output is a line for the holder's first move, where it has one, and a line for
 -- each move of the other side, with its square and the square of the holder's answer. The text is this project's own.
 use Rattle.std.specs.Prelude.{ℕ, suc, ◌+◌, ◌-◌, Bool, true, false, if◌then◌else◌, List, [], ◌∷◌, ◌++◌, length, take, drop, filter_map}
-use Rattle.std.specs.Prelude.{Option, Some, None, is_none, Result, Ok, Err, codes, bytes_eq}
+use Rattle.std.specs.Prelude.{Option, Some, None, is_none, option_map, Result, Ok, Err, codes, bytes_eq}
 use Rattle.game_rules.specs.Board.{Board, Square}
 use Rattle.game_rules.specs.Position.{Position, board_of, other, same_side, height, side_to_move, end_of, after_move}
 use Rattle.game_rules.specs.Value.{win_of, same_end}
@@ -23,9 +23,7 @@ use Rattle.proof_text.specs.declared.Verdict.{Verdict}
 use Rattle.proof_text.specs.declared.Verdict.TheVariants.{Win, Loss, Draw, Unknown}
 use Rattle.proof_text.specs.declared.Version.{Version}
 use Rattle.proof_text.specs.declared.Why.TheVariants.{BadLine}
-use Rattle.play_text.specs.Play.{NoMove, AllPlayed, NoReply, Played, ended, behind, column_in, move_refusal}
-use Rattle.play_text.specs.declared.PlayKind.{PlayKind}
-use Rattle.play_text.specs.declared.PlayKind.TheVariants.{BadMove}
+use Rattle.play_text.specs.Play.{Played, behind, Turn, turns_from}
 use Rattle.follow_text.specs.Following.{Following, at_lemma, own_move_at, answer_to}
 
 -- ---- a turn
@@ -56,29 +54,19 @@ answer_text holder q column answer =
 
 -- ---- the other side's moves
 
--- the line of a turn, and what is played behind it
-abbrev pub with_answer : Side → Position → ℕ → Option (ℕ × Following) → (Following → Position → Played) → Played
-with_answer holder q column None later = ended NoReply
-with_answer holder q column (Some (answer, next)) later =
-    behind (answer_text holder q column answer ∷ []) (later next (after_move (after_move q column) answer))
+-- the line of a turn, and where play goes on
+abbrev pub answered_with : Side → Position → ℕ → ℕ × Following → List ℕ × (Following × Position)
+answered_with holder q column answer = (answer_text holder q column answer.0, (answer.1, after_move (after_move q column) answer.0))
 
-abbrev pub with_move : List Lemma → Side → Following → Position → ℕ → (Following → Position → Played) → Played
-with_move ls holder s q column later =
-    if is_none (end_of (after_move q column)) then with_answer holder q column (answer_to ls s q column) later
-    else behind (over_text holder q column ∷ []) (later s (after_move q column))
-
--- a line with this number is a move, or it ends play
-abbrev pub with_column : List Lemma → Side → Following → Position → ℕ → Option ℕ → Option PlayKind → (Following → Position → Played) → Played
-with_column ls holder s q at column (Some kind) later = ended (NoMove (record { kind = kind; at = at }))
-with_column ls holder s q at None None later = ended (NoMove (record { kind = BadMove; at = at }))
-with_column ls holder s q at (Some column) None later = with_move ls holder s q column later
+-- the holder's answer, where the other side's move doesn't end the game
+abbrev pub follow_turn : List Lemma → Side → Following × Position → ℕ → Turn (Following × Position)
+follow_turn ls holder (s, q) column =
+    if is_none (end_of (after_move q column)) then option_map (answered_with holder q column) (answer_to ls s q column)
+    else Some (over_text holder q column, (s, after_move q column))
 
 -- what is played from a position on by further lines, of which the first has this number
 abbrev pub follow_from : List Lemma → Side → Following → Position → ℕ → List (List ℕ) → Played
-follow_from ls holder s q at [] = ended AllPlayed
-follow_from ls holder s q at (line ∷ lines) =
-    let column = column_in (board_of q) line in
-    with_column ls holder s q at column (move_refusal q column) (λ next r. follow_from ls holder next r (at + 1) lines)
+follow_from ls holder s q at lines = turns_from (λ x. x.1) (follow_turn ls holder) (s, q) at lines
 
 -- the same from a lemma at the root, the holder's first move before it, where there is one
 abbrev pub begin_by : List Lemma → Side → Position → ℕ → ℕ → List (List ℕ) → Option (ℕ × Following) → Played

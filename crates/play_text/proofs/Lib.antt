@@ -1,3 +1,4 @@
 mod Vectors
+pub mod Turned
 pub mod Turns
 pub mod Steps

@@ -126,11 +126,13 @@ ends_so {X} stands turn P stops all none x at (move ∷ moves) =
     of_column None None later = stops (record { kind = BadMove; at = at })
     of_column (Some column) None later = of_turn (turn x column) later
 
--- what is told by an end that further lines lead to
-told_at : (bytes : List ℕ) (ws : List RuleInstance) (q : Position) (at : ℕ) (moves lines : List (List ℕ)) → (play_from ws q at moves).end ≢ NoReply
-    → TellsPlay bytes lines → IsTold bytes lines (play_from ws q at moves).end
-told_at bytes ws q at moves lines answered tells = ends_so (λ q. q) (plan_turn ws) (λ end. end ≢ NoReply → IsTold bytes lines end)
-    (λ fault answered. tells) (λ answered. tells) (λ answered. answered refl) q at moves answered
+-- what is told by an end that further lines lead to, where no answer is wanting
+pub told_so : {X : Type 0} (stands : X → Position) (turn : X → ℕ → Turn X) (Told : PlayEnd → Type 0) → ((fault : PlayFault) → Told (NoMove fault))
+    → Told AllPlayed → (x : X) (at : ℕ) (moves : List (List ℕ)) → (turns_from stands turn x at moves).end ≢ NoReply
+    → Told (turns_from stands turn x at moves).end
+told_so stands turn Told stops all x at moves answered =
+    ends_so stands turn (λ end. end ≢ NoReply → Told end) (λ fault answered. stops fault) (λ answered. all) (λ answered. absurd (answered refl)) x at moves
+    answered
 
 pub play_is_told : (bytes : List ℕ) → IsTold bytes (play_of bytes).lines (play_of bytes).end
 unfolding play_of
@@ -145,8 +147,9 @@ play_is_told bytes = of_game (game_at (game_of (pieces bytes))) (behind_game (pi
     of_refusal root first moves ws (Some fault) d e f g = refl
     of_refusal root first moves ws None d e f g =
         let tells = tells_duel root ws first_move moves (is_one root ws d) in
-        told_at bytes ws root first_move moves (play_from ws root first_move moves).lines tells.1
-        (record { root = root; game = e; first = first; moves = moves; behind = f; list = ws; is_list = g; is_one = is_one root ws d; duel = tells.0 })
+        let told : TellsPlay bytes (play_from ws root first_move moves).lines =
+        record { root = root; game = e; first = first; moves = moves; behind = f; list = ws; is_list = g; is_one = is_one root ws d; duel = tells.0 } in
+        told_so (λ q. q) (plan_turn ws) (IsTold bytes (play_from ws root first_move moves).lines) (λ fault. told) told root first_move moves tells.1
 
     of_list : (root : Position) (first : List ℕ) (moves : List (List ℕ)) (list : Option (List RuleInstance)) → game_at (game_of (pieces bytes)) ≡ Ok root
         → behind_game (pieces bytes) ≡ first ∷ moves → plan_in (board_of root) first ≡ list → Told (play_list root list moves)

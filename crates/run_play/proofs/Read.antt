@@ -1,7 +1,6 @@
 -- What each step of `play` says of the bytes: what is played goes on, or how it ends.
-use Rattle.std.proofs.Common.{◌≡◌, ℕ, ◌+◌, ◌/◌, ◌<◌, Bool, true, List, [], ◌∷◌, ◌++◌, length, Option, Some, None, option_map, Result, Ok, Err, refl}
+use Rattle.std.proofs.Common.{◌≡◌, ℕ, ◌+◌, ◌/◌, ◌<◌, Bool, true, List, [], ◌∷◌, ◌++◌, length, Option, Some, None, option_map, Ok, Err, refl}
 use Rattle.std.proofs.Common.{sym, ap, ◌∙◌, subst, arith}
-use Rattle.std.specs.Result.{MatchResult}
 use Rattle.std.proofs.lemmas.Bool.{lt-leb}
 use Rattle.io_ports.specs.Lines.{Gives}
 use Rattle.io_ports.specs.declared.line_reader.LineGot.TheVariants.{Line, Long, Done, Failed}
@@ -21,7 +20,7 @@ use Rattle.rule_compat.specs.Planned.{Planned, members}
 use Rattle.reply_player.specs.Playing.{Playing, reply_for, HasAnswered}
 use Rattle.reply_player.specs.declared.session.Reply.{Reply}
 use Rattle.play_text.specs.Play as told
-use Rattle.play_text.specs.Play.{NoGame, NoPlanLine, Played, ended, behind, end_text, turn_text, column_in, move_refusal, answer_to}
+use Rattle.play_text.specs.Play.{PlayEnd, NoGame, NoPlanLine, Played, ended, behind, end_text, turn_text, column_in, move_refusal, answer_to}
 use Rattle.play_text.specs.Play.{play_from, play_list, play_lines, play_game, plan_in, play_of, first_move}
 use Rattle.play_text.specs.declared.PlayKind.{PlayKind}
 use Rattle.play_text.proofs.Turns.{answer_is}
@@ -30,8 +29,8 @@ use Rattle.run_turns.specs.Steps.{turns_by}
 use Rattle.run_play.specs.Turns.{plan_stands, turn_with, plan_turn}
 use Rattle.run_play.specs.declared.plan_player.PlanPlayer.{PlanPlayer}
 use Rattle.io_ports.specs.Reading.{Pending, Reads, PassesLines}
-use Rattle.run_play.specs.Steps.{reply_column, reply_end, answered_line, played_at, played_from, StopsPlay}
-use Rattle.run_play.specs.declared.play_end.PlayStop.{PlayStop}
+use Rattle.run_play.specs.Steps.{reply_column, reply_end, answered_line, played_at, played_from}
+use Rattle.run_turns.specs.Inputs.{EndsSo}
 use Rattle.run_frame.proofs.Cuts.{line_first, long_first, none_left}
 use Rattle.run_frame.proofs.GameRead.{by_line}
 
@@ -50,19 +49,26 @@ game_none bytes fault game = ap (λ game. play_game game (behind_game (pieces by
 
 module _ (a b : Pending) (text : List ℕ) (fed : Bool) (root : Position) where
   -- a line that was got is the first that is looked at
-  pub plan_got : (result : Result Planned PlayStop) → Reads a b (λ bytes rest. Gives bytes rest Line text fed)
-      → ((more : List (List ℕ)) → MatchResult result (λ plan. play_lines root (text ∷ more) ≡ play_from (members plan) root first_move more)
-      (StopsPlay (play_lines root (text ∷ more)) []))
-      → Reads a b (λ bytes rest. PassesLines 1 bytes rest
-      × MatchResult result (λ plan. played_at root bytes ≡ played_from (record { plan = plan; stands = root }) first_move rest)
-      (StopsPlay (played_at root bytes) []))
-  unfolding played_at played_from
-  plan_got result gives answer =
+  pub plan_got : (P : Played → List ℕ → Type 0) → Reads a b (λ bytes rest. Gives bytes rest Line text fed)
+      → ((rest : List ℕ) → P (play_lines root (text ∷ lines_in (pieces rest))) rest)
+      → Reads a b (λ bytes rest. PassesLines 1 bytes rest × P (played_at root bytes) rest)
+  unfolding played_at
+  plan_got P gives answer =
       by_line a b Line text fed gives _ (λ bytes rest is.
       let lines = line_first bytes (record { got = Line; text = text; fed = fed; rest = rest }) is refl in
-      let P : List (List ℕ) → Type 0 = λ lines. MatchResult result
-      (λ plan. play_lines root lines ≡ play_from (members plan) root first_move (lines_in (pieces rest))) (StopsPlay (play_lines root lines) []) in
-      subst P (sym lines) (answer (lines_in (pieces rest))))
+      subst (λ lines. P (play_lines root lines) rest) (sym lines) (answer rest))
+
+  pub plan_named : (plan : Planned) → Reads a b (λ bytes rest. Gives bytes rest Line text fed)
+      → ((more : List (List ℕ)) → play_lines root (text ∷ more) ≡ play_from (members plan) root first_move more)
+      → Reads a b (λ bytes rest. PassesLines 1 bytes rest × (played_at root bytes ≡ played_from (record { plan = plan; stands = root }) first_move rest))
+  unfolding played_from
+  plan_named plan gives answer =
+      plan_got (λ played rest. played ≡ played_from (record { plan = plan; stands = root }) first_move rest) gives (λ rest. answer (lines_in (pieces rest)))
+
+  pub plan_refused : (end : Option PlayEnd) → Reads a b (λ bytes rest. Gives bytes rest Line text fed)
+      → ((more : List (List ℕ)) → EndsSo (play_lines root (text ∷ more)) [] end)
+      → Reads a b (λ bytes rest. PassesLines 1 bytes rest × EndsSo (played_at root bytes) [] end)
+  plan_refused end gives answer = plan_got (λ played rest. EndsSo played [] end) gives (λ rest. answer (lines_in (pieces rest)))
 
   pub plan_long : Reads a b (λ bytes rest. Gives bytes rest Long text fed)
       → Reads a b (λ bytes rest. PassesLines 1 bytes rest × (played_at root bytes ≡ ended NoPlanLine))

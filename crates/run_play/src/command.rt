@@ -3,15 +3,15 @@ ghost use Rattle.std.specs.Prelude.{◌≡◌, IfErr};
 ghost use Rattle.device_rules.specs.Devices.{Rose};
 ghost use Rattle.run_frame.specs.Streams.{StillHolds};
 ghost use Rattle.run_frame.specs.declared.game_input.InputStop.TheVariants as inputs;
-ghost use Rattle.run_play.specs.Plays.{play_status, Plays, PlayCompletes};
-ghost use Rattle.run_play.specs.Steps.{PlaysInput, IsCaused};
-ghost use Rattle.run_play.specs.declared.play_end.PlayEnding.TheVariants as ends;
-ghost use Rattle.run_play.specs.declared.play_end.PlayStop.TheVariants as stops;
+ghost use Rattle.run_turns.specs.Inputs.{PlaysInput, IsCaused};
+ghost use Rattle.run_turns.specs.declared.game_end.GameEnding.TheVariants as ends;
+ghost use Rattle.run_turns.specs.declared.game_end.GameStop.TheVariants as stops;
+ghost use Rattle.run_play.specs.Plays.{play_form, play_status, Plays, PlayCompletes};
 
 use crate::head::read_player;
-use crate::play_end::{PlayEnding, PlayStop};
+use crate::no_plan::{PlayEnding, PlayStop};
 use io_ports::{Lines, Sink, Source};
-use run_turns::play_turns;
+use run_turns::{GameEnding, play_turns};
 
 /// The number of White's first line.
 const FIRST_MOVE: u64 = 4;
@@ -27,25 +27,12 @@ pub fn play<S: Source, O: Sink>(source: &mut S, out: &mut O) -> PlayEnding
     ensures complete { (Rose (S.faults source.old) (S.faults source.new) → ⊥) → (Rose (O.faults out.old) (O.faults out.new) → ⊥)
         → PlayCompletes (S.left source.old) (play_status result) }
 {
-    play_input(source, out)
-}
-
-/// The same, without what a run owes where no stream failed.
-fn play_input<S: Source, O: Sink>(source: &mut S, out: &mut O) -> PlayEnding
-    ensures outcome { Plays
-        (record { input = S.left source.old; left = S.left source.new; last_read = S.last_read source.new; old = O.written out.old; new = O.written out.new }) result }
-    ensures read_fault { result ≡ ends.Stopped (stops.Input inputs.Read) → Rose (S.faults source.old) (S.faults source.new) }
-    ensures write_fault { result ≡ ends.Stopped stops.Write → Rose (O.faults out.old) (O.faults out.new) }
-{
-    match play_all(source, out) {
-        Ok(()) => PlayEnding::Done,
-        Err(stop) => PlayEnding::Stopped(stop),
-    }
+    GameEnding::of(play_all(source, out))
 }
 
 /// Plays to the end of the input, or to what stops play.
 fn play_all<S: Source, O: Sink>(source: &mut S, out: &mut O) -> Result<(), PlayStop>
-    ensures plays { PlaysInput (S.left source.old) (S.left source.new) (S.last_read source.new) (O.written out.old) (O.written out.new) result }
+    ensures plays { PlaysInput play_form (S.left source.old) (S.left source.new) (S.last_read source.new) (O.written out.old) (O.written out.new) result }
     ensures cause { IfErr result (IsCaused (S.faults source.old) (S.faults source.new) (O.faults out.old) (O.faults out.new)) }
 {
     let mut lines = Lines::new();

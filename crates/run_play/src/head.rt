@@ -2,12 +2,14 @@
 ghost use Rattle.std.specs.Prelude.{◌≡◌, ◌≤◌, [], MatchResult, IfOk, IfErr};
 ghost use Rattle.io_ports.specs.Reading.{pending, Reads, PassesLines};
 ghost use Rattle.play_text.specs.Play.{play_of, first_move};
-ghost use Rattle.run_play.specs.Steps.{played_from, StopsPlay, lines_besides, IsWaiting, StopsReading};
-ghost use Rattle.run_play.specs.Turns.{turns_left};
+ghost use Rattle.run_turns.specs.Inputs.{StopsPlay, lines_besides, IsWaiting, StopsReading};
+ghost use Rattle.run_turns.specs.Steps.{turns_by};
+ghost use Rattle.run_play.specs.Plays.{play_form};
+ghost use Rattle.run_play.specs.Turns.{plan_stands, plan_turn, turns_left};
 
+use crate::no_plan::PlayStop;
 use crate::plan_line::read_plan_line;
 use crate::plan_player::PlanPlayer;
-use crate::play_end::PlayStop;
 use io_ports::{Lines, Source};
 use run_frame::read_game_lines;
 
@@ -19,8 +21,8 @@ pub(crate) fn read_player<S: Source>(
     ensures answer { Reads (pending lines.old (S.left source.old) (S.last_read source.old))
         (pending lines.new (S.left source.new) (S.last_read source.new))
         (λ bytes rest. MatchResult result
-        (λ player. PassesLines 3 bytes rest × (play_of bytes ≡ played_from player.session first_move rest))
-        (λ stop. PassesLines (lines_besides stop) bytes rest × StopsPlay (play_of bytes) [] stop)) }
+        (λ player. PassesLines 3 bytes rest × (play_of bytes ≡ turns_by plan_stands plan_turn player first_move rest))
+        (λ stop. PassesLines (lines_besides play_form stop) bytes rest × StopsPlay play_form (play_of bytes) [] stop)) }
     ensures few { IfOk result (λ player. turns_left player ≤ 50) }
     ensures waiting { IfErr result (IsWaiting lines.new.ahead) }
     ensures later { S.faults source.old ≤ S.faults source.new }

@@ -5,10 +5,10 @@
 
 mod command;
 mod head;
+mod no_plan;
 mod plan_line;
 mod plan_player;
-mod play_end;
 mod turn_text;
 
 pub use command::play;
-pub use play_end::{PlayEnding, PlayStop};
+pub use no_plan::{NoPlan, PlayEnding, PlayStop};

@@ -5,14 +5,17 @@ ghost use Rattle.io_ports.specs.Reading.{pending, Reads, PassesLines};
 ghost use Rattle.game_rules.specs.Position.{empty_count};
 ghost use Rattle.rule_compat.specs.Planned.{members};
 ghost use Rattle.play_text.specs.Play.{play_from, play_lines, first_move};
-ghost use Rattle.run_play.specs.Steps.{played_at, played_from, StopsPlay, lines_besides, IsWaiting, IsNoPlan, StopsReading};
+ghost use Rattle.run_turns.specs.Inputs.{EndsSo, StopsPlay, lines_besides, IsWaiting, StopsReading};
+ghost use Rattle.run_play.specs.Plays.{play_form, head_end};
+ghost use Rattle.run_play.specs.Steps.{played_at, played_from};
 
-use crate::play_end::PlayStop;
+use crate::no_plan::{NoPlan, PlayStop};
 use board_bits::Position;
 use cert_format::read_plan;
 use io_ports::{LineGot, Lines, Source};
 use rule_compat::Plan;
 use run_frame::InputStop;
+use run_turns::GameStop;
 
 /// Reads the line of the plan, which has to be one at this position.
 pub(crate) fn read_plan_line<S: Source>(
@@ -24,34 +27,36 @@ pub(crate) fn read_plan_line<S: Source>(
         (pending lines.new (S.left source.new) (S.last_read source.new))
         (λ bytes rest. PassesLines 1 bytes rest × MatchResult result
         (λ plan. played_at root.now bytes ≡ played_from (record { plan = plan; stands = root.now }) first_move rest)
-        (StopsPlay (played_at root.now bytes) [])) }
+        (StopsPlay play_form (played_at root.now bytes) [])) }
     ensures at { IfOk result (λ plan. (plan.at ≡ root.now) × (empty_count root.now ≤ 100)) }
     ensures waiting { IfErr result (IsWaiting lines.new.ahead) }
-    ensures stops { IfErr result (λ stop. 3 ≤ lines_besides stop) }
+    ensures stops { IfErr result (λ stop. 3 ≤ lines_besides play_form stop) }
     ensures later { S.faults source.old ≤ S.faults source.new }
     ensures caused { IfErr result (λ stop. StopsReading (S.faults source.old) (S.faults source.new) stop) }
 {
     match lines.next(source) {
-        LineGot::Line => plan_of(root, lines.text()),
-        LineGot::Long | LineGot::Done => Err(PlayStop::NoPlanLine),
-        LineGot::Failed => Err(PlayStop::Input(InputStop::Read)),
+        LineGot::Line => match plan_of(root, lines.text()) {
+            Ok(plan) => Ok(plan),
+            Err(none) => Err(GameStop::Head(none)),
+        },
+        LineGot::Long | LineGot::Done => Err(GameStop::Head(NoPlan::NoLine)),
+        LineGot::Failed => Err(GameStop::Input(InputStop::Read)),
     }
 }
 
 /// The plan at this position that the bytes name.
-fn plan_of(root: &Position, bytes: &[u8]) -> Result<Plan, PlayStop>
+fn plan_of(root: &Position, bytes: &[u8]) -> Result<Plan, NoPlan>
     requires short { length bytes.now ≤ longest_line }
     ensures answer { (more : List (List ℕ)) → MatchResult result
         (λ plan. play_lines root.now (bytes.now ∷ more) ≡ play_from (members plan) root.now first_move more)
-        (StopsPlay (play_lines root.now (bytes.now ∷ more)) []) }
+        (λ none. EndsSo (play_lines root.now (bytes.now ∷ more)) [] (head_end none)) }
     ensures at { IfOk result (λ plan. (plan.at ≡ root.now) × (empty_count root.now ≤ 100)) }
-    ensures stops { IfErr result IsNoPlan }
 {
     let Ok(list) = read_plan(bytes, root.size()) else {
-        return Err(PlayStop::NoPlanLine);
+        return Err(NoPlan::NoLine);
     };
     match Plan::check(root, list.as_slice()) {
         Ok(plan) => Ok(plan),
-        Err(fault) => Err(PlayStop::NoPlan(fault)),
+        Err(fault) => Err(NoPlan::Refused(fault)),
     }
 }

@@ -10,10 +10,12 @@ use Rattle.play_text.specs.Play as ends
 use Rattle.play_text.specs.Play.{Played, behind}
 use Rattle.threat_rules.specs.Threatened.{Threatened, threat_found}
 use Rattle.threat_text.specs.Threats.{threat_line, no_threat_line, answers_from, first_move, threat_lines}
-use Rattle.run_threat.specs.Steps.{PutsHead, TellsNone, StopsHead}
+use Rattle.run_turns.specs.Inputs.{StopsOpening}
+use Rattle.run_turns.specs.declared.game_end.GameStop.{GameStop}
+use Rattle.run_turns.specs.declared.game_end.GameStop.TheVariants as stops
+use Rattle.run_threat.specs.Steps.{PutsHead, TellsNone}
 use Rattle.run_threat.specs.Turns.{ThreatGame, turns_left}
-use Rattle.run_threat.specs.declared.threat_end.ThreatStop.{ThreatStop}
-use Rattle.run_threat.specs.declared.threat_end.ThreatStop.TheVariants as stops
+use Rattle.run_threat.specs.declared.no_threat.NoThreat.{NoThreat}
 
 -- a threat that was found stands at the position, and its line comes before what is played by it
 record TellsThreatFound (root : Position) (found : Option (Group × List Pair)) (threat : Threatened) : Type 0 where
@@ -33,7 +35,7 @@ none_found root None h = refl
 none_found root (Some found) h = absurd (cc h)
 
 module _ (root : Position) (old new : Option (List ℕ)) where
-  pub puts_threat : (threat : Threatened) (before after : ℕ) (result : Result ThreatGame ThreatStop)
+  pub puts_threat : (threat : Threatened) (before after : ℕ) (result : Result ThreatGame (GameStop NoThreat))
       → Some threat ≡ option_map (threat_found root) (first_threat root)
       → AppendsPrefix (is_ok result) old new (threat_line threat.group threat.pairs)
       → IfOk result (λ player. (player ≡ record { threat = threat; stands = threat.at }) × (turns_left player ≤ 50))
@@ -58,8 +60,8 @@ module _ (root : Position) (old new : Option (List ℕ)) where
       } in
       subst (λ stop. PutsHead root old new (Err stop)) (sym cut.0) cut_head
 
-  pub puts_none : (stop : ThreatStop) → None ≡ option_map (threat_found root) (first_threat root) → TellsNone old new stop → PutsHead root old new (Err stop)
-  puts_none stops.NoThreat found put = record {
+  pub puts_none : (stop : GameStop NoThreat) → None ≡ option_map (threat_found root) (first_threat root) → TellsNone old new stop → PutsHead root old new (Err stop)
+  puts_none (stops.Head none) found put = record {
     line = no_threat_line;
     written = put;
     goes = λ lines. ap (λ found. threat_lines root found lines) (none_found root (first_threat root) (sym found));
@@ -76,7 +78,7 @@ module _ (root : Position) (old new : Option (List ℕ)) where
   puts_none (stops.NoMove fault) found put = absurd put
 
 -- the sink failed
-pub cut_stops : (before after : ℕ) (result : Result ThreatGame ThreatStop) → IfErr result (λ stop. (stop ≡ stops.Write) × Rose before after)
-    → IfErr result (StopsHead before after)
+pub cut_stops : (before after : ℕ) (result : Result ThreatGame (GameStop NoThreat)) → IfErr result (λ stop. (stop ≡ stops.Write) × Rose before after)
+    → IfErr result (StopsOpening before after)
 cut_stops before after (Ok player) cut = tt
-cut_stops before after (Err stop) cut = subst (StopsHead before after) (sym cut.0) cut.1
+cut_stops before after (Err stop) cut = subst (StopsOpening before after) (sym cut.0) cut.1

@@ -3,16 +3,16 @@ ghost use Rattle.std.specs.Prelude.{◌≡◌, IfErr};
 ghost use Rattle.device_rules.specs.Devices.{Rose};
 ghost use Rattle.run_frame.specs.Streams.{StillHolds};
 ghost use Rattle.run_frame.specs.declared.game_input.InputStop.TheVariants as inputs;
-ghost use Rattle.run_threat.specs.Threatens.{threat_status, Threatens, ThreatCompletes};
-ghost use Rattle.run_threat.specs.Steps.{PlaysInput, IsCaused};
-ghost use Rattle.run_threat.specs.declared.threat_end.ThreatEnding.TheVariants as ends;
-ghost use Rattle.run_threat.specs.declared.threat_end.ThreatStop.TheVariants as stops;
+ghost use Rattle.run_turns.specs.Inputs.{PlaysInput, IsCaused};
+ghost use Rattle.run_turns.specs.declared.game_end.GameEnding.TheVariants as ends;
+ghost use Rattle.run_turns.specs.declared.game_end.GameStop.TheVariants as stops;
+ghost use Rattle.run_threat.specs.Threatens.{threat_form, threat_status, Threatens, ThreatCompletes};
 
 use crate::head::begin;
-use crate::threat_end::{ThreatEnding, ThreatStop};
+use crate::no_threat::{ThreatEnding, ThreatStop};
 use io_ports::{Lines, Sink, Source};
 use run_frame::read_game_lines;
-use run_turns::play_turns;
+use run_turns::{GameEnding, play_turns};
 
 /// The number of Black's first line.
 const FIRST_MOVE: u64 = 3;
@@ -29,25 +29,12 @@ pub fn threat<S: Source, O: Sink>(source: &mut S, out: &mut O) -> ThreatEnding
     ensures complete { (Rose (S.faults source.old) (S.faults source.new) → ⊥) → (Rose (O.faults out.old) (O.faults out.new) → ⊥)
         → ThreatCompletes (S.left source.old) (threat_status result) }
 {
-    threat_input(source, out)
-}
-
-/// The same, without what a run owes where no stream failed.
-fn threat_input<S: Source, O: Sink>(source: &mut S, out: &mut O) -> ThreatEnding
-    ensures outcome { Threatens
-        (record { input = S.left source.old; left = S.left source.new; last_read = S.last_read source.new; old = O.written out.old; new = O.written out.new }) result }
-    ensures read_fault { result ≡ ends.Stopped (stops.Input inputs.Read) → Rose (S.faults source.old) (S.faults source.new) }
-    ensures write_fault { result ≡ ends.Stopped stops.Write → Rose (O.faults out.old) (O.faults out.new) }
-{
-    match threat_all(source, out) {
-        Ok(()) => ThreatEnding::Done,
-        Err(stop) => ThreatEnding::Stopped(stop),
-    }
+    GameEnding::of(threat_all(source, out))
 }
 
 /// Writes the threat and plays to the end of the input, or to what stops play.
 fn threat_all<S: Source, O: Sink>(source: &mut S, out: &mut O) -> Result<(), ThreatStop>
-    ensures plays { PlaysInput (S.left source.old) (S.left source.new) (S.last_read source.new) (O.written out.old) (O.written out.new) result }
+    ensures plays { PlaysInput threat_form (S.left source.old) (S.left source.new) (S.last_read source.new) (O.written out.old) (O.written out.new) result }
     ensures cause { IfErr result (IsCaused (S.faults source.old) (S.faults source.new) (O.faults out.old) (O.faults out.new)) }
 {
     let mut lines = Lines::new();

@@ -2,16 +2,18 @@
 ghost use Rattle.std.specs.Prelude.{◌≡◌, ◌≤◌, is_ok, IfOk, IfErr};
 ghost use Rattle.device_rules.specs.Devices.{AppendsPrefix, Rose};
 ghost use Rattle.threat_text.specs.Threats.{threat_line};
-ghost use Rattle.run_threat.specs.Steps.{PutsHead, StopsHead, TellsNone};
+ghost use Rattle.run_turns.specs.Inputs.{StopsOpening};
+ghost use Rattle.run_turns.specs.declared.game_end.GameStop.TheVariants as stops;
+ghost use Rattle.run_threat.specs.Steps.{PutsHead, TellsNone};
 ghost use Rattle.run_threat.specs.Turns.{turns_left};
-ghost use Rattle.run_threat.specs.declared.threat_end.ThreatStop.TheVariants as stops;
 
-use crate::threat_end::ThreatStop;
+use crate::no_threat::{NoThreat, ThreatStop};
 use crate::threat_line::threat_line;
 use crate::threat_player::ThreatPlayer;
 use board_bits::Position;
 use io_ports::{Failed, Sink};
 use run_frame::put_line;
+use run_turns::GameStop;
 use threat_rules::Threat;
 
 /// Writes the first threat of the position, and answers the player who begins there; or writes that there is none.
@@ -19,7 +21,7 @@ pub(crate) fn begin<O: Sink>(root: &Position, out: &mut O) -> Result<ThreatPlaye
     ensures head { PutsHead root.now (O.written out.old) (O.written out.new) result }
     ensures few { IfOk result (λ player. turns_left player ≤ 50) }
     ensures later { O.faults out.old ≤ O.faults out.new }
-    ensures stops { IfErr result (StopsHead (O.faults out.old) (O.faults out.new)) }
+    ensures stops { IfErr result (StopsOpening (O.faults out.old) (O.faults out.new)) }
 {
     match Threat::first(root) {
         Some(threat) => put_threat(threat, out),
@@ -37,7 +39,7 @@ fn put_threat<O: Sink>(threat: Threat, out: &mut O) -> Result<ThreatPlayer, Thre
     let line = threat_line(&threat);
     match put_line(out, line.as_slice()) {
         Ok(()) => Ok(ThreatPlayer::new(threat)),
-        Err(Failed) => Err(ThreatStop::Write),
+        Err(Failed) => Err(GameStop::Write),
     }
 }
 
@@ -45,10 +47,10 @@ fn put_threat<O: Sink>(threat: Threat, out: &mut O) -> Result<ThreatPlayer, Thre
 fn put_none<O: Sink>(out: &mut O) -> ThreatStop
     ensures none { TellsNone (O.written out.old) (O.written out.new) result }
     ensures later { O.faults out.old ≤ O.faults out.new }
-    ensures stops { StopsHead (O.faults out.old) (O.faults out.new) result }
+    ensures stops { StopsOpening (O.faults out.old) (O.faults out.new) result }
 {
     match put_line(out, b"no threat\n") {
-        Ok(()) => ThreatStop::NoThreat,
-        Err(Failed) => ThreatStop::Write,
+        Ok(()) => GameStop::Head(NoThreat),
+        Err(Failed) => GameStop::Write,
     }
 }

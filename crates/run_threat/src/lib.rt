@@ -6,10 +6,10 @@
 
 mod command;
 mod head;
-mod threat_end;
+mod no_threat;
 mod threat_line;
 mod threat_player;
 mod turn_text;
 
 pub use command::threat;
-pub use threat_end::{ThreatEnding, ThreatStop};
+pub use no_threat::{NoThreat, ThreatEnding, ThreatStop};

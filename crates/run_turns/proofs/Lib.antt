@@ -1,2 +1,5 @@
 pub mod Got
 pub mod Judged
+pub mod Stopped
+pub mod Behind
+pub mod Ends

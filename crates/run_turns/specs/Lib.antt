@@ -1,2 +1,4 @@
 pub mod Turns
 pub mod Steps
+pub mod Games
+pub mod Inputs

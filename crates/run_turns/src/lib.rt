@@ -4,10 +4,12 @@
 //! is no move is the game's. No call takes memory.
 #![tactic(auto)]
 
+mod game_end;
 mod player;
 mod turn_stop;
 mod turns;
 
+pub use game_end::{GameEnding, GameStop};
 pub use player::Player;
 pub use turn_stop::{TurnStop, move_fault_text};
 pub use turns::play_turns;

@@ -1,5 +1,5 @@
 -- What whole inputs give.
-use Rattle.std.proofs.Common.{◌≡◌, ◌≢◌, ◌↔◌, ℕ, true, false, List, [], ◌∷◌, map, Option, Some, None, Result, Ok, Err, refl, sym, ap, ◌∙◌}
+use Rattle.std.proofs.Common.{◌≡◌, ◌≢◌, ◌↔◌, ℕ, true, false, List, ◌∷◌, map, Option, Some, None, Result, Ok, Err, refl, sym, ap, ◌∙◌}
 use Rattle.game_rules.specs.Groups.{Group}
 use Rattle.game_rules.specs.Position.{Position}
 use Rattle.game_rules.specs.Text.{game_at}
@@ -11,17 +11,11 @@ use Rattle.odd_rules.specs.Refusal.{first_threat}
 use Rattle.odd_rules.proofs.First.{first_is, first_none, first_none_from}
 use Rattle.odd_rules.proofs.Theorems.{threat_value}
 use Rattle.proof_text.specs.Texts.{pieces, game_of, behind_game}
-use Rattle.play_text.specs.Play.{PlayEnd, NoThreat, NoReply, AllPlayed, move_line, Played}
-use Rattle.play_text.proofs.Steps.{ends_so}
+use Rattle.play_text.specs.Play.{NoThreat, AllPlayed, move_line, Played}
+use Rattle.play_text.proofs.Steps.{ends_so, told_so}
 use Rattle.threat_text.specs.Threats.{threat_turn, answers_from, first_move, threat_line, threat_lines, threat_game, threat_of}
 use Rattle.threat_text.specs.Told.{TellsThreat, IsTold}
 use Rattle.threat_text.proofs.Turns.{has_target, tells_duel, all_legal_played}
-
--- what is told by an end that further lines lead to
-told_at : (bytes : List ℕ) (pairs : List Pair) (q : Position) (at : ℕ) (moves lines : List (List ℕ)) → (answers_from pairs q at moves).end ≢ NoReply
-    → TellsThreat bytes lines → IsTold bytes lines (answers_from pairs q at moves).end
-told_at bytes pairs q at moves lines answered tells = ends_so (λ q. q) (threat_turn pairs) (λ end. end ≢ NoReply → IsTold bytes lines end)
-    (λ fault answered. tells) (λ answered. tells) (λ answered. answered refl) q at moves answered
 
 pub threat_is_told : (bytes : List ℕ) → IsTold bytes (threat_of bytes).lines (threat_of bytes).end
 unfolding threat_of
@@ -40,8 +34,8 @@ threat_is_told bytes = of_game (game_at (game_of (pieces bytes))) refl
         let is = first_is root g pairs f in
         let has = has_target root g pairs is in
         let tells = tells_duel root g pairs board is first_move (behind_game (pieces bytes)) has in
-        told_at bytes pairs root first_move (behind_game (pieces bytes))
-        (threat_line g pairs ∷ (answers_from pairs root first_move (behind_game (pieces bytes))).lines) tells.1 (record {
+        let lines = threat_line g pairs ∷ (answers_from pairs root first_move (behind_game (pieces bytes))).lines in
+        let told : TellsThreat bytes lines = record {
           root = root;
           game = e;
           group = g;
@@ -54,7 +48,8 @@ threat_is_told bytes = of_game (game_at (game_of (pieces bytes))) refl
           turns = (answers_from pairs root first_move (behind_game (pieces bytes))).lines;
           is_lines = refl;
           duel = tells.0;
-        })
+        } in
+        told_so (λ q. q) (threat_turn pairs) (IsTold bytes lines) (λ fault. told) told root first_move (behind_game (pieces bytes)) tells.1
 
     of_first : (root : Position) (first : Option (Group × List Pair)) → game_at (game_of (pieces bytes)) ≡ Ok root → first_threat root ≡ first
         → Told (threat_lines root first (behind_game (pieces bytes)))

@@ -1,10 +1,8 @@
-use Rattle.run_play.proofs.Ends.{play_completes, play_held}
+use Rattle.play_text.specs.Told.{IsTold}
+use Rattle.run_turns.proofs.Ends.{game_plays}
+use Rattle.run_play.specs.Plays.{play_form, most_play_lines}
+use Rattle.run_play.proofs.Ends.{play_laws}
 use Rattle.run_play.proofs.command.play.Goals as goal
 
-pub returns-clause-complete : goal.returns-clause-complete
-returns-clause-complete g c = λ unread unwritten.
-    let ended = c.play_input.ensures in
-    play_completes _ c.play_input.result ended.outcome (λ failed. unread (ended.read_fault failed)) (λ failed. unwritten (ended.write_fault failed))
-
-pub returns-clause-held : goal.returns-clause-held
-returns-clause-held g c = play_held _ c.play_input.result c.play_input.ensures.outcome
+pub returns-clause-outcome : goal.returns-clause-outcome
+returns-clause-outcome g c = rw c.of.ensures (game_plays play_form IsTold most_play_lines play_laws _ c.play_all.result c.play_all.ensures.plays)

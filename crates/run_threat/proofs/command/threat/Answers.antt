@@ -1,10 +1,9 @@
-use Rattle.run_threat.proofs.Ends.{threat_completes, threat_held}
+use Rattle.threat_text.specs.Told.{IsTold}
+use Rattle.run_turns.proofs.Ends.{game_plays}
+use Rattle.run_threat.specs.Threatens.{threat_form, most_threat_lines}
+use Rattle.run_threat.proofs.Ends.{threat_laws}
 use Rattle.run_threat.proofs.command.threat.Goals as goal
 
-pub returns-clause-complete : goal.returns-clause-complete
-returns-clause-complete g c = λ unread unwritten.
-    let ended = c.threat_input.ensures in
-    threat_completes _ c.threat_input.result ended.outcome (λ failed. unread (ended.read_fault failed)) (λ failed. unwritten (ended.write_fault failed))
-
-pub returns-clause-held : goal.returns-clause-held
-returns-clause-held g c = threat_held _ c.threat_input.result c.threat_input.ensures.outcome
+pub returns-clause-outcome : goal.returns-clause-outcome
+returns-clause-outcome g c =
+    rw c.of.ensures (game_plays threat_form IsTold most_threat_lines threat_laws _ c.threat_all.result c.threat_all.ensures.plays)

@@ -1,0 +1,30 @@
+//! What `threat` says where the game's position has no threat.
+use run_frame::Ending;
+use run_turns::{GameEnding, GameStop};
+use text_words::LineText;
+
+/// The game's position has no threat, which the output says: status 5.
+#[derive(Clone, Copy, Drop)]
+pub struct NoThreat;
+
+/// What stops a run before the end of the input.
+pub type ThreatStop = GameStop<NoThreat>;
+
+/// How a run of `threat` ends.
+pub type ThreatEnding = GameEnding<NoThreat>;
+
+impl Ending for NoThreat {
+    ghost use Rattle.run_threat.specs.Threatens.{head_status, head_text};
+
+    ghost status_of = { head_status };
+
+    ghost text_of = { head_text };
+
+    fn status(&self) -> u8 {
+        5
+    }
+
+    fn text(&self) -> LineText {
+        LineText::new()
+    }
+}
