@@ -1,0 +1,3 @@
+pub mod Dear
+pub mod Ends
+pub mod Lining

@@ -1,0 +1,3 @@
+pub mod Dear
+pub mod Lines
+pub mod Annotates
