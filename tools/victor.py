@@ -626,6 +626,18 @@ def upgrade(proof: Proof, *, into: Optional[Path] = None, program: Optional[str]
     return written_proof("victor upgrade", words, proof.game, into, read=proof.source, **limits)
 
 
+def trim(proof: Union[Proof, Text], into: Optional[Path] = None, *, program: Optional[str] = None, **limits) -> Proof:
+    """A proof with those lemmas alone on which its verdict rests, as `victor trim` writes it; it is Failed where one is
+    refused, with status 4."""
+    source = proof.source if isinstance(proof, Proof) else proof
+    with file_of(source) as lines:
+        game = read_game(b"".join(itertools.islice(lines, 1, 3)).decode("ascii", "replace"))
+    with place_for(into) as path:
+        with file_of(source) as lines, open(path, "wb") as out:
+            status = run("victor trim", [find_program(program), "trim"], lines, out, (0,), **limits)
+        return proof_in(path, game, status, into is not None)
+
+
 def prove_by_move(game: Game, column: int, after: Proof, into: Optional[Path] = None) -> Proof:
     """A proof that the side to move wins, from one that the other side loses behind this move. Its lemmas are taken
     with the move before their paths, and the last one says that the move wins."""
@@ -724,6 +736,24 @@ def threat(game: Game, moves: Iterable[int] = (), *, program: Optional[str] = No
         return Threat(None, (), (), False, text, status)
     won = bool(turns) and len(turns[-1]) > 2
     return Threat(first[1], tuple(first[2:]), tuple((words[0], words[1]) for words in turns), won, text, status)
+
+
+@dataclass(frozen=True)
+class Mark:
+    """What `annotate` writes of a move: its number from 1, its square, and `ok`, `bad` or `open`."""
+
+    number: int
+    square: str
+    word: str
+
+
+def annotate(game: Game, *, nodes: Optional[int] = None, reach: Optional[int] = None, last: Optional[int] = None,
+             program: Optional[str] = None, **limits) -> tuple[Mark, ...]:
+    """For each of the last moves of a game, or for all, whether it keeps the value of the game."""
+    words = [find_program(program), "annotate"] + options_of(nodes=nodes, reach=reach, last=last)
+    _, text = answer("victor annotate", words, game.text(), **limits)
+    marks = (line.split() for line in text.splitlines())
+    return tuple(Mark(int(number), square, word) for number, square, word in marks)
 
 
 def drill(cols: int, rows: int, moves: int, seed: int, games: int, *, nodes: Optional[int] = None,

@@ -122,6 +122,19 @@ class RunTest(ToolTest):
         self.assertEqual((fault.status, fault.text), (3, "input fault: ColumnFull at line 7\n"))
         self.assertEqual(fault.written, "c1 d1\nc2 c3\nc4 d2\n")
 
+    def test_annotate(self):
+        game = victor.Game.read("cdccddcdaababb", (4, 4))
+        marks = victor.annotate(game, last=2)
+        self.assertEqual([(mark.number, mark.square, mark.word) for mark in marks], [(13, "b2", "bad"), (14, "b3", "ok")])
+        self.assertEqual(victor.annotate(game, last=0), ())
+
+    def test_trim(self):
+        trimmed = victor.trim(Path(example("trim", "both-questions.proof")))
+        self.assertEqual(trimmed.text, read(example("trim", "both-questions.trimmed")))
+        self.assertEqual((trimmed.value, trimmed.lemmas), ("draw", 4))
+        fault = self.fails(victor.Failed, victor.trim, Path(example("refused", "wrong-verdict.proof")))
+        self.assertEqual(fault.status, 4)
+
     def test_threat(self):
         game = victor.Game.read("dccbbdbaddc", (4, 4))
         found = victor.threat(game)

@@ -69,6 +69,16 @@ pub(crate) const ZUGZWANG_ANSWERS: &str = "threat a3h BI:b4,c4\nc4 b4\na2 a3 won
 
 pub(crate) const THREAT: &[&str] = &["threat"];
 
+pub(crate) const TRIM: &[&str] = &["trim"];
+
+/// A game whose last move but one is a mistake.
+pub(crate) const MISTAKE: &str = "board 4 4\nmoves cdccddcdaababb\n";
+
+/// What is said of its last two moves.
+pub(crate) const MISTAKE_MARKS: &str = "13 b2 bad\n14 b3 ok\n";
+
+pub(crate) const ANNOTATE: &[&str] = &["annotate", "--last", "2"];
+
 const DRILL: &[&str] = &["drill", "4", "4", "12", "1", "1"];
 
 /// Where a device fails: the source, which gives so many bytes a call, at this call; the sink at this call; or the sink
@@ -103,7 +113,7 @@ type Failing = (
     &'static [(Fault, &'static str)],
 );
 
-const FAILING: [Failing; 5] = [
+const FAILING: [Failing; 7] = [
     (
         PROVE_BY_SEARCH,
         TWO_SQUARES_LEFT,
@@ -146,6 +156,25 @@ const FAILING: [Failing; 5] = [
             (Fault::Read(70, &[2]), ""),
             (Fault::Read(75, &[2]), "c1 d1\nc2 c3\n"),
             (Fault::Full(9), "c1 d1\nc2 "),
+        ],
+    ),
+    (
+        TRIM,
+        TWO_SQUARES_PROOF,
+        &[
+            (Fault::Read(4, &[2]), ""),
+            (Fault::Write(&[1]), ""),
+            (Fault::Write(&[3]), FIRST_LEMMA),
+            (Fault::Full(46), CUT_LEMMA),
+        ],
+    ),
+    (
+        ANNOTATE,
+        MISTAKE,
+        &[
+            (Fault::Read(4, &[2]), ""),
+            (Fault::Write(&[1]), ""),
+            (Fault::Full(13), "13 b2 bad\n14 "),
         ],
     ),
     (DRILL, "", &[(Fault::Full(11), "drill win 1")]),
@@ -193,7 +222,7 @@ type Cut = (
     &'static str,
 );
 
-const CUT: [Cut; 12] = [
+const CUT: [Cut; 14] = [
     (PROVE_BY_SEARCH, TWO_SQUARES_LEFT, 0, TWO_SQUARES_PROOF, ""),
     (
         PROVE_BY_SEARCH,
@@ -232,6 +261,8 @@ const CUT: [Cut; 12] = [
         "refused line 4: EndedEarly\n",
     ),
     (UPGRADE, TWO_SQUARES_PROOF, 0, UPGRADED, ""),
+    (TRIM, TWO_SQUARES_PROOF, 0, TWO_SQUARES_PROOF, ""),
+    (ANNOTATE, MISTAKE, 0, MISTAKE_MARKS, ""),
     (
         UPGRADE,
         FIRST_LEMMA,

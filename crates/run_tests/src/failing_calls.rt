@@ -1,7 +1,7 @@
 //! Each call of a device failed in turn, up to the first run that has no call of that number.
 use crate::devices::{
-    DUEL, DUEL_ANSWERS, PLAY, PROVE_BY_SEARCH, THREAT, TWO_SQUARES_LEFT, TWO_SQUARES_PROOF,
-    UPGRADE, UPGRADED, ZUGZWANG, ZUGZWANG_ANSWERS,
+    ANNOTATE, DUEL, DUEL_ANSWERS, MISTAKE, MISTAKE_MARKS, PLAY, PROVE_BY_SEARCH, THREAT, TWO_SQUARES_LEFT, TWO_SQUARES_PROOF,
+    TRIM, UPGRADE, UPGRADED, ZUGZWANG, ZUGZWANG_ANSWERS,
 };
 use crate::running::{Devices, SOUND, run_over};
 use std::test::Fail;
@@ -12,11 +12,13 @@ const MOST_CALLS: u32 = 200;
 /// The words of a run, its input, and what it writes where no call fails.
 type Whole = (&'static [&'static str], &'static str, &'static str);
 
-const WHOLE: [Whole; 4] = [
+const WHOLE: [Whole; 6] = [
     (PROVE_BY_SEARCH, TWO_SQUARES_LEFT, TWO_SQUARES_PROOF),
     (UPGRADE, TWO_SQUARES_PROOF, UPGRADED),
     (PLAY, DUEL, DUEL_ANSWERS),
     (THREAT, ZUGZWANG, ZUGZWANG_ANSWERS),
+    (TRIM, TWO_SQUARES_PROOF, TWO_SQUARES_PROOF),
+    (ANNOTATE, MISTAKE, MISTAKE_MARKS),
 ];
 
 #[test]

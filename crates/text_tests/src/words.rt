@@ -83,11 +83,28 @@ fn prove_has_its_options_in_any_order_and_spelling(rt: HostRuntime) -> Result<()
 
 #[test]
 fn other_commands_have_their_own_words(rt: HostRuntime) -> Result<(), Fail> {
-    let rows: [(&[&str], Form); 7] = [
+    let rows: [(&[&str], Form); 10] = [
         (&["check"], Form::Check),
         (&["play"], Form::Play),
         (&["upgrade"], Form::Upgrade),
         (&["threat"], Form::Threat),
+        (&["trim"], Form::Trim),
+        (
+            &["annotate"],
+            Form::Annotate {
+                nodes: 1_000_000,
+                reach: 1_000,
+                last: 100,
+            },
+        ),
+        (
+            &["annotate", "--last", "0", "--reach=7", "--nodes", "2"],
+            Form::Annotate {
+                nodes: 2,
+                reach: 7,
+                last: 0,
+            },
+        ),
         (&["explain"], Form::Explain { reach: 1_000 }),
         (&["explain", "--reach=7"], Form::Explain { reach: 7 }),
         (&["explain", "--reach", "0"], Form::Explain { reach: 0 }),
@@ -136,7 +153,7 @@ fn options_stand_before_between_and_after_the_numbers(rt: HostRuntime) -> Result
 }
 
 /// Lists of words that are no form.
-const NONE: [&[&str]; 82] = [
+const NONE: [&[&str]; 86] = [
     &[],
     &[""],
     &["", "prove"],
@@ -149,6 +166,10 @@ const NONE: [&[&str]; 82] = [
     &["threats"],
     &["threat", "x"],
     &["threat", "--reach", "3"],
+    &["trim", "x"],
+    &["trim", "--last", "3"],
+    &["annotate", "--last", "101"],
+    &["annotate", "--last", "1", "--last=2"],
     &["prove", "x"],
     &["prove", "5"],
     &["prove", "--"],

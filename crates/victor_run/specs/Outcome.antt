@@ -7,7 +7,7 @@ use Rattle.proof_text.specs.declared.Version.TheVariants.{One, Two}
 use Rattle.drill_games.specs.Games.{games_from}
 use Rattle.victor_words.specs.Words.{usage}
 use Rattle.victor_words.specs.declared.form.Form.{Form}
-use Rattle.victor_words.specs.declared.form.Form.TheVariants.{Prove, Check, Play, Explain, Drill, Upgrade, Threat}
+use Rattle.victor_words.specs.declared.form.Form.TheVariants.{Prove, Check, Play, Explain, Drill, Upgrade, Threat, Trim, Annotate}
 use Rattle.run_frame.specs.Streams.{Streams, IsUnread}
 use Rattle.run_prove.specs.Proves.{ProveRuns, ProveCompletes}
 use Rattle.run_check.specs.Checks.{CheckRuns, CheckCompletes}
@@ -16,6 +16,8 @@ use Rattle.run_explain.specs.Explains.{ExplainRuns, ExplainCompletes}
 use Rattle.run_drill.specs.Drills.{DrillRuns, DrillCompletes}
 use Rattle.run_upgrade.specs.Upgrades.{UpgradeRuns, UpgradeCompletes}
 use Rattle.run_threat.specs.Threatens.{ThreatRuns, ThreatCompletes}
+use Rattle.run_annotate.specs.Annotates.{AnnotateRuns, AnnotateCompletes}
+use Rattle.run_trim.specs.Trims.{TrimRuns, TrimCompletes}
 
 -- the version of a proof that this number of a format names, which is 1 or 2
 abbrev pub version_named : ℕ → Version
@@ -31,6 +33,8 @@ Outcome (Some (Explain reach)) s status text = ExplainRuns reach s status text
 Outcome (Some (Drill size moves seed games nodes reach)) s status text = DrillRuns (games_from games size moves seed) nodes reach s status text
 Outcome (Some Upgrade) s status text = UpgradeRuns s status text
 Outcome (Some Threat) s status text = ThreatRuns s status text
+Outcome (Some Trim) s status text = TrimRuns s status text
+Outcome (Some (Annotate nodes reach last)) s status text = AnnotateRuns nodes reach last s status text
 
 -- how it has to end where no stream failed, from all of its input, where the source tells it
 abbrev pub Completes : Form → (unread unwritten : Type 0) → (input : Option (List ℕ)) → (status : ℕ) → Type 0
@@ -41,3 +45,5 @@ Completes (Explain reach) unread unwritten input status = (unread → ⊥) → (
 Completes (Drill size moves seed games nodes reach) unread unwritten input status = (unwritten → ⊥) → DrillCompletes status
 Completes Upgrade unread unwritten input status = (unread → ⊥) → (unwritten → ⊥) → UpgradeCompletes input status
 Completes Threat unread unwritten input status = (unread → ⊥) → (unwritten → ⊥) → ThreatCompletes input status
+Completes Trim unread unwritten input status = (unread → ⊥) → (unwritten → ⊥) → TrimCompletes input status
+Completes (Annotate nodes reach last) unread unwritten input status = (unread → ⊥) → (unwritten → ⊥) → AnnotateCompletes input status

@@ -9,6 +9,7 @@ ghost use Rattle.victor_run.specs.Outcome.{version_named, Outcome, Completes};
 use crate::no_form::NoForm;
 use cert_format::Version;
 use io_ports::{Sink, Source};
+use run_annotate::annotate;
 use run_check::check;
 use run_drill::drill;
 use run_explain::explain;
@@ -16,6 +17,7 @@ use run_frame::report;
 use run_play::play;
 use run_prove::prove;
 use run_threat::threat;
+use run_trim::trim;
 use run_upgrade::upgrade;
 use std::alloc::Global;
 use victor_words::{Form, read_words};
@@ -24,8 +26,8 @@ use victor_words::{Form, read_words};
 /// of a fault goes to `err`, whole unless the count of faults of `err` rose.
 ///
 /// What a command reads and writes, and with which status and text it ends, its own crate says: [`prove`], [`check`],
-/// [`play`], [`explain`], [`drill`], [`upgrade`], [`threat`]. Where the words are no written form, the status is 2 and nothing is read or written.
-/// What stops a run first decides its end. `prove`, `check`, `drill` and `upgrade` alone take memory.
+/// [`play`], [`explain`], [`drill`], [`upgrade`], [`threat`], [`trim`], [`annotate`]. Where the words are no written form, the status is 2 and nothing is read or written.
+/// What stops a run first decides its end. `prove`, `check`, `drill`, `upgrade`, `trim` and `annotate` alone take memory.
 pub fn run<S: Source, O: Sink, E: Sink>(
     alloc: Global,
     words: &[String],
@@ -111,6 +113,10 @@ fn run_form<S: Source, O: Sink, E: Sink>(
         ),
         Form::Upgrade => report(&upgrade(alloc, source, out), err),
         Form::Threat => report(&threat(source, out), err),
+        Form::Trim => report(&trim(alloc, source, out), err),
+        Form::Annotate { nodes, reach, last } => {
+            report(&annotate(alloc, nodes, reach, last, source, out), err)
+        }
     }
 }
 

@@ -17,11 +17,11 @@ use Rattle.plan_text.specs.Words.{◌>>=◌}
 use Rattle.plan_text.proofs.Spaced.{bind_some, is_text}
 use Rattle.victor_words.specs.Words.{OptionRow, Given, IsNumberOf, IsGiven, FormRow, form_row, row_of, is_drilled, AreGames, HasOwnRanges}
 use Rattle.victor_words.specs.Words.{HasRanges, nodes, reach, front}
-use Rattle.victor_words.specs.Words.{table, format, options_of, has_only}
+use Rattle.victor_words.specs.Words.{table, format, last, options_of, has_only}
 use Rattle.victor_words.specs.Reading.{WordsFound, asked, number, own_with, with_none, with_five, board_with, size_from, form_with}
-use Rattle.victor_words.specs.Reading.{prove_form, bare_form, explain_form, drill_form}
+use Rattle.victor_words.specs.Reading.{prove_form, bare_form, explain_form, drill_form, annotate_form}
 use Rattle.victor_words.specs.declared.form.Form.{Form}
-use Rattle.victor_words.specs.declared.form.Form.TheVariants.{Prove, Check, Play, Explain, Drill, Upgrade, Threat}
+use Rattle.victor_words.specs.declared.form.Form.TheVariants.{Prove, Check, Play, Explain, Drill, Upgrade, Threat, Trim, Annotate}
 use Rattle.victor_words.proofs.Saying.{settled}
 use Rattle.victor_words.proofs.Numbers.{is_right, asked_gives, asked_found}
 
@@ -125,6 +125,22 @@ explain_told found form h =
     record { command = refl; own = own.1; options = (k.is, tt); no_others = own.0; ranges = (k.range, tt) } in
     subst (IsFormOf (codes "explain") found) same (fits, tt)
 
+annotate_told : (found : WordsFound) (form : Form) → annotate_form found ≡ Some form → IsFormOf (codes "annotate") found form
+annotate_told found form h =
+    let own = none_told _ (nodes ∷ reach ∷ last ∷ []) found form h in
+    let n = told nodes found.given _ form refl own.2 in
+    let k = told reach found.given _ form refl n.rest in
+    let m = told last found.given _ form refl k.rest in
+    let same : Annotate n.n k.n m.n ≡ form = cc (m.rest) in
+    let fits : FitsRow (codes "annotate") found (row_of (Annotate n.n k.n m.n)) = record {
+      command = refl;
+      own = own.1;
+      options = (n.is, (k.is, (m.is, tt)));
+      no_others = own.0;
+      ranges = (n.range, (k.range, (m.range, tt)));
+    } in
+    subst (IsFormOf (codes "annotate") found) same (fits, tt)
+
 five_told : (own : List (List ℕ)) (found : WordsFound) (form : Form) → found.own ≡ own → has_only (nodes ∷ reach ∷ []) found.given ≡ true
     → with_five found.given (Some own) ≡ Some form → IsFormOf (codes "drill") found form
 five_told (cols ∷ rows ∷ moves ∷ seed ∷ games ∷ []) found form is only h =
@@ -188,7 +204,9 @@ form_told word found form h =
     (command_told word (codes "explain") found _ _ form (explain_told found form)
     (command_told word (codes "drill") found _ _ form (drill_told found form)
     (command_told word (codes "upgrade") found _ _ form (bare_told (codes "upgrade") found Upgrade form refl tt)
-    (command_told word (codes "threat") found _ None form (bare_told (codes "threat") found Threat form refl tt) (λ h. cc))))))) h
+    (command_told word (codes "threat") found _ _ form (bare_told (codes "threat") found Threat form refl tt)
+    (command_told word (codes "trim") found _ _ form (bare_told (codes "trim") found Trim form refl tt)
+    (command_told word (codes "annotate") found _ None form (annotate_told found form) (λ h. cc))))))))) h
 
 -- ---- the form is what is read
 
@@ -204,6 +222,9 @@ form_found (Prove n k f t v) given is only ranges =
       number_found format given v refl is.1.1.1.1.0 ranges.0.1.1.1.1.0,
     ) refl
 form_found (Explain k) given is only ranges = rw (only, number_found reach given k refl is.0 ranges.0.0) refl
+form_found (Annotate n k m) given is only ranges =
+    rw (only, number_found nodes given n refl is.0 ranges.0.0, number_found reach given k refl is.1.0 ranges.0.1.0,
+      number_found last given m refl is.1.1.0 ranges.0.1.1.0) refl
 form_found (Drill size moves seed games n k) given is only ranges =
     rw (
       only,

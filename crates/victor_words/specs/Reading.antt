@@ -7,9 +7,9 @@ use Rattle.game_rules.specs.Board.{Board, is_board}
 use Rattle.game_rules.specs.declared.Length.TheVariants.{Four}
 use Rattle.game_rules.specs.Number.{number_between}
 use Rattle.plan_text.specs.Words.{◌>>=◌, split_once}
-use Rattle.victor_words.specs.Words.{OptionRow, Given, values, has_only, nodes, reach, front, table, format}
+use Rattle.victor_words.specs.Words.{OptionRow, Given, values, has_only, nodes, reach, front, table, format, last}
 use Rattle.victor_words.specs.declared.form.Form.{Form}
-use Rattle.victor_words.specs.declared.form.Form.TheVariants.{Prove, Check, Play, Explain, Drill, Upgrade, Threat}
+use Rattle.victor_words.specs.declared.form.Form.TheVariants.{Prove, Check, Play, Explain, Drill, Upgrade, Threat, Trim, Annotate}
 use Rattle.victor_words.specs.declared.found.Found.{Found}
 use Rattle.victor_words.specs.declared.found.Given.{Given as Lent}
 use Rattle.victor_words.specs.declared.options.OptionRow.{OptionRow as Row}
@@ -118,6 +118,11 @@ bare_form form found = with_none (Some form) (own_with [] found)
 abbrev pub explain_form : WordsFound → Option Form
 explain_form found = with_none (number reach found.given >>= λ k. Some (Explain k)) (own_with (reach ∷ []) found)
 
+abbrev pub annotate_form : WordsFound → Option Form
+annotate_form found =
+    let given = found.given in
+    with_none (number nodes given >>= λ n. number reach given >>= λ k. number last given >>= λ m. Some (Annotate n k m)) (own_with (nodes ∷ reach ∷ last ∷ []) found)
+
 abbrev pub board_with : ℕ → ℕ → Board
 board_with cols rows = record { cols = cols; rows = rows; len = Four }
 
@@ -140,4 +145,6 @@ form_with word found =
     (if bytes_eq word (codes "play") then bare_form Play found else (if bytes_eq word (codes "explain") then explain_form found else
     (if bytes_eq word (codes "drill") then drill_form found else
     (if bytes_eq word (codes "upgrade") then bare_form Upgrade found else
-    (if bytes_eq word (codes "threat") then bare_form Threat found else None))))))
+    (if bytes_eq word (codes "threat") then bare_form Threat found else
+    (if bytes_eq word (codes "trim") then bare_form Trim found else
+    (if bytes_eq word (codes "annotate") then annotate_form found else None))))))))

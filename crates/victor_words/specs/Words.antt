@@ -8,11 +8,11 @@ use Rattle.std.specs.Fmt.{decimal}
 use Rattle.game_rules.specs.Board.{Board, is_board, same_length}
 use Rattle.victor_words.specs.declared.form.Form.{Form}
 use Rattle.game_rules.specs.declared.Length.TheVariants.{Four}
-use Rattle.victor_words.specs.declared.form.Form.TheVariants.{Prove, Check, Play, Explain, Drill, Upgrade, Threat}
+use Rattle.victor_words.specs.declared.form.Form.TheVariants.{Prove, Check, Play, Explain, Drill, Upgrade, Threat, Trim, Annotate}
 
 -- what is said of the written forms where the words are none
 abbrev pub usage : List ℕ
-usage = codes "usage: victor prove [--nodes N] [--reach K] [--front F] [--table T] [--format V] | check | play | explain [--reach K] | drill COLS ROWS MOVES SEED GAMES [--nodes N] [--reach K] | upgrade | threat"
+usage = codes "usage: victor prove [--nodes N] [--reach K] [--front F] [--table T] [--format V] | check | play | explain [--reach K] | drill COLS ROWS MOVES SEED GAMES [--nodes N] [--reach K] | upgrade | threat | trim | annotate [--nodes N] [--reach K] [--last L]"
 
 -- ---- the options
 
@@ -46,6 +46,10 @@ table = option_row (codes "--table") 1 1000000 (Some 100000)
 -- the version of a proof that is written
 abbrev pub format : OptionRow
 format = option_row (codes "--format") 1 2 (Some 1)
+
+-- how many of a game's last moves are marked
+abbrev pub last : OptionRow
+last = option_row (codes "--last") 0 100 (Some 100)
 
 abbrev pub IsNumberOf : OptionRow → ℕ → Type 0
 IsNumberOf option n = IsInRange option.least option.most n
@@ -81,6 +85,8 @@ row_of (Drill size moves seed games n k) =
     form_row (codes "drill") (map decimal (size.cols ∷ size.rows ∷ moves ∷ seed ∷ games ∷ [])) ((nodes, Some n) ∷ (reach, Some k) ∷ [])
 row_of Upgrade = form_row (codes "upgrade") [] []
 row_of Threat = form_row (codes "threat") [] []
+row_of Trim = form_row (codes "trim") [] []
+row_of (Annotate n k m) = form_row (codes "annotate") [] ((nodes, Some n) ∷ (reach, Some k) ∷ (last, Some m) ∷ [])
 
 -- a drill's words tell no length of lines, so its boards have lines of four
 abbrev pub is_drilled : Board → Bool

@@ -46,4 +46,15 @@ pub enum Form {
     Upgrade,
     /// Read a game and Black's moves, and play White's by an odd threat.
     Threat,
+    /// Read a proof and write it with those lemmas alone on which its verdict rests.
+    Trim,
+    /// Read a game and mark its last moves as mistakes or not.
+    Annotate {
+        /// How many positions each search may enter, as for `Prove`.
+        nodes: u32,
+        /// How many sets of zones a walk looks at, as for `Prove`.
+        reach: u32,
+        /// How many of the last moves are marked, from 0 to 100; 100 where the words don't say.
+        last: u32,
+    },
 }

@@ -44,6 +44,14 @@ pub(crate) const TABLE: OptionRow = OptionRow {
     usual: Some(100_000),
 };
 
+/// How many of a game's last moves are marked.
+pub(crate) const LAST: OptionRow = OptionRow {
+    word: "--last",
+    least: 0,
+    most: 100,
+    usual: Some(100),
+};
+
 /// The version of a proof that is written.
 pub(crate) const FORMAT: OptionRow = OptionRow {
     word: "--format",

@@ -2,18 +2,18 @@
 ghost use Rattle.std.specs.Prelude.{◌≡◌, ◌∷◌, map, string_bytes, List, ℕ, IfSome};
 ghost use Rattle.victor_words.specs.declared.form.Form.{Form};
 ghost use Rattle.victor_words.specs.Words.{IsReadAs, IsWritten, HasRanges};
-ghost use Rattle.victor_words.specs.Reading.{shown, form_with, prove_form, bare_form, explain_form, drill_form};
+ghost use Rattle.victor_words.specs.Reading.{shown, form_with, prove_form, bare_form, explain_form, drill_form, annotate_form};
 ghost use Rattle.victor_words.specs.Reading.{size_from};
 
 use crate::form::Form;
 use crate::found::{Found, found_in};
-use crate::options::{FORMAT, FRONT, NODES, REACH, TABLE};
+use crate::options::{FORMAT, FRONT, LAST, NODES, REACH, TABLE};
 use board_bits::Size;
 use text_words::number_between;
 
 /// What is said of the written forms where the words are none.
 pub const USAGE: &[u8] =
-    b"usage: victor prove [--nodes N] [--reach K] [--front F] [--table T] [--format V] | check | play | explain [--reach K] | drill COLS ROWS MOVES SEED GAMES [--nodes N] [--reach K] | upgrade | threat\n";
+    b"usage: victor prove [--nodes N] [--reach K] [--front F] [--table T] [--format V] | check | play | explain [--reach K] | drill COLS ROWS MOVES SEED GAMES [--nodes N] [--reach K] | upgrade | threat | trim | annotate [--nodes N] [--reach K] [--last L]\n";
 
 /// The most moves that a game made from a number may be given.
 const MOST_MOVES: u32 = 100;
@@ -59,6 +59,8 @@ fn form_with(command: &str, found: &Found) -> Option<Form>
         "drill" => drill_form(found),
         "upgrade" => bare_form(Form::Upgrade, found),
         "threat" => bare_form(Form::Threat, found),
+        "trim" => bare_form(Form::Trim, found),
+        "annotate" => annotate_form(found),
         _ => None,
     }
 }
@@ -96,6 +98,19 @@ fn explain_form(found: &Found) -> Option<Form>
     };
     Some(Form::Explain {
         reach: found.number(&REACH)?,
+    })
+}
+
+fn annotate_form(found: &Found) -> Option<Form>
+    ensures { result ≡ annotate_form (shown found.now) }
+{
+    let [] = found.own_with(&[NODES, REACH, LAST])? else {
+        return None;
+    };
+    Some(Form::Annotate {
+        nodes: found.number(&NODES)?,
+        reach: found.number(&REACH)?,
+        last: found.number(&LAST)?,
     })
 }
 
