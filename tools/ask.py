@@ -14,6 +14,7 @@ import tempfile
 
 import boards
 import settle
+import victor
 from lemmas import Lemmas
 from settle import Asker, Unproved, count_of
 from victor import LETTERS, Fault, read_question
@@ -128,7 +129,8 @@ def ask(words):
             answer, moves = asker.moves_of(game, answer)
         line = line_of(answer, asker.program) if words.line else None
         if words.keep and answer.proof:
-            with open(answer.proof.path, "rb") as source, boards.output(words.keep) as out:
+            kept = victor.trim(answer.proof, os.path.join(folder, "kept"), program=asker.program)
+            with open(kept.path, "rb") as source, boards.output(words.keep) as out:
                 shutil.copyfileobj(source, out)
     said = (data_of if words.json else sentence)(game, answer, asker.engines, moves, line)
     print(json.dumps(said) if words.json else said, flush=True)

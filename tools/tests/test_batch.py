@@ -257,8 +257,9 @@ class BatchTest(ToolTest):
         name = self.names[0]
         write(self.list, "48\n%s\n444 2 3\nxyz\n" % name)
         status, out, err = tool("batch", *self.words())
-        said = ("batch: line 1: move 2: the board has no column 8", "batch: line 3: '3' stands behind the position: a "
-                "line has one word, and maybe a score", "batch: line 4: move 1: 'x' is no column of this board (a to g)")
+        said = ("batch: line 1: move 2: the board has no column 8 (columns count from 1)",
+                "batch: line 3: '3' stands behind the position: a line has one word, and maybe a score",
+                "batch: line 4: move 1: 'x' is no column of this board (a to g)")
         self.assertEqual((status, tuple(err.split("\n")[:3])), (1, said), out)
         self.assertEqual([row["position"] for row in self.rows()], [name])
 
