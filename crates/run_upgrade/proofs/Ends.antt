@@ -1,6 +1,6 @@
 -- How a run of `upgrade` ends.
-use Rattle.std.proofs.Common.{◌≡◌, ℕ, ◌+◌, ◌-◌, ◌≤◌, Bool, true, false, List, [], ◌∷◌, ◌++◌, length, Option, Some, None, Ok, Err, IfSome, refl, sym, ap, ◌∙◌, subst}
-use Rattle.std.proofs.Common.{append-nil, inl, inr, arith}
+use Rattle.std.proofs.Common.{◌≡◌, ℕ, ◌+◌, ◌-◌, ◌≤◌, Bool, true, false, List, [], ◌∷◌, ◌++◌, length, Option, Some, None, Ok, Err, IfSome, refl, sym}
+use Rattle.std.proofs.Common.{ap, ◌∙◌, subst, append-nil, inl, inr, arith}
 use Rattle.std.specs.Io.KnownBytes.{Keeps, Appends, IsAtEnd}
 use Rattle.std.proofs.KnownBytes.{Appends-trans}
 use Rattle.device_rules.specs.Devices.{AppendsPrefix}
@@ -169,6 +169,7 @@ module _ (input : Option (List ℕ)) (begun : ℕ) (game : Game) (mid : Pending)
         → Wrote true game.position shown at mid last held new (StopsBehind game.position before after stop at)
         → Upgrades (over input last old new) (Stopped (Proof stop))
     ends_stop at first before after stop shown few later here wrote =
+        let text = lines_of (upgraded game.position [] (said game.position wrote.lines)) in
         took input begun last old new at (λ bytes. StopsBy (AtHead (Some One)) bytes first after stop × HasWritten true bytes at [] old new)
         (Stopped (Proof stop)) few
         (Reads_then _ _ _ _ _ _ head wrote.reads (λ bytes m rest p q. (
@@ -182,8 +183,8 @@ module _ (input : Option (List ℕ)) (begun : ℕ) (game : Game) (mid : Pending)
               lines = has_lines bytes m at wrote.lines q.begins.0 p.1 q.begins.1 wrote.counted;
               right = wrote.right;
               ends = inl refl;
-              written = subst (λ more. Appends old new (head_text ++ more)) (sym (append-nil (lines_of (upgraded game.position [] (said game.position wrote.lines)))))
-                  (Appends-trans old held new head_text (lines_of (upgraded game.position [] (said game.position wrote.lines))) put wrote.written);
+              written = subst (λ more. Appends old new (head_text ++ more)) (sym (append-nil text))
+                  (Appends-trans old held new head_text text put wrote.written);
             },
           ),
         )))

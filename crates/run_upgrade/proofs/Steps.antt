@@ -1,6 +1,6 @@
 -- One line after another: what was written so far goes on with what becomes of the next line.
-use Rattle.std.proofs.Common.{◌≡◌, ℕ, ◌+◌, ◌-◌, ◌≤◌, Bool, true, false, List, [], ◌∷◌, ◌++◌, length, Option, Some, None, Result, Ok, Err, refl, sym, ap, ◌∙◌, subst}
-use Rattle.std.proofs.Common.{append_assoc, append-nil, arith}
+use Rattle.std.proofs.Common.{◌≡◌, ℕ, ◌+◌, ◌-◌, ◌≤◌, Bool, true, false, List, [], ◌∷◌, ◌++◌, length, Option, Some, None, Result, Ok, Err}
+use Rattle.std.proofs.Common.{refl, sym, ap, ◌∙◌, subst, append_assoc, append-nil, arith}
 use Rattle.std.proofs.KnownBytes.{Appends-nil, Appends-kept, Keeps-refl}
 use Rattle.std.proofs.lemmas.Bool.{leb-true}
 use Rattle.std.proofs.lemmas.List.{length-append}
@@ -77,7 +77,8 @@ module _ (a b : Pending) (text : List ℕ) (fed : Bool) (s : CheckerState) (at :
   next_long before after old gives = record {
     here = refl;
     kept = Keeps-refl old;
-    reads = bare a b (AtLine One s at) before after (stops.Refused (record { at = at; why = BadLine })) (long_stops One a b text fed s at None None gives refl before after);
+    reads = bare a b (AtLine One s at) before after (stops.Refused (record { at = at; why = BadLine }))
+        (long_stops One a b text fed s at None None gives refl before after);
   }
 
   pub next_unread : (before after : ℕ) (old : Option (List ℕ)) → Reads a b (λ bytes rest. Gives bytes rest Failed text fed) → Rose before after
@@ -138,7 +139,8 @@ module _ (s : CheckerState) (at : ℕ) (a b c : Pending) (old mid new : Option (
       let more : said s.root (wrote.lines ++ next.line ∷ []) ≡ ls ++ lemmas_in (found.0 ∷ []) = said_more s.root wrote.lines next.line
       ∙ ap (λ more. ls ++ more) says in
       let stands : t ≡ with_line s found.0 = next.added.1 ∙ ap (with_said s) found.1 in
-      let text : lines_of (upgraded s.root [] (said s.root (wrote.lines ++ next.line ∷ []))) ≡ lines_of (upgraded s.root [] ls) ++ text_behind s (next.line ∷ []) =
+      let text : lines_of (upgraded s.root [] (said s.root (wrote.lines ++ next.line ∷ [])))
+      ≡ lines_of (upgraded s.root [] ls) ++ text_behind s (next.line ∷ []) =
       ap (λ ls. lines_of (upgraded s.root [] ls)) more ∙ text_line s ls found.0 wrote.right
       ∙ ap (λ more. lines_of (upgraded s.root [] ls) ++ lines_of (upgraded s.root s.known more)) (sym says) in
       record {
@@ -217,7 +219,8 @@ module _ (s : CheckerState) (at : ℕ) (a b c : Pending) (old mid new : Option (
         right = wrote.right;
         written = Appends-kept old mid new (lines_of (upgraded s.root [] (said s.root wrote.lines))) wrote.written next.kept;
         reads = Reads_then a b c _ _ _ wrote.reads next.reads (λ bytes m rest p q. record {
-            few = passes_most (at - first_number + 1) (at - 3) bytes rest (omega (arith, wrote.counted)) (passes_then (at - first_number) 1 bytes m rest p.few q.0);
+            few = passes_most (at - first_number + 1) (at - 3) bytes rest (omega (arith, wrote.counted))
+                (passes_then (at - first_number) 1 bytes m rest p.few q.0);
             stopped = stops_earlier _ _ bytes m (said s.root wrote.lines) before held after stop p.goes later q.1;
             begins = (lines_in (pieces m), p.cut);
           });

@@ -5,7 +5,8 @@ use Rattle.cert_checker.specs.Checking.{why_of}
 use Rattle.run_proof.specs.Steps.{lines_read_until}
 use Rattle.run_proof.specs.declared.stop.ProofStop.TheVariants as stops
 use Rattle.run_frame.proofs.Taken.{from_fresh}
-use Rattle.run_proof.proofs.Judging.{first_stop, head_goes, judged_bare, judged_unended, game_known, game_stops, game_lines, lines_stop, lines_known, judged_stop, judged_right}
+use Rattle.run_proof.proofs.Judging.{first_stop, head_goes}
+use Rattle.run_proof.proofs.Judging.{judged_bare, judged_unended, game_known, game_stops, game_lines, lines_stop, lines_known, judged_stop, judged_right}
 use Rattle.run_proof.proofs.reading.read_proof.Goals as goal
 
 pub returns-in_err-version : goal.returns-in_err-version
