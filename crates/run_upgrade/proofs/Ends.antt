@@ -44,6 +44,7 @@ use Rattle.run_upgrade.specs.declared.upgraded.UpgradeEnd.{UpgradeEnd}
 use Rattle.run_upgrade.specs.declared.upgraded.UpgradeEnd.TheVariants.{Done, Stopped}
 use Rattle.run_upgrade.specs.declared.upgraded.UpgradeStop.{UpgradeStop}
 use Rattle.run_upgrade.specs.declared.upgraded.UpgradeStop.TheVariants.{Proof, Write}
+use Rattle.run_upgrade.proofs.Steps.{wrote_unsent}
 use Rattle.run_upgrade.proofs.Right.{accepted_all, right_all, upgraded_all}
 
 -- ---- the head and the game
@@ -201,7 +202,7 @@ module _ (input : Option (List ℕ)) (begun : ℕ) (game : Game) (mid : Pending)
         let text = lines_of (upgraded game.position [] (said game.position wrote.lines)) in
         took input begun last old new at (λ bytes. HasWritten false bytes at [] old new) (Stopped Write) few
         (Reads_then _ _ _ _ _ _ head wrote.reads (λ bytes m rest p q. (
-          passes_most (3 + (at - first_number)) at bytes rest (omega (arith, wrote.counted)) (passes_then 3 (at - first_number) bytes m rest p.0 q.0),
+          passes_most (3 + (at - 3)) at bytes rest (omega (arith, wrote.counted)) (passes_then 3 (at - 3) bytes m rest p.0 q.0),
           record {
             game = game;
             lemmas = said game.position wrote.lines;
@@ -245,6 +246,14 @@ module _ (input : Option (List ℕ)) (begun : ℕ) (game : Game) (mid : Pending)
             });
         } in
         ends_stop put last at first before after (stops.Refused r) t.known few later (ap (λ r. r.at) is) stopped
+
+    -- and what was written couldn't be handed on
+    pub ends_unsent : (root : Position) (all : Option (List ℕ)) → root ≡ game.position → Keeps all new
+        → Wrote true root t.known at mid last held all (AreAll root t at) → Upgrades (over input last old new) (Stopped Write)
+    ends_unsent root all same kept given =
+        let W : Position → Type 0 = λ root. Wrote true root t.known at mid last held all (AreAll root t at) in
+        ends_cut put last at t.known few (wrote_unsent game.position mid last held all new kept t.known at (AreAll game.position t at)
+        (λ lines bytes rest p. (p.few, ([], p.cut ∙ sym (append-nil lines)))) (subst W same given))
 
   -- what holds of the bytes of a proof that is accepted
   record IsWhole (at count : ℕ) (lines : List (List ℕ)) (v : Verdict) (bytes : List ℕ) : Type 0 where

@@ -1,11 +1,12 @@
 -- One line after another: what was written so far goes on with what becomes of the next line.
 use Rattle.std.proofs.Common.{◌≡◌, ℕ, ◌+◌, ◌-◌, ◌≤◌, Bool, true, false, List, [], ◌∷◌, ◌++◌, length, Option, Some, None, Result, Ok, Err}
 use Rattle.std.proofs.Common.{refl, sym, ap, ◌∙◌, subst, append_assoc, append-nil, arith}
+use Rattle.std.specs.Io.KnownBytes.{Keeps}
 use Rattle.std.proofs.KnownBytes.{Appends-nil, Appends-kept, Keeps-refl}
 use Rattle.std.proofs.lemmas.Bool.{leb-true}
 use Rattle.std.proofs.lemmas.List.{length-append}
 use Rattle.device_rules.specs.Devices.{Rose, AppendsPrefix}
-use Rattle.device_rules.proofs.DeviceLaws.{AppendsPrefix_more}
+use Rattle.device_rules.proofs.DeviceLaws.{AppendsPrefix_all, AppendsPrefix_more}
 use Rattle.game_rules.specs.Position.{Position, board_of}
 use Rattle.io_ports.specs.Lines.{Cut, Gives}
 use Rattle.io_ports.specs.Reading.{Pending, Reads, PassesLines}
@@ -13,7 +14,7 @@ use Rattle.io_ports.specs.declared.line_reader.LineGot.TheVariants.{Line, Long, 
 use Rattle.io_ports.proofs.Reading.{Reads_start, Reads_more, Reads_then, passes_none, passes_then, passes_most}
 use Rattle.proof_text.specs.Checked.{CheckerState, with_line, lemmas_in}
 use Rattle.proof_text.specs.Lemma.{Lemma}
-use Rattle.proof_text.specs.Right.{AreRight}
+use Rattle.proof_text.specs.Right.{Shown, AreRight}
 use Rattle.proof_text.specs.Spelling.{lines_of}
 use Rattle.proof_text.specs.Texts.{most_lines, pieces, lines_in, first_number, with_said, start, verdict_answer}
 use Rattle.proof_text.specs.Upgrade.{upgraded}
@@ -203,7 +204,8 @@ module _ (s : CheckerState) (at : ℕ) (a b c : Pending) (old mid new : Option (
             counted = more.counted;
             right = more.right;
             written = more.written;
-            reads = Reads_more a c _ _ more.reads (λ bytes rest p. (p.few, (lines_in (pieces rest), p.cut)));
+            reads = Reads_more a c _ _ more.reads (λ bytes rest p.
+                (passes_most (at + 1 - first_number) (at + 1 - 3) bytes rest (omega arith) p.few, (lines_in (pieces rest), p.cut)));
           },
         ),
       )
@@ -233,6 +235,43 @@ module _ (s : CheckerState) (at : ℕ) (a b c : Pending) (old mid new : Option (
   wrote_stopped root same t before held after stop later few next =
       let W : Position → Type 0 = λ root. WritesLines root t a c before after old new (Err stop) in
       subst W same (stopped_lines t before held after stop later few next)
+
+-- ---- what was written is handed on
+
+module _ (root : Position) (a b : Pending) (old new sent : Option (List ℕ)) (kept : Keeps new sent) where
+  pub wrote_sent : (shown : List Shown) (at : ℕ) (Fact : List (List ℕ) → List ℕ → List ℕ → Type 0) → Wrote true root shown at a b old new Fact
+      → Wrote true root shown at a b old sent Fact
+  wrote_sent shown at Fact wrote = record {
+    lines = wrote.lines;
+    counted = wrote.counted;
+    right = wrote.right;
+    written = Appends-kept old new sent (lines_of (upgraded root [] (said root wrote.lines))) wrote.written kept;
+    reads = wrote.reads;
+  }
+
+  -- or couldn't be, and then it stands there all the same
+  pub wrote_unsent : (shown : List Shown) (at : ℕ) (Fact : List (List ℕ) → List ℕ → List ℕ → Type 0)
+      → ((lines : List (List ℕ)) (bytes rest : List ℕ) → Fact lines bytes rest → Passes at lines bytes rest)
+      → Wrote true root shown at a b old new Fact → Wrote false root shown at a b old sent (Passes at)
+  wrote_unsent shown at Fact more wrote =
+      let text = lines_of (upgraded root [] (said root wrote.lines)) in
+      record {
+        lines = wrote.lines;
+        counted = wrote.counted;
+        right = wrote.right;
+        written = AppendsPrefix_all false old sent text (Appends-kept old new sent text wrote.written kept);
+        reads = Reads_more a b _ _ wrote.reads (more wrote.lines);
+      }
+
+  pub lines_sent : (t : CheckerState) (before after : ℕ) (stop : ProofStop) → WritesLines root t a b before after old new (Err (Proof stop))
+      → WritesLines root t a b before after old sent (Err (Proof stop))
+  lines_sent t before after stop (at, few, here, (shown, wrote)) =
+      (at, few, here, (shown, wrote_sent shown at (StopsBehind root before after stop at) wrote))
+
+  pub lines_unsent : (t : CheckerState) (before after : ℕ) (stop : ProofStop) → WritesLines root t a b before after old new (Err (Proof stop))
+      → WritesLines root t a b before after old sent (Err Write)
+  lines_unsent t before after stop (at, few, here, (shown, wrote)) =
+      (at, few, (shown, wrote_unsent shown at (StopsBehind root before after stop at) (λ lines bytes rest p. (p.few, p.begins)) wrote))
 
 -- ---- the counts of faults
 

@@ -157,7 +157,7 @@ pub record AreAll (root : Position) (s : CheckerState) (at : ℕ) (lines : List 
 
 -- so many at most were passed
 abbrev pub Passes : ℕ → List (List ℕ) → List ℕ → List ℕ → Type 0
-Passes at lines bytes rest = PassesLines (at - first_number) bytes rest × BeginWith lines bytes
+Passes at lines bytes rest = PassesLines (at - 3) bytes rest × BeginWith lines bytes
 
 -- and the line behind them stops the reading
 pub record StopsBehind (root : Position) (before after : ℕ) (stop : ProofStop) (at : ℕ) (lines : List (List ℕ)) (bytes rest : List ℕ) : Type 0 where
