@@ -9,7 +9,8 @@ use Rattle.game_rules.specs.declared.InputFault.{InputFault}
 use Rattle.proof_text.specs.Checked.{Why, CheckerState}
 use Rattle.proof_text.specs.Lemma.{Line as Said, ALemma, ARemark, AVerdict}
 use Rattle.proof_text.specs.Reading.{read_line}
-use Rattle.proof_text.specs.Texts.{pieces, lines_in, first_number, game_of, behind_game, first_line, bytes_refusal, NoGame, Refused, verdict_answer, line_answer}
+use Rattle.proof_text.specs.Texts.{pieces, lines_in, first_number, game_of, behind_game, first_line, bytes_refusal, NoGame, Refused}
+use Rattle.proof_text.specs.Texts.{verdict_answer, line_answer}
 use Rattle.proof_text.specs.Texts.{with_bytes, check_from, start, game_answer}
 use Rattle.proof_text.proofs.Fold.{answer_by_lines}
 use Rattle.proof_text.proofs.First.{out_of_bounds}

@@ -1,6 +1,6 @@
 -- How a run of `upgrade` ends.
-use Rattle.std.proofs.Common.{◌≡◌, ℕ, ◌+◌, ◌-◌, ◌≤◌, Bool, true, false, List, [], ◌++◌, length, Option, Some, None, Err, IfSome, refl, sym, ap, ◌∙◌, subst}
-use Rattle.std.proofs.Common.{append-nil, inl, inr, arith}
+use Rattle.std.proofs.Common.{◌≡◌, ℕ, ◌+◌, ◌-◌, ◌≤◌, Bool, true, false, List, [], ◌∷◌, ◌++◌, length, Option, Some, None, Ok, Err, IfSome, refl, sym}
+use Rattle.std.proofs.Common.{ap, ◌∙◌, subst, append-nil, inl, inr, arith}
 use Rattle.std.specs.Io.KnownBytes.{Keeps, Appends, IsAtEnd}
 use Rattle.std.proofs.KnownBytes.{Appends-trans}
 use Rattle.device_rules.specs.Devices.{AppendsPrefix}
@@ -42,6 +42,7 @@ use Rattle.run_upgrade.specs.declared.upgraded.UpgradeEnd.{UpgradeEnd}
 use Rattle.run_upgrade.specs.declared.upgraded.UpgradeEnd.TheVariants.{Done, Stopped}
 use Rattle.run_upgrade.specs.declared.upgraded.UpgradeStop.{UpgradeStop}
 use Rattle.run_upgrade.specs.declared.upgraded.UpgradeStop.TheVariants.{Proof, Write}
+use Rattle.run_upgrade.proofs.Steps.{wrote_unsent}
 use Rattle.run_upgrade.proofs.Right.{accepted_all, right_all, upgraded_all}
 
 -- ---- the head and the game
@@ -167,6 +168,7 @@ module _ (input : Option (List ℕ)) (begun : ℕ) (game : Game) (mid : Pending)
         → Wrote true game.position shown at mid last held new (StopsBehind game.position before after stop at)
         → Upgrades (over input last old new) (Stopped (Proof stop))
     ends_stop at first before after stop shown few later here wrote =
+        let text = lines_of (upgraded game.position [] (said game.position wrote.lines)) in
         took input begun last old new at (λ bytes. StopsBy (AtHead (Some One)) bytes first after stop × HasWritten true bytes at [] old new)
         (Stopped (Proof stop)) few
         (Reads_then _ _ _ _ _ _ head wrote.reads (λ bytes m rest p q. (
@@ -180,8 +182,8 @@ module _ (input : Option (List ℕ)) (begun : ℕ) (game : Game) (mid : Pending)
               lines = has_lines bytes m at wrote.lines q.begins.0 p.1 q.begins.1 wrote.counted;
               right = wrote.right;
               ends = inl refl;
-              written = subst (λ more. Appends old new (head_text ++ more)) (sym (append-nil (lines_of (upgraded game.position [] (said game.position wrote.lines)))))
-                  (Appends-trans old held new head_text (lines_of (upgraded game.position [] (said game.position wrote.lines))) put wrote.written);
+              written = subst (λ more. Appends old new (head_text ++ more)) (sym (append-nil text))
+                  (Appends-trans old held new head_text text put wrote.written);
             },
           ),
         )))
@@ -198,7 +200,7 @@ module _ (input : Option (List ℕ)) (begun : ℕ) (game : Game) (mid : Pending)
         let text = lines_of (upgraded game.position [] (said game.position wrote.lines)) in
         took input begun last old new at (λ bytes. HasWritten false bytes at [] old new) (Stopped Write) few
         (Reads_then _ _ _ _ _ _ head wrote.reads (λ bytes m rest p q. (
-          passes_most (3 + (at - first_number)) at bytes rest (omega (arith, wrote.counted)) (passes_then 3 (at - first_number) bytes m rest p.0 q.0),
+          passes_most (3 + (at - 3)) at bytes rest (omega (arith, wrote.counted)) (passes_then 3 (at - 3) bytes m rest p.0 q.0),
           record {
             game = game;
             lemmas = said game.position wrote.lines;
@@ -242,6 +244,14 @@ module _ (input : Option (List ℕ)) (begun : ℕ) (game : Game) (mid : Pending)
             });
         } in
         ends_stop put last at first before after (stops.Refused r) t.known few later (ap (λ r. r.at) is) stopped
+
+    -- and what was written couldn't be handed on
+    pub ends_unsent : (root : Position) (all : Option (List ℕ)) → root ≡ game.position → Keeps all new
+        → Wrote true root t.known at mid last held all (AreAll root t at) → Upgrades (over input last old new) (Stopped Write)
+    ends_unsent root all same kept given =
+        let W : Position → Type 0 = λ root. Wrote true root t.known at mid last held all (AreAll root t at) in
+        ends_cut put last at t.known few (wrote_unsent game.position mid last held all new kept t.known at (AreAll game.position t at)
+        (λ lines bytes rest p. (p.few, ([], p.cut ∙ sym (append-nil lines)))) (subst W same given))
 
   -- what holds of the bytes of a proof that is accepted
   record IsWhole (at count : ℕ) (lines : List (List ℕ)) (v : Verdict) (bytes : List ℕ) : Type 0 where

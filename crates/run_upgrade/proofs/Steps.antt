@@ -1,18 +1,20 @@
 -- One line after another: what was written so far goes on with what becomes of the next line.
-use Rattle.std.proofs.Common.{◌≡◌, ℕ, ◌+◌, ◌-◌, ◌≤◌, Bool, true, false, List, [], ◌∷◌, ◌++◌, length, Option, None, Ok, Err, refl, sym, ap, ◌∙◌, subst}
-use Rattle.std.proofs.Common.{append_assoc, append-nil, arith}
+use Rattle.std.proofs.Common.{◌≡◌, ℕ, ◌+◌, ◌-◌, ◌≤◌, Bool, true, false, List, [], ◌∷◌, ◌++◌, length, Option, Some, None, Result, Ok, Err}
+use Rattle.std.proofs.Common.{refl, sym, ap, ◌∙◌, subst, append_assoc, append-nil, arith}
+use Rattle.std.specs.Io.KnownBytes.{Keeps}
 use Rattle.std.proofs.KnownBytes.{Appends-nil, Appends-kept, Keeps-refl}
 use Rattle.std.proofs.lemmas.Bool.{leb-true}
 use Rattle.std.proofs.lemmas.List.{length-append}
 use Rattle.device_rules.specs.Devices.{Rose, AppendsPrefix}
-use Rattle.device_rules.proofs.DeviceLaws.{AppendsPrefix_more}
+use Rattle.device_rules.proofs.DeviceLaws.{AppendsPrefix_all, AppendsPrefix_more}
 use Rattle.game_rules.specs.Position.{Position, board_of}
 use Rattle.io_ports.specs.Lines.{Cut, Gives}
 use Rattle.io_ports.specs.Reading.{Pending, Reads, PassesLines}
 use Rattle.io_ports.specs.declared.line_reader.LineGot.TheVariants.{Line, Long, Done, Failed}
 use Rattle.io_ports.proofs.Reading.{Reads_start, Reads_more, Reads_then, passes_none, passes_then, passes_most}
 use Rattle.proof_text.specs.Checked.{CheckerState, with_line, lemmas_in}
-use Rattle.proof_text.specs.Right.{AreRight}
+use Rattle.proof_text.specs.Lemma.{Lemma}
+use Rattle.proof_text.specs.Right.{Shown, AreRight}
 use Rattle.proof_text.specs.Spelling.{lines_of}
 use Rattle.proof_text.specs.Texts.{most_lines, pieces, lines_in, first_number, with_said, start, verdict_answer}
 use Rattle.proof_text.specs.Upgrade.{upgraded}
@@ -76,7 +78,8 @@ module _ (a b : Pending) (text : List ℕ) (fed : Bool) (s : CheckerState) (at :
   next_long before after old gives = record {
     here = refl;
     kept = Keeps-refl old;
-    reads = bare a b (AtLine One s at) before after (stops.Refused (record { at = at; why = BadLine })) (long_stops One a b text fed s at None None gives refl before after);
+    reads = bare a b (AtLine One s at) before after (stops.Refused (record { at = at; why = BadLine }))
+        (long_stops One a b text fed s at None None gives refl before after);
   }
 
   pub next_unread : (before after : ℕ) (old : Option (List ℕ)) → Reads a b (λ bytes rest. Gives bytes rest Failed text fed) → Rose before after
@@ -137,7 +140,8 @@ module _ (s : CheckerState) (at : ℕ) (a b c : Pending) (old mid new : Option (
       let more : said s.root (wrote.lines ++ next.line ∷ []) ≡ ls ++ lemmas_in (found.0 ∷ []) = said_more s.root wrote.lines next.line
       ∙ ap (λ more. ls ++ more) says in
       let stands : t ≡ with_line s found.0 = next.added.1 ∙ ap (with_said s) found.1 in
-      let text : lines_of (upgraded s.root [] (said s.root (wrote.lines ++ next.line ∷ []))) ≡ lines_of (upgraded s.root [] ls) ++ text_behind s (next.line ∷ []) =
+      let text : lines_of (upgraded s.root [] (said s.root (wrote.lines ++ next.line ∷ [])))
+      ≡ lines_of (upgraded s.root [] ls) ++ text_behind s (next.line ∷ []) =
       ap (λ ls. lines_of (upgraded s.root [] ls)) more ∙ text_line s ls found.0 wrote.right
       ∙ ap (λ more. lines_of (upgraded s.root [] ls) ++ lines_of (upgraded s.root s.known more)) (sym says) in
       record {
@@ -200,7 +204,8 @@ module _ (s : CheckerState) (at : ℕ) (a b c : Pending) (old mid new : Option (
             counted = more.counted;
             right = more.right;
             written = more.written;
-            reads = Reads_more a c _ _ more.reads (λ bytes rest p. (p.few, (lines_in (pieces rest), p.cut)));
+            reads = Reads_more a c _ _ more.reads (λ bytes rest p.
+                (passes_most (at + 1 - first_number) (at + 1 - 3) bytes rest (omega arith) p.few, (lines_in (pieces rest), p.cut)));
           },
         ),
       )
@@ -216,7 +221,8 @@ module _ (s : CheckerState) (at : ℕ) (a b c : Pending) (old mid new : Option (
         right = wrote.right;
         written = Appends-kept old mid new (lines_of (upgraded s.root [] (said s.root wrote.lines))) wrote.written next.kept;
         reads = Reads_then a b c _ _ _ wrote.reads next.reads (λ bytes m rest p q. record {
-            few = passes_most (at - first_number + 1) (at - 3) bytes rest (omega (arith, wrote.counted)) (passes_then (at - first_number) 1 bytes m rest p.few q.0);
+            few = passes_most (at - first_number + 1) (at - 3) bytes rest (omega (arith, wrote.counted))
+                (passes_then (at - first_number) 1 bytes m rest p.few q.0);
             stopped = stops_earlier _ _ bytes m (said s.root wrote.lines) before held after stop p.goes later q.1;
             begins = (lines_in (pieces m), p.cut);
           });
@@ -229,6 +235,43 @@ module _ (s : CheckerState) (at : ℕ) (a b c : Pending) (old mid new : Option (
   wrote_stopped root same t before held after stop later few next =
       let W : Position → Type 0 = λ root. WritesLines root t a c before after old new (Err stop) in
       subst W same (stopped_lines t before held after stop later few next)
+
+-- ---- what was written is handed on
+
+module _ (root : Position) (a b : Pending) (old new sent : Option (List ℕ)) (kept : Keeps new sent) where
+  pub wrote_sent : (shown : List Shown) (at : ℕ) (Fact : List (List ℕ) → List ℕ → List ℕ → Type 0) → Wrote true root shown at a b old new Fact
+      → Wrote true root shown at a b old sent Fact
+  wrote_sent shown at Fact wrote = record {
+    lines = wrote.lines;
+    counted = wrote.counted;
+    right = wrote.right;
+    written = Appends-kept old new sent (lines_of (upgraded root [] (said root wrote.lines))) wrote.written kept;
+    reads = wrote.reads;
+  }
+
+  -- or couldn't be, and then it stands there all the same
+  pub wrote_unsent : (shown : List Shown) (at : ℕ) (Fact : List (List ℕ) → List ℕ → List ℕ → Type 0)
+      → ((lines : List (List ℕ)) (bytes rest : List ℕ) → Fact lines bytes rest → Passes at lines bytes rest)
+      → Wrote true root shown at a b old new Fact → Wrote false root shown at a b old sent (Passes at)
+  wrote_unsent shown at Fact more wrote =
+      let text = lines_of (upgraded root [] (said root wrote.lines)) in
+      record {
+        lines = wrote.lines;
+        counted = wrote.counted;
+        right = wrote.right;
+        written = AppendsPrefix_all false old sent text (Appends-kept old new sent text wrote.written kept);
+        reads = Reads_more a b _ _ wrote.reads (more wrote.lines);
+      }
+
+  pub lines_sent : (t : CheckerState) (before after : ℕ) (stop : ProofStop) → WritesLines root t a b before after old new (Err (Proof stop))
+      → WritesLines root t a b before after old sent (Err (Proof stop))
+  lines_sent t before after stop (at, few, here, (shown, wrote)) =
+      (at, few, here, (shown, wrote_sent shown at (StopsBehind root before after stop at) wrote))
+
+  pub lines_unsent : (t : CheckerState) (before after : ℕ) (stop : ProofStop) → WritesLines root t a b before after old new (Err (Proof stop))
+      → WritesLines root t a b before after old sent (Err Write)
+  lines_unsent t before after stop (at, few, here, (shown, wrote)) =
+      (at, few, (shown, wrote_unsent shown at (StopsBehind root before after stop at) (λ lines bytes rest p. (p.few, p.begins)) wrote))
 
 -- ---- the counts of faults
 

@@ -120,7 +120,8 @@ pub record StopsNext (a b : Pending) (s : CheckerState) (at before after : ℕ) 
   pub kept : KeepsBytes old new
   pub reads : Reads a b (λ bytes rest. PassesLines 1 bytes rest × StopsBy (AtLine One s at) bytes before after stop)
 
-abbrev pub WritesNext : Pending → Pending → CheckerState → CheckerState → (at before after : ℕ) → Option (List ℕ) → Option (List ℕ) → Result Bool UpgradeStop → Type 0
+abbrev pub WritesNext : Pending → Pending → CheckerState → CheckerState → (at before after : ℕ) → Option (List ℕ) → Option (List ℕ)
+    → Result Bool UpgradeStop → Type 0
 WritesNext a b s t at before after old new (Ok true) = AddsNext true a b s t at old new
 WritesNext a b s t at before after old new (Ok false) = LeavesNone a b s t at old new
 WritesNext a b s t at before after old new (Err Write) = AddsNext false a b s t at old new
@@ -156,7 +157,7 @@ pub record AreAll (root : Position) (s : CheckerState) (at : ℕ) (lines : List 
 
 -- so many at most were passed
 abbrev pub Passes : ℕ → List (List ℕ) → List ℕ → List ℕ → Type 0
-Passes at lines bytes rest = PassesLines (at - first_number) bytes rest × BeginWith lines bytes
+Passes at lines bytes rest = PassesLines (at - 3) bytes rest × BeginWith lines bytes
 
 -- and the line behind them stops the reading
 pub record StopsBehind (root : Position) (before after : ℕ) (stop : ProofStop) (at : ℕ) (lines : List (List ℕ)) (bytes rest : List ℕ) : Type 0 where
@@ -165,7 +166,8 @@ pub record StopsBehind (root : Position) (before after : ℕ) (stop : ProofStop)
   pub begins : BeginWith lines bytes
 
 -- how the lines behind a game are gone through, from its position on
-abbrev pub WritesLines : Position → CheckerState → Pending → Pending → (before after : ℕ) → Option (List ℕ) → Option (List ℕ) → Result ℕ UpgradeStop → Type 0
+abbrev pub WritesLines : Position → CheckerState → Pending → Pending → (before after : ℕ) → Option (List ℕ) → Option (List ℕ)
+    → Result ℕ UpgradeStop → Type 0
 WritesLines root t a b before after old new (Ok end) = Wrote true root t.known end a b old new (AreAll root t end)
 WritesLines root t a b before after old new (Err Write) =
     (at : ℕ) × (at ≤ most_lines_read) × ((shown : List Shown) × Wrote false root shown at a b old new (Passes at))

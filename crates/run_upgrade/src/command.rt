@@ -66,7 +66,10 @@ fn upgrade_all<S: Source, O: Sink>(
             put_verdict(accepted.verdict, out)?;
             Ok(())
         }
-        Err(refusal) => Err(UpgradeStop::Proof(ProofStop::Refused(refusal))),
+        Err(refusal) => {
+            out.flush()?;
+            Err(UpgradeStop::Proof(ProofStop::Refused(refusal)))
+        }
     }
 }
 

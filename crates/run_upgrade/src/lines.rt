@@ -17,7 +17,39 @@ use run_frame::InputStop;
 use run_proof::{FIRST_NUMBER, ProofStop, accept_line, bad_line};
 
 /// Adds the lines behind the game, writes what becomes of their lemmas, and answers the number after that of the last line.
+/// Where a line stops this, what was written is handed on.
 pub(crate) fn upgrade_lines<S: Source, O: Sink>(
+    checker: &mut Checker,
+    writer: &mut Writer,
+    size: Size,
+    lines: &mut Lines,
+    source: &mut S,
+    out: &mut O,
+) -> Result<u64, UpgradeStop>
+    requires start { checker.old.stands ≡ start checker.old.stands.root }
+    requires board { board_of checker.old.stands.root ≡ size }
+    requires in_step { InStep [] writer.old.index writer.old.lemmas }
+    ensures written { WritesLines checker.old.stands.root checker.new.stands
+        (pending lines.old (S.left source.old) (S.last_read source.old)) (pending lines.new (S.left source.new) (S.last_read source.new))
+        (S.faults source.old) (S.faults source.new) (O.written out.old) (O.written out.new) result }
+    ensures few { IfOk result (λ end. end ≤ most_lines_read) }
+    ensures ended { OnOk result (lines.new.ended ≡ true) }
+    ensures later { (S.faults source.old ≤ S.faults source.new) × (O.faults out.old ≤ O.faults out.new) }
+    ensures read_fault { IfErr result (SourceRose (S.faults source.old) (S.faults source.new)) }
+    ensures write_fault { IfErr result (SinkRose (O.faults out.old) (O.faults out.new)) }
+{
+    match upgrade_each(checker, writer, size, lines, source, out) {
+        Ok(end) => Ok(end),
+        Err(UpgradeStop::Proof(stop)) => {
+            out.flush()?;
+            Err(UpgradeStop::Proof(stop))
+        }
+        Err(UpgradeStop::Write) => Err(UpgradeStop::Write),
+    }
+}
+
+/// The same, and what was written may be held back.
+fn upgrade_each<S: Source, O: Sink>(
     checker: &mut Checker,
     writer: &mut Writer,
     size: Size,

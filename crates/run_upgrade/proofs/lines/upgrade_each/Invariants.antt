@@ -3,7 +3,7 @@ use Rattle.game_rules.specs.Position.{board_of}
 use Rattle.io_ports.specs.Reading.{pending}
 use Rattle.run_proof.specs.Whole.{most_lines_read}
 use Rattle.run_upgrade.specs.Steps.{InStep, Wrote, IsBehind}
-use Rattle.run_upgrade.proofs.lines.upgrade_lines.Given as goal
+use Rattle.run_upgrade.proofs.lines.upgrade_each.Given as goal
 
 -- what becomes of the lines before the next was written, and they were passed
 abbrev pub invariant-loop-at : goal.invariant-loop-at
