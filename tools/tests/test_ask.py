@@ -242,7 +242,7 @@ class EngineTest(ToolTest):
     def asks(self, *words, solver=None, prover=None):
         """The status, the answer, and what is said of the time."""
         more = ["--victor", program() if prover is None else self.script(
-            "victor", "[ \"$1\" = check ] && exec '%s' check\n%s" % (program(), prover))]
+            "victor", "case $1 in check | trim) exec '%s' $1;; esac\n%s" % (program(), prover))]
         more += ["--solver", self.script("solve", solver)] if solver else []
         return tool("ask.py", *words, *more)
 

@@ -62,7 +62,7 @@ class BatchTest(ToolTest):
         write(self.list, "# positions\n\n" + "\r\n".join(lines + [self.names[3]]) + "\n")
         # A program that takes its time before each proof, so that a run can be killed in the middle.
         self.slow = os.path.join(self.folder, "slow victor")
-        write(self.slow, "#!/bin/bash\n[ \"$1\" = check ] || sleep 0.05\nexec %s \"$@\"\n" % program(), True)
+        write(self.slow, "#!/bin/bash\n[ \"$1\" != prove ] || sleep 0.05\nexec %s \"$@\"\n" % program(), True)
 
     def words(self, *more, slow=False):
         victor = self.slow if slow else program()
@@ -241,7 +241,7 @@ class BatchTest(ToolTest):
     def test_refused_proof(self):
         """A proof that a checker refuses is in the table as such, and is run again."""
         write(self.list, self.names[0] + "\n")
-        write(self.slow, "#!/bin/bash\n[ \"$1\" = check ] && exec %s check\n%s prove | sed 's/^value .*/value win 1/'\n"
+        write(self.slow, "#!/bin/bash\n[ \"$1\" = prove ] || exec %s $1\n%s prove | sed 's/^value .*/value win 1/'\n"
               % (program(), program()), True)
         status, out, err = tool("batch", *self.words(slow=True))
         row = self.rows()[0]
