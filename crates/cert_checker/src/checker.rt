@@ -112,7 +112,9 @@ impl Checker {
         }
     }
 
-    /// As `add`, of a line that is lent.
+    /// As `add`, of a line that is lent. It is made a part of each caller, so that a command doesn't pay for the others
+    /// that read proofs.
+    #[inline(always)]
     pub fn add_view(&mut self, at: u64, line: &LineView<'_>) -> Result<(), AddStop>
         ensures accepted { OnOk result ((line_refusal self.old.stands (viewed line.now) ≡ None) × (self.new.stands ≡ with_line self.old.stands (viewed line.now))) }
         ensures spare { OnOk result (LeavesSpare (viewed line.now) self.old.spare self.new.spare) }

@@ -117,6 +117,7 @@ impl Trail {
 
     /// Takes this path in place of its own, and answers whether each of its moves is legal at its turn. Where one isn't,
     /// the moves before it are kept.
+    #[inline(always)]
     pub(crate) fn follow(&mut self, path: &[Column]) -> bool
         requires { length path.now ≤ MOST_SQUARES }
         ensures root { self.new.root ≡ self.old.root }

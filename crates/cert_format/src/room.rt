@@ -33,7 +33,9 @@ impl LineBuffer {
         }
     }
 
-    /// What `read_line` answers of the bytes, read into this room.
+    /// What `read_line` answers of the bytes, read into this room. It is made a part of each caller, so that a command
+    /// doesn't pay for the others that read proofs.
+    #[inline(always)]
     pub fn read(
         &mut self,
         bytes: &[u8],
