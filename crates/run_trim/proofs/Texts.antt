@@ -108,8 +108,7 @@ module _ (version : Version) (game : Game) where
   bytes_whole bytes (first ∷ second ∷ []) entries v cut text spelled = absurd (some_lines entries v spelled)
   bytes_whole bytes (first ∷ second ∷ next ∷ more) entries v cut text spelled =
       let tail = joined_lines (next ∷ more) (map entry_text entries) (verdict_text v) spelled in
-      let rest = join_with_byte 10 (next ∷ more) in
-      (
+      let rest = join_with_byte 10 (next ∷ more) in (
         tail.0,
         sym (joined bytes) ∙ ap (join_with_byte 10) cut
             ∙ ap (λ text. first_line version ++ 10 ∷ text)
