@@ -158,10 +158,13 @@ module _ (asked : Option Version) (version : Version) (a b c : Pending) (x y : O
   lines_known end from lines answer is =
       gets_behind _ _ (λ ls bytes m rest p q. (
         passes_most (3 + (end - 3)) end bytes rest (omega (arith, from)) (passes_then 3 (end - 3) bytes m rest p.0 q.0),
-        ((
-          p.1.0.answer ∙ ap (λ s. lines_from version s first_number m) (sym began) ∙ q.1.0 ∙ is,
-          p.1.0.says ∙ ap (λ s. lemmas_at (AtLine version s first_number) m) (sym began) ∙ q.1.1,
-        ), p.1.1),
+        (
+          (
+            p.1.0.answer ∙ ap (λ s. lines_from version s first_number m) (sym began) ∙ q.1.0 ∙ is,
+            p.1.0.says ∙ ap (λ s. lemmas_at (AtLine version s first_number) m) (sym began) ∙ q.1.1,
+          ),
+          p.1.1,
+        ),
       )) lines
 
 -- without what is known of the head

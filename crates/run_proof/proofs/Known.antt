@@ -39,8 +39,7 @@ module _ (a b : Pending) (got : LineGot) (text : List ℕ) (fed : Bool) (gives :
       → Reads a b (λ bytes rest. PassesLines 1 bytes rest × (GoesOn (AtHead asked) bytes (AtGame version) rest [] × IsNamed version bytes rest))
   head_known version other named = by_line a b got text fed gives _ (λ bytes rest h.
       let line : Cut = record { got = got; text = text; fed = fed; rest = rest } in
-      let is = given bytes rest text got fed h other in
-      (
+      let is = given bytes rest text got fed h other in (
         record {
           answer = head_named asked version bytes line is named;
           reaches = head_reaches asked version bytes line is named;

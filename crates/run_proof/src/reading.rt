@@ -75,7 +75,14 @@ pub fn read_whole_proof<S: Source, T: LemmaTaker>(
     let game = read_played_game(&mut lines, source)?;
     let root = *game.position();
     let mut checker = Checker::new(alloc, root);
-    let end = add_lines(&mut checker, taker, root.size(), version, &mut lines, source)?;
+    let end = add_lines(
+        &mut checker,
+        taker,
+        root.size(),
+        version,
+        &mut lines,
+        source,
+    )?;
     match checker.finish(end) {
         Ok(accepted) => Ok(ProofRead {
             version,

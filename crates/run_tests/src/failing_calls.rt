@@ -1,7 +1,7 @@
 //! Each call of a device failed in turn, up to the first run that has no call of that number.
 use crate::devices::{
-    ANNOTATE, DUEL, DUEL_ANSWERS, MISTAKE, MISTAKE_MARKS, PLAY, PROVE_BY_SEARCH, THREAT, TWO_SQUARES_LEFT, TWO_SQUARES_PROOF,
-    TRIM, UPGRADE, UPGRADED, ZUGZWANG, ZUGZWANG_ANSWERS,
+    ANNOTATE, DUEL, DUEL_ANSWERS, MISTAKE, MISTAKE_MARKS, PLAY, PROVE_BY_SEARCH, THREAT, TRIM,
+    TWO_SQUARES_LEFT, TWO_SQUARES_PROOF, UPGRADE, UPGRADED, ZUGZWANG, ZUGZWANG_ANSWERS,
 };
 use crate::running::{Devices, SOUND, run_over};
 use std::test::Fail;

@@ -1,7 +1,7 @@
 -- How a run of `trim` ends.
 use Rattle.std.proofs.Common.{◌≡◌, ℕ, List, [], ◌++◌, length, Option, Some, None, Ok, Err, refl, sym, ap, ◌∙◌, subst, inl, inr}
 use Rattle.std.specs.Io.KnownBytes.{Keeps}
-use Rattle.game_rules.specs.Game.{Game, board_played}
+use Rattle.game_rules.specs.Game.{board_played}
 use Rattle.proof_text.specs.Lemma.{Lemma}
 use Rattle.proof_text.specs.Texts.{lemmas_among, head_of, IsRightText}
 use Rattle.tool_text.specs.Trim.{CitesEarlier, numbers_named, trimmed_lines}

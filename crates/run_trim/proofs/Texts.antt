@@ -1,7 +1,7 @@
 -- The text of a right proof, as it was read: its head is the one that was read, and its lemmas are those that it says.
-use Rattle.std.proofs.Common.{◌≡◌, ℕ, ◌+◌, ◌≤◌, Bool, true, false, ◌==◌, List, [], ◌∷◌, ◌++◌, length, take, map, Option, Some, None, Ok, refl, sym, ap, ◌∙◌}
+use Rattle.std.proofs.Common.{◌≡◌, ℕ, ◌+◌, ◌≤◌, Bool, true, false, ◌==◌, List, [], ◌∷◌, ◌++◌, length, take, map, Some, None, refl, sym, ap, ◌∙◌}
 use Rattle.std.proofs.Common.{append_assoc, append-nil, arith, codes}
-use Rattle.std.specs.List.{AllByRecursion, join_with_byte, flat_map}
+use Rattle.std.specs.List.{AllByRecursion, join_with_byte}
 use Rattle.std.proofs.lemmas.Bool.{ne_eqb}
 use Rattle.std.proofs.lemmas.List.{length-append, length-take, take_all}
 use Rattle.std.proofs.lemmas.List.Folds.{flat_map-map}
@@ -11,7 +11,6 @@ use Rattle.game_rules.specs.Grammar.{letter_of, move_list, board_line, moves_lin
 use Rattle.game_rules.specs.Position.{board_of}
 use Rattle.game_rules.proofs.Games.{game_is_read}
 use Rattle.game_rules.proofs.Prefix.{game_short}
-use Rattle.proof_text.specs.Checked.{lemmas_in}
 use Rattle.proof_text.specs.Lemma.{ALemma, ARemark, AVerdict}
 use Rattle.proof_text.specs.Spelling.{lemma_text, verdict_text, as_line, VerdictFits}
 use Rattle.proof_text.specs.Texts.{pieces, game_prefix, first_number, game_of, behind_game, first_line, game_answer, check_of, Accepted}
@@ -108,8 +107,7 @@ module _ (version : Version) (game : Game) where
   bytes_whole bytes (first ∷ second ∷ []) entries v cut text spelled = absurd (some_lines entries v spelled)
   bytes_whole bytes (first ∷ second ∷ next ∷ more) entries v cut text spelled =
       let tail = joined_lines (next ∷ more) (map entry_text entries) (verdict_text v) spelled in
-      let rest = join_with_byte 10 (next ∷ more) in
-      (
+      let rest = join_with_byte 10 (next ∷ more) in (
         tail.0,
         sym (joined bytes) ∙ ap (join_with_byte 10) cut
             ∙ ap (λ text. first_line version ++ 10 ∷ text)

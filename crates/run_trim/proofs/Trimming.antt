@@ -1,5 +1,5 @@
 -- What is written of a right proof is its trimmed text.
-use Rattle.std.proofs.Common.{◌≡◌, ℕ, List, [], ◌++◌, length, refl, ap, ◌∙◌, subst}
+use Rattle.std.proofs.Common.{◌≡◌, ℕ, List, [], ◌++◌, length, refl, subst}
 use Rattle.game_rules.specs.Position.{Position}
 use Rattle.proof_text.specs.Right.{Shown, IsVerdict}
 use Rattle.proof_text.specs.Texts.{lemmas_among, head_of, IsRightText}

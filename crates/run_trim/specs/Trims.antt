@@ -16,7 +16,6 @@ use Rattle.run_frame.specs.Streams.{Streams, Took, TakesLines}
 use Rattle.run_frame.specs.Texts.{write_line, memory_line}
 use Rattle.run_proof.specs.Stops.{stop_status, stop_text, IsStopped}
 use Rattle.run_proof.specs.Whole.{IsRightInput, most_lines_read, most_taken}
-use Rattle.run_proof.specs.declared.stop.ProofStop.{ProofStop}
 use Rattle.run_trim.specs.declared.trimmed.Trimmed.{Trimmed}
 use Rattle.run_trim.specs.declared.trimmed.Trimmed.TheVariants.{Done, Stopped, Write, Memory}
 

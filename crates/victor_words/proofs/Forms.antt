@@ -223,8 +223,12 @@ form_found (Prove n k f t v) given is only ranges =
     ) refl
 form_found (Explain k) given is only ranges = rw (only, number_found reach given k refl is.0 ranges.0.0) refl
 form_found (Annotate n k m) given is only ranges =
-    rw (only, number_found nodes given n refl is.0 ranges.0.0, number_found reach given k refl is.1.0 ranges.0.1.0,
-      number_found last given m refl is.1.1.0 ranges.0.1.1.0) refl
+    rw (
+      only,
+      number_found nodes given n refl is.0 ranges.0.0,
+      number_found reach given k refl is.1.0 ranges.0.1.0,
+      number_found last given m refl is.1.1.0 ranges.0.1.1.0,
+    ) refl
 form_found (Drill size moves seed games n k) given is only ranges =
     rw (
       only,
