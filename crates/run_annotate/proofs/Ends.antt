@@ -1,5 +1,5 @@
 -- How a run of `annotate` ends.
-use Rattle.std.proofs.Common.{◌≡◌, ℕ, Ok, Err, refl, sym, ◌∙◌, inl, inr}
+use Rattle.std.proofs.Common.{◌≡◌, ℕ, refl, sym, ◌∙◌, inl, inr}
 use Rattle.run_frame.specs.Streams.{Streams, StillHolds}
 use Rattle.run_frame.specs.declared.game_input.InputStop.TheVariants as stops
 use Rattle.run_frame.proofs.Inputs.{IfSome_more, of_each, kept_still, appended_still, cut_still}
