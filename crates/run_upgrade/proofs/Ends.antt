@@ -145,15 +145,18 @@ module _ (input : Option (List ℕ)) (begun : ℕ) (game : Game) (mid : Pending)
   pub ends_head : AppendsPrefix false old new head_text → Upgrades (over input mid old new) (Stopped Write)
   ends_head put =
       took input begun mid old new 3 (λ bytes. HasWritten false bytes first_number [] old new) (Stopped Write) (omega arith)
-      (Reads_more _ _ _ _ head (λ bytes rest p. (p.0, record {
-        game = game;
-        lemmas = [];
-        shown = [];
-        lines = has_lines bytes rest first_number [] (lines_in (pieces rest)) p.1 refl (omega arith);
-        right = refl;
-        ends = inl refl;
-        written = AppendsPrefix_take old new head_text [] put;
-      })))
+      (Reads_more _ _ _ _ head (λ bytes rest p. (
+        p.0,
+        record {
+          game = game;
+          lemmas = [];
+          shown = [];
+          lines = has_lines bytes rest first_number [] (lines_in (pieces rest)) p.1 refl (omega arith);
+          right = refl;
+          ends = inl refl;
+          written = AppendsPrefix_take old new head_text [] put;
+        },
+      )))
       (λ taken here all lines. (first_number, [], here))
 
   module _ (put : Appends old held head_text) (last : Pending) where
@@ -238,10 +241,10 @@ module _ (input : Option (List ℕ)) (begun : ℕ) (game : Game) (mid : Pending)
           right = wrote.right;
           written = wrote.written;
           reads = Reads_more _ _ _ _ wrote.reads (λ bytes rest p. record {
-              few = p.few;
-              stopped = p.answer ∙ ap (verdict_answer at (length t.known)) none ∙ ap (λ r. answers.Refused r.at (why_of r.why)) (sym is);
-              begins = ([], p.cut ∙ sym (append-nil wrote.lines));
-            });
+            few = p.few;
+            stopped = p.answer ∙ ap (verdict_answer at (length t.known)) none ∙ ap (λ r. answers.Refused r.at (why_of r.why)) (sym is);
+            begins = ([], p.cut ∙ sym (append-nil wrote.lines));
+          });
         } in
         ends_stop put last at first before after (stops.Refused r) t.known few later (ap (λ r. r.at) is) stopped
 
@@ -309,17 +312,20 @@ module _ (input : Option (List ℕ)) (begun : ℕ) (game : Game) (mid : Pending)
     pub ends_last : AppendsPrefix false all new (verdict_line right.verdict) → Upgrades (over input last old new) (Stopped Write)
     ends_last cut =
         let text = lines_of (upgraded game.position [] (said game.position wrote.lines)) in
-        took input begun last old new at (IsWhole at right.lemmas wrote.lines right.verdict) (Stopped Write) few whole (λ taken here everywhere lines.
-        (at, verdict_line right.verdict, record {
-          game = game;
-          lemmas = said game.position wrote.lines;
-          shown = here.ends.0;
-          lines = here.has;
-          right = here.ends.1;
-          ends = here.ends.2;
-          written = AppendsPrefix_more false old held new head_text (text ++ verdict_line right.verdict) put
-              (AppendsPrefix_more false held all new text (verdict_line right.verdict) wrote.written cut);
-        }))
+        took input begun last old new at (IsWhole at right.lemmas wrote.lines right.verdict) (Stopped Write) few whole (λ taken here everywhere lines. (
+          at,
+          verdict_line right.verdict,
+          record {
+            game = game;
+            lemmas = said game.position wrote.lines;
+            shown = here.ends.0;
+            lines = here.has;
+            right = here.ends.1;
+            ends = here.ends.2;
+            written = AppendsPrefix_more false old held new head_text (text ++ verdict_line right.verdict) put
+                (AppendsPrefix_more false held all new text (verdict_line right.verdict) wrote.written cut);
+          },
+        ))
 
 -- ---- what a caller rests on
 

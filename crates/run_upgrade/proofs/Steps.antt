@@ -55,9 +55,9 @@ module _ (a b : Pending) (text : List ℕ) (fed : Bool) (s : CheckerState) (at :
   passes_next : (t : CheckerState) → Reads a b (λ bytes rest. Gives bytes rest Line text fed) → IsAdded s t at text
       → Reads a b (λ bytes rest. PassesLines 1 bytes rest × PassesLine s t at text bytes rest)
   passes_next t gives added = by_line a b Line text fed gives _ (λ bytes rest is. record {
-      goes = line_goes One a b text fed s at None None bytes rest is added.0 t added.1;
-      cut = let line : Cut = record { got = Line; text = text; fed = fed; rest = rest } in line_first bytes line is refl;
-    })
+    goes = line_goes One a b text fed s at None None bytes rest is added.0 t added.1;
+    cut = let line : Cut = record { got = Line; text = text; fed = fed; rest = rest } in line_first bytes line is refl;
+  })
 
   pub next_added : (whole : Bool) (t : CheckerState) (old new : Option (List ℕ)) → Reads a b (λ bytes rest. Gives bytes rest Line text fed)
       → IsAdded s t at text → AppendsPrefix whole old new (text_behind s (text ∷ [])) → AddsNext whole a b s t at old new
@@ -118,11 +118,11 @@ wrote_none s a old begins = record {
   right = ap (λ s. s.known) begins;
   written = Appends-nil old;
   reads = Reads_start a _ (λ bytes. record {
-      few = passes_none bytes;
-      goes = subst (λ t. GoesOn (AtLine One (start s.root) first_number) bytes (AtLine One t first_number) bytes []) (sym begins)
-          (record { answer = refl; reaches = λ reach. reach; says = refl });
-      cut = refl;
-    });
+    few = passes_none bytes;
+    goes = subst (λ t. GoesOn (AtLine One (start s.root) first_number) bytes (AtLine One t first_number) bytes []) (sym begins)
+        (record { answer = refl; reaches = λ reach. reach; says = refl });
+    cut = refl;
+  });
 }
 
 module _ (s : CheckerState) (at : ℕ) (a b c : Pending) (old mid new : Option (List ℕ))
@@ -152,12 +152,12 @@ module _ (s : CheckerState) (at : ℕ) (a b c : Pending) (old mid new : Option (
         written = subst (AppendsPrefix whole old new) (sym text)
             (AppendsPrefix_more whole old mid new (lines_of (upgraded s.root [] ls)) (text_behind s (next.line ∷ [])) wrote.written next.written);
         reads = Reads_then a b c _ _ _ wrote.reads next.reads (λ bytes m rest p q. record {
-            few = passes_most (at - first_number + 1) (at + 1 - first_number) bytes rest (omega (arith, wrote.counted))
-                (passes_then (at - first_number) 1 bytes m rest p.few q.0);
-            goes = subst (GoesOn (AtLine One (start s.root) first_number) bytes (AtLine One t (at + 1)) rest) (sym (said_more s.root wrote.lines next.line))
-                (goes_then _ _ _ bytes m rest ls (said s.root (next.line ∷ [])) p.goes q.1.goes);
-            cut = p.cut ∙ ap (λ more. wrote.lines ++ more) q.1.cut ∙ sym (append_assoc wrote.lines (next.line ∷ []) (lines_in (pieces rest)));
-          });
+          few = passes_most (at - first_number + 1) (at + 1 - first_number) bytes rest (omega (arith, wrote.counted))
+              (passes_then (at - first_number) 1 bytes m rest p.few q.0);
+          goes = subst (GoesOn (AtLine One (start s.root) first_number) bytes (AtLine One t (at + 1)) rest) (sym (said_more s.root wrote.lines next.line))
+              (goes_then _ _ _ bytes m rest ls (said s.root (next.line ∷ [])) p.goes q.1.goes);
+          cut = p.cut ∙ ap (λ more. wrote.lines ++ more) q.1.cut ∙ sym (append_assoc wrote.lines (next.line ∷ []) (lines_in (pieces rest)));
+        });
       }
 
   -- it was added, and the root stays
@@ -176,10 +176,10 @@ module _ (s : CheckerState) (at : ℕ) (a b c : Pending) (old mid new : Option (
     right = subst (λ t. AreRight s.root [] (said s.root wrote.lines) t.known) (sym none.same) wrote.right;
     written = Appends-kept old mid new (lines_of (upgraded s.root [] (said s.root wrote.lines))) wrote.written none.kept;
     reads = Reads_then a b c _ _ _ wrote.reads none.reads (λ bytes m rest p q. record {
-        few = passes_most (at - first_number + 1) (at - 3) bytes rest (omega (arith, wrote.counted)) (passes_then (at - first_number) 1 bytes m rest p.few q.0);
-        answer = p.goes.answer ∙ q.1.0 ∙ ap (λ t. verdict_answer at (length t.known) t.verdict) (sym none.same);
-        cut = p.cut ∙ ap (λ more. wrote.lines ++ more) q.1.1 ∙ append-nil wrote.lines;
-      });
+      few = passes_most (at - first_number + 1) (at - 3) bytes rest (omega (arith, wrote.counted)) (passes_then (at - first_number) 1 bytes m rest p.few q.0);
+      answer = p.goes.answer ∙ q.1.0 ∙ ap (λ t. verdict_answer at (length t.known) t.verdict) (sym none.same);
+      cut = p.cut ∙ ap (λ more. wrote.lines ++ more) q.1.1 ∙ append-nil wrote.lines;
+    });
   }
 
   -- there was none
@@ -221,11 +221,11 @@ module _ (s : CheckerState) (at : ℕ) (a b c : Pending) (old mid new : Option (
         right = wrote.right;
         written = Appends-kept old mid new (lines_of (upgraded s.root [] (said s.root wrote.lines))) wrote.written next.kept;
         reads = Reads_then a b c _ _ _ wrote.reads next.reads (λ bytes m rest p q. record {
-            few = passes_most (at - first_number + 1) (at - 3) bytes rest (omega (arith, wrote.counted))
-                (passes_then (at - first_number) 1 bytes m rest p.few q.0);
-            stopped = stops_earlier _ _ bytes m (said s.root wrote.lines) before held after stop p.goes later q.1;
-            begins = (lines_in (pieces m), p.cut);
-          });
+          few = passes_most (at - first_number + 1) (at - 3) bytes rest (omega (arith, wrote.counted))
+              (passes_then (at - first_number) 1 bytes m rest p.few q.0);
+          stopped = stops_earlier _ _ bytes m (said s.root wrote.lines) before held after stop p.goes later q.1;
+          begins = (lines_in (pieces m), p.cut);
+        });
       },
     ),
   )

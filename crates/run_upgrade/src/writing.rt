@@ -51,7 +51,11 @@ impl Writer {
         ensures write_fault { IfErr result (SinkRose (O.faults out.old) (O.faults out.new)) }
     {
         let image = self.index.find(position, lemma.claim);
-        if self.index.keep(position, lemma.claim, lemma.number).is_err() {
+        if self
+            .index
+            .keep(position, lemma.claim, lemma.number)
+            .is_err()
+        {
             return Err(UpgradeStop::Proof(ProofStop::Memory));
         }
         let path = lemma.path.as_slice();

@@ -13,8 +13,12 @@ put-requires-clause-room g c =
     let P : LineView → Type 0 = λ line. IsAccepted One s c.accept_line.new.checker.stands c.args.at c.args.bytes.now (viewed line) in
     let is = subst P c.in-Ok-Lemma.field-0-is c.in-Ok-Lemma.ensures in
     let l = lemma_viewed c.in-Ok-Lemma.lemma in
-    omega (arith, c.requires.in_step.1, (lemma_right s c.args.at c.args.bytes.now l is.few is.said is.stands).1.next,
-    (lemma_fits s c.args.at c.args.bytes.now l is.few is.said is.stands).number.1)
+    omega (
+      arith,
+      c.requires.in_step.1,
+      (lemma_right s c.args.at c.args.bytes.now l is.few is.said is.stands).1.next,
+      (lemma_fits s c.args.at c.args.bytes.now l is.few is.said is.stands).number.1,
+    )
 
 pub returns-in-Some-clause-in_step : goal.returns-in-Some-clause-in_step
 returns-in-Some-clause-in_step g c =
