@@ -48,7 +48,8 @@ legal_line q column legal =
 -- ---- turns
 
 -- One turn: the other side's line, its column, and what is known of it, of the line that is written, and of the player after it.
-pub record IsPlayed {X : Type 0} (stands : X → Position) (Fact : X → ℕ → List ℕ → X → Type 0) (x : X) (move line : List ℕ) (column : ℕ) (next : X) : Type 0 where
+pub record IsPlayed {X : Type 0} (stands : X → Position) (Fact : X → ℕ → List ℕ → X → Type 0)
+    (x : X) (move line : List ℕ) (column : ℕ) (next : X) : Type 0 where
   pub letter : move ≡ letter_of column ∷ []
   pub legal : is_legal (stands x) column ≡ true
   pub fact : Fact x column line next
@@ -63,7 +64,8 @@ AreTurns {X} stands Fact x (move ∷ moves) (line ∷ lines) (column ∷ columns
     (next : X) × IsPlayed stands Fact x move line column next × AreTurns stands Fact next moves lines columns
 
 -- what is played goes in turns, and never lacks an answer
-pub record GoesInTurns {X : Type 0} (stands : X → Position) (Fact : X → ℕ → List ℕ → X → Type 0) (x : X) (moves : List (List ℕ)) (played : Played) : Type 0 where
+pub record GoesInTurns {X : Type 0} (stands : X → Position) (Fact : X → ℕ → List ℕ → X → Type 0) (x : X)
+    (moves : List (List ℕ)) (played : Played) : Type 0 where
   pub columns : List ℕ
   pub turns : AreTurns stands Fact x moves played.lines columns
   pub answered : played.end ≢ NoReply

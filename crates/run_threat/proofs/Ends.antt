@@ -32,7 +32,8 @@ none_said (Stopped (stops.Input inputs.Read)) is = absurd (cc is)
 none_said (Stopped stops.Write) is = absurd (cc is)
 
 -- where no stream failed
-pub threat_completes : (s : Streams) (end : GameEnding NoThreat) → Threatens s end → (end ≡ Stopped (stops.Input inputs.Read) → ⊥) → (end ≡ Stopped stops.Write → ⊥)
+pub threat_completes : (s : Streams) (end : GameEnding NoThreat) → Threatens s end → (end ≡ Stopped (stops.Input inputs.Read) → ⊥)
+    → (end ≡ Stopped stops.Write → ⊥)
     → ThreatCompletes s.input (threat_status end)
 threat_completes s end o unread unwritten =
     let ended = ends_as threat_form IsTold most_threat_lines threat_laws s end o unread unwritten (λ none is never. cc never) in (

@@ -60,7 +60,8 @@ module _ (root : Position) (old new : Option (List ℕ)) where
       } in
       subst (λ stop. PutsHead root old new (Err stop)) (sym cut.0) cut_head
 
-  pub puts_none : (stop : GameStop NoThreat) → None ≡ option_map (threat_found root) (first_threat root) → TellsNone old new stop → PutsHead root old new (Err stop)
+  pub puts_none : (stop : GameStop NoThreat) → None ≡ option_map (threat_found root) (first_threat root) → TellsNone old new stop
+      → PutsHead root old new (Err stop)
   puts_none (stops.Head none) found put = record {
     line = no_threat_line;
     written = put;
