@@ -17,7 +17,8 @@ use Rattle.run_proof.specs.Whole.{judged, most_lines_read, most_taken}
 use Rattle.run_proof.specs.Stops.{IsStopped}
 use Rattle.run_frame.specs.Streams.{Streams}
 use Rattle.run_proof.specs.Taken.{text_lemmas, Gains, BeginWith}
-use Rattle.run_proof.specs.Steps.{Adds, IsFirstStop, IsNamed, IsStopAt, StopsBy, StopsWith, Judges, Place, AtHead, AtGame, AtLine, GoesOn, Gets, lines_from, lemmas_at, lines_read_until}
+use Rattle.run_proof.specs.Steps.{Adds, IsFirstStop, IsNamed, IsStopAt, StopsBy, StopsWith}
+use Rattle.run_proof.specs.Steps.{Judges, Place, AtHead, AtGame, AtLine, GoesOn, Gets, lines_from, lemmas_at, lines_read_until}
 use Rattle.run_proof.specs.Heads.{HasHead, JudgesWhole}
 use Rattle.run_proof.specs.declared.reading.ProofRead.{ProofRead}
 use Rattle.io_ports.specs.Reading.{Pending, Reads, PassesLines}

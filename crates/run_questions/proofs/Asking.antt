@@ -186,7 +186,8 @@ module _ (version : Version) (root : Position) (nodes reach : ℕ) (slots : Opti
   pub asks_none : (stop : SearchStop) → AsksSide version root White reach slots [] most (moment before old) (moment after new) total (Err stop)
       → (stop ≡ Spent → nodes < count (solved_within reach) White root)
       → Asks version root nodes reach slots old new (Err stop)
-  asks_none stop white short = one_asked (Err stop) (Err stop) white (same_whole stop) (unasked root nodes reach slots stop white.shown None white.below short) tt
+  asks_none stop white short =
+      one_asked (Err stop) (Err stop) white (same_whole stop) (unasked root nodes reach slots stop white.shown None white.below short) tt
 
   -- White wins
   pub asks_white : (answer : Answer) (to_move : Side) (v : Verdict)

@@ -96,7 +96,7 @@ put_behind whole o p n xs ys first next =
 module _ {H X : Type 0} (form : GameForm H) (stands : X → Position) (turn : X → ℕ → Turn X) (x : X) (first : ℕ) (old : Option (List ℕ)) (begun : ℕ)
     (reader : Cutting) (mid last : Pending) (o p n : Option (List ℕ)) (before after : ℕ) (few : before ≤ 50)
     (new : reader ≡ record { ended = false; ahead = []; text = []; fed = false })
-        (start : Starts form stands turn x first (pending reader old begun) mid o p) where
+    (start : Starts form stands turn x first (pending reader old begun) mid o p) where
   start_reads : Reads (fresh old begun) mid (λ bytes rest. PassesLines form.head bytes rest
       × (form.given bytes ≡ behind start.lines (turns_by stands turn x first rest)))
   start_reads = from_fresh old begun reader mid _ new start.reads
