@@ -123,9 +123,7 @@ class BoardTest(ToolTest):
     @unittest.skipUnless(BROWSER, "Chromium and selenium aren't there: apt-get install chromium-driver python3-selenium")
     def test_in_a_browser(self):
         has_threat = subprocess.run([program(), "threat"], stdin=subprocess.DEVNULL, stderr=subprocess.DEVNULL).returncode == 3
-        has_follow = "follow" in subprocess.run([program()], stdin=subprocess.DEVNULL, capture_output=True, text=True).stderr
-        words = [SYSTEM_PYTHON, os.path.join(TOOLS, "tests", "browser_board.py"), self.address]
-        words += ["threat"] * has_threat + ["follow"] * has_follow
+        words = [SYSTEM_PYTHON, os.path.join(TOOLS, "tests", "browser_board.py"), self.address] + ["threat"] * has_threat
         made = subprocess.run(words, stdout=subprocess.PIPE, stderr=subprocess.STDOUT, encoding="utf-8", timeout=160)
         self.assertEqual(made.returncode, 0, made.stdout)
 
