@@ -1,5 +1,5 @@
 -- One line after another: what was written so far goes on with what becomes of the next line.
-use Rattle.std.proofs.Common.{◌≡◌, ℕ, ◌+◌, ◌-◌, ◌≤◌, Bool, true, false, List, [], ◌∷◌, ◌++◌, length, Option, Some, None, Result, Ok, Err}
+use Rattle.std.proofs.Common.{◌≡◌, ℕ, ◌+◌, ◌-◌, ◌≤◌, Bool, true, false, List, [], ◌∷◌, ◌++◌, length, Option, None, Ok, Err}
 use Rattle.std.proofs.Common.{refl, sym, ap, ◌∙◌, subst, append_assoc, append-nil, arith}
 use Rattle.std.specs.Io.KnownBytes.{Keeps}
 use Rattle.std.proofs.KnownBytes.{Appends-nil, Appends-kept, Keeps-refl}
@@ -13,7 +13,6 @@ use Rattle.io_ports.specs.Reading.{Pending, Reads, PassesLines}
 use Rattle.io_ports.specs.declared.line_reader.LineGot.TheVariants.{Line, Long, Done, Failed}
 use Rattle.io_ports.proofs.Reading.{Reads_start, Reads_more, Reads_then, passes_none, passes_then, passes_most}
 use Rattle.proof_text.specs.Checked.{CheckerState, with_line, lemmas_in}
-use Rattle.proof_text.specs.Lemma.{Lemma}
 use Rattle.proof_text.specs.Right.{Shown, AreRight}
 use Rattle.proof_text.specs.Spelling.{lines_of}
 use Rattle.proof_text.specs.Texts.{most_lines, pieces, lines_in, first_number, with_said, start, verdict_answer}
@@ -33,7 +32,7 @@ use Rattle.run_proof.proofs.Judging.{goes_then, stops_earlier}
 use Rattle.run_proof.proofs.Known.{with_bytes_root, line_goes, line_stops, long_stops, unread_stops}
 use Rattle.run_proof.proofs.Lines.{none_got, said_first}
 use Rattle.run_upgrade.specs.Steps.{said, text_behind, IsAdded, WritesLine, PassesLine, AddsNext, LeavesNone, StopsNext, WritesNext}
-use Rattle.run_upgrade.specs.Steps.{Wrote, IsBehind, AreAll, WritesLines, SourceRose, SinkRose}
+use Rattle.run_upgrade.specs.Steps.{Wrote, IsBehind, AreAll, Passes, StopsBehind, WritesLines, SourceRose, SinkRose}
 use Rattle.run_upgrade.specs.declared.upgraded.UpgradeStop.{UpgradeStop}
 use Rattle.run_upgrade.specs.declared.upgraded.UpgradeStop.TheVariants.{Proof, Write}
 use Rattle.run_upgrade.proofs.Written.{line_says}
