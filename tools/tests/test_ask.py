@@ -359,7 +359,7 @@ class KnownTest(ToolTest):
         path = next(words[1] for words in lines if words[2] == "W+" and len(words[1]) > 1)
         for moves in ("dccbbdbbddcc" + path, ("dccbbdbbddcc" + path).translate(str.maketrans("abcd", "dcba"))):
             self.says("found in ", "--from", proof, "--board", "4x4", moves)
-        self.assertNotIn("found in", self.says("on 4 by 4 (", "--from", proof, "--board", "4x4", "cdccddcdaaaabb")[1])
+        self.assertNotIn("found in", self.says("who is to move (", "--from", proof, "--board", "4x4", "cdccddcdaaaabb")[1])
         self.refuses("ask.py", "--from", example("forced-win.txt"), "-", said="is no proof")
 
     def test_packed(self):
