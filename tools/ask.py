@@ -127,9 +127,12 @@ def ask(words):
         answer, moves = asker.answer(game), None
         if words.moves:
             answer, moves = asker.moves_of(game, answer)
-        line = line_of(answer, asker.program) if words.line else None
+        kept = None
         if words.keep and answer.proof:
             kept = victor.trim(answer.proof, os.path.join(folder, "kept"), program=asker.program)
+            answer = answer if answer.value == "unknown" else asker.accepted(kept, answer.by)
+        line = line_of(answer, asker.program) if words.line else None
+        if kept:
             with open(kept.path, "rb") as source, boards.output(words.keep) as out:
                 shutil.copyfileobj(source, out)
     said = (data_of if words.json else sentence)(game, answer, asker.engines, moves, line)
