@@ -131,6 +131,7 @@ impl Checker {
         }
     }
 
+    #[inline(always)]
     fn add_lemma(&mut self, at: u64, lemma: &LemmaView<'_>) -> Result<(), AddStop>
         requires { self.old.stands.verdict ≡ None }
         ensures accepted { OnOk result ((line_refusal self.old.stands (ALemma (lemma_viewed lemma.now)) ≡ None) × (self.new.stands ≡ with_line self.old.stands (ALemma (lemma_viewed lemma.now)))) }

@@ -5,6 +5,7 @@
 #![tactic(auto)]
 
 mod back_line;
+mod head;
 mod instance_text;
 mod items;
 mod lines;
@@ -16,6 +17,7 @@ mod reading;
 mod room;
 mod verdict_line;
 
+pub use head::head_of;
 pub use items::{Item, print_item, push_group, push_plan_fault, push_square};
 pub use lines::{
     Cite, Lemma, LemmaView, Line, LineFault, LineView, Reason, ReasonView, first_line,

@@ -40,6 +40,7 @@ pub fn read_line(bytes: &[u8], size: Size, version: Version) -> Result<Line, Lin
 }
 
 /// Reads a line of a version, a lemma into this room.
+#[inline(always)]
 pub(crate) fn read_into(
     room: &mut LemmaRoom,
     bytes: &[u8],
@@ -170,6 +171,7 @@ fn behind<'a>(bytes: &'a [u8], text: &[u8]) -> Option<&'a [u8]>
 }
 
 /// Reads the words of a reason into this room.
+#[inline(always)]
 fn read_reason(room: &mut ReasonRoom, bytes: &[u8], size: Size) -> Option<()>
     ensures { option_map (λ _. reason_in room.new) result ≡ reason_of size (words_of bytes.now) }
 {

@@ -2,6 +2,7 @@
 use Rattle.std.proofs.Common.{◌≡◌, ℕ, ◌+◌, ◌≤◌, Bool, true, nat_le, List, [], ◌∷◌, ◌++◌, map, length, Option, Some, None, refl, sym, ap, ◌∙◌, subst, arith}
 use Rattle.std.specs.List.{AllByRecursion}
 use Rattle.std.proofs.lemmas.Bool.{leb-true, le-leb}
+use Rattle.game_rules.specs.Board.{Board}
 use Rattle.game_rules.specs.Position.{Position, played, board_of}
 use Rattle.proof_text.specs.Lemma.{Lemma, Line, ALemma, ARemark, AVerdict}
 use Rattle.proof_text.specs.Right.{Shown, AreRight, IsVerdict}
@@ -9,7 +10,7 @@ use Rattle.proof_text.specs.Checked.{Why, unless, CheckerState, line_refusal, sh
 use Rattle.proof_text.specs.Spelling.{lemma_text, verdict_text, VerdictFits, IsLine}
 use Rattle.proof_text.specs.Reading.{read_line}
 use Rattle.proof_text.specs.Texts.{most_lines, said_refusal, bytes_refusal, CheckAnswer, Accepted, verdict_answer, with_said, with_bytes, line_answer}
-use Rattle.proof_text.specs.Texts.{check_from, Entry, LemmaEntry, RemarkEntry, entry_text, lemmas_among, EntryFits}
+use Rattle.proof_text.specs.Texts.{check_from, lemmas_said, Entry, LemmaEntry, RemarkEntry, entry_text, lemmas_among, EntryFits}
 use Rattle.proof_text.proofs.Refusals.{none_or, line_of_none, none_of_line, right_of_none, none_of_right, verdict_of_none, none_of_verdict}
 use Rattle.proof_text.proofs.Spelled.{line_read, line_spelled}
 use Rattle.proof_text.proofs.Fold.{bytes_of_none}
@@ -162,3 +163,40 @@ module _ (version : Version) where
       (line_spelled version (board_of root) bytes ARemark (refl, fit.0))
       (none_of_line (going root known) ARemark refl refl)
       ∙ lines_accepted root known (at + 1) entries after v fit.1 right verdict_fits verdict_right (omega arith)
+
+-- ---- line by line
+
+-- the root stays
+pub with_bytes_root : (version : Version) (s : CheckerState) (bytes : List ℕ) → (with_bytes version s bytes).root ≡ s.root
+with_bytes_root version s bytes = of_line (read_line version (board_of s.root) bytes)
+  where
+    of_line : (line : Option Line) → (with_said s line).root ≡ s.root
+    of_line None = refl
+    of_line (Some (ALemma l)) = refl
+    of_line (Some ARemark) = refl
+    of_line (Some (AVerdict v)) = refl
+
+-- ---- the lemmas that lines say
+
+-- a line says its own, and then come those of the others
+pub said_first : (version : Version) (board : Board) (line : List ℕ) (lines : List (List ℕ))
+    → lemmas_said version board (line ∷ lines) ≡ lemmas_said version board (line ∷ []) ++ lemmas_said version board lines
+said_first version board line lines = of_read (read_line version board line) refl
+  where
+    of_read : (said : Option Line) → read_line version board line ≡ said
+        → lemmas_said version board (line ∷ lines) ≡ lemmas_said version board (line ∷ []) ++ lemmas_said version board lines
+    of_read None e = rw e refl
+    of_read (Some (ALemma l)) e = rw e refl
+    of_read (Some ARemark) e = rw e refl
+    of_read (Some (AVerdict v)) e = rw e refl
+
+-- those of entries are theirs
+pub said_entries : (version : Version) (board : Board) (entries : List Entry) (v : Verdict) → AllByRecursion (EntryFits version board) entries → VerdictFits v
+    → lemmas_said version board (map entry_text entries ++ verdict_text v ∷ []) ≡ lemmas_among entries
+said_entries version board [] v fit verdict_fits =
+    rw (line_spelled version board (verdict_text v) (AVerdict v) (refl, (verdict_fits, refl))) refl
+said_entries version board (LemmaEntry l ∷ entries) v fit verdict_fits =
+    rw (line_spelled version board (lemma_text l) (ALemma l) (fit.0.0, (fit.0.1, refl)))
+    (ap (λ ls. l ∷ ls) (said_entries version board entries v fit.1 verdict_fits))
+said_entries version board (RemarkEntry bytes ∷ entries) v fit verdict_fits =
+    rw (line_spelled version board bytes ARemark (refl, fit.0)) (said_entries version board entries v fit.1 verdict_fits)

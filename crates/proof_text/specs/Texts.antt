@@ -8,7 +8,7 @@ use Rattle.game_rules.specs.Grammar.{game_text, last_feed}
 use Rattle.game_rules.specs.declared.InputFault.{InputFault}
 use Rattle.proof_text.specs.Lemma.{Lemma, Line, ALemma, ARemark, AVerdict, has_reason}
 use Rattle.proof_text.specs.Right.{Shown, AreRight, IsVerdict}
-use Rattle.proof_text.specs.Checked.{Why, unless, or_then, CheckerState, line_refusal, shown_of, with_line, first_verdict}
+use Rattle.proof_text.specs.Checked.{Why, unless, or_then, CheckerState, line_refusal, shown_of, with_line, lemmas_in, first_verdict}
 use Rattle.proof_text.specs.Spelling.{lemma_text, verdict_text, as_line, is_remark, Fits, VerdictFits}
 pub use Rattle.proof_text.specs.Spelling.{longest_line}
 use Rattle.proof_text.specs.Reading.{read_line}
@@ -68,6 +68,10 @@ abbrev pub behind_game : List (List ℕ) → List (List ℕ)
 behind_game [] = []
 behind_game (board ∷ []) = []
 behind_game (board ∷ moves ∷ more) = lines_in more
+
+-- the lemmas that some lines say, in their order; each line is given by its bytes
+abbrev pub lemmas_said : Version → Board → List (List ℕ) → List Lemma
+lemmas_said version board lines = lemmas_in (filter_map (read_line version board) lines)
 
 -- ---- the first line that fails
 

@@ -10,6 +10,7 @@ use Rattle.game_rules.specs.Board.{Board}
 use Rattle.game_rules.specs.Position.{board_of}
 use Rattle.proof_text.specs.Checked.{unless, or_then, line_refusal, with_line, lemmas_in, CheckerState}
 use Rattle.proof_text.specs.Texts.{most_lines, Refused, Accepted, said_refusal, bytes_refusal, with_bytes, with_said, verdict_answer}
+use Rattle.proof_text.proofs.Accepted.{with_bytes_root}
 use Rattle.proof_text.proofs.Sound.{true_text}
 use Rattle.proof_text.proofs.Whole.{whole_accepted, accepted_right}
 use Rattle.proof_text.specs.declared.Version.{Version}
@@ -54,15 +55,6 @@ module _ (a b : Pending) (got : LineGot) (text : List ℕ) (fed : Bool) (gives :
       (λ bytes rest h. head_other asked bytes (record { got = got; text = text; fed = fed; rest = rest }) (given bytes rest text got fed h other) unnamed)
 
 -- ---- the lines
-
-pub with_bytes_root : (version : Version) (s : CheckerState) (bytes : List ℕ) → (with_bytes version s bytes).root ≡ s.root
-with_bytes_root version s bytes = of_line (read_line version (board_of s.root) bytes)
-  where
-    of_line : (line : Option Said) → (with_said s line).root ≡ s.root
-    of_line None = refl
-    of_line (Some (ALemma l)) = refl
-    of_line (Some ARemark) = refl
-    of_line (Some (AVerdict v)) = refl
 
 module _ (version : Version) (a b : Pending) (text : List ℕ) (fed : Bool) (s : CheckerState) (at : ℕ) (had has : Option (List Lemma)) where
   -- it goes on behind a line that isn't refused

@@ -7,11 +7,10 @@ use Rattle.game_rules.specs.Position.{Position, board_of}
 use Rattle.game_rules.specs.Text.{game_at}
 use Rattle.game_rules.specs.declared.InputFault.{InputFault}
 use Rattle.proof_text.specs.Checked.{Why, CheckerState}
-use Rattle.proof_text.specs.Lemma.{Line as Said, ALemma, ARemark, AVerdict}
-use Rattle.proof_text.specs.Reading.{read_line}
 use Rattle.proof_text.specs.Texts.{pieces, lines_in, first_number, game_of, behind_game, first_line, bytes_refusal, NoGame, Refused}
 use Rattle.proof_text.specs.Texts.{verdict_answer, line_answer}
 use Rattle.proof_text.specs.Texts.{with_bytes, check_from, start, game_answer}
+use Rattle.proof_text.proofs.Accepted.{said_first}
 use Rattle.proof_text.proofs.Fold.{answer_by_lines}
 use Rattle.proof_text.proofs.First.{out_of_bounds}
 use Rattle.proof_text.specs.declared.Why.TheVariants.{BadLine}
@@ -145,18 +144,6 @@ unfolding game_from
 game_fault version bytes fault game = ap (λ r. game_answer version r (behind_game (pieces bytes))) game
 
 -- ---- the lemmas that are said
-
--- a line says its own, and then come those of the others
-pub said_first : (version : Version) (board : Board) (line : List ℕ) (lines : List (List ℕ))
-    → lemmas_said version board (line ∷ lines) ≡ lemmas_said version board (line ∷ []) ++ lemmas_said version board lines
-said_first version board line lines = of_read (read_line version board line) refl
-  where
-    of_read : (said : Option Said) → read_line version board line ≡ said
-        → lemmas_said version board (line ∷ lines) ≡ lemmas_said version board (line ∷ []) ++ lemmas_said version board lines
-    of_read None e = rw e refl
-    of_read (Some (ALemma l)) e = rw e refl
-    of_read (Some ARemark) e = rw e refl
-    of_read (Some (AVerdict v)) e = rw e refl
 
 pub line_says : (version : Version) (board : Board) (bytes : List ℕ) (line : Cut) → line ≡ next_line bytes → line.got ≡ Line
     → lemmas_from_lines version board bytes ≡ lemmas_said version board (line.text ∷ []) ++ lemmas_from_lines version board line.rest

@@ -1,20 +1,16 @@
 -- The lemmas that the text of a proof says, and those that a taker of lemmas has got.
-use Rattle.std.specs.Prelude.{◌≡◌, ℕ, ◌+◌, List, [], ◌∷◌, ◌++◌, filter_map, length, Option, Some, None, option_map, IfSome, Result, Ok, Err, ⊤}
+use Rattle.std.specs.Prelude.{◌≡◌, ℕ, ◌+◌, List, [], ◌∷◌, ◌++◌, length, Option, Some, None, option_map, IfSome, Result, Ok, Err, ⊤}
 use Rattle.game_rules.specs.Board.{Board}
 use Rattle.game_rules.specs.Position.{Position, board_of}
 use Rattle.game_rules.specs.Text.{game_at}
 use Rattle.game_rules.specs.declared.InputFault.{InputFault}
-use Rattle.proof_text.specs.Checked.{CheckerState, lemmas_in}
+use Rattle.proof_text.specs.Checked.{CheckerState}
 use Rattle.proof_text.specs.Lemma.{Lemma, Line, ALemma, ARemark, AVerdict}
-use Rattle.proof_text.specs.Reading.{read_line}
 use Rattle.proof_text.specs.Spelling.{Fits}
 use Rattle.proof_text.specs.Texts.{pieces, lines_in, game_of, behind_game}
+pub use Rattle.proof_text.specs.Texts.{lemmas_said}
 use Rattle.proof_text.specs.declared.Version.{Version}
 use Rattle.run_proof.specs.Whole.{version_named}
-
--- the lemmas that some lines say, in their order; each line is given by its bytes
-abbrev pub lemmas_said : Version → Board → List (List ℕ) → List Lemma
-lemmas_said version board lines = lemmas_in (filter_map (read_line version board) lines)
 
 -- those that the lines behind a game say; where there is no game, there is none
 abbrev pub game_lemmas : Version → Result Position InputFault → List (List ℕ) → List Lemma

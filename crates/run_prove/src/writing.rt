@@ -2,23 +2,21 @@
 ghost use Rattle.std.specs.Prelude.{◌≡◌, ℕ, List, [], ◌≤◌, ◌<◌, Ok, is_ok, IfOk};
 ghost use Rattle.device_rules.specs.Devices.{HasCause, AppendsPrefix};
 ghost use Rattle.game_rules.specs.Cost.{cost};
-ghost use Rattle.game_rules.specs.Game.{board_played, IsTextOf};
+ghost use Rattle.game_rules.specs.Game.{IsTextOf};
 ghost use Rattle.game_rules.specs.declared.Side.TheVariants as sides;
 ghost use Rattle.proof_text.specs.Spelling.{greatest_number, verdict_line};
-ghost use Rattle.proof_text.specs.Texts.{head_of};
 ghost use Rattle.proof_text.specs.declared.Verdict.TheVariants as verdicts;
 ghost use Rattle.deep_search.specs.Planned.{solved_within};
 ghost use Rattle.run_questions.specs.SizedFronts.{slots_of, IsAfter};
 ghost use Rattle.run_prove.specs.Proof.{Writes};
 
 use board_bits::Game;
-use cert_format::{Line, Verdict, Version, first_line, print_line};
+use cert_format::{Line, Verdict, Version, head_of, print_line};
 use deep_search::SearchStop;
 use io_ports::{Failed, Sink, put_all};
 use position_table::Table;
 use rule_chooser::Chooser;
 use run_questions::{SizedFront, ask};
-use text_words::{LineText, push_game, push_text};
 
 /// Writes a proof of this version, of the game's position, from a search that may enter `nodes` positions, with remarks of the
 /// front, where there is one. The verdict is `Unknown` only where that number is below the position's cost.
@@ -54,17 +52,6 @@ pub(crate) fn write_proof<O: Sink>(
         Err(SearchStop::Spent) => write_verdict(Verdict::Unknown, out),
         Err(SearchStop::WriteFault) => Err(Failed),
     }
-}
-
-/// The head of a proof: the line that names its format, and the two lines of the game.
-fn head_of(version: Version, game: &Game) -> LineText
-    ensures { result.items ≡ head_of version (board_played game.now) game.now.moves }
-{
-    let mut head = LineText::new();
-    push_text(&mut head, first_line(version));
-    head.push(b'\n');
-    push_game(&mut head, game);
-    head
 }
 
 /// Writes the line of the verdict, and hands on what was written.

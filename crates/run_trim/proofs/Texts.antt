@@ -11,35 +11,20 @@ use Rattle.game_rules.specs.Grammar.{letter_of, move_list, board_line, moves_lin
 use Rattle.game_rules.specs.Position.{board_of}
 use Rattle.game_rules.proofs.Games.{game_is_read}
 use Rattle.game_rules.proofs.Prefix.{game_short}
-use Rattle.proof_text.specs.Lemma.{ALemma, ARemark, AVerdict}
 use Rattle.proof_text.specs.Spelling.{lemma_text, verdict_text, as_line, VerdictFits}
 use Rattle.proof_text.specs.Texts.{pieces, game_prefix, first_number, game_of, behind_game, first_line, game_answer, check_of, Accepted}
 use Rattle.proof_text.specs.Texts.{Entry, LemmaEntry, RemarkEntry, entry_text, entry_lines, lemmas_among, EntryFits, head_of, IsRightText}
 use Rattle.proof_text.specs.declared.Verdict.{Verdict}
 use Rattle.proof_text.specs.declared.Version.{Version}
 use Rattle.proof_text.specs.declared.Version.TheVariants.{One, Two}
-use Rattle.proof_text.proofs.Accepted.{AreAccepted, accepted_lines}
+use Rattle.proof_text.proofs.Accepted.{AreAccepted, accepted_lines, said_entries}
 use Rattle.proof_text.proofs.First.{with_head, answer_named}
 use Rattle.proof_text.proofs.Fold.{answer_by_lines}
 use Rattle.proof_text.proofs.Pieces.{joined, joined_lines}
-use Rattle.proof_text.proofs.Spelled.{line_spelled}
 use Rattle.proof_text.proofs.Whole.{shown_count}
 use Rattle.run_proof.specs.Heads.{HasHead}
 use Rattle.run_proof.specs.Taken.{lemmas_said, game_lemmas, version_lemmas, pieces_lemmas, text_lemmas}
 use Rattle.run_proof.specs.Whole.{version_named}
-
--- ---- the lemmas that lines say
-
--- those of entries are theirs
-said_entries : (version : Version) (board : Board) (entries : List Entry) (v : Verdict) → AllByRecursion (EntryFits version board) entries → VerdictFits v
-    → lemmas_said version board (map entry_text entries ++ verdict_text v ∷ []) ≡ lemmas_among entries
-said_entries version board [] v fit verdict_fits =
-    rw (line_spelled version board (verdict_text v) (AVerdict v) (refl, (verdict_fits, refl))) refl
-said_entries version board (LemmaEntry l ∷ entries) v fit verdict_fits =
-    rw (line_spelled version board (lemma_text l) (ALemma l) (fit.0.0, (fit.0.1, refl)))
-    (ap (λ ls. l ∷ ls) (said_entries version board entries v fit.1 verdict_fits))
-said_entries version board (RemarkEntry bytes ∷ entries) v fit verdict_fits =
-    rw (line_spelled version board bytes ARemark (refl, fit.0)) (said_entries version board entries v fit.1 verdict_fits)
 
 version_first : (version : Version) → version_named None (first_line version) ≡ Some version
 version_first One = refl

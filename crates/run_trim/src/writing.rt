@@ -7,11 +7,10 @@ ghost use Rattle.tool_text.specs.Trim.{CitesEarlier, numbers_named, trimmed_line
 ghost use Rattle.proof_tools.specs.Reach.{reach_of, AreWithin};
 
 use board_bits::Game;
-use cert_format::{Verdict, Version, first_line};
+use cert_format::{Verdict, Version, head_of};
 use io_ports::{Failed, Sink, put_all};
 use proof_book::Book;
 use proof_tools::{Reach, print_trimmed};
-use text_words::{LineText, push_game, push_text};
 
 /// Writes the head of a proof, and those of its lemmas that are reached with its verdict, and hands on what was written.
 pub(crate) fn write_trimmed<O: Sink>(
@@ -34,14 +33,10 @@ pub(crate) fn write_trimmed<O: Sink>(
     out.flush()
 }
 
-/// Writes the line that names the version, and the two lines of the game.
+/// Writes the head of a proof of this version.
 fn put_head<O: Sink>(version: Version, game: &Game, out: &mut O) -> Result<(), Failed>
     ensures written { AppendsPrefix (is_ok result) (O.written out.old) (O.written out.new) (head_of version (board_played game.now) game.now.moves) }
     ensures cause { HasCause (O.faults out.old) (O.faults out.new) result }
 {
-    let mut head = LineText::new();
-    push_text(&mut head, first_line(version));
-    head.push(b'\n');
-    push_game(&mut head, game);
-    put_all(out, head.as_slice())
+    put_all(out, head_of(version, game).as_slice())
 }

@@ -1,11 +1,8 @@
 -- What becomes of all lines of a proof that is accepted.
 use Rattle.std.proofs.Common.{◌≡◌, ℕ, true, List, [], ◌∷◌, ◌++◌, map, refl, sym, ap, ◌∙◌, subst}
-use Rattle.std.specs.List.{AllByRecursion}
-use Rattle.game_rules.specs.Board.{Board}
 use Rattle.game_rules.specs.Game.{Game, board_played, IsTextOf}
 use Rattle.game_rules.specs.Grammar.{last_feed}
 use Rattle.game_rules.specs.Position.{Position}
-use Rattle.proof_text.specs.Lemma.{ALemma, ARemark, AVerdict}
 use Rattle.proof_text.specs.Right.{AreRight}
 use Rattle.proof_text.specs.Spelling.{lemma_text, verdict_text, VerdictFits}
 use Rattle.proof_text.specs.Texts.{pieces, lines_in, first_number, start, Accepted, Entry, LemmaEntry, RemarkEntry, entry_text, entry_lines, lemmas_among}
@@ -13,29 +10,11 @@ use Rattle.proof_text.specs.Texts.{EntryFits, head_of, IsRightText}
 use Rattle.proof_text.specs.Upgrade.{upgraded_text}
 use Rattle.proof_text.specs.declared.Verdict.{Verdict}
 use Rattle.proof_text.specs.declared.Version.TheVariants.{One, Two}
-use Rattle.proof_text.proofs.Accepted.{AreAccepted, accepted_lines}
-use Rattle.proof_text.proofs.Spelled.{line_spelled}
+use Rattle.proof_text.proofs.Accepted.{AreAccepted, accepted_lines, said_entries}
 use Rattle.proof_text.proofs.Upgraded.{text_upgraded}
 use Rattle.proof_text.proofs.Whole.{shown_count}
 use Rattle.run_proof.specs.Steps.{lines_from}
-use Rattle.run_proof.specs.Taken.{lemmas_said}
-use Rattle.run_proof.proofs.Lines.{said_first}
 use Rattle.run_upgrade.specs.Steps.{said}
-
--- the lemmas that the lines of entries say are those among them
-entries_say : (board : Board) (entries : List Entry) (v : Verdict) → AllByRecursion (EntryFits One board) entries → VerdictFits v
-    → lemmas_said One board (map entry_text entries ++ verdict_text v ∷ []) ≡ lemmas_among entries
-entries_say board [] v fit fits = rw (line_spelled One board (verdict_text v) (AVerdict v) (refl, (fits, refl))) refl
-entries_say board (LemmaEntry l ∷ entries) v fit fits =
-    let one : lemmas_said One board (lemma_text l ∷ []) ≡ l ∷ [] = rw (line_spelled One board (lemma_text l) (ALemma l) (fit.0.0, (fit.0.1, refl))) refl in
-    said_first One board (lemma_text l) (map entry_text entries ++ verdict_text v ∷ [])
-    ∙ ap (λ first. first ++ lemmas_said One board (map entry_text entries ++ verdict_text v ∷ [])) one
-    ∙ ap (λ more. l ∷ more) (entries_say board entries v fit.1 fits)
-entries_say board (RemarkEntry bytes ∷ entries) v fit fits =
-    let none : lemmas_said One board (bytes ∷ []) ≡ [] = rw (line_spelled One board bytes ARemark (refl, fit.0)) refl in
-    said_first One board bytes (map entry_text entries ++ verdict_text v ∷ [])
-    ∙ ap (λ first. first ++ lemmas_said One board (map entry_text entries ++ verdict_text v ∷ [])) none
-    ∙ entries_say board entries v fit.1 fits
 
 -- the lines that are accepted are right
 pub accepted_all : (root : Position) (bytes : List ℕ) (lines : List (List ℕ)) (v : Verdict) (count : ℕ)
@@ -47,7 +26,7 @@ accepted_all root bytes lines v count accepted cut =
 
 module _ (game : Game) (lines : List (List ℕ)) (v : Verdict) (count : ℕ) (all : AreAccepted One game.position [] first_number lines v count) where
   says_all : said game.position lines ≡ lemmas_among all.entries
-  says_all = ap (said game.position) all.spelled ∙ entries_say (board_played game) all.entries v all.fit all.verdict_fits
+  says_all = ap (said game.position) all.spelled ∙ said_entries One (board_played game) all.entries v all.fit all.verdict_fits
 
   pub right_all : AreRight game.position [] (said game.position lines) all.after
   right_all = subst (λ ls. AreRight game.position [] ls all.after) (sym says_all) all.right

@@ -24,13 +24,14 @@ use Rattle.proof_text.proofs.Upgraded.{right_line, text_line}
 use Rattle.run_frame.proofs.Cuts.{line_first, none_left}
 use Rattle.run_frame.proofs.GameRead.{by_line}
 use Rattle.run_frame.specs.declared.game_input.InputStop.TheVariants as inputs
+use Rattle.proof_text.proofs.Accepted.{with_bytes_root, said_first}
 use Rattle.run_proof.specs.Steps.{Place, AtLine, GoesOn, Gets, StopsBy, StopsWith, StopsAtLine, IsStopAt}
 use Rattle.run_proof.specs.Whole.{most_lines_read}
 use Rattle.run_proof.specs.declared.stop.ProofStop.{ProofStop}
 use Rattle.run_proof.specs.declared.stop.ProofStop.TheVariants as stops
 use Rattle.run_proof.proofs.Judging.{goes_then, stops_earlier}
-use Rattle.run_proof.proofs.Known.{with_bytes_root, line_goes, line_stops, long_stops, unread_stops}
-use Rattle.run_proof.proofs.Lines.{none_got, said_first}
+use Rattle.run_proof.proofs.Known.{line_goes, line_stops, long_stops, unread_stops}
+use Rattle.run_proof.proofs.Lines.{none_got}
 use Rattle.run_upgrade.specs.Steps.{said, text_behind, IsAdded, WritesLine, PassesLine, AddsNext, LeavesNone, StopsNext, WritesNext}
 use Rattle.run_upgrade.specs.Steps.{Wrote, IsBehind, AreAll, Passes, StopsBehind, WritesLines, SourceRose, SinkRose}
 use Rattle.run_upgrade.specs.declared.upgraded.UpgradeStop.{UpgradeStop}

@@ -13,10 +13,10 @@ ghost use Rattle.run_upgrade.specs.declared.upgraded.UpgradeStop.TheVariants as 
 
 use crate::lines::upgrade_lines;
 use crate::upgraded::{UpgradeEnd, UpgradeStop};
-use crate::writing::{Writer, head_of, put_verdict};
+use crate::writing::{Writer, put_verdict};
 use board_bits::Game;
 use cert_checker::Checker;
-use cert_format::Version;
+use cert_format::{Version, head_of};
 use io_ports::{Lines, Sink, Source, put_all};
 use run_frame::read_played_game;
 use run_proof::{ProofStop, read_head};

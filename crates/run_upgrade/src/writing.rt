@@ -1,20 +1,17 @@
 //! What is written of a proof: its head, what becomes of each lemma, and its verdict.
 ghost use Rattle.std.specs.Prelude.{◌≡◌, ◌+◌, ◌≤◌, ◌<◌, [], is_ok, length, IfErr, OnOk};
 ghost use Rattle.device_rules.specs.Devices.{HasCause, Rose, AppendsPrefix};
-ghost use Rattle.game_rules.specs.Game.{board_played};
 ghost use Rattle.proof_text.specs.Spelling.{greatest_number, longest_path, verdict_line};
-ghost use Rattle.proof_text.specs.Texts.{head_of};
 ghost use Rattle.cert_format.specs.Shape.{lemma_viewed};
 ghost use Rattle.run_upgrade.specs.Steps.{WritesLemma, SinkRose};
 
 use crate::upgraded::UpgradeStop;
-use board_bits::{Game, Position};
+use board_bits::Position;
 use cert_checker::MirrorIndex;
-use cert_format::{LemmaOut, LemmaView, Line, Reason, Verdict, Version, first_line, print_line};
+use cert_format::{LemmaOut, LemmaView, Line, Reason, Verdict, print_line};
 use io_ports::{Failed, Sink};
 use run_proof::ProofStop;
 use std::alloc::Global;
-use text_words::{LineText, push_game, push_text};
 
 /// What is kept of the lemmas that were written: their numbers by their positions, and how many there are.
 #[derive(Drop)]
@@ -71,17 +68,6 @@ impl Writer {
             Err(Failed) => Err(UpgradeStop::Write),
         }
     }
-}
-
-/// The head of a proof: the line that names its version, and the two lines of the game.
-pub(crate) fn head_of(version: Version, game: &Game) -> LineText
-    ensures { result.items ≡ head_of version (board_played game.now) game.now.moves }
-{
-    let mut head = LineText::new();
-    push_text(&mut head, first_line(version));
-    head.push(b'\n');
-    push_game(&mut head, game);
-    head
 }
 
 /// Writes the line of the verdict, and hands on what was written.

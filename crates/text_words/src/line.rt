@@ -7,7 +7,7 @@ use arrayvec::ArrayVec;
 use itoa::Buffer;
 
 /// No line that is made so is longer, with its line feed.
-pub const LINE_ROOM: usize = 256;
+pub const LINE_ROOM: usize = 288;
 
 /// The bytes of a line, or of a prefix of it.
 pub type LineText = ArrayVec<u8, LINE_ROOM>;

@@ -3,7 +3,8 @@ use Rattle.std.proofs.lemmas.Result.{err_from_is_err_and}
 use Rattle.io_ports.specs.Lines.{Gives}
 use Rattle.io_ports.specs.declared.line_reader.LineGot.TheVariants.{Line}
 use Rattle.io_ports.specs.Reading.{pending, Reads}
-use Rattle.run_proof.proofs.Known.{line_known, line_stops, long_stops, unread_stops, none_known, with_bytes_root}
+use Rattle.proof_text.proofs.Accepted.{with_bytes_root}
+use Rattle.run_proof.proofs.Known.{line_known, line_stops, long_stops, unread_stops, none_known}
 use Rattle.run_proof.proofs.reading.add_next.Goals as goal
 
 pub returns-in_err-add_line-in-Line-clause-answer : goal.returns-in_err-add_line-in-Line-clause-answer
