@@ -4,3 +4,5 @@ pub mod Behind
 pub mod Moves
 pub mod Games
 pub mod Steps
+pub mod Judged
+pub mod Tells

@@ -8,15 +8,15 @@ use Rattle.game_rules.specs.Text.{game_at, read_game, board_at}
 use Rattle.game_rules.specs.declared.Side.TheVariants.{White, Black}
 use Rattle.proof_text.specs.Spelling.{as_line}
 use Rattle.proof_text.specs.declared.Why.TheVariants.{EndedEarly}
-use Rattle.play_text.specs.Play.{PlayEnd, NoMove, AllPlayed}
+use Rattle.play_text.specs.Play.{PlayEnd, Refused, NoClaim, NoMove, AllPlayed, Played, ended}
 use Rattle.play_text.specs.declared.PlayKind.TheVariants.{BadMove, GameOver, ColumnFull}
-use Rattle.follow_text.specs.Follow.{Followed, Refused, NoClaim, FollowedTo, follow_of}
+use Rattle.follow_text.specs.Follow.{follow_of}
 
 abbrev input : List (List ℕ) → List ℕ
 input lines = flat_map as_line lines
 
-abbrev gives : List (List ℕ) → PlayEnd → Followed
-gives lines end = FollowedTo (record { lines = lines; end = end })
+abbrev gives : List (List ℕ) → PlayEnd → Played
+gives lines end = record { lines = lines; end = end }
 
 -- ---- a draw: each side has its lemma
 
@@ -74,7 +74,7 @@ won_by_white : follow_of White (forced_win (codes "a" ∷ [])) ≡ gives (as_lin
 unfolding follow_of game_at read_game board_at digits
 won_by_white = refl
 
-no_claim_for_black : follow_of Black (forced_win (codes "a" ∷ [])) ≡ NoClaim 8
+no_claim_for_black : follow_of Black (forced_win (codes "a" ∷ [])) ≡ ended (NoClaim 8)
 unfolding follow_of game_at read_game board_at digits
 no_claim_for_black = refl
 
@@ -85,11 +85,11 @@ won_at_once = refl
 
 -- ---- no proof
 
-no_verdict : follow_of White (input (codes "victor 1" ∷ codes "board 4 4" ∷ codes "moves -" ∷ codes "# nothing is said" ∷ [])) ≡ Refused 5 EndedEarly
+no_verdict : follow_of White (input (codes "victor 1" ∷ codes "board 4 4" ∷ codes "moves -" ∷ codes "# nothing is said" ∷ [])) ≡ ended (Refused 5 EndedEarly)
 unfolding follow_of game_at read_game board_at digits
 no_verdict = refl
 
-nothing_known : follow_of White (input (codes "victor 1" ∷ codes "board 4 4" ∷ codes "moves -" ∷ codes "value unknown" ∷ codes "a" ∷ [])) ≡ NoClaim 4
+nothing_known : follow_of White (input (codes "victor 1" ∷ codes "board 4 4" ∷ codes "moves -" ∷ codes "value unknown" ∷ codes "a" ∷ [])) ≡ ended (NoClaim 4)
 unfolding follow_of game_at read_game board_at digits
 nothing_known = refl
 

@@ -4,13 +4,13 @@ ghost use Rattle.std.specs.Prelude.{◌≡◌, ◌≢◌, ◌↔◌, ℕ, ◌+�
 ghost use Rattle.game_rules.specs.Board.{Board};
 ghost use Rattle.game_rules.specs.Position.{Position, empty_position, other, side_to_move, end_of, is_legal, after_move, played};
 ghost use Rattle.game_rules.specs.declared.Side.{Side};
-ghost use Rattle.proof_text.specs.Lemma.{Lemma};
+ghost use Rattle.proof_text.specs.Lemma.{claims_win, Lemma};
 ghost use Rattle.proof_text.specs.Right.{Shown, Shows, AreRight, IsVerdict};
 ghost use Rattle.proof_text.specs.declared.Claim.{Claim};
 ghost use Rattle.proof_text.specs.declared.Verdict.{Verdict};
 ghost use Rattle.play_text.specs.Play.{AllPlayed, NoReply, behind};
 ghost use Rattle.follow_text.specs.Following.{served_by, seen, Following, own_move_at, answer_to, game_by, is_game_by, IsServed, IsHeld, Follows, HasMove};
-ghost use Rattle.follow_text.specs.Follow.{follow_from, follow_at, named_for};
+ghost use Rattle.follow_text.specs.Follow.{follow_from, follow_at, named_for, is_won};
 
 /// Let a root be reached by legal moves, some lemmas be right from there, and one of them show a claim of the root. Then the
 /// side that the claim serves is served by following the lemmas, whatever legal moves the other side plays: its own moves are
@@ -42,11 +42,11 @@ pub fn each_move_is_answered()
         → IsHeld claim (after_move q column) × (end_of (after_move q column) ≡ None → HasMove after claim (after_move q column) (answer_to ls s q column)) }
 {}
 
-/// The lemma that a right verdict names for a side shows a claim of the root that serves this side; and from there, whatever
-/// lines are read, no answer is wanting.
+/// The lemma that a right verdict names for a side shows a claim of the root that serves this side: that it wins, where the verdict is
+/// that a side wins, and else that the other side doesn't. From there, whatever lines are read, no answer is wanting.
 pub fn the_lemma_that_is_named_serves()
     ensures claim { (root : Position) (after : List Shown) (holder : Side) (v : Verdict) (n : ℕ) → IsVerdict root after v
-        → named_for holder (side_to_move root) v ≡ Some n → (claim : Claim) × Shows after n root claim × (served_by claim ≡ holder) }
+        → named_for holder (side_to_move root) v ≡ Some n → (claim : Claim) × Shows after n root claim × (served_by claim ≡ holder) × (claims_win claim ≡ is_won v) }
     ensures answers { (root : Position) (ls : List Lemma) (after : List Shown) (claim : Claim) (holder : Side) (n at : ℕ) (lines : List (List ℕ))
         → AreRight root [] ls after → Shows after n root claim → (follow_at ls holder root n at lines).end ≢ NoReply }
 {}

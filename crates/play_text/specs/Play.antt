@@ -15,21 +15,24 @@ use Rattle.plan_rules.specs.Plan.{plan_reply}
 use Rattle.plan_rules.specs.Refusal.{PlanFault, plan_refusal}
 use Rattle.plan_text.specs.Items.{square_text}
 use Rattle.plan_text.specs.PlanLine.{read_plan}
+use Rattle.proof_text.specs.Checked.{Why}
 use Rattle.proof_text.specs.Spelling.{as_line, longest_line}
 use Rattle.proof_text.specs.Texts.{pieces, game_of, behind_game}
 use Rattle.play_text.specs.declared.PlayFault.{PlayFault}
 use Rattle.play_text.specs.declared.PlayKind.{PlayKind}
 use Rattle.play_text.specs.declared.PlayKind.TheVariants.{BadMove, GameOver, ColumnFull}
 
--- how play ends, by a plan of Black's or by an odd threat of White's
+-- how play ends, by a plan of Black's, by an odd threat of White's or by a whole proof
 pub data PlayEnd : Type 0 where
   NoGame : InputFault → PlayEnd  -- the first two lines are the text of no game
   NoPlanLine : PlayEnd  -- there is no third line, or it is no line of a plan
   NoPlan : PlanFault → PlayEnd  -- its instances are no plan at the game's position
   NoThreat : PlayEnd  -- the game's position has no odd threat
+  Refused : ℕ → Why → PlayEnd  -- the line with this number is refused as one of a proof
+  NoClaim : ℕ → PlayEnd  -- the verdict, in the line with this number, names no lemma that serves the side that plays by it
   NoMove : PlayFault → PlayEnd  -- a later line is no move of the other side's
   AllPlayed : PlayEnd  -- each line is one
-  NoReply : PlayEnd  -- that side's move ended the game, or has no answer; by a plan or a threat this never comes
+  NoReply : PlayEnd  -- that side's move ended the game, or has no answer; by a plan, a threat or a right proof this never comes
 
 -- what is written, a line for each move, and how play ends
 pub record Played : Type 0 where

@@ -7,7 +7,7 @@ use Rattle.game_rules.specs.declared.Side.TheVariants.{White}
 use Rattle.plan_rules.specs.Rules.{RuleInstance}
 use Rattle.plan_rules.specs.Plan.{is_plan, duel, is_playable_list, IsTurn}
 use Rattle.proof_text.specs.Texts.{pieces, game_of, behind_game}
-use Rattle.play_text.specs.Play.{PlayEnd, NoGame, NoPlanLine, NoPlan, NoThreat, NoMove, AllPlayed, NoReply, move_line, turn_text, plan_in}
+use Rattle.play_text.specs.Play.{PlayEnd, NoGame, NoPlanLine, NoPlan, NoThreat, Refused, NoClaim, NoMove, AllPlayed, NoReply, move_line, turn_text, plan_in}
 
 -- The line tells the turn of the duel that has this place: its column is White's there, and the line has White's square,
 -- Black's by the plan, and what Black's man ended.
@@ -45,6 +45,8 @@ IsTold bytes lines (NoGame fault) = lines ≡ []
 IsTold bytes lines NoPlanLine = lines ≡ []
 IsTold bytes lines (NoPlan fault) = lines ≡ []
 IsTold bytes lines NoThreat = ⊥
+IsTold bytes lines (Refused at why) = ⊥
+IsTold bytes lines (NoClaim at) = ⊥
 IsTold bytes lines (NoMove fault) = TellsPlay bytes lines
 IsTold bytes lines AllPlayed = TellsPlay bytes lines
 IsTold bytes lines NoReply = ⊥

@@ -19,7 +19,6 @@ play_laws = record {
   told = play_is_told;
   head = omega arith;
   room = omega arith;
-  within = λ none. omega arith;
 }
 
 -- without a plan play ends, and not by the end of the input

@@ -19,7 +19,6 @@ threat_laws = record {
   told = threat_is_told;
   head = omega arith;
   room = omega arith;
-  within = λ none. omega arith;
 }
 
 -- a run that ends without a threat says so

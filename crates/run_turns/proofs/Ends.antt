@@ -15,12 +15,11 @@ use Rattle.run_turns.specs.declared.game_end.GameStop.TheVariants as stops
 use Rattle.run_turns.specs.declared.game_end.GameEnding.{GameEnding}
 use Rattle.run_turns.specs.declared.game_end.GameEnding.TheVariants.{Done, Stopped}
 
--- What a command's lines tell at an end holds of what the definitions give; and so many lines are read at most.
+-- What a command's lines tell at an end holds of what the definitions give; and so many lines are read at most, where moves come.
 pub record HasLaws {H : Type 0} (form : GameForm H) (Told : List ℕ → List (List ℕ) → PlayEnd → Type 0) (most : ℕ) : Type 0 where
   pub told : (bytes : List ℕ) → Told bytes (form.given bytes).lines (form.given bytes).end
   pub head : 2 ≤ form.head
   pub room : form.head + 51 ≤ most
-  pub within : (h : H) → form.until h + 50 ≤ most
 
 module _ {H : Type 0} (form : GameForm H) (Told : List ℕ → List (List ℕ) → PlayEnd → Type 0) (most : ℕ) (laws : HasLaws form Told most) where
   -- what is told by an end
@@ -57,23 +56,23 @@ module _ {H : Type 0} (form : GameForm H) (Told : List ℕ → List (List ℕ) �
     ended_before None besides played all put takes = (input.lines, has_begun played all, put, takes)
 
   pub game_plays : {X : Type 0} (s : Streams) (result : Result X (GameStop H)) → PlaysInput form s.input s.left s.last_read s.old s.new result
-      → GamePlays form Told most s (ending_of result)
-  game_plays s (Ok x) input = took s (Ok x) input Done (form.head + 1) (omega (arith, laws.room)) input.passed
+      → ((h : H) → result ≡ Err (stops.Head h) → form.until h + 50 ≤ most) → GamePlays form Told most s (ending_of result)
+  game_plays s (Ok x) input within = took s (Ok x) input Done (form.head + 1) (omega (arith, laws.room)) input.passed
       (ended_so s (Ok x) input ends.AllPlayed (form.head + 1) input.played.0 input.played.1 input.written input.passed, input.played.2)
-  game_plays s (Err (stops.Input (inputs.NoGame fault))) input =
+  game_plays s (Err (stops.Input (inputs.NoGame fault))) input within =
       took s (Err (stops.Input (inputs.NoGame fault))) input (Stopped (stops.Input (inputs.NoGame fault))) 2 (omega (arith, laws.room, laws.head)) input.passed
       (ended_so s (Err (stops.Input (inputs.NoGame fault))) input (ends.NoGame fault) 2 input.played.0 input.played.1 input.written input.passed)
-  game_plays s (Err (stops.Input inputs.Read)) input =
+  game_plays s (Err (stops.Input inputs.Read)) input within =
       took s (Err (stops.Input inputs.Read)) input (Stopped (stops.Input inputs.Read)) form.head (omega (arith, laws.room))
       (input.passed.0, input.passed.1, (Failed, input.passed.2), omega (arith, input.passed.2.1))
       (input.lines, has_begun s (Err (stops.Input inputs.Read)) input input.played.0 input.played.1, input.written, input.passed)
-  game_plays s (Err (stops.Head h)) input =
-      took s (Err (stops.Head h)) input (Stopped (stops.Head h)) (form.until h) (laws.within h) input.passed
+  game_plays s (Err (stops.Head h)) input within =
+      took s (Err (stops.Head h)) input (Stopped (stops.Head h)) (form.until h) (within h refl) input.passed
       (ended_before s (Err (stops.Head h)) input (form.end_of h) (form.until h) input.played.0 input.played.1 input.written input.passed)
-  game_plays s (Err (stops.NoMove fault)) input =
+  game_plays s (Err (stops.NoMove fault)) input within =
       took s (Err (stops.NoMove fault)) input (Stopped (stops.NoMove fault)) (form.head + 1) (omega (arith, laws.room)) input.passed
       (ended_so s (Err (stops.NoMove fault)) input (ends.NoMove fault) (form.head + 1) input.played.0 input.played.1 input.written input.passed)
-  game_plays s (Err stops.Write) input =
+  game_plays s (Err stops.Write) input within =
       took s (Err stops.Write) input (Stopped stops.Write) form.head (omega (arith, laws.room)) input.passed
       (input.lines, has_begun s (Err stops.Write) input input.played.0 input.played.1, input.written, input.passed)
 

@@ -1,5 +1,5 @@
 //! Lists of words, and the form that each is.
-use board_bits::Size;
+use board_bits::{Side, Size};
 use std::alloc::{AllocError, Global};
 use std::test::Fail;
 use victor_words::{Form, read_words};
@@ -66,28 +66,37 @@ const PROVE: [(&str, u32, u32, Option<u32>, u32, u32); 15] = [
 fn prove_has_its_options_in_any_order_and_spelling(rt: HostRuntime) -> Result<(), Fail> {
     for (text, nodes, reach, front, table, format) in PROVE {
         let got = read_behind(rt.alloc(), "prove", text)?;
-        assert_eq!(rt;
-            got,
-            Some(Form::Prove {
-                nodes,
-                reach,
-                front,
-                table,
-                format,
-            }),
-            "{text}"
-        );
+        let wanted = Form::Prove {
+            nodes,
+            reach,
+            front,
+            table,
+            format,
+        };
+        assert!(rt; got == Some(wanted), "{text}");
     }
     Ok(())
 }
 
 #[test]
 fn other_commands_have_their_own_words(rt: HostRuntime) -> Result<(), Fail> {
-    let rows: [(&[&str], Form); 10] = [
+    let rows: [(&[&str], Form); 12] = [
         (&["check"], Form::Check),
         (&["play"], Form::Play),
         (&["upgrade"], Form::Upgrade),
         (&["threat"], Form::Threat),
+        (
+            &["follow", "white"],
+            Form::Follow {
+                holder: Side::White,
+            },
+        ),
+        (
+            &["follow", "black"],
+            Form::Follow {
+                holder: Side::Black,
+            },
+        ),
         (&["trim"], Form::Trim),
         (
             &["annotate"],
@@ -111,7 +120,7 @@ fn other_commands_have_their_own_words(rt: HostRuntime) -> Result<(), Fail> {
     ];
     for (words, form) in rows {
         let got = read_words(&words_of(rt.alloc(), words)?);
-        assert_eq!(rt; got, Some(form), "{words:?}");
+        assert!(rt; got == Some(form), "{words:?}");
     }
     Ok(())
 }
@@ -147,13 +156,13 @@ fn options_stand_before_between_and_after_the_numbers(rt: HostRuntime) -> Result
             nodes,
             reach,
         };
-        assert_eq!(rt; got, Some(wanted), "{text}");
+        assert!(rt; got == Some(wanted), "{text}");
     }
     Ok(())
 }
 
 /// Lists of words that are no form.
-const NONE: [&[&str]; 86] = [
+const NONE: [&[&str]; 90] = [
     &[],
     &[""],
     &["", "prove"],
@@ -166,6 +175,10 @@ const NONE: [&[&str]; 86] = [
     &["threats"],
     &["threat", "x"],
     &["threat", "--reach", "3"],
+    &["follow"],
+    &["follow", "White"],
+    &["follow", "white", "black"],
+    &["follow", "--reach", "3", "white"],
     &["trim", "x"],
     &["trim", "--last", "3"],
     &["annotate", "--last", "101"],
@@ -246,7 +259,7 @@ const NONE: [&[&str]; 86] = [
 fn other_words_are_no_form(rt: HostRuntime) -> Result<(), Fail> {
     for words in NONE {
         let got = read_words(&words_of(rt.alloc(), words)?);
-        assert_eq!(rt; got, None, "{words:?}");
+        assert!(rt; got.is_none(), "{words:?}");
     }
     Ok(())
 }

@@ -11,7 +11,7 @@ use Rattle.proof_text.specs.Texts.{pieces, game_of, behind_game}
 use Rattle.odd_rules.specs.Threat.{Pair, target, is_threat}
 use Rattle.odd_rules.specs.Duel.{threat_duel, is_playable_list, IsTurn, IsHeld}
 use Rattle.odd_rules.specs.Refusal.{first_threat}
-use Rattle.play_text.specs.Play.{PlayEnd, NoGame, NoPlanLine, NoPlan, NoThreat, NoMove, AllPlayed, NoReply, move_line}
+use Rattle.play_text.specs.Play.{PlayEnd, NoGame, NoPlanLine, NoPlan, NoThreat, Refused, NoClaim, NoMove, AllPlayed, NoReply, move_line}
 use Rattle.threat_text.specs.Threats.{turn_text, threat_line, no_threat_line}
 
 -- The line tells the turn of the duel that has this place: its column is Black's there, Black's man makes no line and
@@ -64,4 +64,6 @@ IsTold bytes lines (NoMove fault) = TellsThreat bytes lines
 IsTold bytes lines AllPlayed = TellsThreat bytes lines
 IsTold bytes lines NoPlanLine = ⊥
 IsTold bytes lines (NoPlan fault) = ⊥
+IsTold bytes lines (Refused at why) = ⊥
+IsTold bytes lines (NoClaim at) = ⊥
 IsTold bytes lines NoReply = ⊥

@@ -7,7 +7,7 @@ use Rattle.proof_text.specs.declared.Version.TheVariants.{One, Two}
 use Rattle.drill_games.specs.Games.{games_from}
 use Rattle.victor_words.specs.Words.{usage}
 use Rattle.victor_words.specs.declared.form.Form.{Form}
-use Rattle.victor_words.specs.declared.form.Form.TheVariants.{Prove, Check, Play, Explain, Drill, Upgrade, Threat, Trim, Annotate}
+use Rattle.victor_words.specs.declared.form.Form.TheVariants.{Prove, Check, Play, Explain, Drill, Upgrade, Threat, Follow, Trim, Annotate}
 use Rattle.run_frame.specs.Streams.{Streams, IsUnread}
 use Rattle.run_prove.specs.Proves.{ProveRuns, ProveCompletes}
 use Rattle.run_check.specs.Checks.{CheckRuns, CheckCompletes}
@@ -16,6 +16,7 @@ use Rattle.run_explain.specs.Explains.{ExplainRuns, ExplainCompletes}
 use Rattle.run_drill.specs.Drills.{DrillRuns, DrillCompletes}
 use Rattle.run_upgrade.specs.Upgrades.{UpgradeRuns, UpgradeCompletes}
 use Rattle.run_threat.specs.Threatens.{ThreatRuns, ThreatCompletes}
+use Rattle.run_follow.specs.Follows.{FollowRuns, FollowCompletes}
 use Rattle.run_annotate.specs.Annotates.{AnnotateRuns, AnnotateCompletes}
 use Rattle.run_trim.specs.Trims.{TrimRuns, TrimCompletes}
 
@@ -33,6 +34,7 @@ Outcome (Some (Explain reach)) s status text = ExplainRuns reach s status text
 Outcome (Some (Drill size moves seed games nodes reach)) s status text = DrillRuns (games_from games size moves seed) nodes reach s status text
 Outcome (Some Upgrade) s status text = UpgradeRuns s status text
 Outcome (Some Threat) s status text = ThreatRuns s status text
+Outcome (Some (Follow holder)) s status text = FollowRuns holder s status text
 Outcome (Some Trim) s status text = TrimRuns s status text
 Outcome (Some (Annotate nodes reach last)) s status text = AnnotateRuns nodes reach last s status text
 
@@ -45,5 +47,6 @@ Completes (Explain reach) unread unwritten input status = (unread → ⊥) → (
 Completes (Drill size moves seed games nodes reach) unread unwritten input status = (unwritten → ⊥) → DrillCompletes status
 Completes Upgrade unread unwritten input status = (unread → ⊥) → (unwritten → ⊥) → UpgradeCompletes input status
 Completes Threat unread unwritten input status = (unread → ⊥) → (unwritten → ⊥) → ThreatCompletes input status
+Completes (Follow holder) unread unwritten input status = (unread → ⊥) → (unwritten → ⊥) → FollowCompletes holder input status
 Completes Trim unread unwritten input status = (unread → ⊥) → (unwritten → ⊥) → TrimCompletes input status
 Completes (Annotate nodes reach last) unread unwritten input status = (unread → ⊥) → (unwritten → ⊥) → AnnotateCompletes input status

@@ -13,6 +13,7 @@ use run_annotate::annotate;
 use run_check::check;
 use run_drill::drill;
 use run_explain::explain;
+use run_follow::follow;
 use run_frame::report;
 use run_play::play;
 use run_prove::prove;
@@ -26,8 +27,9 @@ use victor_words::{Form, read_words};
 /// of a fault goes to `err`, whole unless the count of faults of `err` rose.
 ///
 /// What a command reads and writes, and with which status and text it ends, its own crate says: [`prove`], [`check`],
-/// [`play`], [`explain`], [`drill`], [`upgrade`], [`threat`], [`trim`], [`annotate`]. Where the words are no written form, the status is 2 and nothing is read or written.
-/// What stops a run first decides its end. `prove`, `check`, `drill`, `upgrade`, `trim` and `annotate` alone take memory.
+/// [`play`], [`explain`], [`drill`], [`upgrade`], [`threat`], [`follow`], [`trim`], [`annotate`]. Where the words are no written
+/// form, the status is 2 and nothing is read or written. What stops a run first decides its end. `play`, `explain` and `threat`
+/// take no memory.
 pub fn run<S: Source, O: Sink, E: Sink>(
     alloc: Global,
     words: &[String],
@@ -47,7 +49,8 @@ pub fn run<S: Source, O: Sink, E: Sink>(
     ensures write_fault { result ≡ 7 → Rose (O.faults out.old) (O.faults out.new) }
 
     // Where no stream failed and the budget suffices, the value is written with its proof, and a proof that is right is
-    // accepted, unless memory runs out, and one of the first version upgraded; a game, a plan and moves of White's are played to their end; a plan is explained
+    // accepted, unless memory runs out, and one of the first version upgraded; a game, a plan and moves of White's are
+    // played to their end, and so are a right proof and moves of the side that it doesn't favour; a plan is explained
     // where the position is solved within the reach, and is said to be none where it isn't; and games are made and counted,
     // unless memory runs out.
     ensures complete { (form : Form) → IsWritten (map string_bytes words.now) form
@@ -84,19 +87,11 @@ fn run_form<S: Source, O: Sink, E: Sink>(
             front,
             table,
             format,
-        } => report(
-            &prove(
-                alloc,
-                nodes,
-                reach,
-                front,
-                table,
-                version_named(format),
-                source,
-                out,
-            ),
-            err,
-        ),
+        } => {
+            let version = version_named(format);
+            let proved = prove(alloc, nodes, reach, front, table, version, source, out);
+            report(&proved, err)
+        }
         Form::Check => report(&check(alloc, source, out), err),
         Form::Play => report(&play(source, out), err),
         Form::Explain { reach } => report(&explain(reach, source, out), err),
@@ -113,6 +108,7 @@ fn run_form<S: Source, O: Sink, E: Sink>(
         ),
         Form::Upgrade => report(&upgrade(alloc, source, out), err),
         Form::Threat => report(&threat(source, out), err),
+        Form::Follow { holder } => report(&follow(alloc, holder, source, out), err),
         Form::Trim => report(&trim(alloc, source, out), err),
         Form::Annotate { nodes, reach, last } => {
             report(&annotate(alloc, nodes, reach, last, source, out), err)

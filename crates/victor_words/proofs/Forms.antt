@@ -5,11 +5,13 @@ use Rattle.std.specs.Int.{IsInRange}
 use Rattle.std.specs.Str.{bytes_eq}
 use Rattle.std.specs.Fmt.{decimal}
 use Rattle.std.proofs.lemmas.Bool.{and_parts, and_from}
-use Rattle.std.proofs.lemmas.Option.{cond_some}
+use Rattle.std.proofs.lemmas.Option.{cond_some, same_Some}
 use Rattle.game_rules.specs.Board.{Board, is_board, same_length}
 use Rattle.game_rules.specs.Number.{number_between}
 use Rattle.game_rules.specs.declared.Length.{Length}
 use Rattle.game_rules.specs.declared.Length.TheVariants.{Four, Five}
+use Rattle.game_rules.specs.declared.Side.{Side}
+use Rattle.game_rules.specs.declared.Side.TheVariants.{White, Black}
 use Rattle.game_rules.proofs.Groups.{board_most}
 use Rattle.game_rules.proofs.Lists.{chosen}
 use Rattle.game_rules.proofs.Numbers.{number_gives, number_spelled}
@@ -17,11 +19,11 @@ use Rattle.plan_text.specs.Words.{◌>>=◌}
 use Rattle.plan_text.proofs.Spaced.{bind_some, is_text}
 use Rattle.victor_words.specs.Words.{OptionRow, Given, IsNumberOf, IsGiven, FormRow, form_row, row_of, is_drilled, AreGames, HasOwnRanges}
 use Rattle.victor_words.specs.Words.{HasRanges, nodes, reach, front}
-use Rattle.victor_words.specs.Words.{table, format, last, options_of, has_only}
+use Rattle.victor_words.specs.Words.{table, format, last, options_of, has_only, side_word}
 use Rattle.victor_words.specs.Reading.{WordsFound, asked, number, own_with, with_none, with_five, board_with, size_from, form_with}
-use Rattle.victor_words.specs.Reading.{prove_form, bare_form, explain_form, drill_form, annotate_form}
+use Rattle.victor_words.specs.Reading.{prove_form, bare_form, explain_form, drill_form, annotate_form, side_named, with_one, follow_form}
 use Rattle.victor_words.specs.declared.form.Form.{Form}
-use Rattle.victor_words.specs.declared.form.Form.TheVariants.{Prove, Check, Play, Explain, Drill, Upgrade, Threat, Trim, Annotate}
+use Rattle.victor_words.specs.declared.form.Form.TheVariants.{Prove, Check, Play, Explain, Drill, Upgrade, Threat, Follow, Trim, Annotate}
 use Rattle.victor_words.proofs.Saying.{settled}
 use Rattle.victor_words.proofs.Numbers.{is_right, asked_gives, asked_found}
 
@@ -179,6 +181,35 @@ drill_told found form h = at (own_with (nodes ∷ reach ∷ []) found) refl h
     at (Some own) is h = let told = own_told (nodes ∷ reach ∷ []) found own is in five_told own found form told.1 told.0 h
     at None is h = cc
 
+side_told : (word : List ℕ) (side : Side) → side_named word ≡ Some side → word ≡ side_word side
+side_told word side h = elim (chosen (bytes_eq word (codes "white")) (Some White) _ (Some side) h) [
+  | inl white ↦ is_text word (codes "white") white.0 ∙ ap side_word (same_Some White side white.1)
+  | inr other ↦ elim (chosen (bytes_eq word (codes "black")) (Some Black) None (Some side) other.1) [
+    | inl black ↦ is_text word (codes "black") black.0 ∙ ap side_word (same_Some Black side black.1)
+    | inr none ↦ absurd (cc none.1)
+  ]
+]
+
+follow_told : (found : WordsFound) (form : Form) → follow_form found ≡ Some form → IsFormOf (codes "follow") found form
+follow_told found form h = at (own_with [] found) refl h
+  where
+    at : (own : Option (List (List ℕ))) → own_with [] found ≡ own → with_one own ≡ Some form → IsFormOf (codes "follow") found form
+    at (Some (word ∷ [])) is h =
+        let told = own_told [] found (word ∷ []) is in
+        let side = bind_some (side_named word) _ form h in
+        let same : Follow side.0 ≡ form = cc (side.2) in
+        let fits : FitsRow (codes "follow") found (row_of (Follow side.0)) = record {
+          command = refl;
+          own = told.1 ∙ ap (λ word. word ∷ []) (side_told word side.0 side.1);
+          options = tt;
+          no_others = told.0;
+          ranges = tt;
+        } in
+        subst (IsFormOf (codes "follow") found) same (fits, tt)
+    at (Some []) is h = cc
+    at (Some (word ∷ next ∷ own)) is h = cc
+    at None is h = cc
+
 bare_told : (text : List ℕ) (found : WordsFound) (bare form : Form) → row_of bare ≡ form_row text [] [] → HasOwnRanges bare
     → bare_form bare found ≡ Some form → IsFormOf text found form
 bare_told text found bare form is ranges h =
@@ -205,8 +236,9 @@ form_told word found form h =
     (command_told word (codes "drill") found _ _ form (drill_told found form)
     (command_told word (codes "upgrade") found _ _ form (bare_told (codes "upgrade") found Upgrade form refl tt)
     (command_told word (codes "threat") found _ _ form (bare_told (codes "threat") found Threat form refl tt)
+    (command_told word (codes "follow") found _ _ form (follow_told found form)
     (command_told word (codes "trim") found _ _ form (bare_told (codes "trim") found Trim form refl tt)
-    (command_told word (codes "annotate") found _ None form (annotate_told found form) (λ h. cc))))))))) h
+    (command_told word (codes "annotate") found _ None form (annotate_told found form) (λ h. cc)))))))))) h
 
 -- ---- the form is what is read
 
@@ -242,4 +274,6 @@ form_found (Drill size moves seed games n k) given is only ranges =
   where
     spelled : (low high m : ℕ) → IsInRange low high m → high < 2 ^ 64 → number_between low high (decimal m) ≡ Some m
     spelled low high m range wide = number_spelled low high m (decimal m) range.0 range.1 (omega (arith, range.1, wide)) refl
+form_found (Follow White) given is only ranges = rw only refl
+form_found (Follow Black) given is only ranges = rw only refl
 form_found _ given is only ranges = rw only refl

@@ -7,6 +7,7 @@ use Rattle.std.proofs.lemmas.Bool.{ne_eqb, and_parts, leb-true}
 use Rattle.std.proofs.lemmas.List.{take_rest}
 use Rattle.game_rules.specs.Board.{is_board, same_length}
 use Rattle.game_rules.specs.declared.Length.TheVariants.{Four}
+use Rattle.game_rules.specs.declared.Side.TheVariants.{White, Black}
 use Rattle.game_rules.proofs.Groups.{board_most}
 use Rattle.game_rules.proofs.Lists.{Among}
 use Rattle.plan_text.specs.Words.{◌>>=◌}
@@ -14,7 +15,7 @@ use Rattle.plan_text.proofs.Spaced.{IsDigits, digits_decimal, bind_some}
 use Rattle.victor_words.specs.Words.{OptionRow, Given, values, IsGiven, HasRanges, row_of, options_of, Says, IsWritten, IsReadAs}
 use Rattle.victor_words.specs.Reading.{is_name, most_options, most_own, nothing_found, found_from, form_with}
 use Rattle.victor_words.specs.declared.form.Form.{Form}
-use Rattle.victor_words.specs.declared.form.Form.TheVariants.{Check, Drill}
+use Rattle.victor_words.specs.declared.form.Form.TheVariants.{Check, Drill, Follow}
 use Rattle.victor_words.proofs.Saying.{AreProper, found_says, says_found}
 use Rattle.victor_words.proofs.Numbers.{is_right, names_right, few_given}
 use Rattle.victor_words.proofs.Forms.{form_told, form_found}
@@ -48,6 +49,8 @@ own_unnamed (Drill size moves seed games n k) ranges =
       number_unnamed seed 2147483646 ranges.1.seed.1 (omega arith),
       number_unnamed games 1000 ranges.1.games.1 (omega arith),
     ) refl
+own_unnamed (Follow White) ranges = refl
+own_unnamed (Follow Black) ranges = refl
 own_unnamed _ ranges = refl
 
 -- an option is given at most once

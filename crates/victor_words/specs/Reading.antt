@@ -5,11 +5,13 @@ use Rattle.std.specs.Borrow.{Bor}
 use Rattle.std.specs.Str.{bytes_eq}
 use Rattle.game_rules.specs.Board.{Board, is_board}
 use Rattle.game_rules.specs.declared.Length.TheVariants.{Four}
+use Rattle.game_rules.specs.declared.Side.{Side}
+use Rattle.game_rules.specs.declared.Side.TheVariants.{White, Black}
 use Rattle.game_rules.specs.Number.{number_between}
 use Rattle.plan_text.specs.Words.{◌>>=◌, split_once}
 use Rattle.victor_words.specs.Words.{OptionRow, Given, values, has_only, nodes, reach, front, table, format, last}
 use Rattle.victor_words.specs.declared.form.Form.{Form}
-use Rattle.victor_words.specs.declared.form.Form.TheVariants.{Prove, Check, Play, Explain, Drill, Upgrade, Threat, Trim, Annotate}
+use Rattle.victor_words.specs.declared.form.Form.TheVariants.{Prove, Check, Play, Explain, Drill, Upgrade, Threat, Follow, Trim, Annotate}
 use Rattle.victor_words.specs.declared.found.Found.{Found}
 use Rattle.victor_words.specs.declared.found.Given.{Given as Lent}
 use Rattle.victor_words.specs.declared.options.OptionRow.{OptionRow as Row}
@@ -139,6 +141,17 @@ with_five given _ = None
 abbrev pub drill_form : WordsFound → Option Form
 drill_form found = with_five found.given (own_with (nodes ∷ reach ∷ []) found)
 
+-- the side that a word names
+abbrev pub side_named : List ℕ → Option Side
+side_named word = if bytes_eq word (codes "white") then Some White else (if bytes_eq word (codes "black") then Some Black else None)
+
+abbrev pub with_one : Option (List (List ℕ)) → Option Form
+with_one (Some (side ∷ [])) = side_named side >>= λ holder. Some (Follow holder)
+with_one _ = None
+
+abbrev pub follow_form : WordsFound → Option Form
+follow_form found = with_one (own_with [] found)
+
 abbrev pub form_with : List ℕ → WordsFound → Option Form
 form_with word found =
     if bytes_eq word (codes "prove") then prove_form found else (if bytes_eq word (codes "check") then bare_form Check found else
@@ -146,5 +159,6 @@ form_with word found =
     (if bytes_eq word (codes "drill") then drill_form found else
     (if bytes_eq word (codes "upgrade") then bare_form Upgrade found else
     (if bytes_eq word (codes "threat") then bare_form Threat found else
+    (if bytes_eq word (codes "follow") then follow_form found else
     (if bytes_eq word (codes "trim") then bare_form Trim found else
-    (if bytes_eq word (codes "annotate") then annotate_form found else None))))))))
+    (if bytes_eq word (codes "annotate") then annotate_form found else None)))))))))

@@ -8,11 +8,13 @@ use Rattle.std.specs.Fmt.{decimal}
 use Rattle.game_rules.specs.Board.{Board, is_board, same_length}
 use Rattle.victor_words.specs.declared.form.Form.{Form}
 use Rattle.game_rules.specs.declared.Length.TheVariants.{Four}
-use Rattle.victor_words.specs.declared.form.Form.TheVariants.{Prove, Check, Play, Explain, Drill, Upgrade, Threat, Trim, Annotate}
+use Rattle.game_rules.specs.declared.Side.{Side}
+use Rattle.game_rules.specs.declared.Side.TheVariants.{White, Black}
+use Rattle.victor_words.specs.declared.form.Form.TheVariants.{Prove, Check, Play, Explain, Drill, Upgrade, Threat, Follow, Trim, Annotate}
 
 -- what is said of the written forms where the words are none
 abbrev pub usage : List ℕ
-usage = codes "usage: victor prove [--nodes N] [--reach K] [--front F] [--table T] [--format V] | check | play | explain [--reach K] | drill COLS ROWS MOVES SEED GAMES [--nodes N] [--reach K] | upgrade | threat | trim | annotate [--nodes N] [--reach K] [--last L]"
+usage = codes "usage: victor prove [--nodes N] [--reach K] [--front F] [--table T] [--format V] | check | play | explain [--reach K] | drill COLS ROWS MOVES SEED GAMES [--nodes N] [--reach K] | upgrade | threat | follow white|black | trim | annotate [--nodes N] [--reach K] [--last L]"
 
 -- ---- the options
 
@@ -75,6 +77,11 @@ pub record FormRow : Type 0 where
 abbrev pub form_row : List ℕ → List (List ℕ) → List (OptionRow × Option ℕ) → FormRow
 form_row command own options = record { command = command; own = own; options = options }
 
+-- a side's word
+abbrev pub side_word : Side → List ℕ
+side_word White = codes "white"
+side_word Black = codes "black"
+
 abbrev pub row_of : Form → FormRow
 row_of (Prove n k slots room v) =
     form_row (codes "prove") [] ((nodes, Some n) ∷ (reach, Some k) ∷ (front, slots) ∷ (table, Some room) ∷ (format, Some v) ∷ [])
@@ -85,6 +92,7 @@ row_of (Drill size moves seed games n k) =
     form_row (codes "drill") (map decimal (size.cols ∷ size.rows ∷ moves ∷ seed ∷ games ∷ [])) ((nodes, Some n) ∷ (reach, Some k) ∷ [])
 row_of Upgrade = form_row (codes "upgrade") [] []
 row_of Threat = form_row (codes "threat") [] []
+row_of (Follow holder) = form_row (codes "follow") (side_word holder ∷ []) []
 row_of Trim = form_row (codes "trim") [] []
 row_of (Annotate n k m) = form_row (codes "annotate") [] ((nodes, Some n) ∷ (reach, Some k) ∷ (last, Some m) ∷ [])
 

@@ -1,9 +1,9 @@
 //! What the words of a command line ask for.
 
-use board_bits::Size;
+use board_bits::{Side, Size};
 
 /// A command with its options and numbers.
-#[derive(Clone, Copy, Debug, PartialEq, Eq)]
+#[derive(Clone, Copy, PartialEq, Eq)]
 pub enum Form {
     /// Read a game and write a proof of its position's value.
     Prove {
@@ -46,6 +46,11 @@ pub enum Form {
     Upgrade,
     /// Read a game and Black's moves, and play White's by an odd threat.
     Threat,
+    /// Read a proof and the other side's moves, and play this side's by the proof.
+    Follow {
+        /// The side that plays by the proof.
+        holder: Side,
+    },
     /// Read a proof and write it with those lemmas alone on which its verdict rests.
     Trim,
     /// Read a game and mark its last moves as mistakes or not.

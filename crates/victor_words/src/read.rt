@@ -3,17 +3,17 @@ ghost use Rattle.std.specs.Prelude.{◌≡◌, ◌∷◌, map, string_bytes, Lis
 ghost use Rattle.victor_words.specs.declared.form.Form.{Form};
 ghost use Rattle.victor_words.specs.Words.{IsReadAs, IsWritten, HasRanges};
 ghost use Rattle.victor_words.specs.Reading.{shown, form_with, prove_form, bare_form, explain_form, drill_form, annotate_form};
-ghost use Rattle.victor_words.specs.Reading.{size_from};
+ghost use Rattle.victor_words.specs.Reading.{size_from, follow_form, side_named};
 
 use crate::form::Form;
 use crate::found::{Found, found_in};
 use crate::options::{FORMAT, FRONT, LAST, NODES, REACH, TABLE};
-use board_bits::Size;
+use board_bits::{Side, Size};
 use text_words::number_between;
 
 /// What is said of the written forms where the words are none.
 pub const USAGE: &[u8] =
-    b"usage: victor prove [--nodes N] [--reach K] [--front F] [--table T] [--format V] | check | play | explain [--reach K] | drill COLS ROWS MOVES SEED GAMES [--nodes N] [--reach K] | upgrade | threat | trim | annotate [--nodes N] [--reach K] [--last L]\n";
+    b"usage: victor prove [--nodes N] [--reach K] [--front F] [--table T] [--format V] | check | play | explain [--reach K] | drill COLS ROWS MOVES SEED GAMES [--nodes N] [--reach K] | upgrade | threat | follow white|black | trim | annotate [--nodes N] [--reach K] [--last L]\n";
 
 /// The most moves that a game made from a number may be given.
 const MOST_MOVES: u32 = 100;
@@ -59,6 +59,7 @@ fn form_with(command: &str, found: &Found) -> Option<Form>
         "drill" => drill_form(found),
         "upgrade" => bare_form(Form::Upgrade, found),
         "threat" => bare_form(Form::Threat, found),
+        "follow" => follow_form(found),
         "trim" => bare_form(Form::Trim, found),
         "annotate" => annotate_form(found),
         _ => None,
@@ -99,6 +100,30 @@ fn explain_form(found: &Found) -> Option<Form>
     Some(Form::Explain {
         reach: found.number(&REACH)?,
     })
+}
+
+fn follow_form(found: &Found) -> Option<Form>
+    ensures { result ≡ follow_form (shown found.now) }
+{
+    let [side] = found.own_with(&[])? else {
+        return None;
+    };
+    Some(Form::Follow {
+        holder: side_named(side)?,
+    })
+}
+
+/// The side that a word names.
+fn side_named(word: &[u8]) -> Option<Side>
+    ensures { result ≡ side_named word.now }
+{
+    if word == b"white".as_slice() {
+        Some(Side::White)
+    } else if word == b"black".as_slice() {
+        Some(Side::Black)
+    } else {
+        None
+    }
 }
 
 fn annotate_form(found: &Found) -> Option<Form>

@@ -1,0 +1,223 @@
+-- A proof up to its verdict, one step after another: what comes of the bytes is play behind the verdict, or what stopped the reading.
+use Rattle.std.proofs.Common.{◌≡◌, ℕ, ◌+◌, ◌-◌, ◌≤◌, Bool, true, false, cond, List, [], ◌∷◌, Option, Some, None, Result, Ok, Err, refl, sym, ap, ◌∙◌, subst, inl, inr, arith}
+use Rattle.std.specs.Str.{bytes_eq}
+use Rattle.std.proofs.lemmas.Slice.Eq.{bytes_eq-Decides}
+use Rattle.device_rules.specs.Devices.{Rose}
+use Rattle.device_rules.proofs.DeviceLaws.{Rose_before}
+use Rattle.game_rules.specs.Position.{Position, board_of, side_to_move}
+use Rattle.game_rules.specs.Text.{game_at}
+use Rattle.game_rules.specs.declared.Side.{Side}
+use Rattle.game_rules.specs.declared.InputFault.{InputFault}
+use Rattle.io_ports.specs.Reading.{Pending, Reads, PassesLines}
+use Rattle.io_ports.proofs.Reading.{Reads_more, Reads_then, passes_then, passes_most}
+use Rattle.proof_text.specs.Checked.{Why, CheckerState}
+use Rattle.proof_text.specs.Lemma.{Lemma}
+use Rattle.proof_text.specs.Right.{AreRight, IsVerdict}
+use Rattle.proof_text.specs.Texts as answers
+use Rattle.proof_text.specs.Texts.{pieces, lines_in, game_of, behind_game, first_number, first_line, version_of, start, check_of, check_in, game_answer, answer_of, pieces_answer}
+use Rattle.proof_text.specs.declared.Verdict.{Verdict}
+use Rattle.proof_text.specs.declared.Version.{Version}
+use Rattle.proof_text.specs.declared.Version.TheVariants.{One, Two}
+use Rattle.proof_text.specs.declared.Why.TheVariants.{BadLine}
+use Rattle.proof_text.proofs.First.{only_no_game, refused_first}
+use Rattle.proof_text.proofs.Pieces.{pieces_some}
+use Rattle.cert_checker.specs.Checking.{why_of}
+use Rattle.play_text.specs.Play as ends
+use Rattle.play_text.specs.Play.{Played, ended}
+use Rattle.follow_text.specs.Follow.{named_for, follow_named, lines_to_verdict, follow_cut, follow_game, follow_pieces, follow_of, judged_from, judged_behind}
+use Rattle.follow_text.proofs.Judged.{judged_whole}
+use Rattle.run_frame.specs.Reading.{StopsGame}
+use Rattle.run_frame.specs.declared.game_input.InputStop.{InputStop}
+use Rattle.run_frame.specs.declared.game_input.InputStop.TheVariants as inputs
+use Rattle.run_proof.specs.Steps.{AtHead, IsNamed, IsFirstStop, StopsBy, lines_read_until}
+use Rattle.run_proof.specs.Whole.{judged, most_lines_read}
+use Rattle.run_proof.specs.declared.stop.ProofStop.{ProofStop}
+use Rattle.run_proof.specs.declared.stop.ProofStop.TheVariants as stops
+use Rattle.run_follow.specs.Reading.{judged_by, AreKept, GoesTo, StopsReading, IsToVerdict, IsRightProof}
+
+-- ---- the first line
+
+-- a first line that names a version
+version_first : (version : Version) (more : List (List ℕ)) (bytes : List ℕ) → pieces bytes ≡ first_line version ∷ more → version_of bytes ≡ version
+version_first One more bytes cut = ap answers.named_by cut
+version_first Two more bytes cut = ap answers.named_by cut
+
+pieces_headed : (holder : Side) (version : Version) (more : List (List ℕ))
+    → follow_pieces holder version (first_line version ∷ more) ≡ follow_game holder version (game_at (game_of more)) (behind_game more)
+pieces_headed holder version more =
+    ap (λ named. cond named (follow_game holder version (game_at (game_of more)) (behind_game more)) (ended (ends.Refused 1 BadLine)))
+    ((bytes_eq-Decides (first_line version) (first_line version)).1 refl)
+
+headed : (holder : Side) (version : Version) (bytes : List ℕ) (more : List (List ℕ)) → pieces bytes ≡ first_line version ∷ more
+    → follow_of holder bytes ≡ follow_game holder version (game_at (game_of more)) (behind_game more)
+unfolding follow_of
+headed holder version bytes more cut =
+    ap (λ named. follow_pieces holder named (pieces bytes)) (version_first version more bytes cut)
+    ∙ ap (follow_pieces holder version) cut ∙ pieces_headed holder version more
+
+-- a game that is none is so for `check` and for `follow`
+no_game : (holder : Side) (bytes : List ℕ) (fault : InputFault) → check_of bytes ≡ answers.NoGame fault → follow_of holder bytes ≡ ended (ends.NoGame fault)
+unfolding check_of
+no_game holder bytes fault is =
+    let found = only_no_game (version_of bytes) bytes fault is in
+    headed holder (version_of bytes) bytes found.0 found.1
+    ∙ ap (λ game. follow_game holder (version_of bytes) game (behind_game found.0)) found.2
+
+-- what is refused at the first line names no version
+refused_there : (holder : Side) (version : Version) (first : List ℕ) (more : List (List ℕ)) (at : ℕ) (why : Why) → at ≡ 1
+    → pieces_answer version (first ∷ more) ≡ answers.Refused at why → follow_pieces holder version (first ∷ more) ≡ ended (ends.Refused at why)
+refused_there holder version first more at why one is = of_first (bytes_eq first (first_line version)) refl is
+  where
+    not_game : (game : Result Position InputFault) → game_answer version game (behind_game more) ≡ answers.Refused at why → ⊥
+    not_game (Err fault) is = cc
+    not_game (Ok root) is = elim (refused_first version root (behind_game more) at why is) [
+      | inl line ↦ absurd (omega (arith, one, line.2))
+      | inr end ↦ absurd (omega (arith, one, end.0))
+    ]
+
+    of_first : (named : Bool) → bytes_eq first (first_line version) ≡ named
+        → cond named (game_answer version (game_at (game_of more)) (behind_game more)) (answers.Refused 1 BadLine) ≡ answers.Refused at why
+        → cond named (follow_game holder version (game_at (game_of more)) (behind_game more)) (ended (ends.Refused 1 BadLine))
+        ≡ ended (ends.Refused at why)
+    of_first true e is = absurd (not_game (game_at (game_of more)) is)
+    of_first false e is = let number : 1 ≡ at = cc in let name : BadLine ≡ why = cc in cc (number, name)
+
+refused_first_line : (holder : Side) (bytes : List ℕ) (at : ℕ) (why : Why) → at ≡ 1 → check_of bytes ≡ answers.Refused at why
+    → follow_of holder bytes ≡ ended (ends.Refused at why)
+unfolding check_of check_in follow_of
+refused_first_line holder bytes at why one is =
+    let some = pieces_some bytes in
+    ap (follow_pieces holder (version_of bytes)) some.2
+    ∙ refused_there holder (version_of bytes) some.0 some.1 at why one (sym (ap (pieces_answer (version_of bytes)) some.2) ∙ is)
+
+head_stops : (bytes : List ℕ) (before after : ℕ) (stop : ProofStop) → IsFirstStop stop → StopsBy (AtHead None) bytes before after stop
+    → StopsReading (λ holder. follow_of holder bytes) before after stop
+head_stops bytes before after (stops.Input (inputs.NoGame fault)) first is = λ holder. no_game holder bytes fault is
+head_stops bytes before after (stops.Input inputs.Read) first is = is
+head_stops bytes before after (stops.Refused r) first is = λ holder. refused_first_line holder bytes r.at (why_of r.why) first is
+head_stops bytes before after stops.Memory first is = absurd first
+
+-- ---- step after step
+
+-- what comes of the bytes behind the first line, and of those behind the game
+behind_first : (holder : Side) (version : Version) (bytes rest : List ℕ) → IsNamed version bytes rest
+    → follow_of holder bytes ≡ follow_game holder version (game_at (game_of (pieces rest))) (behind_game (pieces rest))
+behind_first holder version bytes rest named =
+    headed holder version bytes named.more named.cut
+    ∙ ap (λ game. follow_game holder version (game_at game) (behind_game named.more)) named.game
+    ∙ ap (follow_game holder version (game_at (game_of (pieces rest)))) named.behind
+
+behind_it : (holder : Side) (version : Version) (bytes rest : List ℕ) (root : Position) → game_at (game_of (pieces bytes)) ≡ Ok root
+    → behind_game (pieces bytes) ≡ lines_in (pieces rest)
+    → follow_game holder version (game_at (game_of (pieces bytes))) (behind_game (pieces bytes)) ≡ judged_by holder version (start root) [] first_number rest
+unfolding judged_by
+behind_it holder version bytes rest root game lines =
+    ap (λ game. follow_game holder version game (behind_game (pieces bytes))) game
+    ∙ ap (follow_game holder version (Ok root)) lines
+    ∙ judged_whole holder version root (lines_in (pieces rest))
+
+until_at : (stop : ProofStop) → IsFirstStop stop → 1 ≤ lines_read_until stop
+until_at (stops.Input (inputs.NoGame fault)) first = omega arith
+until_at (stops.Input inputs.Read) first = omega arith
+until_at (stops.Refused r) first = omega (arith, first)
+until_at stops.Memory first = absurd first
+
+-- what stops at a later step, whose count rose after the earlier one
+pub stops_later : (comes : Side → Played) (before mid after : ℕ) (stop : ProofStop) → before ≤ mid → StopsReading comes mid after stop
+    → StopsReading comes before after stop
+stops_later comes before mid after (stops.Input (inputs.NoGame fault)) later is = is
+stops_later comes before mid after (stops.Input inputs.Read) later is = Rose_before before mid after later is
+stops_later comes before mid after (stops.Refused r) later is = is
+stops_later comes before mid after stops.Memory later is = is
+
+-- what stops behind bytes of which the same comes
+pub stops_same : (comes others : Side → Played) (before after : ℕ) (stop : ProofStop) → ((holder : Side) → comes holder ≡ others holder)
+    → StopsReading others before after stop → StopsReading comes before after stop
+stops_same comes others before after (stops.Input (inputs.NoGame fault)) same is = λ holder. same holder ∙ is holder
+stops_same comes others before after (stops.Input inputs.Read) same is = is
+stops_same comes others before after (stops.Refused r) same is = λ holder. same holder ∙ is holder
+stops_same comes others before after stops.Memory same is = is
+
+pub head_stopped : (a b : Pending) (before after : ℕ) (stop : ProofStop) → IsFirstStop stop
+    → Reads a b (λ bytes rest. PassesLines 1 bytes rest × StopsBy (AtHead None) bytes before after stop)
+    → Reads a b (λ bytes rest. PassesLines (lines_read_until stop) bytes rest × StopsReading (λ holder. follow_of holder bytes) before after stop)
+head_stopped a b before after stop first reads = Reads_more a b _ _ reads (λ bytes rest h. (
+  passes_most 1 (lines_read_until stop) bytes rest (until_at stop first) h.0,
+  head_stops bytes before after stop first h.1,
+))
+
+module _ (a b c : Pending) (version : Version) (first : Reads a b (λ bytes rest. PassesLines 1 bytes rest × IsNamed version bytes rest)) where
+  pub game_stopped : (before mid after : ℕ) (why : InputStop) → before ≤ mid
+      → Reads b c (λ bytes rest. PassesLines 2 bytes rest × StopsGame (game_at (game_of (pieces bytes))) mid after why)
+      → Reads a c (λ bytes rest. PassesLines (lines_read_until (stops.Input why)) bytes rest
+      × StopsReading (λ holder. follow_of holder bytes) before after (stops.Input why))
+  game_stopped before mid after why later reads = Reads_then a b c _ _ _ first reads (λ bytes m rest p q. (
+    passes_most 3 (lines_read_until (stops.Input why)) bytes rest (few why) (passes_then 1 2 bytes m rest p.0 q.0),
+    by_why bytes m why p.1 q.1,
+  ))
+    where
+      few : (why : InputStop) → 3 ≤ lines_read_until (stops.Input why)
+      few (inputs.NoGame fault) = omega arith
+      few inputs.Read = omega arith
+
+      by_why : (bytes m : List ℕ) (why : InputStop) → IsNamed version bytes m → StopsGame (game_at (game_of (pieces m))) mid after why
+          → StopsReading (λ holder. follow_of holder bytes) before after (stops.Input why)
+      by_why bytes m (inputs.NoGame fault) named is = λ holder.
+          behind_first holder version bytes m named ∙ ap (λ game. follow_game holder version game (behind_game (pieces m))) is
+      by_why bytes m inputs.Read named is = Rose_before before mid after later is
+
+  module _ (d : Pending) (root : Position)
+      (game : Reads b c (λ bytes rest. PassesLines 2 bytes rest
+      × ((game_at (game_of (pieces bytes)) ≡ Ok root) × (behind_game (pieces bytes) ≡ lines_in (pieces rest))))) where
+    -- what comes of the bytes before the first line is what comes of the lines behind the game
+    to_lines : Reads a c (λ bytes rest. PassesLines 3 bytes rest
+        × ((holder : Side) → follow_of holder bytes ≡ judged_by holder version (start root) [] first_number rest))
+    to_lines = Reads_then a b c _ _ _ first game (λ bytes m rest p q. (
+      passes_then 1 2 bytes m rest p.0 q.0,
+      λ holder. behind_first holder version bytes m p.1 ∙ behind_it holder version m rest root q.1.0 q.1.1,
+    ))
+
+    pub lines_stopped : (before mid after : ℕ) (stop : ProofStop) → before ≤ mid → 4 ≤ lines_read_until stop
+        → Reads c d (λ bytes rest. PassesLines (lines_read_until stop - 3) bytes rest
+        × StopsReading (λ holder. judged_by holder version (start root) [] first_number bytes) mid after stop)
+        → Reads a d (λ bytes rest. PassesLines (lines_read_until stop) bytes rest × StopsReading (λ holder. follow_of holder bytes) before after stop)
+    lines_stopped before mid after stop later few reads = Reads_then a c d _ _ _ to_lines reads (λ bytes m rest p q. (
+      passes_most (3 + (lines_read_until stop - 3)) (lines_read_until stop) bytes rest (omega (arith, few))
+          (passes_then 3 (lines_read_until stop - 3) bytes m rest p.0 q.0),
+      stops_same _ _ before after stop p.1 (stops_later _ before mid after stop later q.1),
+    ))
+
+    module _ (t : CheckerState) (ms : List Lemma) (v : Verdict) (at : ℕ) (is_verdict : t.verdict ≡ Some v) (is_root : t.root ≡ root) (few : 3 ≤ at) where
+      pub lines_gone : Reads c d (λ bytes rest. PassesLines (at - 3) bytes rest × GoesTo version (start root) t [] ms first_number (at + 1) bytes rest)
+          → Reads a d (λ bytes rest. PassesLines at bytes rest × IsToVerdict (record { root = root; verdict = v; at = at }) ms bytes rest)
+      unfolding judged_by
+      lines_gone reads = Reads_then a c d _ _ _ to_lines reads (λ bytes m rest p q. (
+        passes_most (3 + (at - 3)) at bytes rest (omega (arith, few)) (passes_then 3 (at - 3) bytes m rest p.0 q.0),
+        λ holder. p.1 holder ∙ q.1 holder ∙ ap (judged_behind holder version t ms (at + 1) (lines_in (pieces rest))) is_verdict
+            ∙ ap (λ root. follow_named ms holder root (at + 1 - 1) (lines_in (pieces rest)) (named_for holder (side_to_move root) v)) is_root
+            ∙ ap (λ at. follow_named ms holder root at (lines_in (pieces rest)) (named_for holder (side_to_move root) v))
+            (let same : at + 1 - 1 ≡ at = omega arith in same),
+      ))
+
+      pub proof_right : AreKept t ms → IsRightProof root ms v
+      proof_right kept = record {
+        after = t.known;
+        right = subst (λ root. AreRight root [] ms t.known) is_root kept.right;
+        verdict = subst (λ root. IsVerdict root t.known v) is_root (kept.verdict v is_verdict);
+      }
+
+-- ---- how far is read
+
+pub first_most : (stop : ProofStop) → IsFirstStop stop → lines_read_until stop ≤ most_lines_read
+first_most (stops.Input (inputs.NoGame fault)) first = omega arith
+first_most (stops.Input inputs.Read) first = omega arith
+first_most (stops.Refused r) first = omega (arith, first)
+first_most stops.Memory first = absurd first
+
+pub game_most : (why : InputStop) → lines_read_until (stops.Input why) ≤ most_lines_read
+game_most (inputs.NoGame fault) = omega arith
+game_most inputs.Read = omega arith
+
+-- behind no line nothing stands
+pub start_kept : (root : Position) → AreKept (start root) []
+start_kept root = record { right = refl; verdict = λ v is. absurd (cc is) }

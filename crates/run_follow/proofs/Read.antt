@@ -1,0 +1,157 @@
+-- What each step of the reading up to the verdict says of the bytes: what comes of them goes on, or how it ends.
+use Rattle.std.proofs.Common.{◌≡◌, ℕ, ◌+◌, ◌<◌, ◌≤◌, Bool, List, [], ◌∷◌, ◌++◌, length, Option, Some, None, Result, Ok, Err, MatchResult, IfErr, OnOk, refl, sym, ap, ◌∙◌, subst, inr, arith}
+use Rattle.device_rules.specs.Devices.{Rose}
+use Rattle.game_rules.specs.Position.{board_of}
+use Rattle.game_rules.specs.declared.Side.{Side}
+use Rattle.io_ports.specs.Lines.{Cut, next_line, Gives}
+use Rattle.io_ports.specs.declared.line_reader.LineGot.{LineGot}
+use Rattle.io_ports.specs.declared.line_reader.LineGot.TheVariants.{Line, Long, Done, Failed}
+use Rattle.io_ports.specs.Reading.{Pending, Reads, PassesLines}
+use Rattle.proof_text.specs.Checked.{CheckerState, line_refusal, with_line, lemmas_in}
+use Rattle.proof_text.specs.Lemma.{Lemma, Line as Said, ALemma, ARemark, AVerdict}
+use Rattle.proof_text.specs.Reading.{read_line}
+use Rattle.proof_text.specs.Right.{AreRight, IsVerdict}
+use Rattle.proof_text.specs.Spelling.{greatest_number}
+use Rattle.proof_text.specs.Texts.{pieces, lines_in, lemmas_said, bytes_refusal, with_said, with_bytes}
+use Rattle.proof_text.specs.declared.Verdict.{Verdict}
+use Rattle.proof_text.specs.declared.Version.{Version}
+use Rattle.proof_text.specs.declared.Why.TheVariants.{BadLine, EndedEarly}
+use Rattle.proof_text.proofs.Accepted.{with_bytes_root}
+use Rattle.proof_text.proofs.First.{out_of_bounds}
+use Rattle.proof_text.proofs.Refusals.{line_of_none, right_of_none, verdict_of_none}
+use Rattle.proof_text.proofs.Spelled.{line_read}
+use Rattle.proof_text.proofs.Upgraded.{right_line}
+use Rattle.proof_text.proofs.Whole.{shown_count}
+use Rattle.cert_checker.specs.Checking.{why_of}
+use Rattle.play_text.specs.Play as ends
+use Rattle.play_text.specs.Play.{Played, ended}
+use Rattle.follow_text.specs.Follow.{judged_from}
+use Rattle.follow_text.proofs.Judged.{judged_ended, judged_refused, judged_step}
+use Rattle.run_frame.specs.declared.game_input.InputStop.TheVariants as inputs
+use Rattle.run_frame.proofs.Cuts.{line_first, long_first, none_left}
+use Rattle.run_frame.proofs.GameRead.{by_line}
+use Rattle.run_proof.specs.Steps.{IsAccepted, StopsAtLine, lines_read_until}
+use Rattle.run_proof.specs.Whole.{most_lines_read}
+use Rattle.run_proof.specs.declared.stop.ProofStop.{ProofStop}
+use Rattle.run_proof.specs.declared.stop.ProofStop.TheVariants as stops
+use Rattle.run_proof.proofs.Known.{not_refused}
+use Rattle.run_follow.specs.Reading.{judged_by, AreKept, KeepsLine, GoesTo, StopsReading}
+
+-- ---- a line
+
+-- what stands behind a line that isn't refused is what right lemmas show
+line_kept : (s : CheckerState) (ls : List Lemma) (line : Said) → AreKept s ls → line_refusal s line ≡ None
+    → AreKept (with_line s line) (ls ++ lemmas_in (line ∷ []))
+line_kept s ls (ALemma l) kept none = record {
+  right = right_line s ls (ALemma l) kept.right none;
+  verdict = λ v is. let never : None ≡ Some v = sym (line_of_none s (ALemma l) none).0 ∙ is in absurd (cc never);
+}
+line_kept s ls ARemark kept none = record {
+  right = right_line s ls ARemark kept.right none;
+  verdict = kept.verdict;
+}
+line_kept s ls (AVerdict w) kept none = record {
+  right = right_line s ls (AVerdict w) kept.right none;
+  verdict = λ v is.
+      let same : w ≡ v = cc is in
+      subst (IsVerdict s.root s.known) same (verdict_of_none s.root s.known w (line_of_none s (AVerdict w) none).1);
+}
+
+-- a line that was accepted, whose lemma, if it is one, is kept
+pub line_keeps : (version : Version) (s t : CheckerState) (ls ms : List Lemma) (at : ℕ) (bytes : List ℕ) (line : Said) → AreKept s ls
+    → IsAccepted version s t at bytes line → ms ≡ ls ++ lemmas_in (line ∷ []) → KeepsLine version s t ls ms at bytes
+line_keeps version s t ls ms at bytes line kept is more =
+    let next : t ≡ with_bytes version s bytes = is.next ∙ sym (ap (with_said s) is.said) in
+    let says : lemmas_said version (board_of s.root) (bytes ∷ []) ≡ lemmas_in (line ∷ []) = rw is.said refl in
+    record {
+      stands = not_refused version s at bytes (board_of s.root) line refl is.few is.said is.stands;
+      next = next;
+      says = more ∙ ap (λ said. ls ++ said) (sym says);
+      root = ap (λ t. t.root) next ∙ with_bytes_root version s bytes;
+      kept = subst (AreKept t) (sym more) (subst (λ t. AreKept t (ls ++ lemmas_in (line ∷ []))) (sym is.next) (line_kept s ls line kept is.stands));
+    }
+
+-- ---- the next line
+
+module _ (a b : Pending) (text : List ℕ) (fed : Bool) (version : Version) (s : CheckerState) (ls : List Lemma) (at : ℕ) (free : s.verdict ≡ None) where
+  pub next_goes : (t : CheckerState) (ms : List Lemma) → Reads a b (λ bytes rest. Gives bytes rest Line text fed) → KeepsLine version s t ls ms at text
+      → Reads a b (λ bytes rest. PassesLines 1 bytes rest × GoesTo version s t ls ms at (at + 1) bytes rest)
+  unfolding judged_by
+  next_goes t ms gives keeps = by_line a b Line text fed gives _ (λ bytes rest is holder.
+      ap (judged_from holder version s ls at) (line_first bytes (record { got = Line; text = text; fed = fed; rest = rest }) is refl)
+      ∙ judged_step holder version s ls at text (lines_in (pieces rest)) free keeps.stands
+      ∙ ap (λ t. judged_from holder version t (ls ++ lemmas_said version (board_of s.root) (text ∷ [])) (at + 1) (lines_in (pieces rest))) (sym keeps.next)
+      ∙ ap (λ ms. judged_from holder version t ms (at + 1) (lines_in (pieces rest))) (sym keeps.says))
+
+  pub next_stops : (before after : ℕ) (stop : ProofStop) → Reads a b (λ bytes rest. Gives bytes rest Line text fed) → StopsAtLine version s at text stop
+      → Reads a b (λ bytes rest. PassesLines 1 bytes rest × StopsReading (λ holder. judged_by holder version s ls at bytes) before after stop)
+  unfolding judged_by
+  next_stops before after (stops.Refused r) gives stopped = by_line a b Line text fed gives _ (λ bytes rest is holder.
+      ap (judged_from holder version s ls at) (line_first bytes (record { got = Line; text = text; fed = fed; rest = rest }) is refl)
+      ∙ judged_refused holder version s ls at text (lines_in (pieces rest)) (why_of r.why) free stopped.0
+      ∙ ap (λ at. ended (ends.Refused at (why_of r.why))) (sym stopped.1))
+  next_stops before after stops.Memory gives stopped = by_line a b Line text fed gives _ (λ bytes rest is. tt)
+  next_stops before after (stops.Input why) gives stopped = absurd stopped
+
+  pub next_long : (before after : ℕ) → Reads a b (λ bytes rest. Gives bytes rest Long text fed)
+      → Reads a b (λ bytes rest. PassesLines 1 bytes rest
+      × StopsReading (λ holder. judged_by holder version s ls at bytes) before after (stops.Refused (record { at = at; why = BadLine })))
+  unfolding judged_by
+  next_long before after gives = by_line a b Long text fed gives _ (λ bytes rest is holder.
+      let some = long_first bytes (record { got = Long; text = text; fed = fed; rest = rest }) is refl in
+      ap (judged_from holder version s ls at) some.2
+      ∙ judged_refused holder version s ls at some.0 some.1 BadLine free (out_of_bounds version s at some.0 (inr some.3)))
+
+  pub next_none : (before after : ℕ) → Reads a b (λ bytes rest. Gives bytes rest Done text fed)
+      → Reads a b (λ bytes rest. PassesLines 1 bytes rest
+      × StopsReading (λ holder. judged_by holder version s ls at bytes) before after (stops.Refused (record { at = at; why = EndedEarly })))
+  unfolding judged_by
+  next_none before after gives = by_line a b Done text fed gives _ (λ bytes rest is holder.
+      ap (judged_from holder version s ls at) (none_left bytes (record { got = Done; text = text; fed = fed; rest = rest }) is refl).0
+      ∙ judged_ended holder version s ls at free)
+
+  pub next_unread : (before after : ℕ) → Reads a b (λ bytes rest. Gives bytes rest Failed text fed) → Rose before after
+      → Reads a b (λ bytes rest. PassesLines 1 bytes rest
+      × StopsReading (λ holder. judged_by holder version s ls at bytes) before after (stops.Input inputs.Read))
+  next_unread before after gives rose = by_line a b Failed text fed gives _ (λ bytes rest is. rose)
+
+  -- a line that was kept, or stopped the reading
+  pub next_read : {X : Type 0} (t : CheckerState) (ms : List Lemma) (before after : ℕ) (result : Result X ProofStop)
+      → Reads a b (λ bytes rest. Gives bytes rest Line text fed)
+      → MatchResult result (λ _. KeepsLine version s t ls ms at text) (StopsAtLine version s at text)
+      → Reads a b (λ bytes rest. PassesLines 1 bytes rest × MatchResult result (λ _. GoesTo version s t ls ms at (at + 1) bytes rest)
+      (StopsReading (λ holder. judged_by holder version s ls at bytes) before after))
+  next_read t ms before after (Ok x) gives keeps = next_goes t ms gives keeps
+  next_read t ms before after (Err stop) gives stopped = next_stops before after stop gives stopped
+
+-- it is kept that what stands is what right lemmas show
+pub read_kept : {X : Type 0} (version : Version) (s t : CheckerState) (ls ms : List Lemma) (at : ℕ) (text : List ℕ) (result : Result X ProofStop)
+    → MatchResult result (λ _. KeepsLine version s t ls ms at text) (StopsAtLine version s at text) → OnOk result (AreKept t ms)
+read_kept version s t ls ms at text (Ok x) keeps = keeps.kept
+read_kept version s t ls ms at text (Err stop) stopped = tt
+
+pub read_root : {X : Type 0} (version : Version) (s t : CheckerState) (ls ms : List Lemma) (at : ℕ) (text : List ℕ) (result : Result X ProofStop)
+    → MatchResult result (λ _. KeepsLine version s t ls ms at text) (StopsAtLine version s at text) → OnOk result (t.root ≡ s.root)
+read_root version s t ls ms at text (Ok x) keeps = keeps.root
+read_root version s t ls ms at text (Err stop) stopped = tt
+
+-- a line that stops the reading is this one, or stops it for want of memory
+pub read_until : {X : Type 0} (version : Version) (s t : CheckerState) (ls ms : List Lemma) (at : ℕ) (text : List ℕ) (result : Result X ProofStop)
+    → MatchResult result (λ _. KeepsLine version s t ls ms at text) (StopsAtLine version s at text) → at ≤ most_lines_read
+    → IfErr result (λ stop. (at ≤ lines_read_until stop) × (lines_read_until stop ≤ most_lines_read))
+read_until version s t ls ms at text (Ok x) keeps few = tt
+read_until version s t ls ms at text (Err (stops.Refused r)) stopped few = (omega (arith, stopped.1), omega (arith, stopped.1, few))
+read_until version s t ls ms at text (Err stops.Memory) stopped few = (few, omega arith)
+read_until version s t ls ms at text (Err (stops.Input why)) stopped few = absurd stopped
+
+-- ---- the next lemma
+
+-- there is room for it in a book, and it has the next number
+pub lemma_next : (version : Version) (s : CheckerState) (ls : List Lemma) (bytes : List ℕ) (l : Lemma) → AreKept s ls
+    → read_line version (board_of s.root) bytes ≡ Some (ALemma l) → line_refusal s (ALemma l) ≡ None
+    → (length ls < greatest_number) × (l.number ≡ length ls + 1)
+lemma_next version s ls bytes l kept said stands =
+    let right = right_of_none s.root s.known l (line_of_none s (ALemma l) stands).1 in
+    let count = shown_count s.root ls s.known kept.right in
+    let fits = (line_read version (board_of s.root) bytes (ALemma l) said).1.0 in
+    (omega (arith, right.1.next, count, fits.number.1), omega (arith, right.1.next, count))

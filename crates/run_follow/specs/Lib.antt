@@ -1,0 +1,4 @@
+pub mod Follows
+pub mod Turns
+pub mod Opening
+pub mod Reading

@@ -1,0 +1,58 @@
+//! What `follow` says where there is no lemma to play by.
+ghost use Rattle.std.specs.Prelude.{◌≡◌, ◌++◌};
+ghost use Rattle.run_follow.specs.Follows.{no_claim_line};
+
+use itoa::Buffer;
+use run_frame::Ending;
+use run_proof::ProofStop;
+use run_turns::{GameEnding, GameStop};
+use text_words::{LineText, push_text};
+
+/// Why the holder doesn't play.
+#[derive(Clone, Copy, Drop)]
+pub enum NotFollowed {
+    /// The proof isn't accepted up to its verdict, or what stops its reading: status 3, 4, 6 or 8.
+    Proof(ProofStop),
+    /// The verdict, in the line with this number, names no lemma that serves the holder: status 4.
+    NoClaim(u64),
+}
+
+/// What stops a run before the end of the input.
+pub type FollowStop = GameStop<NotFollowed>;
+
+/// How a run of `follow` ends.
+pub type FollowEnding = GameEnding<NotFollowed>;
+
+impl Ending for NotFollowed {
+    ghost use Rattle.run_follow.specs.Follows.{head_status, head_text};
+
+    ghost status_of = { head_status };
+
+    ghost text_of = { head_text };
+
+    fn status(&self) -> u8 {
+        match self {
+            NotFollowed::Proof(stop) => stop.status(),
+            NotFollowed::NoClaim(_) => 4,
+        }
+    }
+
+    fn text(&self) -> LineText {
+        match self {
+            NotFollowed::Proof(stop) => stop.text(),
+            NotFollowed::NoClaim(at) => no_claim_text(*at),
+        }
+    }
+}
+
+/// Says that the verdict names no lemma that serves the holder, and the number of its line.
+fn no_claim_text(at: u64) -> LineText
+    ensures { result.items ≡ no_claim_line at }
+{
+    let mut text = LineText::new();
+    let mut digits = Buffer::new();
+    push_text(&mut text, b"refused line ");
+    push_text(&mut text, digits.format(at).as_bytes());
+    push_text(&mut text, b": NoClaim\n");
+    text
+}
