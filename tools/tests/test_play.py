@@ -134,7 +134,8 @@ class PlayTest(ToolTest):
             os.chmod(stub, stat.S_IRWXU)
             words = ("--victor", stub, "--proof", example("two-squares-left.proof"))
             status, _, err = tool("play.py", *words, text="b\n")
-            self.assertEqual((status, err), (1, "play.py: victor follow ended with status 7\n"))
+            self.assertEqual(status, 1)
+            self.assertIn("victor follow ended with status 7", err)
 
     def test_faults(self):
         self.helps("play.py")
