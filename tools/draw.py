@@ -293,7 +293,7 @@ def plan_text(plan, title):
 
 
 # ---------------------------------------------------------------------------------------------------------------------
-# A duel, from the text of `play` or of `threat`.
+# A duel, from the text of `play`, of `threat` or of `follow`.
 
 
 def read_threat(line, length):
@@ -309,13 +309,19 @@ def read_threat(line, length):
 
 
 def read_turns(lines, first, ends):
-    """The two squares of each turn, and the words of its line. The first line has this number."""
+    """The two squares of each turn, and the words of its line. The first line has this number. Of `follow` the first turn
+    may be the second square alone, behind a `-`, and the last one the first, before a `-`, where it fills the board."""
     turns = []
     for n, line in enumerate(lines, first):
         words = line.split(" ")
-        squares = [square_of(word) for word in words[:2]]
+        names = words[:2]
+        if n == 1 and words[0] == "-":
+            names = words[1:2]
+        elif n == first + len(lines) - 1 and words[1:] == ["-", "full"]:
+            names = words[:1]
+        squares = [square_of(word) for word in names]
         if len(words) not in (2, 3) or None in squares or words[2:] not in ends:
-            raise Fault("line %d isn't what `play` or `threat` writes: %r" % (n, line))
+            raise Fault("line %d isn't what `play`, `threat` or `follow` writes: %r" % (n, line))
         turns.append((squares, words))
     return turns
 
@@ -337,13 +343,14 @@ def board_of(lowest, size):
 
 
 class Duel:
-    """What `play` or `threat` wrote: the board, and for each moment men, the two new ones, and a caption.
+    """What `play`, `threat` or `follow` wrote: the board, and for each moment men, the new ones, and a caption.
 
     Without a game the men below the first squares are `?`, and lines of four win where no size says another length. Of
     a threat the squares of its pairs have their number, and the target, which a game tells, has a star.
     """
 
-    def __init__(self, text, game, size):
+    def __init__(self, text, game, size, by):
+        self.by = by
         lines = text.replace("\r", "").rstrip("\n").split("\n")
         if lines == ["no threat"]:
             raise Fault("there is no threat to draw")
@@ -352,6 +359,8 @@ class Duel:
         group, pairs = read_threat(self.threat, length) if self.threat else ([], [])
         ends = ([], ["won"]) if self.threat else ([], ["won"], ["full"])
         turns = read_turns(lines, 2 if self.threat else 1, ends)
+        if game is None and turns and len(turns[0][0]) == 1:
+            raise Fault("whose first move it is, the game says (--game names it, or the proof)")
         lowest = [square for squares, _ in turns for square in squares] + [square for pair in pairs for square in pair]
         if game is not None:
             self.size, men = game.size, dict(game.men)
@@ -367,18 +376,20 @@ class Duel:
 
     def play(self, men, turns, game):
         self.shown = [(dict(men), (), "the start")]
+        side = game.side if game else "B" if self.threat else "W"
         for n, (squares, words) in enumerate(turns, 1):
-            for square, side in zip(squares, "BW" if self.threat else "WB"):
+            for square in squares:
                 i, r = square
                 if i >= self.size.cols or r > self.size.rows or square in men or (r > 1 and (i, r - 1) not in men):
                     raise Fault("turn %d: %s isn't playable there%s"
                                 % (n, name_of(square), "" if game else " (--game names the game)"))
                 men[square] = side
+                side = "B" if side == "W" else "W"
             self.shown.append((dict(men), tuple(squares), "%d.  %s" % (n, "  ".join(words))))
 
     def title(self):
         turns = len(self.shown) - 1
-        return "%d turns by %s" % (turns, self.threat) if self.threat else "a duel of %d turns by a plan" % turns
+        return "%d turns by %s" % (turns, self.threat) if self.threat else "a duel of %d turns by %s" % (turns, self.by)
 
 
 def draw_duel(duel, is_text):
@@ -404,7 +415,7 @@ def draw_duel(duel, is_text):
         line_up, across = divmod(k, many)
         x, y = across * (cols * cell + EDGE + 20) + 4, line_up * (rows * cell + 56) + 34
         grid = Grid(cols, rows, x, y, cell)
-        line = boards.line_through(men, new[1], size.length) if new else ()
+        line = boards.line_through(men, new[-1], size.length) if new else ()
         grid.draw(picture, men, {s: TARGET if mark == "*" else COLOURS["BI"] for s, mark in marks.items()}, new, line)
         for square, mark in marks.items():
             if square not in men and mark != "*":
@@ -493,9 +504,9 @@ def draw_proof(game, lemmas, verdict, most):
 def main():
     parser = argparse.ArgumentParser(
         prog="draw.py", description="Draws a position, a plan, a duel or a proof, as SVG, as text or as an HTML page.",
-        epilog="position: the text of a game. plan: what `victor explain` writes. duel: what `victor play` or "
-        "`victor threat` writes. proof: what `victor prove` writes. What is drawn isn't checked, and nothing is proved of "
-        "this program.",
+        epilog="position: the text of a game. plan: what `victor explain` writes. duel: what `victor play`, "
+        "`victor threat` or `victor follow` writes. proof: what `victor prove` writes. What is drawn isn't checked, "
+        "and nothing is proved of this program.",
     )
     parser.add_argument("kind", choices=("position", "plan", "duel", "proof"))
     parser.add_argument("file", nargs="?", help="the file to draw; without it, standard input")
@@ -504,7 +515,7 @@ def main():
     form.add_argument("--text", action="store_true", help="as text")
     form.add_argument("--html", action="store_true", help="a page, for a proof alone")
     parser.add_argument("--game", metavar="FILE",
-                        help="a plan's or a duel's game: a file whose first two lines are one")
+                        help="a plan's or a duel's game: a file whose first two lines are one, or a proof of it")
     parser.add_argument("--board", metavar="7x6",
                         help="the board of a duel, where no game is named (8x6x5 for lines of five)")
     parser.add_argument("--most", type=int, default=MOST_SHOWN, metavar="N",
@@ -534,9 +545,13 @@ def draw(words):
         raise Fault("only a proof is drawn as a page")
     if words.most < 1:
         raise Fault("--most takes a number from 1")
-    game = None
+    game, by = None, "a plan"
     if words.game:
-        game = boards.read_game("\n".join(boards.read_input(words.game).replace("\r", "").split("\n")[:2]))
+        lines = boards.read_input(words.game).replace("\r", "").split("\n", 3)
+        if lines[0] in FORMATS:
+            by = "a proof"
+            lines.pop(0)
+        game = boards.read_game("\n".join(lines[:2]))
     size = boards.board_size(words.board) if words.board else None
     text = boards.read_input(words.file)
     if words.kind == "position":
@@ -544,7 +559,7 @@ def draw(words):
     if words.kind == "plan":
         return draw_plan(Explained(text, game), words.text)
     if words.kind == "duel":
-        return draw_duel(Duel(text, game, size), words.text)
+        return draw_duel(Duel(text, game, size, by), words.text)
     return draw_proof(*read_proof(text), words.most)
 
 

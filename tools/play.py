@@ -1,8 +1,11 @@
 #!/usr/bin/env python3
-"""Plays in a terminal, or over a pipe: a person has White, and a player answers for Black."""
+"""Plays in a terminal, or over a pipe: a person has one side, and a player answers for the other, by a plan or by a
+whole proof."""
 
 import argparse
+import itertools
 import os
+import pathlib
 import sys
 
 import boards
@@ -13,6 +16,8 @@ from victor import MOST_REACH
 from words import line_name, listed
 
 LONGEST_SHOWN = 20
+LONGEST_HEAD = 256  # bytes of the first lines of a proof, and more
+SIDES = {"W": "White", "B": "Black"}
 INK = {"W": "\033[1;33m", "B": "\033[1;36m"}
 NEW, PLAIN = "\033[7m", "\033[0m"
 
@@ -22,12 +27,15 @@ class Unplayed(Fault):
 
 
 # ---------------------------------------------------------------------------------------------------------------------
-# Players. One has `said`, which is told at the start, `answer` and `reason`, and is chosen in `player_of`.
+# Players. One has `side`, for which it plays, `said`, which is told at the start, `first`, `answer` and `reason`, and
+# is chosen in `player_of`. Each answer is the program's, which plays the whole game again: so none is kept running, and
+# moves can be taken back.
 
 
 class PlanPlayer:
-    """Answers by a plan. Each answer is the program's, which plays the whole game again: so none is kept running, and
-    moves can be taken back."""
+    """Answers for Black by a plan."""
+
+    side = "B"
 
     def __init__(self, program, start, members):
         self.program, self.start, self.members = program, start, members
@@ -46,6 +54,9 @@ class PlanPlayer:
                 raise
             raise Fault("this is no plan there: %s" % fault.text) from fault
 
+    def first(self):
+        """No move of its own comes first: a plan answers."""
+
     def answer(self, columns):
         """Black's square after these moves of White's."""
         turns = self.run(columns)
@@ -62,9 +73,64 @@ class PlanPlayer:
         return ""
 
 
+class ProofPlayer:
+    """Answers by a whole proof, for a side that it serves."""
+
+    def __init__(self, program, path, side):
+        self.program, self.path, self.side = program, path, side
+        self.first_square = self.run([]).first
+        self.said = "%s answers by the proof %s." % (SIDES[side], path)
+
+    def run(self, columns):
+        """What `victor follow` answers to these moves of the other side's."""
+        try:
+            return victor.follow(self.path, SIDES[self.side].lower(), columns, program=self.program)
+        except victor.Failed as fault:
+            if fault.status not in (3, 4) or columns:
+                raise
+            if fault.text.endswith(": NoClaim\n"):
+                raise Fault("the proof %s has no lemma for %s" % (self.path, SIDES[self.side])) from fault
+            raise Fault("%s is no proof that can be followed: %s" % (self.path, fault.text)) from fault
+
+    def first(self):
+        """Its first move, where it has one."""
+        return square_of(self.first_square) if self.first_square else None
+
+    def answer(self, columns):
+        """The square after these moves of the other side's."""
+        turns = self.run(columns).turns
+        square = square_of(turns[-1][1] or "") if len(turns) == len(columns) else None
+        if square is None:
+            raise Unplayed("victor follow has written no answer to the last of %d moves" % len(columns))
+        return square
+
+    def reason(self, square):
+        """A lemma says nothing of its squares."""
+        return ""
+
+
 def player_of(words, program, start, given):
     """The player that the arguments ask for."""
+    if words.proof:
+        return ProofPlayer(program, pathlib.Path(words.proof), served_side(words, start))
     return PlanPlayer(program, start, given or explained_plan(program, start, words.reach))
+
+
+def served_side(words, start):
+    """The side that plays by the proof: the one that you don't have, else the one that wins, or for a draw the one that
+    isn't to move."""
+    if words.side:
+        return "B" if words.side == "white" else "W"
+    other = "B" if start.side == "W" else "W"
+    return start.side if verdict_of(words.proof) == "win" else other
+
+
+def verdict_of(path):
+    """The word of a proof's verdict, as its last lines say."""
+    with open(path, "rb") as source:
+        source.seek(max(0, source.seek(0, os.SEEK_END) - LONGEST_HEAD))
+        lines = source.read().decode("ascii", "replace").split("\n")
+    return next((line.split(" ")[1] for line in reversed(lines) if line.startswith("value ")), "")
 
 
 def explained_plan(program, start, reach):
@@ -105,41 +171,45 @@ def board_text(game, colours, new=()):
 def lines_through(game, square):
     """The lines of the board that have this square."""
     for right, up in WAYS.values():
-        for back in range(4):
-            line = [(square[0] + (k - back) * right, square[1] + (k - back) * up) for k in range(4)]
+        for back in range(game.length):
+            line = [(square[0] + (k - back) * right, square[1] + (k - back) * up) for k in range(game.length)]
             if all(0 <= i < game.cols and 1 <= r <= game.rows for i, r in line):
                 yield line
 
 
 def closed_line(game, square):
-    """The line that Black's new man closes and that has most men of White's, or None where it closes none with one."""
+    """The line that the player's new man closes and that has most men of the other side's, or None where it closes none
+    with one."""
     found = None
     most = 0
+    side = game.men[square]
     for line in lines_through(game, square):
-        sides = [game.men.get(other) for other in line]
-        if sides.count("B") == 1 and sides.count("W") > most:
-            found, most = line, sides.count("W")
+        men = [man for man in map(game.men.get, line) if man]
+        if men.count(side) == 1 and len(men) - 1 > most:
+            found, most = line, len(men) - 1
     return found
 
 
-def answer_text(game, white, black, reason):
+def answer_text(game, mine, its, reason):
     """What is said of a turn, at the position after it."""
-    said = "White %s, Black %s%s." % (name_of(white), name_of(black), " (%s)" % reason if reason else "")
-    line = closed_line(game, black)
+    side, other = game.men[mine], game.men[its]
+    said = "%s %s, %s %s" % (SIDES[side], name_of(mine), SIDES[other], name_of(its))
+    said += " (%s)." % reason if reason else "."
+    line = closed_line(game, its)
     if line:
-        mine = [square for square in line if game.men.get(square) == "W"]
-        said += "\nSo the %s, in which White has %s, never gets whole." % (line_name(line), listed(mine))
+        there = [square for square in line if game.men.get(square) == side]
+        said += "\nSo the %s, in which %s has %s, never gets whole." % (line_name(line), SIDES[side], listed(there))
     return said
 
 
-def end_text(game):
-    """Who got what."""
+def end_text(game, side):
+    """Who got what. The person has this side."""
     if game.line:
-        side = "Black" if game.side == "W" else "White"
-        return "%s has a line, %s, and wins." % (side, " ".join(map(name_of, game.line)))
+        winner = "Black" if game.side == "W" else "White"
+        return "%s has a line, %s, and wins." % (winner, " ".join(map(name_of, game.line)))
     if game.is_over:
         return "The board is full and no side has a line: a draw."
-    return "The game isn't over: White has no line yet."
+    return "The game isn't over: %s has no line yet." % side
 
 
 # ---------------------------------------------------------------------------------------------------------------------
@@ -168,39 +238,54 @@ def column_of(word, game):
 
 
 class Table:
-    """A game against a player. The columns of a turn are White's and Black's."""
+    """A game against a player. The columns of a turn are the person's and the player's; the player's first move, where
+    it has one, comes before them."""
 
     def __init__(self, start, player):
-        self.start, self.player, self.turns = start, player, []
+        self.start, self.player, self.first, self.turns = start, player, [], []
+        self.side = SIDES["W" if player.side == "B" else "B"]
         self.colours = is_coloured(sys.stdout)
         self.replay()
 
     def replay(self):
-        moves = self.start.moves + [column for turn in self.turns for column in turn]
+        moves = self.start.moves + self.first + list(itertools.chain(*self.turns))
         self.game = Game.on(self.start.size, moves)
+
+    def drop(self, square):
+        """Plays the player's man on its square."""
+        try:
+            self.game.play(square[0])
+        except Fault as fault:
+            raise Unplayed("the answer %s can't be played: %s" % (name_of(square), fault)) from fault
+        if self.game.heights[square[0]] != square[1]:
+            raise Unplayed("the answer %s hangs or is taken" % name_of(square))
+
+    def begin(self):
+        """The player's first move, where it has one, which is told."""
+        square = self.player.first()
+        if square:
+            self.drop(square)
+            self.first = [square[0]]
+            print("%s begins with %s." % (SIDES[self.player.side], name_of(square)))
+        self.show((square,) if square else ())
 
     def show(self, new=()):
         print(board_text(self.game, self.colours, new))
 
     def turn(self, column):
-        """White's move and Black's answer, which is told."""
+        """A move and the player's answer, which is told."""
         game = self.game
         game.play(column)
-        white = (column, game.heights[column])
+        mine = (column, game.heights[column])
         if game.is_over:
             self.turns.append((column,))
-            self.show((white,))
+            self.show((mine,))
             return
-        black = self.player.answer([turn[0] for turn in self.turns] + [column])
-        try:
-            game.play(black[0])
-        except Fault as fault:
-            raise Unplayed("the answer %s can't be played: %s" % (name_of(black), fault)) from fault
-        if game.heights[black[0]] != black[1]:
-            raise Unplayed("the answer %s hangs or is taken" % name_of(black))
-        self.turns.append((column, black[0]))
-        print(answer_text(game, white, black, self.player.reason(white)))
-        self.show((white, black))
+        its = self.player.answer([turn[0] for turn in self.turns] + [column])
+        self.drop(its)
+        self.turns.append((column, its[0]))
+        print(answer_text(game, mine, its, self.player.reason(mine)))
+        self.show((mine, its))
 
     def take_back(self):
         if not self.turns:
@@ -211,17 +296,17 @@ class Table:
 
     def ask(self):
         """What was typed, in small letters, or None where there is no more."""
-        print("White's column (%s-%s; u takes back, q ends): " % (LETTERS[0], LETTERS[self.game.cols - 1]), end="",
-              flush=True)
+        last = LETTERS[self.game.cols - 1]
+        print("%s's column (%s-%s; u takes back, q ends): " % (self.side, LETTERS[0], last), end="", flush=True)
         line = sys.stdin.buffer.readline().decode("utf-8", "replace")
         if not sys.stdin.isatty() or not line:
             print(line.rstrip("\r\n").encode("ascii", "replace").decode("ascii"))
         return line.strip().lower() if line else None
 
     def play(self):
-        """Plays until the game is over, or whoever has White has enough."""
+        """Plays until the game is over, or the person has enough."""
         print(self.player.said)
-        self.show()
+        self.begin()
         while not self.game.is_over:
             word = self.ask()
             if word is None or word in ("q", "quit"):
@@ -237,7 +322,7 @@ class Table:
     def end(self):
         """Who got what, and the game as text."""
         self.replay()
-        print(end_text(self.game))
+        print(end_text(self.game, self.side))
         print(self.game.text(), end="", flush=True)
 
 
@@ -253,7 +338,14 @@ def plan_line(text):
 
 
 def read_start(words):
-    """The game, and the instances of a plan where one is given."""
+    """The game, and the instances of a plan where one is given. A proof has its own game."""
+    if words.proof:
+        if words.game or words.board or words.moves or words.plan:
+            raise Fault("the proof names the game, so nothing else can")
+        with open(words.proof, "rb") as source:
+            return boards.read_game(b"".join(itertools.islice(source, 1, 3)).decode("ascii", "replace")), None
+    if words.side:
+        raise Fault("a plan is Black's, so you have White; --side is for a proof")
     given = plan_line(boards.read_input(words.plan)) if words.plan else None
     if not words.game:
         return Game.on(boards.board_size(words.board or "6x6"), boards.columns_of(words.moves or "-")), given
@@ -266,9 +358,11 @@ def read_start(words):
 
 def main():
     parser = argparse.ArgumentParser(
-        prog="play.py", description="Plays Connect Four against a plan: you have White, and `victor play` answers.",
-        epilog="A column is typed as a letter or as a number from 1. White never gets a line against a plan. "
-        "Status: 0 where the game was played or left, 2 where there is no game or no plan, 1 where the program failed.",
+        prog="play.py", description="Plays Connect Four against a plan, with White for you, or against a whole proof: "
+        "`victor play` or `victor follow` answers.",
+        epilog="A column is typed as a letter or as a number from 1. White never gets a line against a plan, nor you "
+        "against a proof. Status: 0 where the game was played or left, 2 where there is no game, no plan or no proof, "
+        "1 where the program failed.",
     )
     parser.add_argument("game", nargs="?", metavar="FILE",
                         help="the text of a game, where one begins; a plan may be its third line")
@@ -276,6 +370,9 @@ def main():
                         help="the board, where no file is named (6x6), as 8x6x5 for lines of five")
     parser.add_argument("--moves", metavar="LETTERS", help="the moves so far, where no file is named (none)")
     parser.add_argument("--plan", metavar="FILE", help="a file with the plan; else `victor explain` gives one")
+    parser.add_argument("--proof", metavar="FILE", help="a proof to play against, from its own position")
+    parser.add_argument("--side", choices=("white", "black"),
+                        help="your side against a proof (the one that doesn't win; of a draw the one to move)")
     parser.add_argument("--reach", type=int, default=1_000, metavar="K", help="how many sets explain tries (1000)")
     parser.add_argument("--keep", metavar="FILE", help="keep the game's text in this file at the end")
     parser.add_argument("--victor", metavar="PATH", help="the program to run")

@@ -492,13 +492,36 @@ def file_of(text: Text) -> Iterator[BinaryIO]:
         yield made
 
 
+@contextlib.contextmanager
+def lines_behind(text: Text, lines: str) -> Iterator[BinaryIO]:
+    """A file of one's own to read a text from and then these lines. A path's text isn't copied for it."""
+    if not isinstance(text, os.PathLike):
+        head = text if isinstance(text, bytes) else text.encode()
+        feed = b"\n" if lines and not head.endswith(b"\n") else b""
+        with file_of(head + feed + lines.encode()) as source:
+            yield source
+        return
+    with open(text, "rb") as proof:
+        proof.seek(max(0, proof.seek(0, os.SEEK_END) - 1))
+        feed = "\n" if lines and proof.read() != b"\n" else ""
+    command = ["cat", "--", os.path.abspath(text), "-"]
+    with file_of(feed + lines) as more, subprocess.Popen(command, stdin=more, stdout=subprocess.PIPE) as joined:
+        yield joined.stdout
+
+
 def answer(name: str, words: list[str], text: Text, good: Iterable[int] = (0,), **limits) -> tuple[int, str]:
     """Runs a program on a text, and gives its status and what it wrote."""
+    with file_of(text) as source:
+        return answer_from(name, words, source, good, **limits)
+
+
+def answer_from(name: str, words: list[str], source: BinaryIO, good: Iterable[int] = (0,), **limits) -> tuple[int, str]:
+    """The same of a program that reads a file."""
     def written() -> str:
         out.seek(0)
         return out.read().decode("ascii", "replace")
 
-    with file_of(text) as source, tempfile.TemporaryFile() as out:
+    with tempfile.TemporaryFile() as out:
         try:
             return run(name, words, source, out, good, **limits), written()
         except Failed as fault:
@@ -660,7 +683,7 @@ def prove_by_move(game: Game, column: int, after: Proof, into: Optional[Path] = 
 
 
 # ---------------------------------------------------------------------------------------------------------------------
-# Plans, threats, play and drills.
+# Plans, threats, whole proofs, play and drills.
 
 
 @dataclass(frozen=True)
@@ -691,6 +714,18 @@ class Threat:
     pairs: tuple[str, ...]
     turns: tuple[tuple[str, str], ...]
     won: bool
+    text: str
+    status: int
+
+
+@dataclass(frozen=True)
+class Following:
+    """What `follow` writes: the holder's first move, or none; for each of the other side's moves both squares, of which
+    the second is None where the first filled the board; and how the game has ended: `won`, `full` or not."""
+
+    first: Optional[str]
+    turns: tuple[tuple[str, Optional[str]], ...]
+    end: str
     text: str
     status: int
 
@@ -736,6 +771,23 @@ def threat(game: Game, moves: Iterable[int] = (), *, program: Optional[str] = No
         return Threat(None, (), (), False, text, status)
     won = bool(turns) and len(turns[-1]) > 2
     return Threat(first[1], tuple(first[2:]), tuple((words[0], words[1]) for words in turns), won, text, status)
+
+
+def follow(proof: Union[Proof, Text], holder: str, moves: Iterable[int] = (), *, program: Optional[str] = None,
+           **limits) -> Following:
+    """What the holder, `white` or `black`, plays by a proof, a text or a path, to the other side's moves, which are
+    columns. It is Failed where the proof is refused or its verdict names no lemma for the holder, with status 4, and
+    where a move isn't legal, with status 3 and what was answered before."""
+    if holder not in ("white", "black"):
+        raise Fault("who plays by a proof is white or black, and not %r" % (holder,))
+    lines = "".join(LETTERS[column] + "\n" for column in moves)
+    words = [find_program(program), "follow", holder]
+    with lines_behind(proof.source if isinstance(proof, Proof) else proof, lines) as source:
+        status, text = answer_from("victor follow", words, source, **limits)
+    turns = [line.split() for line in text.splitlines()]
+    end = turns[-1][2] if turns and len(turns[-1]) > 2 else ""
+    first = turns.pop(0)[1] if turns and turns[0][0] == "-" else None
+    return Following(first, tuple((mine, None if its == "-" else its) for mine, its, *_ in turns), end, text, status)
 
 
 @dataclass(frozen=True)

@@ -80,6 +80,21 @@ def main():
             wait_for("status", "c4 was answered by b4")
             click("a")
             wait_for("status", "White has a line")
+        # Games against a whole proof: of a side that begins and wins, and of a draw.
+        if "follow" in sys.argv[2:]:
+            open_at("#4x4/dccbbdbbddcc")
+            choose("proof")
+            wait_for("status", "The first move is a1")
+            click("a")
+            wait_for("status", "a2 was answered by a3")
+            wait_for("status", "White has a line")
+            page.find_element(By.CSS_SELECTOR, "#status a[href^='/proof/']")
+            open_at("#4x4/cdccddcdaaaabb")
+            choose("proof")
+            wait_for("status", "Play for White")
+            click("b")
+            wait_for("status", "b3 was answered by b4")
+            wait_for("status", "The board is full")
         # What is no move, no board and no question.
         open_at("#4x4/abababa")
         wait_for("status", "White has a line")

@@ -76,6 +76,22 @@ class BoardTest(ToolTest):
         for word in ("http://", "https://", "src=", "@import"):
             self.assertNotIn(word, page)
 
+    def test_follow(self):
+        """A game against a whole proof, which is one that was asked for."""
+        win = {"size": "4x4", "moves": "dccbbdbbddcc", "by": "proof", "holder": "white"}
+        win["proof"] = self.call("/ask", size="4x4", moves=win["moves"])[1]["proof"]
+        self.assertEqual(self.call("/play", answered="", **win)[1]["lines"], ["- a1"])
+        self.assertEqual(self.call("/play", answered="a", **win)[1]["lines"], ["- a1", "a2 a3 won"])
+        draw = {"size": "4x4", "moves": "cdccddcdaaaabb", "by": "proof", "holder": "black"}
+        draw["proof"] = self.call("/ask", size="4x4", moves=draw["moves"])[1]["proof"]
+        self.assertEqual(self.call("/play", answered="b", **draw)[1]["lines"], ["b3 b4 full"])
+        for change, said in (({"holder": "black"}, "NoClaim"), ({"holder": "grey"}, "white or black"),
+                             ({"proof": 999}, "no proof 999"), ({"proof": "../1"}, "a number"), ({"proof": None}, "a number"),
+                             ({"moves": "-"}, "another game"), ({"answered": "b"}, "ColumnFull"), ({"answered": "a\n"}, "letters")):
+            status, answer = self.call("/play", **{**win, "answered": "", **change})
+            self.assertEqual(status, 400, change)
+            self.assertIn(said, answer["fault"])
+
     def test_bad_questions(self):
         for question in ({}, {"size": "4x4"}, {"size": "5x5", "moves": ""}, {"size": "4x4", "moves": "zz"},
                          {"size": "4x4", "moves": "aaaaa"}, {"size": 4, "moves": ""}, {"size": "4x4", "moves": "", "page": "x"}):
@@ -123,7 +139,9 @@ class BoardTest(ToolTest):
     @unittest.skipUnless(BROWSER, "Chromium and selenium aren't there: apt-get install chromium-driver python3-selenium")
     def test_in_a_browser(self):
         has_threat = subprocess.run([program(), "threat"], stdin=subprocess.DEVNULL, stderr=subprocess.DEVNULL).returncode == 3
-        words = [SYSTEM_PYTHON, os.path.join(TOOLS, "tests", "browser_board.py"), self.address] + ["threat"] * has_threat
+        has_follow = "follow" in subprocess.run([program()], stdin=subprocess.DEVNULL, capture_output=True, text=True).stderr
+        words = [SYSTEM_PYTHON, os.path.join(TOOLS, "tests", "browser_board.py"), self.address]
+        words += ["threat"] * has_threat + ["follow"] * has_follow
         made = subprocess.run(words, stdout=subprocess.PIPE, stderr=subprocess.STDOUT, encoding="utf-8", timeout=160)
         self.assertEqual(made.returncode, 0, made.stdout)
 

@@ -15,7 +15,7 @@ from common import boards, program, read
 
 DOCUMENTS = ("README.md",) + tuple(
     "docs/%s.md" % name for name in (
-        "USE", "TOOLS", "PLAY", "CHOOSER", "FRONT", "SOLVED", "TEACH", "PROOFS", "RULES", "FIVE", "MIRROR", "THREAT"))
+        "USE", "TOOLS", "PLAY", "CHOOSER", "FRONT", "SOLVED", "TEACH", "PROOFS", "RULES", "FIVE", "MIRROR", "THREAT", "FOLLOW"))
 COMMAND = re.compile(r"(tools/|\./victor|printf|echo|make|moves=|tr |set -o|python3|apt-get|\.ci/) *")
 # The beginning of a command, and why it isn't run.
 LEFT_OUT = {

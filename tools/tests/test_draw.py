@@ -200,6 +200,26 @@ class DuelTest(ToolTest):
         self.refuses("draw.py", "duel", text="threat a3h BI:a1\n", said="line 1")
         self.refuses("draw.py", "duel", text="threat a3h\na1 a2 full\n", said="line 2")
 
+    def test_follow(self):
+        """A duel by a whole proof, whose game says who begins: either side may, and the first move may stand alone."""
+        for proof, played, shown in (
+            ("two-squares-left.proof", "draw-white", ("1.  -  b3", "2.  b4  -  full", "4 B B W B", "3 W W B B")),
+            ("two-squares-left.proof", "draw-black", ("1.  b3  b4  full", "4 B B W B", "3 W W B B")),
+            ("forced-win.proof", "win", ("1.  -  a1", "2.  a2  a3  won", "3 W W W W", "2 B W")),
+            ("usual-board.proof", "usual-board", ("1.  -  d4  won",)),
+            (os.path.join("mirror", "four-tops.proof"), "mirror", ("1.  c4  b4", "2.  a4  d4  full")),
+        ):
+            words = ("draw.py", "duel", "--game", example(proof))
+            text = read(example("follow", played + ".played"))
+            status, out, err = tool(*words, "--text", text=text)
+            self.assertEqual((status, err), (0, ""), played)
+            for line in shown:
+                self.assertIn(line, out)
+            self.assertIn("by a proof", " ".join(texts_of(tool(*words, text=text)[1])))
+        self.refuses("draw.py", "duel", text="- b3\n", said="whose first move it is")
+        for text in ("a1 -\n", "- full\n", "b3 - full\nb4 a1\n", "b3 a4\n- b4\n"):
+            self.refuses(*words, text=text, said="line ")
+
     def test_faults(self):
         self.refuses("draw.py", "duel", text="a1\n", said="line 1")
         self.refuses("draw.py", "duel", text="a1 a3\n", said="a3 isn't playable")

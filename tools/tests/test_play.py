@@ -88,6 +88,55 @@ class PlayTest(ToolTest):
                          said="this is no plan there: refused line 3: NotWhiteToMove")
             self.refuses("play.py", "--board", "4x4", "--plan", kept, said="no line that begins with `plan `")
 
+    def test_a_whole_proof(self):
+        """Both sides of a draw, a win whose holder begins, and lemmas at mirror images."""
+        draw = example("two-squares-left.proof")
+        for words in (["--side", "white"], []):
+            out = self.plays("b\n", "--proof", draw, *words)
+            self.assertIn("Black answers by the proof %s.\n" % draw, out)
+            self.assertIn("White's column (a-d; u takes back, q ends): b\nWhite b3, Black b4.\n", out)
+            self.ends(out, "The board is full and no side has a line: a draw.", "cdccddcdaaaabbbb")
+        out = self.plays("u\nb\n", "--proof", draw, "--side", "black")
+        self.assertIn("White answers by the proof %s.\nWhite begins with b3.\n" % draw, out)
+        self.assertIn("there is no move to take back.\n", out)
+        self.ends(out, "The board is full and no side has a line: a draw.", "cdccddcdaaaabbbb")
+        out = self.plays("a\nu\na\n", "--proof", example("forced-win.proof"))
+        self.assertIn("White begins with a1.\n", out)
+        self.assertIn("Black's column (a-d; u takes back, q ends): a\nBlack a2, White a3.\n", out)
+        self.ends(out, "White has a line, a3 b3 c3 d3, and wins.", "dccbbdbbddccaaa")
+        out = self.plays("", "--proof", example("usual-board.proof"))
+        self.ends(out, "White has a line, d1 d2 d3 d4, and wins.", "dcdcdcd", "7 6")
+        out = self.plays("c\nq\n", "--proof", example("mirror", "four-tops.proof"))
+        self.assertIn("White c4, Black b4.\n", out)
+        self.ends(out, "The game isn't over: White has no line yet.", "abdcbacdabdccb")
+        out = self.plays("d\nc\n", "--proof", example("mirror", "four-tops.proof"), "--side", "black")
+        self.ends(out, "The game isn't over: Black has no line yet.", "abdcbacdabdcbdc")
+
+    def test_no_proof_to_play_against(self):
+        with tempfile.TemporaryDirectory() as folder:
+            short = os.path.join(folder, "short")
+            with open(short, "w", encoding="ascii") as out:
+                out.write("victor 1\n")
+            for words, said in (
+                ([example("forced-win.proof"), "--side", "white"], "has no lemma for Black"),
+                ([example("tight-budget.proof")], "has no lemma for Black"),
+                ([example("refused", "wrong-verdict.proof")], "can be followed: refused line 10: BadVerdict"),
+                ([example("usual-board.txt")], "no text of a game"), ([short], "no text of a game"),
+                (["/no/such/file"], "No such file"), ([example("forced-win.proof"), "--board", "4x4"], "names the game"),
+                ([example("forced-win.proof"), "--side", "grey"], "invalid choice"),
+            ):
+                self.refuses("play.py", "--victor", program(), "--proof", *words, said=said)
+            self.refuses("play.py", "--victor", program(), "--side", "white", said="--side is for a proof")
+            # A program that fails at the first move behind the ten lines of a proof.
+            stub = os.path.join(folder, "victor")
+            with open(stub, "w", encoding="ascii") as out:
+                out.write("#!/bin/bash\n[ $(tail -n +11 | wc -l) -eq 0 ] || exit 7\n")
+            os.chmod(stub, stat.S_IRWXU)
+            words = ("--victor", stub, "--proof", example("two-squares-left.proof"))
+            status, _, err = tool("play.py", *words, text="b\n")
+            self.assertEqual(status, 1)
+            self.assertIn("victor follow ended with status 7", err)
+
     def test_faults(self):
         self.helps("play.py")
         for words, said in (

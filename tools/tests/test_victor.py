@@ -147,6 +147,38 @@ class RunTest(ToolTest):
         found = victor.threat(victor.Game.read("-", (4, 4)), [0])
         self.assertEqual((found.group, found.pairs, found.turns, found.won, found.status), (None, (), (), False, 5))
 
+    def test_follow(self):
+        """A proof as a text, as a path and as what `prove` gave, for both sides."""
+        path = Path(example("two-squares-left.proof"))
+        for proof in (path, read(path), read(path).rstrip("\n"), read(path).encode()):
+            found = victor.follow(proof, "black", [1])
+            self.assertEqual((found.first, found.turns, found.end, found.status), (None, (("b3", "b4"),), "full", 0))
+            found = victor.follow(proof, "white", [1])
+            self.assertEqual((found.first, found.turns, found.end), ("b3", (("b4", None),), "full"))
+            self.assertEqual(victor.follow(proof, "black").text, "")
+        found = victor.follow(Path(example("no-last-feed", "four-in-a-column.proof")), "white")
+        self.assertEqual((found.first, found.turns, found.end), (None, (), ""))
+        found = victor.follow(Path(example("usual-board.proof")), "white")
+        self.assertEqual((found.first, found.turns, found.end, found.text), ("d4", (), "won", "- d4 won\n"))
+        proof = victor.prove(victor.Game.read("dccbbdbbddcc", (4, 4)))
+        self.assertEqual(victor.follow(proof, "white", [0]).turns, (("a2", "a3"),))
+        fault = self.fails(victor.Failed, victor.follow, proof, "black")
+        self.assertEqual((fault.status, fault.text.split(": ")[1]), (4, "NoClaim\n"))
+        fault = self.fails(victor.Failed, victor.follow, path, "white", [0])
+        self.assertEqual((fault.status, fault.text), (3, "input fault: ColumnFull at line 11\n"))
+        self.assertEqual(fault.written, "- b3\n")
+        fault = self.fails(victor.Failed, victor.follow, Path(example("refused", "wrong-verdict.proof")), "black", [1])
+        self.assertEqual((fault.status, fault.text), (4, "refused line 10: BadVerdict\n"))
+        self.fails(victor.Fault, victor.follow, path, "grey")
+
+    def test_a_long_proof_is_followed(self):
+        """A path's text is handed on in pieces, also where the program doesn't read it to its end."""
+        path = self.folder / "long"
+        path.write_text(read(example("two-squares-left.proof")).replace("value", "# remark\n" * 100_000 + "value"))
+        self.assertEqual(victor.follow(path, "black", [1]).turns, (("b3", "b4"),))
+        path.write_text(read(example("refused", "cut-line.proof")) + "# remark\n" * 100_000)
+        self.assertEqual(self.fails(victor.Failed, victor.follow, path, "black", [1]).status, 4)
+
     def test_win_by_a_move(self):
         """A proof for the position behind a winning move becomes one of the position, of either side."""
         for letters, size, column in (("dcdcdc", (7, 6), 3), ("dccbbdbbddcc", (4, 4), 0), ("dcdcbcb", (7, 6), 2)):
