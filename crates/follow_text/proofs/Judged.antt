@@ -1,22 +1,25 @@
 -- A proof is judged line by line up to its verdict: what comes of the lines is what comes of those behind the first, or the
 -- first is refused.
+use Rattle.std.proofs.lemmas.Slice.Eq.{bytes_eq-Decides}
 use Rattle.std.proofs.Common.{◌≡◌, ℕ, suc, ◌+◌, ◌-◌, Bool, true, false, cond, List, [], ◌∷◌, ◌++◌, take, drop, Option, Some, None, refl, sym, ap, ◌∙◌, arith, append_assoc}
 use Rattle.game_rules.specs.Board.{Board}
 use Rattle.game_rules.specs.Position.{Position, board_of}
+use Rattle.game_rules.specs.Text.{game_at}
 use Rattle.game_rules.specs.declared.Side.{Side}
 use Rattle.proof_text.specs.Lemma.{Lemma, Line, ALemma, ARemark, AVerdict}
 use Rattle.proof_text.specs.Checked.{Why, CheckerState}
 use Rattle.proof_text.specs.Reading.{read_line}
-use Rattle.proof_text.specs.Texts.{bytes_refusal, line_answer, with_said, with_bytes, check_from, lemmas_said, start, first_number}
+use Rattle.proof_text.specs.Texts.{pieces, game_of, behind_game, first_line, version_of, named_by, bytes_refusal, line_answer, with_said, with_bytes, check_from, lemmas_said, start, first_number}
 use Rattle.proof_text.specs.declared.Verdict.{Verdict}
 use Rattle.proof_text.specs.declared.Version.{Version}
-use Rattle.proof_text.specs.declared.Why.TheVariants.{EndedEarly}
+use Rattle.proof_text.specs.declared.Version.TheVariants.{One, Two}
+use Rattle.proof_text.specs.declared.Why.TheVariants.{BadLine, EndedEarly}
 use Rattle.proof_text.proofs.Accepted.{with_bytes_root, said_first}
 use Rattle.proof_text.proofs.First.{unread}
 use Rattle.proof_text.proofs.Fold.{answer_by_lines}
 use Rattle.play_text.specs.Play as ends
 use Rattle.play_text.specs.Play.{Played, ended}
-use Rattle.follow_text.specs.Follow.{is_verdict, lines_to_verdict, follow_answer, judged_cut, judged_behind, judged_from, follow_cut}
+use Rattle.follow_text.specs.Follow.{is_verdict, lines_to_verdict, follow_answer, judged_cut, judged_behind, judged_from, follow_cut, follow_game, follow_pieces, follow_of}
 
 module _ (holder : Side) (version : Version) where
   -- where lines end without a verdict
@@ -141,3 +144,23 @@ module _ (holder : Side) (version : Version) where
       let place : count + (first_number - 1) ≡ first_number + count - 1 = omega arith in
       ap (follow_answer ls holder root (count + (first_number - 1)) (drop count lines)) (answer_by_lines version root (take count lines))
       ∙ ap (λ number. follow_answer ls holder root number (drop count lines) (check_from version (start root) first_number (take count lines))) place
+
+-- ---- the first line
+
+-- a first line that names a version
+version_first : (version : Version) (more : List (List ℕ)) (bytes : List ℕ) → pieces bytes ≡ first_line version ∷ more → version_of bytes ≡ version
+version_first One more bytes cut = ap named_by cut
+version_first Two more bytes cut = ap named_by cut
+
+pieces_headed : (holder : Side) (version : Version) (more : List (List ℕ))
+    → follow_pieces holder version (first_line version ∷ more) ≡ follow_game holder version (game_at (game_of more)) (behind_game more)
+pieces_headed holder version more =
+    ap (λ named. cond named (follow_game holder version (game_at (game_of more)) (behind_game more)) (ended (ends.Refused 1 BadLine)))
+    ((bytes_eq-Decides (first_line version) (first_line version)).1 refl)
+
+pub headed : (holder : Side) (version : Version) (bytes : List ℕ) (more : List (List ℕ)) → pieces bytes ≡ first_line version ∷ more
+    → follow_of holder bytes ≡ follow_game holder version (game_at (game_of more)) (behind_game more)
+unfolding follow_of
+headed holder version bytes more cut =
+    ap (λ named. follow_pieces holder named (pieces bytes)) (version_first version more bytes cut)
+    ∙ ap (follow_pieces holder version) cut ∙ pieces_headed holder version more

@@ -6,3 +6,4 @@ pub mod Games
 pub mod Steps
 pub mod Judged
 pub mod Tells
+pub mod Played

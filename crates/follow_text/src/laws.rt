@@ -1,16 +1,19 @@
 //! Laws of the definitions, each the contract of a function with an empty body: that the side that a lemma serves is served
 //! by following it, and that it never lacks a move.
-ghost use Rattle.std.specs.Prelude.{◌≡◌, ◌≢◌, ◌↔◌, ℕ, ◌+◌, Bool, true, List, [], ◌∷◌, ◌++◌, length, Some, None};
+ghost use Rattle.std.specs.Prelude.{◌≡◌, ◌≢◌, ◌↔◌, ℕ, ◌+◌, Bool, true, List, [], ◌∷◌, ◌++◌, length, map, Some, None, Ok};
 ghost use Rattle.game_rules.specs.Board.{Board};
-ghost use Rattle.game_rules.specs.Position.{Position, empty_position, other, side_to_move, end_of, is_legal, after_move, played};
+ghost use Rattle.game_rules.specs.Text.{game_at};
+ghost use Rattle.game_rules.specs.Position.{Position, board_of, empty_position, other, side_to_move, end_of, is_legal, after_move, played};
 ghost use Rattle.game_rules.specs.declared.Side.{Side};
 ghost use Rattle.proof_text.specs.Lemma.{claims_win, Lemma};
 ghost use Rattle.proof_text.specs.Right.{Shown, Shows, AreRight, IsVerdict};
+ghost use Rattle.proof_text.specs.Texts.{pieces, game_of, behind_game, first_line, lemmas_said, answer_of, Accepted};
 ghost use Rattle.proof_text.specs.declared.Claim.{Claim};
+ghost use Rattle.proof_text.specs.declared.Version.{Version};
 ghost use Rattle.proof_text.specs.declared.Verdict.{Verdict};
-ghost use Rattle.play_text.specs.Play.{AllPlayed, NoReply, behind};
+ghost use Rattle.play_text.specs.Play.{AllPlayed, NoReply, behind, move_line};
 ghost use Rattle.follow_text.specs.Following.{served_by, seen, Following, own_move_at, answer_to, game_by, is_game_by, IsServed, IsHeld, Follows, HasMove};
-ghost use Rattle.follow_text.specs.Follow.{follow_from, follow_at, named_for, is_won};
+ghost use Rattle.follow_text.specs.Follow.{follow_from, follow_at, named_for, is_won, follow_of};
 
 /// Let a root be reached by legal moves, some lemmas be right from there, and one of them show a claim of the root. Then the
 /// side that the claim serves is served by following the lemmas, whatever legal moves the other side plays: its own moves are
@@ -58,4 +61,14 @@ pub fn following_goes_line_by_line()
     ensures more { (ls : List Lemma) (holder : Side) (s : Following) (q : Position) (at : ℕ) (xs ys : List (List ℕ))
         → (follow_from ls holder s q at xs).end ≡ AllPlayed → (next : Following) × (r : Position)
         × (follow_from ls holder s q at (xs ++ ys) ≡ behind (follow_from ls holder s q at xs).lines (follow_from ls holder next r (at + length xs) ys)) }
+{}
+
+/// An input that begins with a proof that is accepted, whose verdict names a lemma for the holder, and that has a line behind it
+/// for each of some columns, which are legal, each at its turn, is played to its end.
+pub fn a_right_proof_is_played_to_its_end()
+    ensures { (holder : Side) (version : Version) (bytes : List ℕ) (more : List (List ℕ)) (root : Position) (proof : List (List ℕ)) (columns : List ℕ)
+        (v : Verdict) (count n : ℕ) → pieces bytes ≡ first_line version ∷ more → game_at (game_of more) ≡ Ok root
+        → behind_game more ≡ proof ++ map move_line columns → answer_of version root proof ≡ Accepted v count
+        → named_for holder (side_to_move root) v ≡ Some n → is_game_by (lemmas_said version (board_of root) proof) root n columns ≡ true
+        → (follow_of holder bytes).end ≡ AllPlayed }
 {}

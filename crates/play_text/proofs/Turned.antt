@@ -40,7 +40,7 @@ unrefused_legal q column h = of_parts (end_of q) (has_room q column) refl refl h
 pub legal_unrefused : (q : Position) (column : ℕ) → is_legal q column ≡ true → move_refusal q (Some column) ≡ None
 legal_unrefused q column legal = let parts = legal_parts q column legal in rw (parts.0, parts.1) refl
 
-legal_line : (q : Position) (column : ℕ) → is_legal q column ≡ true → column_in (board_of q) (move_line column) ≡ Some column
+pub legal_line : (q : Position) (column : ℕ) → is_legal q column ≡ true → column_in (board_of q) (move_line column) ≡ Some column
 legal_line q column legal =
     let letter = letter_spelled (length q.columns) column (room_column q column (legal_parts q column legal).1) in
     rw letter.0 (ap (λ column. Some column) letter.1)

@@ -1,9 +1,8 @@
 -- How a run of `follow` ends.
-use Rattle.std.proofs.Common.{◌≡◌, ◌⊎◌, ℕ, ◌+◌, ◌≤◌, List, Option, Some, None, IfSome, IfErr, Result, Ok, Err, refl, sym, ap, ◌∙◌, subst, inl, inr, arith}
+use Rattle.std.proofs.Common.{◌≡◌, ◌⊎◌, ℕ, ◌+◌, ◌≤◌, List, Option, Some, None, IfErr, Result, Ok, Err, refl, ap, ◌∙◌, subst, inl, inr, arith}
 use Rattle.device_rules.specs.Devices.{Rose}
 use Rattle.game_rules.specs.declared.Side.{Side}
 use Rattle.play_text.specs.Play as ends
-use Rattle.follow_text.specs.Follow.{follow_of}
 use Rattle.follow_text.specs.Told.{IsTold}
 use Rattle.follow_text.proofs.Tells.{follow_is_told}
 use Rattle.run_frame.specs.Streams.{Streams, StillHolds}

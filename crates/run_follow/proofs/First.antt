@@ -1,19 +1,16 @@
 -- The holder's first move and its line, and what is played behind it.
-use Rattle.std.proofs.Common.{◌≡◌, ℕ, ◌+◌, ◌≤◌, ◌/◌, Bool, true, false, List, [], ◌∷◌, length, Option, Some, None, option_map, Result, Ok, Err, refl, sym, ap, ◌∙◌, subst, arith, append-nil}
+use Rattle.std.proofs.Common.{◌≡◌, ℕ, ◌+◌, ◌≤◌, true, false, List, [], ◌∷◌, length, Option, Some, None, option_map, Ok, Err, refl, sym, ap, ◌∙◌, subst, arith, append-nil}
 use Rattle.std.proofs.KnownBytes.{Appends-nil}
 use Rattle.device_rules.specs.Devices.{AppendsPrefix}
 use Rattle.game_rules.specs.Board.{is_board}
-use Rattle.game_rules.specs.Position.{Position, board_of, empty_count, is_legal, end_of, after_move}
+use Rattle.game_rules.specs.Position.{Position, board_of, empty_count, end_of, after_move}
 use Rattle.game_rules.specs.declared.Side.{Side}
 use Rattle.game_rules.proofs.BoardLine.{empty_count_within}
 use Rattle.game_rules.proofs.Ends.{legal_parts}
 use Rattle.game_rules.proofs.Moves.{board_moved}
-use Rattle.io_ports.specs.Reading.{Pending, Reads, PassesLines}
-use Rattle.io_ports.proofs.Reading.{Reads_more}
 use Rattle.proof_text.specs.Lemma.{Lemma}
 use Rattle.proof_text.specs.Texts.{pieces, lines_in}
-use Rattle.play_text.specs.Play as ends
-use Rattle.play_text.specs.Play.{Played, PlayEnd, Turn, behind, text_of, column_in, move_refusal, with_turn, with_move, turns_from}
+use Rattle.play_text.specs.Play.{behind, text_of, column_in, move_refusal, with_turn, with_move, turns_from}
 use Rattle.play_text.specs.declared.PlayKind.{PlayKind}
 use Rattle.follow_text.specs.Following.{Following, at_lemma, own_move_at}
 use Rattle.follow_text.specs.Follow.{first_text, follow_turn, follow_from, begin_by, follow_named}

@@ -1,10 +1,8 @@
 -- A proof up to its verdict, one step after another: what comes of the bytes is play behind the verdict, or what stopped the reading.
-use Rattle.std.proofs.Common.{◌≡◌, ℕ, ◌+◌, ◌-◌, ◌≤◌, Bool, true, false, cond, List, [], ◌∷◌, Option, Some, None, Result, Ok, Err, refl, sym, ap, ◌∙◌, subst, inl, inr, arith}
+use Rattle.std.proofs.Common.{◌≡◌, ℕ, ◌+◌, ◌-◌, ◌≤◌, Bool, true, false, cond, List, [], ◌∷◌, Some, None, Result, Ok, Err, refl, sym, ap, ◌∙◌, subst, inl, inr, arith}
 use Rattle.std.specs.Str.{bytes_eq}
-use Rattle.std.proofs.lemmas.Slice.Eq.{bytes_eq-Decides}
-use Rattle.device_rules.specs.Devices.{Rose}
 use Rattle.device_rules.proofs.DeviceLaws.{Rose_before}
-use Rattle.game_rules.specs.Position.{Position, board_of, side_to_move}
+use Rattle.game_rules.specs.Position.{Position, side_to_move}
 use Rattle.game_rules.specs.Text.{game_at}
 use Rattle.game_rules.specs.declared.Side.{Side}
 use Rattle.game_rules.specs.declared.InputFault.{InputFault}
@@ -17,43 +15,24 @@ use Rattle.proof_text.specs.Texts as answers
 use Rattle.proof_text.specs.Texts.{pieces, lines_in, game_of, behind_game, first_number, first_line, version_of, start, check_of, check_in, game_answer, answer_of, pieces_answer}
 use Rattle.proof_text.specs.declared.Verdict.{Verdict}
 use Rattle.proof_text.specs.declared.Version.{Version}
-use Rattle.proof_text.specs.declared.Version.TheVariants.{One, Two}
 use Rattle.proof_text.specs.declared.Why.TheVariants.{BadLine}
 use Rattle.proof_text.proofs.First.{only_no_game, refused_first}
 use Rattle.proof_text.proofs.Pieces.{pieces_some}
 use Rattle.cert_checker.specs.Checking.{why_of}
 use Rattle.play_text.specs.Play as ends
 use Rattle.play_text.specs.Play.{Played, ended}
-use Rattle.follow_text.specs.Follow.{named_for, follow_named, lines_to_verdict, follow_cut, follow_game, follow_pieces, follow_of, judged_from, judged_behind}
-use Rattle.follow_text.proofs.Judged.{judged_whole}
+use Rattle.follow_text.specs.Follow.{named_for, follow_named, follow_game, follow_pieces, follow_of, judged_behind}
+use Rattle.follow_text.proofs.Judged.{headed, judged_whole}
 use Rattle.run_frame.specs.Reading.{StopsGame}
 use Rattle.run_frame.specs.declared.game_input.InputStop.{InputStop}
 use Rattle.run_frame.specs.declared.game_input.InputStop.TheVariants as inputs
 use Rattle.run_proof.specs.Steps.{AtHead, IsNamed, IsFirstStop, StopsBy, lines_read_until}
-use Rattle.run_proof.specs.Whole.{judged, most_lines_read}
+use Rattle.run_proof.specs.Whole.{most_lines_read}
 use Rattle.run_proof.specs.declared.stop.ProofStop.{ProofStop}
 use Rattle.run_proof.specs.declared.stop.ProofStop.TheVariants as stops
 use Rattle.run_follow.specs.Reading.{judged_by, AreKept, GoesTo, StopsReading, IsToVerdict, IsRightProof}
 
 -- ---- the first line
-
--- a first line that names a version
-version_first : (version : Version) (more : List (List ℕ)) (bytes : List ℕ) → pieces bytes ≡ first_line version ∷ more → version_of bytes ≡ version
-version_first One more bytes cut = ap answers.named_by cut
-version_first Two more bytes cut = ap answers.named_by cut
-
-pieces_headed : (holder : Side) (version : Version) (more : List (List ℕ))
-    → follow_pieces holder version (first_line version ∷ more) ≡ follow_game holder version (game_at (game_of more)) (behind_game more)
-pieces_headed holder version more =
-    ap (λ named. cond named (follow_game holder version (game_at (game_of more)) (behind_game more)) (ended (ends.Refused 1 BadLine)))
-    ((bytes_eq-Decides (first_line version) (first_line version)).1 refl)
-
-headed : (holder : Side) (version : Version) (bytes : List ℕ) (more : List (List ℕ)) → pieces bytes ≡ first_line version ∷ more
-    → follow_of holder bytes ≡ follow_game holder version (game_at (game_of more)) (behind_game more)
-unfolding follow_of
-headed holder version bytes more cut =
-    ap (λ named. follow_pieces holder named (pieces bytes)) (version_first version more bytes cut)
-    ∙ ap (follow_pieces holder version) cut ∙ pieces_headed holder version more
 
 -- a game that is none is so for `check` and for `follow`
 no_game : (holder : Side) (bytes : List ℕ) (fault : InputFault) → check_of bytes ≡ answers.NoGame fault → follow_of holder bytes ≡ ended (ends.NoGame fault)

@@ -1,6 +1,5 @@
 -- A proof and what is written behind it, one after another, and what stands where the moves begin.
-use Rattle.std.proofs.Common.{◌≡◌, ℕ, ◌+◌, ◌≤◌, List, [], length, Option, Result, Ok, Err, IfErr, refl, sym, ap, ◌∙◌, subst, arith}
-use Rattle.std.proofs.KnownBytes.{Keeps-refl}
+use Rattle.std.proofs.Common.{◌≡◌, ℕ, ◌+◌, ◌≤◌, List, [], length, Option, Result, Ok, Err, refl, sym, ap, ◌∙◌, arith}
 use Rattle.device_rules.specs.Devices.{Rose}
 use Rattle.device_rules.proofs.DeviceLaws.{Rose_before}
 use Rattle.game_rules.specs.Position.{Position, side_to_move}
@@ -10,7 +9,7 @@ use Rattle.io_ports.proofs.Reading.{Reads_more, passes_most}
 use Rattle.proof_text.specs.Lemma.{Lemma}
 use Rattle.proof_text.specs.Texts.{pieces, lines_in}
 use Rattle.proof_text.specs.declared.Verdict.{Verdict}
-use Rattle.play_text.specs.Play.{Played, behind}
+use Rattle.play_text.specs.Play.{behind}
 use Rattle.follow_text.specs.Follow.{named_for, follow_named, follow_of}
 use Rattle.proof_player.specs.Playing.{FollowState}
 use Rattle.run_frame.specs.declared.game_input.InputStop.TheVariants as inputs

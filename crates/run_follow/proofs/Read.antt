@@ -1,19 +1,16 @@
 -- What each step of the reading up to the verdict says of the bytes: what comes of them goes on, or how it ends.
-use Rattle.std.proofs.Common.{◌≡◌, ℕ, ◌+◌, ◌<◌, ◌≤◌, Bool, List, [], ◌∷◌, ◌++◌, length, Option, Some, None, Result, Ok, Err, MatchResult, IfErr, OnOk, refl, sym, ap, ◌∙◌, subst, inr, arith}
+use Rattle.std.proofs.Common.{◌≡◌, ℕ, ◌+◌, ◌<◌, ◌≤◌, Bool, List, [], ◌∷◌, ◌++◌, length, Some, None, Result, Ok, Err, MatchResult, IfErr, OnOk, refl, sym, ap, ◌∙◌, subst, inr, arith}
 use Rattle.device_rules.specs.Devices.{Rose}
 use Rattle.game_rules.specs.Position.{board_of}
-use Rattle.game_rules.specs.declared.Side.{Side}
-use Rattle.io_ports.specs.Lines.{Cut, next_line, Gives}
-use Rattle.io_ports.specs.declared.line_reader.LineGot.{LineGot}
+use Rattle.io_ports.specs.Lines.{Gives}
 use Rattle.io_ports.specs.declared.line_reader.LineGot.TheVariants.{Line, Long, Done, Failed}
 use Rattle.io_ports.specs.Reading.{Pending, Reads, PassesLines}
 use Rattle.proof_text.specs.Checked.{CheckerState, line_refusal, with_line, lemmas_in}
 use Rattle.proof_text.specs.Lemma.{Lemma, Line as Said, ALemma, ARemark, AVerdict}
 use Rattle.proof_text.specs.Reading.{read_line}
-use Rattle.proof_text.specs.Right.{AreRight, IsVerdict}
+use Rattle.proof_text.specs.Right.{IsVerdict}
 use Rattle.proof_text.specs.Spelling.{greatest_number}
-use Rattle.proof_text.specs.Texts.{pieces, lines_in, lemmas_said, bytes_refusal, with_said, with_bytes}
-use Rattle.proof_text.specs.declared.Verdict.{Verdict}
+use Rattle.proof_text.specs.Texts.{pieces, lines_in, lemmas_said, with_said, with_bytes}
 use Rattle.proof_text.specs.declared.Version.{Version}
 use Rattle.proof_text.specs.declared.Why.TheVariants.{BadLine, EndedEarly}
 use Rattle.proof_text.proofs.Accepted.{with_bytes_root}

@@ -1,10 +1,10 @@
 -- The line that `follow` writes before the answers, where the holder has the first move.
-use Rattle.std.specs.Prelude.{◌≡◌, ◌≤◌, ℕ, ◌+◌, List, [], length, Option, Some, MatchResult, Result, Ok, Err, ⊤}
+use Rattle.std.specs.Prelude.{◌≡◌, ◌≤◌, ℕ, ◌+◌, List, length, Option, MatchResult, Result}
 use Rattle.device_rules.specs.Devices.{Rose, AppendsPrefix}
 use Rattle.game_rules.specs.Position.{Position}
 use Rattle.game_rules.specs.declared.Side.{Side}
 use Rattle.proof_text.specs.Lemma.{Lemma}
-use Rattle.play_text.specs.Play.{Played, behind, text_of}
+use Rattle.play_text.specs.Play.{behind, text_of}
 use Rattle.follow_text.specs.Follow.{follow_named, follow_from}
 use Rattle.proof_player.specs.Playing.{FollowState}
 use Rattle.run_turns.specs.Inputs.{game_whole, StopsPlay}

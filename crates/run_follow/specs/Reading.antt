@@ -1,6 +1,6 @@
 -- How a proof is read up to its verdict: at each step what comes of the bytes that were not given yet is what comes of those that
 -- are not given after it, or the step stops the reading.
-use Rattle.std.specs.Prelude.{◌≡◌, ℕ, ◌+◌, ◌≤◌, List, [], ◌∷◌, ◌++◌, Some, None, ⊤}
+use Rattle.std.specs.Prelude.{◌≡◌, ℕ, List, [], ◌∷◌, ◌++◌, Some, None, ⊤}
 use Rattle.device_rules.specs.Devices.{Rose}
 use Rattle.game_rules.specs.Position.{Position, board_of, side_to_move}
 use Rattle.game_rules.specs.declared.Side.{Side}

@@ -41,11 +41,7 @@ pub(crate) fn begin<'a, O: Sink>(
     let Some(lemma) = named_for(holder, proof.root.to_move(), proof.verdict) else {
         return Err(GameStop::Head(NotFollowed::NoClaim(proof.at)));
     };
-    put_first(
-        Follow::new(book, &proof.root, holder, lemma),
-        proof.at,
-        out,
-    )
+    put_first(Follow::new(book, &proof.root, holder, lemma), proof.at, out)
 }
 
 /// Plays the holder's first move, where it has one, and writes its line. The verdict's line has this number.

@@ -9,6 +9,7 @@ ghost use Rattle.run_proof.specs.Whole.{most_lines_read};
 ghost use Rattle.run_proof.specs.declared.stop.ProofStop.TheVariants as stops;
 ghost use Rattle.proof_text.specs.declared.Why.TheVariants as whys;
 ghost use Rattle.run_follow.specs.Reading.{judged_by, AreKept, KeepsLine, GoesTo, StopsReading, IsToVerdict, IsRightProof};
+
 use board_bits::{Position, Size};
 use cert_checker::{Checker, Refusal, Why};
 use cert_format::{LineBuffer, LineView, Verdict, Version};

@@ -78,47 +78,49 @@ fn prove_has_its_options_in_any_order_and_spelling(rt: HostRuntime) -> Result<()
     Ok(())
 }
 
+/// Other commands with their words.
+const OWN: [(&[&str], Form); 12] = [
+    (&["check"], Form::Check),
+    (&["play"], Form::Play),
+    (&["upgrade"], Form::Upgrade),
+    (&["threat"], Form::Threat),
+    (
+        &["follow", "white"],
+        Form::Follow {
+            holder: Side::White,
+        },
+    ),
+    (
+        &["follow", "black"],
+        Form::Follow {
+            holder: Side::Black,
+        },
+    ),
+    (&["trim"], Form::Trim),
+    (
+        &["annotate"],
+        Form::Annotate {
+            nodes: 1_000_000,
+            reach: 1_000,
+            last: 100,
+        },
+    ),
+    (
+        &["annotate", "--last", "0", "--reach=7", "--nodes", "2"],
+        Form::Annotate {
+            nodes: 2,
+            reach: 7,
+            last: 0,
+        },
+    ),
+    (&["explain"], Form::Explain { reach: 1_000 }),
+    (&["explain", "--reach=7"], Form::Explain { reach: 7 }),
+    (&["explain", "--reach", "0"], Form::Explain { reach: 0 }),
+];
+
 #[test]
 fn other_commands_have_their_own_words(rt: HostRuntime) -> Result<(), Fail> {
-    let rows: [(&[&str], Form); 12] = [
-        (&["check"], Form::Check),
-        (&["play"], Form::Play),
-        (&["upgrade"], Form::Upgrade),
-        (&["threat"], Form::Threat),
-        (
-            &["follow", "white"],
-            Form::Follow {
-                holder: Side::White,
-            },
-        ),
-        (
-            &["follow", "black"],
-            Form::Follow {
-                holder: Side::Black,
-            },
-        ),
-        (&["trim"], Form::Trim),
-        (
-            &["annotate"],
-            Form::Annotate {
-                nodes: 1_000_000,
-                reach: 1_000,
-                last: 100,
-            },
-        ),
-        (
-            &["annotate", "--last", "0", "--reach=7", "--nodes", "2"],
-            Form::Annotate {
-                nodes: 2,
-                reach: 7,
-                last: 0,
-            },
-        ),
-        (&["explain"], Form::Explain { reach: 1_000 }),
-        (&["explain", "--reach=7"], Form::Explain { reach: 7 }),
-        (&["explain", "--reach", "0"], Form::Explain { reach: 0 }),
-    ];
-    for (words, form) in rows {
+    for (words, form) in OWN {
         let got = read_words(&words_of(rt.alloc(), words)?);
         assert!(rt; got == Some(form), "{words:?}");
     }

@@ -1,6 +1,4 @@
-use Rattle.std.proofs.Common.{arith}
 use Rattle.run_frame.specs.Streams.{Streams}
-use Rattle.run_follow.specs.Follows.{Follows}
 use Rattle.run_follow.proofs.Ends.{follows, follow_held, follow_completes, status_owes}
 use Rattle.run_follow.proofs.command.follow.Goals as goal
 

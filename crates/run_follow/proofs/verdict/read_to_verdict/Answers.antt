@@ -1,12 +1,11 @@
-use Rattle.std.proofs.Common.{◌≡◌, ◌+◌, ◌-◌, List, [], sym, ap, ◌∙◌, subst, arith}
+use Rattle.std.proofs.Common.{◌+◌, ◌-◌, List, [], sym, ap, ◌∙◌, subst, arith}
 use Rattle.std.proofs.lemmas.Result.{err_from_is_err_and}
 use Rattle.io_ports.specs.Reading.{pending, Reads, PassesLines}
 use Rattle.io_ports.proofs.Reading.{Reads_more}
 use Rattle.proof_text.specs.Checked.{CheckerState}
 use Rattle.proof_text.specs.Lemma.{Lemma}
-use Rattle.proof_text.specs.Texts.{first_number, start}
+use Rattle.proof_text.specs.Texts.{first_number}
 use Rattle.run_proof.specs.Steps.{IsNamed, lines_read_until}
-use Rattle.run_proof.specs.declared.stop.ProofStop.TheVariants as stops
 use Rattle.run_follow.specs.Reading.{judged_by, AreKept, GoesTo, StopsReading}
 use Rattle.run_follow.proofs.Heads.{head_stopped, game_stopped, lines_stopped, lines_gone, proof_right, first_most, game_most, start_kept}
 use Rattle.run_follow.proofs.verdict.read_to_verdict.Goals as goal
