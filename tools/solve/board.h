@@ -2,7 +2,11 @@
 // by side.
 #pragma once
 
+#include <algorithm>
 #include <cstdint>
+#ifdef __BMI2__
+#include <immintrin.h>
+#endif
 
 using Word = uint64_t;
 
@@ -23,8 +27,9 @@ struct Board {
     int columns;
     Word bottom = 0;
     Word full = 0;
+    bool is_narrow;  // each column fits into a byte, and all of them into a word
 
-    explicit Board(int columns_) : columns(columns_) {
+    explicit Board(int columns_) : columns(columns_), is_narrow(HEIGHT <= 8 && columns_ <= 8) {
         for (int c = 0; c < columns; ++c) {
             bottom |= Word(1) << (c * HEIGHT);
             full |= COLUMN << (c * HEIGHT);
@@ -44,19 +49,21 @@ struct Board {
 
     // The position with this number: in each column the men end below the highest bit of the sum.
     Position position(Word key) const {
-        Position at = {0, 0};
-        for (int c = 0; c < columns; ++c) {
-            Word sum = ((key >> (c * HEIGHT)) & ((Word(1) << HEIGHT) - 1)) + 1;
-            int height = 63 - __builtin_clzll(sum);
-            Word men = (Word(1) << height) - 1;
-            at.men |= men << (c * HEIGHT);
-            at.own |= (sum & men) << (c * HEIGHT);
-        }
-        return at;
+        Word sums = key + bottom;
+        Word men = sums;
+        for (int r = 0; r < ROWS; ++r) men |= (men >> 1) & full;
+        men = (men >> 1) & full;
+        return {sums & men, men};
     }
 
     // The same number, of the position as a mirror shows it.
     Word mirrored(Word key) const {
+#ifdef __BMI2__
+        if (is_narrow) {
+            constexpr Word BYTES = ~Word(0) / 255 * ((1 << std::min(HEIGHT, 8)) - 1);
+            return _pext_u64(__builtin_bswap64(_pdep_u64(key, BYTES)) >> (8 * (8 - columns)), BYTES);
+        }
+#endif
         Word other = 0;
         for (int c = 0; c < columns; ++c) {
             other |= ((key >> (c * HEIGHT)) & ((Word(1) << HEIGHT) - 1)) << ((columns - 1 - c) * HEIGHT);
@@ -91,9 +98,11 @@ struct Board {
     bool is_ended(Position at) const { return at.men == full || is_won(at); }
 
     // The moves that don't lose at once, where the side to move can't win at once.
-    Word safe_moves(Position at) const {
-        Word threats = wins(at.own ^ at.men, at.men);
-        Word moves = playable(at.men);
+    Word safe_moves(Position at) const { return unforced(at.men, wins(at.own ^ at.men, at.men)); }
+
+    // The same, where these are the squares on which the other side would win.
+    Word unforced(Word men, Word threats) const {
+        Word moves = playable(men);
         Word forced = moves & threats;
         if (forced & (forced - 1)) return 0;
         return (forced ? forced : moves) & ~(threats >> 1);
