@@ -29,6 +29,15 @@ class Plans {
         }
     }
 
+    // As `finds`, of a position whose image has a plan: as many layouts are tried as it takes.
+    bool surely_finds(Position at) {
+        unsigned reach = reach_;
+        reach_ = ~0u;
+        bool does = finds(at);
+        reach_ = reach;
+        return does;
+    }
+
     // Whether a plan was found at a position with White to move that hasn't ended.
     bool finds(Position at) {
         Word black = at.own ^ at.men;

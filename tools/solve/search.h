@@ -3,12 +3,9 @@
 
 #include <algorithm>
 #include <cstddef>
-#include <cstdlib>
-#include <memory>
-#include <new>
-#include <sys/mman.h>
 
 #include "board.h"
+#include "pages.h"
 #include "say.h"
 
 // Decided positions, by their numbers. A slot holds the number and the answer; what was there before may be dropped.
@@ -17,11 +14,7 @@ class Decided {
     explicit Decided(size_t bytes) {
         while ((Word(16) << bits_) <= bytes && bits_ < 40) ++bits_;
         most_bits_ = bits_;
-        // In large pages, where the system has them: nearly each look into a large table is at another page.
-        size_t bytes_there = sizeof(Word) << bits_;
-        slots_.reset(static_cast<Word*>(std::aligned_alloc(std::min(bytes_there, LARGE_PAGE), bytes_there)));
-        if (!slots_) throw std::bad_alloc();
-        madvise(slots_.get(), bytes_there, MADV_HUGEPAGE);
+        slots_ = Pages<Word>(size_t(1) << bits_);
         clear();
     }
 
@@ -59,19 +52,14 @@ class Decided {
         clear();
     }
 
-    void clear() { std::fill_n(slots_.get(), size_t(1) << bits_, Word(0)); }
+    void clear() { slots_.fill(size_t(1) << bits_, 0); }
 
     size_t bytes() const { return sizeof(Word) << bits_; }
 
   private:
     int bits_ = 10;
     int most_bits_ = 10;
-    struct Free {
-        void operator()(Word* slots) const { std::free(slots); }
-    };
-    std::unique_ptr<Word[], Free> slots_;
-
-    static constexpr size_t LARGE_PAGE = size_t(1) << 21;
+    Pages<Word> slots_;
 };
 
 // Answers the question whether one side, the asker, wins: 0 is White, 1 is Black.

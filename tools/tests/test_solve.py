@@ -57,7 +57,8 @@ class SolveTest(ToolTest):
         """A proof that both checkers accept, and the line that they write."""
         status, proof, err = self.solve(text, "--quiet", "--memory", "300", *words)
         self.assertEqual((status, err), (0, ""), text)
-        self.assertTrue(proof.startswith("victor 1\n" + text), proof[:100])
+        version = words[words.index("--format") + 1] if "--format" in words else "1"
+        self.assertTrue(proof.startswith("victor %s\n%s" % (version, text)), proof[:100])
         answer = mutants.answer_of([program(), "check"], proof.encode())
         self.assertEqual(answer[0], 0, (text, answer))
         self.assertEqual(mutants.answer_here(proof.encode()), answer)
@@ -112,11 +113,53 @@ class SolveTest(ToolTest):
         plain = self.proof_of(text, "--order", "0", "--no-reuse", "--look", "0", "--rounds", "0", "--part", "0",
                               "--high", "0")[0]
         for words in (["--order", "1"], ["--order", "2"], ["--order", "2", "--closure", "0"], ["--part", "10"],
-                      ["--high", "42", "--probe", "100"], ["--order", "3", "--deep", "0"], ["--seconds", "0"],
-                      ["--mirror", "42"], ["--reach", "1"], []):
+                      ["--high", "42", "--probe", "100"], ["--order", "3", "--sweeps", "0"], ["--starts", "16"],
+                      ["--seed", "7"], ["--seconds", "0"], ["--mirror", "42"], ["--reach", "1"], []):
             proof = self.proof_of(text, *words)[0]
             self.assertLessEqual(proof.count("\n"), plain.count("\n"))
         self.assertLess(proof.count("\n") * 5, plain.count("\n"))
+
+    def test_images(self):
+        """With the second format a position and its image are shown once, which takes fewer lemmas."""
+        text = game_text(5, 4, "")
+        with_images = self.proof_of(text, "--format", "2", "--sweeps", "0")[0]
+        self.assertIn(" mirror ", with_images)
+        self.assertLess(with_images.count("\n"), self.proof_of(text, "--sweeps", "0")[0].count("\n"))
+
+    def test_bettered(self):
+        """Sweeps and renewed parts make a strategy smaller, from nothing or from a proof of either format."""
+        text = game_text(5, 4, "")
+        rough = self.proof_of(text, "--rounds", "0", "--sweeps", "0", "--part", "0")[0]
+        start = self.file("start", rough)
+        for form in ("1", "2"):
+            again = self.proof_of(text, "--format", form, "--start", start, "--rounds", "0", "--sweeps", "0")[0]
+            self.assertLessEqual(again.count("\n"), rough.count("\n"))
+            swept = self.proof_of(text, "--format", form, "--start", start, "--rounds", "0", "--sweeps", "5")[0]
+            self.assertLess(swept.count("\n") * 10, again.count("\n") * 9)
+        for also in (rough, swept):
+            self.proof_of(text, "--start", start, "--also", self.file("also", also), "--rounds", "1", "--sweeps", "0")
+
+    def test_bad_proofs(self):
+        """Nothing of a proof that is named is trusted."""
+        text = game_text(4, 4, "dcddd")
+        proof = self.proof_of(text)[0]
+        head = "\n".join(proof.split("\n")[:3]) + "\n"
+        for bad, said in (("", "line 1"), ("victor 3\n" + text, "line 1"), ("victor 1\nboard 5 4\nmoves -\n", "line 2"),
+                          (head, "it has no value"), (head + "nothing\n", "line 4"),
+                          (head + "1 dddd W- end\n", "it has no value"), (head + "1 d W- one d 1\n", "line 4"),
+                          (head + "1 - W- one e 1\n", "line 4")):
+            for option in ("--start", "--also"):
+                self.fails(text, "no proof of this board: " + said, option, self.file("bad", bad))
+        self.fails(text, "another game", "--start", self.file("bad", self.proof_of(game_text(4, 4, "dcdd"))[0]))
+        self.fails(text, "can't read", "--start", os.path.join(self.folder, "no such proof"))
+        self.fails(text, "don't lead to the end", "--start", self.file("bad", head + "value win 1\n"))
+        self.proof_of(text, "--also", self.file("bad", head + "1 - W- one a 1\n2 - B- one a 1\nvalue draw 1 2\n"))
+
+    def file(self, name, text):
+        path = os.path.join(self.folder, name)
+        with open(path, "w", encoding="ascii") as out:
+            out.write(text)
+        return path
 
     def book(self, text):
         path = os.path.join(self.folder, "a book")
