@@ -2,6 +2,7 @@
 #pragma once
 
 #include <string>
+#include <unordered_map>
 #include <vector>
 
 #include "strategy.h"
@@ -24,13 +25,31 @@ class Bettered : public Strategy<ROWS> {
         report();
     }
 
-    // The first strategy, by the moves of a proof.
-    void start(Position root, const std::vector<Moved>& moves) {
-        root_ = standing(root);
+    // Moves that are taken when a position comes again.
+    void keep(const std::vector<Moved>& moves) {
         for (const Moved& moved : moves) {
             auto [node, column] = given(moved);
             node->kept = column;
         }
+    }
+
+    // As `keep`, of the moves of a proof as far as they aren't those of another.
+    void keep_changed(const std::vector<Moved>& old, const std::vector<Moved>& moves) {
+        std::unordered_map<Word, unsigned> before;
+        for (const Moved& moved : old) {
+            auto [node, column] = given(moved);
+            before[node->key] = column;
+        }
+        for (const Moved& moved : moves) {
+            auto [node, column] = given(moved);
+            auto known = before.find(node->key);
+            if (known == before.end() || known->second != column) node->kept = column;
+        }
+    }
+
+    // The first strategy, by the moves that were kept.
+    void start(Position root) {
+        root_ = standing(root);
         if (!take(root_)) throw Fault("the moves of " + options_.start + " don't lead to the end that they should");
         report();
     }
@@ -60,13 +79,13 @@ class Bettered : public Strategy<ROWS> {
     // Takes other moves at all positions of the prover's.
     void sweep() {
         std::vector<Word> keys;
-        for (const std::vector<Word>& some : prover_keys()) keys.insert(keys.end(), some.begin(), some.end());
+        for (const std::vector<Word>& some : part_keys()) keys.insert(keys.end(), some.begin(), some.end());
         vary_all(keys);
     }
 
     // Renews so many parts, each below a random position with a random number of men.
     void renew(uint64_t count) {
-        std::vector<std::vector<Word>> keys = prover_keys();
+        std::vector<std::vector<Word>> keys = part_keys();
         std::vector<size_t> places;
         for (size_t n = 0; n < keys.size(); ++n) {
             size_t men = 63 - n;
@@ -85,6 +104,7 @@ class Bettered : public Strategy<ROWS> {
     using Base::after;
     using Base::any_move;
     using Base::board_;
+    using Base::closes;
     using Base::column_of;
     using Base::drop;
     using Base::drop_noted;
@@ -107,13 +127,15 @@ class Bettered : public Strategy<ROWS> {
     using Base::take_one;
     using Base::winning;
 
-    static constexpr size_t MOST_EMPTY = 28;       // squares above a part that is renewed
+    static constexpr size_t MOST_EMPTY = 32;       // squares above a part that is renewed
     static constexpr uint64_t SMALLEST = 20;       // part that is renewed
-    static constexpr uint64_t LARGEST = 20'000;
+    static constexpr uint64_t LARGE = 200;
+    static constexpr uint64_t LARGEST = 60'000;
 
     Position root_ = {0, 0};
     uint64_t calls_ = 0;
     bool late_ = false;
+    bool is_within_ = false;  // a part of what is being renewed is
 
     // The time for better choices is over. The clock is looked at now and then.
     bool is_late() {
@@ -245,6 +267,27 @@ class Bettered : public Strategy<ROWS> {
         return keys;
     }
 
+    // As `prover_keys`; where parts are named, only those that come from nowhere else, or only the others.
+    std::vector<std::vector<Word>> part_keys() {
+        std::vector<std::vector<Word>> keys = prover_keys();
+        if (options_.below.empty()) return keys;
+        Seen others;
+        for (const Game& game : options_.below) others.insert(board_.key(standing(position_of(game, board_))));
+        note_all(root_, others);
+        for (std::vector<Word>& some : keys) {
+            auto is_other = [&](Word key) { return others.insert(key) == options_.beside; };
+            some.erase(std::remove_if(some.begin(), some.end(), is_other), some.end());
+        }
+        return keys;
+    }
+
+    // Notes a position of the set and those that it leads to.
+    void note_all(Position at, Seen& seen) {
+        if (!seen.insert(board_.key(at)) || board_.is_ended(at) || closes(at)) return;
+        Word moves = proves(at) ? square_in(at, find(at)->move) : board_.playable(at.men);
+        for (Word rest = moves; rest; rest &= rest - 1) note_all(after(at, rest & -rest), seen);
+    }
+
     // Looks for a move that adds less than the present one, which is dropped for that time.
     void improve(Word key) {
         Node* node = table_.find(key);
@@ -357,13 +400,28 @@ class Bettered : public Strategy<ROWS> {
         better_part(keys);
         vary_all(keys);
         vary_all(keys);
+        for (uint64_t n = 0; n < 3 && is_near(most, gone); ++n) renew_within(keys);
         if (live_ <= most) return true;
         drop(at);
         return false;
     }
 
+    // What was taken in for so many positions is larger than what stood there, but not by much; and unlike that it hasn't
+    // been renewed in its parts.
+    bool is_near(uint64_t most, uint64_t gone) const {
+        return !is_within_ && gone >= LARGE && live_ > most && live_ - most < gone / 5;
+    }
+
+    void renew_within(std::vector<Word>& keys) {
+        Restored before(is_within_);
+        is_within_ = true;
+        from_the_end(keys);
+        for (size_t n = 0; n < keys.size() / 8; ++n) renew_part(keys[random(keys.size())]);
+        vary_all(keys);
+    }
+
     bool take_by_chance(Position at, uint64_t most, std::vector<Word>& keys) {
-        static constexpr unsigned NOISE[] = {8, 32, 128, 256};
+        static constexpr unsigned NOISE[] = {4, 8, 16, 32};
         Restored before(mode_);
         mode_.stays = false;
         mode_.keeps = random(2);

@@ -27,9 +27,10 @@ struct Board {
     int columns;
     Word bottom = 0;
     Word full = 0;
+    int length;      // of a line: four or five
     bool is_narrow;  // each column fits into a byte, and all of them into a word
 
-    explicit Board(int columns_) : columns(columns_), is_narrow(HEIGHT <= 8 && columns_ <= 8) {
+    Board(int columns_, int length_) : columns(columns_), length(length_), is_narrow(HEIGHT <= 8 && columns_ <= 8) {
         for (int c = 0; c < columns; ++c) {
             bottom |= Word(1) << (c * HEIGHT);
             full |= COLUMN << (c * HEIGHT);
@@ -71,29 +72,37 @@ struct Board {
         return other;
     }
 
-    // Some four of these squares are in line.
-    static bool has_line(Word squares) {
+    // Some of these squares are a line.
+    bool has_line(Word squares) const {
         for (int step : {1, HEIGHT - 1, HEIGHT, HEIGHT + 1}) {
             Word two = squares & (squares >> step);
-            if (two & (two >> (2 * step))) return true;
+            Word four = two & (two >> (2 * step));
+            if (length == 4 ? four : four & (four >> step)) return true;
         }
         return false;
     }
 
-    // The empty squares on which one man makes four in line with these, also where it would hang.
+    // The empty squares on which one man makes a line with these, also where it would hang.
     Word wins(Word own, Word men) const {
         Word squares = (own << 1) & (own << 2) & (own << 3);
+        if (length == 5) squares &= own << 4;
         for (int step : {HEIGHT - 1, HEIGHT, HEIGHT + 1}) {
             Word above = (own << step) & (own << (2 * step));
             Word below = (own >> step) & (own >> (2 * step));
-            squares |= above & ((own << (3 * step)) | (own >> step));
-            squares |= below & ((own >> (3 * step)) | (own << step));
+            Word three = above & (own << (3 * step)), three_below = below & (own >> (3 * step));
+            if (length == 5) {
+                squares |= three & ((own << (4 * step)) | (own >> step));
+                squares |= three_below & ((own >> (4 * step)) | (own << step));
+                squares |= above & below;
+            } else {
+                squares |= three | (above & (own >> step)) | three_below | (below & (own << step));
+            }
         }
         return squares & full & ~men;
     }
 
-    // The side that isn't to move has made four.
-    static bool is_won(Position at) { return has_line(at.own ^ at.men); }
+    // The side that isn't to move has made a line.
+    bool is_won(Position at) const { return has_line(at.own ^ at.men); }
 
     bool is_ended(Position at) const { return at.men == full || is_won(at); }
 

@@ -28,7 +28,8 @@ class ProofMoves {
         std::string kind;
         size_t place;
         bool is_read = read_game(head, game, kind, place);
-        if (!is_read || game.columns != board.columns || game.rows != ROWS) throw is_none(2);
+        bool is_same = game.columns == board.columns && game.rows == ROWS && game.length == board.length;
+        if (!is_read || !is_same) throw is_none(2);
         root_ = position_of(game, board);
         for (size_t number = 4; value.empty() && std::getline(file, line); ++number) {
             if (line[0] != '#' && !reads(line)) throw is_none(number);
@@ -65,7 +66,8 @@ class ProofMoves {
         }
         Position next = at;
         if (!play(next, line[reason + 4])) return false;
-        moves_[line[claim] == 'B'][line[claim + 1] == '+'].push_back({board_.key(at), unsigned(line[reason + 4] - 'a')});
+        unsigned column = unsigned(line[reason + 4] - 'a');
+        moves_[line[claim] == 'B'][line[claim + 1] == '+'].push_back({board_.key(at), column});
         return true;
     }
 

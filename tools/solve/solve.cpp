@@ -16,7 +16,7 @@ static const char usage[] =
     "usage: solve [-o FILE] [--memory MIB] [--lemmas N] [--book FILE] [--mirror N] [--reach N] [--order N]\n"
     "             [--closure N] [--high N] [--probe N] [--part N] [--no-reuse] [--look N] [--rounds N] [--nodes N]\n"
     "             [--starts N] [--sweeps N] [--seed N] [--seconds N] [--format N] [--start FILE] [--also FILE]...\n"
-    "             [--quiet] [GAME]\n"
+    "             [--below MOVES]... [--beside] [--changes FILE FILE]... [--quiet] [GAME]\n"
     "Reads the text of a game from the file GAME or from standard input, and writes a proof of its value to FILE or\n"
     "to standard output. docs/SOLVED.md says more.\n";
 
@@ -31,8 +31,8 @@ static std::string file_behind(std::string name) {
     return name;
 }
 
-// Where the proof goes: standard output, or a file's FILE.part until it is whole. A pipe or a device is written to as it
-// stands.
+// Where the proof goes: standard output, or a file's FILE.part until it is whole. A pipe or a device is written to as
+// it stands.
 class Output {
   public:
     explicit Output(const std::string& name) : said_(name.empty() ? "standard output" : name) {
@@ -83,7 +83,8 @@ class Output {
 // The game, as a proof of it begins.
 static std::string head_of(const Game& game, int format) {
     return "victor " + std::to_string(format) + "\nboard " + std::to_string(game.columns) + " " +
-           std::to_string(game.rows) + "\nmoves " + (game.moves.empty() ? "-" : game.moves) + "\n";
+           std::to_string(game.rows) + (game.length == 5 ? " 5" : "") + "\nmoves " +
+           (game.moves.empty() ? "-" : game.moves) + "\n";
 }
 
 template <int ROWS>
@@ -94,9 +95,15 @@ class Prover {
           decided_(table_bytes(board_, root_, options)) {
         if (!options.book.empty()) book_.read(options.book);
         if (!options.start.empty()) start_.emplace(board_, options.start);
+        for (const std::string& name : options.changes) changes_.emplace_back(board_, name);
         for (const std::string& name : options.also) also_.emplace_back(board_, name);
         if (start_ && board_.key(start_->root()) != board_.key(root_)) {
             throw Fault(options.start + " is a proof of another game");
+        }
+        for (const Game& part : options.below) {
+            if (part.moves.find_first_not_of(std::string("abcdefghij", size_t(board.columns))) != std::string::npos) {
+                throw Fault("--below takes moves, and not " + part.moves);
+            }
         }
         progress.bytes = decided_.bytes();
     }
@@ -128,6 +135,7 @@ class Prover {
     Position root_;
     Book<ROWS> book_;
     std::optional<ProofMoves<ROWS>> start_;
+    std::vector<ProofMoves<ROWS>> changes_;  // old and new ones in turn
     std::vector<ProofMoves<ROWS>> also_;
     Decided decided_;
     uint32_t written_ = 0;
@@ -167,8 +175,15 @@ class Prover {
         uint64_t bytes = options_.memory > decided_.bytes() ? options_.memory - decided_.bytes() : 0;
         Bettered<ROWS> strategy(board_, search, prover, book_, options_, bytes);
         progress.stage = "choosing";
-        if (start_) strategy.start(root_, start_->of(asker, wins));
-        else strategy.build(root_);
+        if (start_) {
+            strategy.keep(start_->of(asker, wins));
+            for (size_t n = 0; n < changes_.size(); n += 2) {
+                strategy.keep_changed(changes_[n].of(asker, wins), changes_[n + 1].of(asker, wins));
+            }
+            strategy.start(root_);
+        } else {
+            strategy.build(root_);
+        }
         progress.line(search.nodes);
         for (size_t n = 0; n < also_.size(); ++n) strategy.offer(also_[n].of(asker, wins), int(n % 4));
         better(strategy, search);
@@ -189,16 +204,16 @@ class Prover {
             progress.lemmas = strategy.size();
             progress.line(search.nodes);
         }
-        uint64_t before = strategy.size();
-        for (uint64_t n = 0; n < options_.sweeps && !is_late(); ++n) {
-            progress.stage = n % 8 < 4 ? "sweeping" : "renewing";
-            if (n % 8 < 4) strategy.sweep();
-            else strategy.renew(1000);
+        int idle = 0;
+        for (uint64_t n = 0; n < options_.sweeps && idle < 3 && !is_late(); ++n) {
+            uint64_t before = strategy.size();
+            progress.stage = "sweeping";
+            strategy.sweep();
+            progress.stage = "renewing";
+            strategy.renew(std::max(uint64_t(1000), before / 50));
             progress.lemmas = strategy.size();
             progress.line(search.nodes);
-            if (n % 8 < 7) continue;
-            if (before - strategy.size() <= before / 5000) break;
-            before = strategy.size();
+            idle = before - strategy.size() > before / 50000 ? 0 : idle + 1;
         }
     }
 };
@@ -235,6 +250,12 @@ static void run(int count, char** words) {
         else if (word == "--book" && n + 1 < count && *words[n + 1]) options.book = words[++n];
         else if (word == "--start" && n + 1 < count && *words[n + 1]) options.start = words[++n];
         else if (word == "--also" && n + 1 < count && *words[n + 1]) options.also.push_back(words[++n]);
+        else if (word == "--below" && n + 1 < count) options.below.emplace_back().moves = words[++n];
+        else if (word == "--beside") options.beside = true;
+        else if (word == "--changes" && n + 2 < count) {
+            options.changes.push_back(words[++n]);
+            options.changes.push_back(words[++n]);
+        }
         else if (word == "-o" && n + 1 < count && *words[n + 1]) output = words[++n];
         else if (word[0] == '-' && word != "-") throw Fault("unknown option " + word + "; --help lists them");
         else if (input.empty()) input = word;

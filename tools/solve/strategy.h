@@ -27,6 +27,9 @@ struct Options {
     uint64_t nodes = 20'000;  // so many nodes may be spent to see whether another move wins
     std::string book;     // a file with moves that are taken where they win
     std::string start;    // a proof whose moves are the first strategy
+    std::vector<Game> below;  // what comes from these positions alone is swept and renewed; all where there are none
+    bool beside = false;      // or all but that
+    std::vector<std::string> changes;  // pairs of proofs: where the second has another move, it is taken over
     std::vector<std::string> also;  // proofs whose moves are tried as well
     int starts = 0;       // parts below so many men are taken in by several orders, and the smallest stays; 0 for none
     int mirror = 0;       // with at most so many men, the image of a move of the set is taken
@@ -62,7 +65,7 @@ class Strategy {
              uint64_t bytes)
         : board_(board), search_(search), prover_(prover), wins_(search.asker() == prover), book_(book),
           options_(options), table_(bytes), closure_(board, wins_), plans_(board, options.reach),
-          has_plans_(options.reach && prover && !wins_), folds_(options.format == 2) {}
+          has_plans_(options.reach && prover && !wins_), folds_(options.format == 2), lives_(size_t(1) << LIVES_BITS) {}
 
     virtual ~Strategy() = default;
 
@@ -77,12 +80,13 @@ class Strategy {
         return square_in(at, one.own == at.own && one.men == at.men ? column : unsigned(board_.columns) - 1 - column);
     }
 
-    // The plan that closes a position of the set, or the image of one; or nothing. It is found again: texts of all would
-    // take much memory.
+    // The plan that closes a position of the set, or the image of one; or nothing. It is found again: texts of all
+    // would take much memory.
     std::string plan_of(Position at) { return closes(standing(at)) && plans_.surely_finds(at) ? plans_.text() : ""; }
 
   protected:
     static constexpr uint64_t NO_LIMIT = ~uint64_t(0);  // of nodes, or of positions
+    static constexpr int LIVES_BITS = 24;
 
     // How positions are taken in and dropped.
     struct Mode {
@@ -111,6 +115,7 @@ class Strategy {
     bool has_plans_;  // a plan shows what the prover has to
     bool folds_;      // a position and its image are one
     uint64_t live_ = 0;
+    std::vector<uint8_t> lives_;  // how many positions of the set have numbers that come here: mostly none
     uint64_t random_ = options_.seed;
     Mode mode_;
     size_t part_ = 0;  // how many moves the largest bettered part of what was just taken in has
@@ -149,8 +154,12 @@ class Strategy {
 
     Word winning(Position at) const { return board_.playable(at.men) & board_.wins(at.own, at.men); }
 
+    uint8_t& lives_near(Word key) { return lives_[(key * 0x9e3779b97f4a7c15u) >> (64 - LIVES_BITS)]; }
+
     bool is_live(Position at) {
-        Node* node = find(at);
+        Word key = board_.key(at);
+        if (!lives_near(key)) return false;
+        Node* node = table_.find(key);
         return node && node->refs;
     }
 
@@ -195,8 +204,8 @@ class Strategy {
         return count;
     }
 
-    // Takes a position in. False, and the set is as before, where it would get too large, or where moves that were given
-    // lead to a wrong end.
+    // Takes a position in. False, and the set is as before, where it would get too large, or where moves that were
+    // given lead to a wrong end.
     bool take(Position at) {
         Node& node = table_.add(board_.key(at));
         if (node.refs) {
@@ -206,11 +215,13 @@ class Strategy {
         bool is_ended = board_.is_ended(at);
         if (live_ >= mode_.most || (is_ended && !is_right_end(at))) return false;
         node.refs = 1;
+        ++lives_near(board_.key(at));
         if ((++live_ & 0xffff) == 0) report();
         if (is_ended || closes(at)) return true;
         bool is_start = mode_.grows && count_of(at.men) / 2 == options_.starts / 2;
         if (proves(at) ? is_start ? take_best(at) : take_one(at) : take_all(at)) return true;
         find(at)->refs = 0;
+        --lives_near(board_.key(at));
         --live_;
         return false;
     }
@@ -247,6 +258,7 @@ class Strategy {
     void drop(Position at) {
         Node& node = *find(at);
         if (--node.refs) return;
+        --lives_near(board_.key(at));
         --live_;
         if (board_.is_ended(at) || closes(at)) return;
         if (proves(at)) {
@@ -299,11 +311,8 @@ class Strategy {
 
     // A move to a position of the set, or 0. Such a position holds.
     Word free_move(Position at) {
-        Word moves = board_.playable(at.men);
-        Position next[10];
-        int count = lay_out(at, moves, next);
-        for (int n = 0; n < count; ++n, moves &= moves - 1) {
-            if (is_live(next[n])) return moves & -moves;
+        for (Word rest = board_.playable(at.men); rest; rest &= rest - 1) {
+            if (is_live(after(at, rest & -rest))) return rest & -rest;
         }
         return 0;
     }

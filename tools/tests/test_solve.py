@@ -17,16 +17,16 @@ SOURCES = os.path.join(TOOLS, "solve")
 COMPILER = shutil.which("g++")
 
 
-def game_text(columns, rows, moves):
-    return "board %d %d\nmoves %s\n" % (columns, rows, moves or "-")
+def game_text(columns, rows, moves, line=4):
+    return "board %d %d%s\nmoves %s\n" % (columns, rows, " 5" if line == 5 else "", moves or "-")
 
 
-def late_game(rng, columns, rows, length):
+def late_game(rng, columns, rows, length, line=4):
     """A random game of this length that goes on before its last move; it may end with that."""
     while True:
-        game = boards.Game(columns, rows)
+        game = boards.Game(columns, rows, length=line)
         while len(game.moves) < length and not game.is_over:
-            longer = [boards.Game(columns, rows, game.moves + [column]) for column in game.open_columns()]
+            longer = [boards.Game(columns, rows, game.moves + [column], line) for column in game.open_columns()]
             game = rng.choice([one for one in longer if not one.is_over] or longer)
         if len(game.moves) == length:
             return game.letters()
@@ -78,13 +78,28 @@ class SolveTest(ToolTest):
         for columns, rows in ((4, 4), (6, 4), (10, 4), (4, 6), (7, 6), (9, 6), (5, 8), (7, 8), (4, 10), (5, 10)):
             for empty in (0, 2, 7, 11, 14, 16):
                 moves = late_game(rng, columns, rows, columns * rows - empty)
-                text = game_text(columns, rows, moves)
-                said = self.proof_of(text)[1].split()
-                run = mutants.answer_of([program(), "prove", "--nodes", "1000000"], text.encode())
-                self.assertEqual(run[0], 0, text)
-                self.assertEqual(run[1].split("\n")[-2].split()[1], said[1], text)
-                words.add(said[1])
+                words.add(self.value_of(game_text(columns, rows, moves)))
         self.assertEqual(words, {"win", "loss", "draw"})
+
+    def test_lines_of_five(self):
+        """The same where lines of five win. That White doesn't win an empty board is one lemma, by a plan."""
+        rng = random.Random(5)
+        words = set()
+        for columns, rows in ((5, 4), (7, 6), (9, 6)):
+            for empty in (0, 6, 11):
+                moves = late_game(rng, columns, rows, columns * rows - empty, 5)
+                words.add(self.value_of(game_text(columns, rows, moves, 5)))
+        self.assertLess({"draw"}, words)
+        proof = self.proof_of(game_text(4, 4, "", 5))[0]
+        self.assertTrue(proof.split("\n")[3].startswith("1 - W- plan "))
+
+    def value_of(self, text):
+        """The value in an accepted proof, which is that of `victor prove`."""
+        said = self.proof_of(text)[1].split()
+        run = mutants.answer_of([program(), "prove", "--nodes", "1000000"], text.encode())
+        self.assertEqual(run[0], 0, text)
+        self.assertEqual(run[1].split("\n")[-2].split()[1], said[1], text)
+        return said[1]
 
     def test_plans(self):
         """Plans close positions in proofs of draws: on 5 by 4 the first. Here each of the nine rules comes."""
@@ -138,6 +153,18 @@ class SolveTest(ToolTest):
             self.assertLess(swept.count("\n") * 10, again.count("\n") * 9)
         for also in (rough, swept):
             self.proof_of(text, "--start", start, "--also", self.file("also", also), "--rounds", "1", "--sweeps", "0")
+
+    def test_parts_apart(self):
+        """Two runs make two parts of a strategy smaller, and both gains come together."""
+        text = game_text(6, 4, "")
+        rough = self.file("rough", self.proof_of(text, "--format", "2", "--rounds", "1", "--sweeps", "0")[0])
+        start = ["--format", "2", "--rounds", "0", "--start"]
+        below, beside = (self.proof_of(text, *start, rough, "--sweeps", "1", "--below", "c", *words)[0]
+                         for words in ([], ["--beside"]))
+        both = self.proof_of(text, *start, self.file("below", below), "--sweeps", "0", "--changes", rough,
+                             self.file("beside", beside))[0]
+        self.assertLess(both.count("\n"), min(below.count("\n"), beside.count("\n")))
+        self.fails(text, "--below takes moves", "--below", "cg")
 
     def test_bad_proofs(self):
         """Nothing of a proof that is named is trusted."""
@@ -257,7 +284,7 @@ class SolveTest(ToolTest):
                            ("board 4 4\nmoves e\n", "BadColumn at 16"), ("board 4 4\nmoves \n", "BadColumn at 16"),
                            ("board 4 4\nmoves ae\n", "BadColumn at 17"), ("board 4 4\nmoves -a\n", "Trailing at 17"),
                            ("board 4 4\nmoves aaaaa\n", "ColumnFull"), ("board 4 4\nmoves abababab\n", "GameOver"),
-                           ("board 10 10\nmoves -\n", "too large")):
+                           ("board 10 10\nmoves -\n", "too large"), ("board 4 4 6\nmoves -\n", "BadSize at 10")):
             self.fails(text, said)
         text = game_text(4, 4, "")
         self.fails(text, "--lemmas", "--lemmas", "0")
