@@ -83,17 +83,18 @@ class Bettered : public Strategy<ROWS> {
         vary_all(keys);
     }
 
-    // Renews so many parts, each below a random position with a random number of men.
+    // Renews so many parts, each below a random position with a random number of men: mostly one with which much was
+    // gained for the work.
     void renew(uint64_t count) {
         std::vector<std::vector<Word>> keys = part_keys();
-        std::vector<size_t> places;
-        for (size_t n = 0; n < keys.size(); ++n) {
-            size_t men = 63 - n;
-            if (!keys[n].empty() && men + MOST_EMPTY >= size_t(count_of(board_.full))) places.push_back(n);
-        }
-        for (uint64_t n = 0; n < count && !places.empty() && !is_late(); ++n) {
-            const std::vector<Word>& some = keys[places[random(places.size())]];
+        for (uint64_t n = 0; n < count && !is_late(); ++n) {
+            size_t place = random_place(keys);
+            if (place == keys.size()) return;
+            const std::vector<Word>& some = keys[place];
+            uint64_t size = live_, work = work_;
             renew_part(some[random(some.size())]);
+            gains_[place] = gains_[place] * KEPT + double(size - live_);
+            works_[place] = works_[place] * KEPT + double(work_ - work);
         }
     }
 
@@ -126,13 +127,18 @@ class Bettered : public Strategy<ROWS> {
     using Base::take_again;
     using Base::take_one;
     using Base::winning;
+    using Base::work_;
 
     static constexpr size_t MOST_EMPTY = 32;       // squares above a part that is renewed
     static constexpr uint64_t SMALLEST = 20;       // part that is renewed
     static constexpr uint64_t LARGE = 200;
     static constexpr uint64_t LARGEST = 60'000;
 
+    static constexpr double KEPT = 0.998;  // of what was gained before
+
     Position root_ = {0, 0};
+    double gains_[64] = {};  // by renewals, and the work that they took, by the number of men
+    double works_[64] = {};
     uint64_t calls_ = 0;
     bool late_ = false;
     bool is_within_ = false;  // a part of what is being renewed is
@@ -372,6 +378,26 @@ class Bettered : public Strategy<ROWS> {
         return take(at);
     }
 
+    // One of these lists that isn't empty, of positions with few enough empty squares; or their number.
+    size_t random_place(const std::vector<std::vector<Word>>& keys) {
+        double rates[64], sum = 0;
+        for (size_t n = 0; n < keys.size(); ++n) {
+            bool is_open = !keys[n].empty() && 63 - n + MOST_EMPTY >= size_t(count_of(board_.full));
+            rates[n] = is_open ? (gains_[n] + 1) / (works_[n] + 1e4) + 1e-5 : 0;
+            sum += rates[n];
+        }
+        if (sum == 0) return keys.size();
+        double drawn = sum * double(random(uint64_t(1) << 32)) / double(uint64_t(1) << 32);
+        size_t place = 0;
+        for (size_t n = 0; n < keys.size(); ++n) {
+            if (rates[n] == 0) continue;
+            place = n;
+            if (drawn < rates[n]) break;
+            drawn -= rates[n];
+        }
+        return place;
+    }
+
     // Drops the part below a position, takes another in by a random order and betters it. It stays where it isn't
     // larger.
     void renew_part(Word key) {
@@ -383,7 +409,7 @@ class Bettered : public Strategy<ROWS> {
         uint64_t size = live_;
         std::vector<Moved> moves;
         uint64_t gone = drop_noted(after(at, old), moves);
-        Word other = SMALLEST <= gone && gone <= LARGEST ? any_move(at, 0) : 0;
+        Word other = gone < SMALLEST || gone > LARGEST ? 0 : random(4) ? old : any_move(at, 0);
         if (!other || !take_bettered(after(at, other), size, gone)) {
             take_again(after(at, old), moves);
             other = old;
@@ -424,7 +450,7 @@ class Bettered : public Strategy<ROWS> {
         static constexpr unsigned NOISE[] = {4, 8, 16, 32};
         Restored before(mode_);
         mode_.stays = false;
-        mode_.keeps = random(2);
+        mode_.keeps = random(4);
         mode_.order = int(random(4));
         mode_.noise = NOISE[random(4)];
         mode_.most = most;

@@ -115,6 +115,7 @@ class Strategy {
     bool has_plans_;  // a plan shows what the prover has to
     bool folds_;      // a position and its image are one
     uint64_t live_ = 0;
+    uint64_t work_ = 0;  // how often a position was taken in
     std::vector<uint8_t> lives_;  // how many positions of the set have numbers that come here: mostly none
     uint64_t random_ = options_.seed;
     Mode mode_;
@@ -208,6 +209,7 @@ class Strategy {
     // given lead to a wrong end.
     bool take(Position at) {
         Node& node = table_.add(board_.key(at));
+        ++work_;
         if (node.refs) {
             ++node.refs;
             return true;
