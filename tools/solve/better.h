@@ -83,11 +83,11 @@ class Bettered : public Strategy<ROWS> {
         vary_all(keys);
     }
 
-    // Renews so many parts, each below a random position with a random number of men: mostly one with which much was
-    // gained for the work.
-    void renew(uint64_t count) {
+    // Renews parts, each below a random position with a random number of men: mostly one with which much was gained for
+    // the work. It ends when so many positions were taken in.
+    void renew(uint64_t most) {
         std::vector<std::vector<Word>> keys = part_keys();
-        for (uint64_t n = 0; n < count && !is_late(); ++n) {
+        for (uint64_t end = work_ + most; work_ < end && !is_late(); ++work_) {
             size_t place = random_place(keys);
             if (place == keys.size()) return;
             const std::vector<Word>& some = keys[place];

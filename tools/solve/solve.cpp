@@ -210,7 +210,7 @@ class Prover {
             progress.stage = "sweeping";
             strategy.sweep();
             progress.stage = "renewing";
-            strategy.renew(std::max(uint64_t(1000), before / 50));
+            strategy.renew(100 * before);
             progress.lemmas = strategy.size();
             progress.line(search.nodes);
             idle = before - strategy.size() > before / 50000 ? 0 : idle + 1;
