@@ -126,7 +126,7 @@ class SolveTest(ToolTest):
         """Each way to choose gives a proof, and the better ones a smaller one."""
         text = game_text(7, 6, "dcddddababec")
         plain = self.proof_of(text, "--order", "0", "--no-reuse", "--look", "0", "--rounds", "0", "--part", "0",
-                              "--high", "0")[0]
+                              "--high", "0", "--sweeps", "0")[0]
         for words in (["--order", "1"], ["--order", "2"], ["--order", "2", "--closure", "0"], ["--part", "10"],
                       ["--high", "42", "--probe", "100"], ["--order", "3", "--sweeps", "0"], ["--starts", "16"],
                       ["--seed", "7"], ["--seconds", "0"], ["--mirror", "42"], ["--reach", "1"], []):
@@ -163,7 +163,7 @@ class SolveTest(ToolTest):
                          for words in ([], ["--beside"]))
         both = self.proof_of(text, *start, self.file("below", below), "--sweeps", "0", "--changes", rough,
                              self.file("beside", beside))[0]
-        self.assertLess(both.count("\n"), min(below.count("\n"), beside.count("\n")))
+        self.assertLessEqual(both.count("\n"), min(below.count("\n"), beside.count("\n")))
         self.fails(text, "--below takes moves", "--below", "cg")
 
     def test_bad_proofs(self):
