@@ -1,6 +1,7 @@
 # `make` builds the program where it isn't built, which takes `rt`. `make try` shows one example in a minute or two, from
-# sources that nothing has proved here. `make install PREFIX=..` puts the program, its manual page, its documents, the
-# examples and the tools below that folder, and `make uninstall PREFIX=..` takes them away. DESTDIR is put before PREFIX.
+# sources that nothing has proved here. `make check-proofs` lets the program check the proofs of proofs/. `make install
+# PREFIX=..` puts the program, its manual page, its documents, the examples and the tools below that folder, and `make
+# uninstall PREFIX=..` takes them away. DESTDIR is put before PREFIX.
 PREFIX ?= /usr/local
 to = $(DESTDIR)$(PREFIX)
 docs = share/doc/victor
@@ -18,6 +19,10 @@ try:
 	@echo "victor: nothing is proved of what runs here, which takes a minute; ./victor proves before it runs" >&2
 	@cd crates/victor && rt try -- prove --reach 0 <../../examples/two-squares-left.txt
 
+# Unpacks the proofs of proofs/, compares their sums with proofs/README.md and lets the program check them, in seconds.
+check-proofs:
+	@.ci/proofs
+
 # The folder of the documents is laid out as the checkout, with a link to the program, so that their commands work there.
 install: all
 	install -d "$(to)/bin" "$(to)/share/man/man1" "$(to)/$(docs)"
@@ -31,4 +36,4 @@ uninstall:
 	rm -f "$(to)/bin/victor" "$(to)/share/man/man1/victor.1"
 	rm -rf "$(to)/$(docs)"
 
-.PHONY: all try install uninstall
+.PHONY: all try check-proofs install uninstall

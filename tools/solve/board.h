@@ -2,7 +2,11 @@
 // by side.
 #pragma once
 
+#include <algorithm>
 #include <cstdint>
+#ifdef __BMI2__
+#include <immintrin.h>
+#endif
 
 using Word = uint64_t;
 
@@ -23,8 +27,10 @@ struct Board {
     int columns;
     Word bottom = 0;
     Word full = 0;
+    int length;      // of a line: four or five
+    bool is_narrow;  // each column fits into a byte, and all of them into a word
 
-    explicit Board(int columns_) : columns(columns_) {
+    Board(int columns_, int length_) : columns(columns_), length(length_), is_narrow(HEIGHT <= 8 && columns_ <= 8) {
         for (int c = 0; c < columns; ++c) {
             bottom |= Word(1) << (c * HEIGHT);
             full |= COLUMN << (c * HEIGHT);
@@ -44,19 +50,21 @@ struct Board {
 
     // The position with this number: in each column the men end below the highest bit of the sum.
     Position position(Word key) const {
-        Position at = {0, 0};
-        for (int c = 0; c < columns; ++c) {
-            Word sum = ((key >> (c * HEIGHT)) & ((Word(1) << HEIGHT) - 1)) + 1;
-            int height = 63 - __builtin_clzll(sum);
-            Word men = (Word(1) << height) - 1;
-            at.men |= men << (c * HEIGHT);
-            at.own |= (sum & men) << (c * HEIGHT);
-        }
-        return at;
+        Word sums = key + bottom;
+        Word men = sums;
+        for (int r = 0; r < ROWS; ++r) men |= (men >> 1) & full;
+        men = (men >> 1) & full;
+        return {sums & men, men};
     }
 
     // The same number, of the position as a mirror shows it.
     Word mirrored(Word key) const {
+#ifdef __BMI2__
+        if (is_narrow) {
+            constexpr Word BYTES = ~Word(0) / 255 * ((1 << std::min(HEIGHT, 8)) - 1);
+            return _pext_u64(__builtin_bswap64(_pdep_u64(key, BYTES)) >> (8 * (8 - columns)), BYTES);
+        }
+#endif
         Word other = 0;
         for (int c = 0; c < columns; ++c) {
             other |= ((key >> (c * HEIGHT)) & ((Word(1) << HEIGHT) - 1)) << ((columns - 1 - c) * HEIGHT);
@@ -64,36 +72,46 @@ struct Board {
         return other;
     }
 
-    // Some four of these squares are in line.
-    static bool has_line(Word squares) {
+    // Some of these squares are a line.
+    bool has_line(Word squares) const {
         for (int step : {1, HEIGHT - 1, HEIGHT, HEIGHT + 1}) {
             Word two = squares & (squares >> step);
-            if (two & (two >> (2 * step))) return true;
+            Word four = two & (two >> (2 * step));
+            if (length == 4 ? four : four & (four >> step)) return true;
         }
         return false;
     }
 
-    // The empty squares on which one man makes four in line with these, also where it would hang.
+    // The empty squares on which one man makes a line with these, also where it would hang.
     Word wins(Word own, Word men) const {
         Word squares = (own << 1) & (own << 2) & (own << 3);
+        if (length == 5) squares &= own << 4;
         for (int step : {HEIGHT - 1, HEIGHT, HEIGHT + 1}) {
             Word above = (own << step) & (own << (2 * step));
             Word below = (own >> step) & (own >> (2 * step));
-            squares |= above & ((own << (3 * step)) | (own >> step));
-            squares |= below & ((own >> (3 * step)) | (own << step));
+            Word three = above & (own << (3 * step)), three_below = below & (own >> (3 * step));
+            if (length == 5) {
+                squares |= three & ((own << (4 * step)) | (own >> step));
+                squares |= three_below & ((own >> (4 * step)) | (own << step));
+                squares |= above & below;
+            } else {
+                squares |= three | (above & (own >> step)) | three_below | (below & (own << step));
+            }
         }
         return squares & full & ~men;
     }
 
-    // The side that isn't to move has made four.
-    static bool is_won(Position at) { return has_line(at.own ^ at.men); }
+    // The side that isn't to move has made a line.
+    bool is_won(Position at) const { return has_line(at.own ^ at.men); }
 
     bool is_ended(Position at) const { return at.men == full || is_won(at); }
 
     // The moves that don't lose at once, where the side to move can't win at once.
-    Word safe_moves(Position at) const {
-        Word threats = wins(at.own ^ at.men, at.men);
-        Word moves = playable(at.men);
+    Word safe_moves(Position at) const { return unforced(at.men, wins(at.own ^ at.men, at.men)); }
+
+    // The same, where these are the squares on which the other side would win.
+    Word unforced(Word men, Word threats) const {
+        Word moves = playable(men);
         Word forced = moves & threats;
         if (forced & (forced - 1)) return 0;
         return (forced ? forced : moves) & ~(threats >> 1);

@@ -18,7 +18,8 @@ class Book {
     // Reads a file. A position's mirror image gets the image of its reply, where it has none of its own.
     void read(const std::string& name) {
         std::string text = read_all(name, MOST);
-        std::string head = "board " + std::to_string(board_.columns) + " " + std::to_string(ROWS);
+        std::string head = "board " + std::to_string(board_.columns) + " " + std::to_string(ROWS) +
+                           (board_.length == 5 ? " 5" : "");
         bool has_head = false;
         size_t number = 0;
         for (size_t begin = 0; begin < text.size(); ++number) {

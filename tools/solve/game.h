@@ -9,7 +9,8 @@
 struct Game {
     int columns = 0;
     int rows = 0;
-    std::string moves;
+    int length = 4;  // of a line
+    std::string moves = "";
 };
 
 // Reads the text up to its first fault, which is a kind and a byte place. Whether the moves are legal isn't looked at.
@@ -38,7 +39,12 @@ inline bool read_game(const std::string& text, Game& game, std::string& kind, si
     if (!size(game.columns, 4, false)) return fails("BadSize", at);
     if (!reads(" ")) return fails("BadHeader", at);
     if (!size(game.rows, 4, true)) return fails("BadSize", at);
-    if (!text.compare(at, 3, " 5\n")) throw Fault("the board has lines of five, and solve takes lines of four");
+    if (reads(" ")) {
+        size_t begin = at;
+        while (at < text.size() && text[at] >= '0' && text[at] <= '9') ++at;
+        if (text.compare(begin, at - begin, "5")) return fails("BadSize", begin);
+        game.length = 5;
+    }
     if (!reads("\nmoves ")) return fails("BadHeader", at);
     auto is_letter = [&] { return at < text.size() && text[at] >= 'a' && text[at] < 'a' + game.columns; };
     if (at < text.size() && text[at] == '-') {
@@ -86,9 +92,9 @@ void with_board(const Game& game, Run run) {
                     " is too large for this tool");
     }
     switch (game.rows) {
-        case 4: return run(Board<4>(game.columns));
-        case 6: return run(Board<6>(game.columns));
-        case 8: return run(Board<8>(game.columns));
-        default: return run(Board<10>(game.columns));
+        case 4: return run(Board<4>(game.columns, game.length));
+        case 6: return run(Board<6>(game.columns, game.length));
+        case 8: return run(Board<8>(game.columns, game.length));
+        default: return run(Board<10>(game.columns, game.length));
     }
 }

@@ -5,20 +5,22 @@
 
 #include "board.h"
 #include "fault.h"
+#include "pages.h"
 
 constexpr unsigned NO_MOVE = 15;
 
 struct Node {
     Word key = 0;        // one more than the number of the position; 0 in an empty slot
-    uint64_t refs : 26;  // 0 where it isn't of the set; behind NUMBERED it is the number of its lemma
+    uint64_t refs : 6;   // 0 where it isn't of the set; else how many moves lead there from positions of the set
     uint64_t move : 4;   // the column of the present move of the prover's
-    uint64_t kept : 4;   // that of the move when it was last taken in to stay
+    uint64_t kept : 4;   // that of the move when it was last dropped
     uint64_t order0 : 4, order1 : 4, order2 : 4, order3 : 4;  // those that the orders choose
     uint64_t refused : 10;  // the columns of moves that weren't found to win
+    uint64_t found : 10;    // those of moves that were
     uint64_t plan : 2;      // whether there is a plan: NO_PLAN or HAS_PLAN, or 0 where it isn't known
     Node()
         : refs(0), move(NO_MOVE), kept(NO_MOVE), order0(NO_MOVE), order1(NO_MOVE), order2(NO_MOVE), order3(NO_MOVE),
-          refused(0), plan(0) {}
+          refused(0), found(0), plan(0) {}
 
     static constexpr unsigned NO_PLAN = 1, HAS_PLAN = 2;
 
@@ -32,15 +34,14 @@ struct Node {
         else if (order == 2) order2 = column;
         else order3 = column;
     }
-
-    static constexpr uint32_t NUMBERED = uint32_t(1) << 25;
-    uint32_t number() const { return refs & NUMBERED ? refs & ~NUMBERED : 0; }
 };
 
 // Positions by their numbers. A reference holds until the next call of `add`.
 class NodeTable {
   public:
-    explicit NodeTable(uint64_t bytes) : most_(bytes) { slots_.resize(size_t(1) << 12); }
+    explicit NodeTable(uint64_t bytes) : slots_(size_t(1) << 12), most_(bytes) { slots_.fill(slots_.size(), Node()); }
+
+    void prefetch(Word key) const { __builtin_prefetch(&slots_[place(key)]); }
 
     Node* find(Word key) {
         for (size_t at = place(key);; at = (at + 1) & (slots_.size() - 1)) {
@@ -57,10 +58,10 @@ class NodeTable {
     }
 
     uint64_t bytes() const { return slots_.size() * sizeof(Node); }
-    const std::vector<Node>& slots() const { return slots_; }
+    const Pages<Node>& slots() const { return slots_; }
 
   private:
-    std::vector<Node> slots_;
+    Pages<Node> slots_;
     uint64_t most_;
     size_t used_ = 0;
 
@@ -84,8 +85,9 @@ class NodeTable {
         }
         size_t size = can_grow ? slots_.size() * 2 : slots_.size();
         if (kept.size() * 5 > size * 3) throw Fault("the strategy needs more memory than --memory allows");
-        std::vector<Node>().swap(slots_);
-        slots_.resize(size);
+        slots_ = Pages<Node>();
+        slots_ = Pages<Node>(size);
+        slots_.fill(size, Node());
         used_ = kept.size();
         for (const Node& node : kept) {
             Node& slot = put(node.key - 1);

@@ -29,6 +29,15 @@ class Plans {
         }
     }
 
+    // As `finds`, of a position whose image has a plan: as many layouts are tried as it takes.
+    bool surely_finds(Position at) {
+        unsigned reach = reach_;
+        reach_ = ~0u;
+        bool does = finds(at);
+        reach_ = reach;
+        return does;
+    }
+
     // Whether a plan was found at a position with White to move that hasn't ended.
     bool finds(Position at) {
         Word black = at.own ^ at.men;
@@ -97,10 +106,10 @@ class Plans {
     static Word square(int column, int row) { return Word(1) << (column * HEIGHT + row - 1); }
 
     void add_line(int column, int row, char way, int right, int up) {
-        int last_column = column + 3 * right, last_row = row + 3 * up;
+        int last_column = column + (board_.length - 1) * right, last_row = row + (board_.length - 1) * up;
         if (last_column >= board_.columns || last_row < 1 || last_row > ROWS) return;
         Word squares = 0;
-        for (int n = 0; n < 4; ++n) squares |= square(column + n * right, row + n * up);
+        for (int n = 0; n < board_.length; ++n) squares |= square(column + n * right, row + n * up);
         lines_.push_back({squares, name_of(square(column, row)) + way});
     }
 

@@ -3,10 +3,9 @@
 
 #include <algorithm>
 #include <cstddef>
-#include <memory>
-#include <new>
 
 #include "board.h"
+#include "pages.h"
 #include "say.h"
 
 // Decided positions, by their numbers. A slot holds the number and the answer; what was there before may be dropped.
@@ -15,7 +14,8 @@ class Decided {
     explicit Decided(size_t bytes) {
         while ((Word(16) << bits_) <= bytes && bits_ < 40) ++bits_;
         most_bits_ = bits_;
-        slots_.reset(new Word[size_t(1) << bits_]());
+        slots_ = Pages<Word>(size_t(1) << bits_);
+        clear();
     }
 
     size_t place(Word key) const { return (key * 0x9e3779b97f4a7c15u) >> (64 - bits_); }
@@ -52,14 +52,14 @@ class Decided {
         clear();
     }
 
-    void clear() { std::fill_n(slots_.get(), size_t(1) << bits_, Word(0)); }
+    void clear() { slots_.fill(size_t(1) << bits_, 0); }
 
     size_t bytes() const { return sizeof(Word) << bits_; }
 
   private:
     int bits_ = 10;
     int most_bits_ = 10;
-    std::unique_ptr<Word[]> slots_;
+    Pages<Word> slots_;
 };
 
 // Answers the question whether one side, the asker, wins: 0 is White, 1 is Black.
@@ -90,13 +90,27 @@ class Search {
     bool reaches(Position at, uint64_t most) {
         most_ = nodes + most < nodes ? ~uint64_t(0) : nodes + most;
         is_spent = false;
-        return visit(at, (count_of(at.men) & 1) == asker_);
+        bool asks = (count_of(at.men) & 1) == asker_;
+        if (board_.playable(at.men) & board_.wins(at.own, at.men)) return true;
+        Word moves = board_.safe_moves(at);
+        if (!moves) return at.men == board_.full && !asks;
+        Child root = {at, moves, key_of(at), 0};
+        int known = decided_.find(root.key);
+        return known >= 0 ? known : visit(root, asks);
     }
 
     uint64_t nodes = 0;
     bool is_spent = false;
 
   private:
+    // A position in which nobody wins at once, and the moves that don't lose at once: some are there.
+    struct Child {
+        Position at;
+        Word moves;
+        Word key;
+        int score;
+    };
+
     const Board<ROWS>& board_;
     Decided& decided_;
     int asker_;
@@ -104,49 +118,64 @@ class Search {
     bool mirrors_;
     int weight_[64] = {};
 
-    bool visit(Position at, bool asks) {
-        if ((++nodes & 0xfffff) == 0) say_now(nodes);
-        Word other = at.own ^ at.men;
-        Word moves = board_.playable(at.men);
-        if (moves & board_.wins(at.own, at.men)) return true;
-        moves = board_.safe_moves(at);
-        if (!moves) return at.men == board_.full && !asks;
-        // A side without an open line can't win.
-        if (!board_.has_line(board_.full & ~(asks ? other : at.own))) return !asks;
+    Word key_of(Position at) const {
         Word key = board_.key(at);
-        if (mirrors_) key = std::min(key, board_.mirrored(key));
-        int known = decided_.find(key);
-        if (known >= 0) return known;
+        return mirrors_ ? std::min(key, board_.mirrored(key)) : key;
+    }
+
+    bool visit(const Child& node, bool asks) {
+        if ((++nodes & 0xfffff) == 0) say_now(nodes);
+        // A side without an open line can't win.
+        Word barred = asks ? node.at.own ^ node.at.men : node.at.own;
+        if (!board_.has_line(board_.full & ~barred)) return !asks;
         if (nodes > most_) {
             is_spent = true;
             return false;
         }
         uint64_t before = nodes;
-        bool answer = try_moves(at, moves, asks);
+        bool answer = try_moves(node, asks);
         if (is_spent) return false;
-        decided_.put(key, answer, nodes - before > 64);
+        decided_.put(node.key, answer, nodes - before > 64);
         return answer;
     }
 
-    bool try_moves(Position at, Word moves, bool asks) {
-        Word squares[10];
-        int scores[10];
+    bool try_moves(const Child& node, bool asks) {
+        Child children[10];
         int count = 0;
-        for (; moves; moves &= moves - 1) {
-            Word square = moves & -moves;
-            Word own = at.own | square;
-            int score = count_of(board_.wins(own, at.men | square)) * 32 + weight_[__builtin_ctzll(square)];
-            int n = count++;
-            for (; n > 0 && scores[n - 1] < score; --n) {
-                scores[n] = scores[n - 1];
-                squares[n] = squares[n - 1];
-            }
-            scores[n] = score;
-            squares[n] = square;
-        }
+        if (lay_out(node, asks, children, count)) return true;
+        // All are looked up before one is searched: one that is lost for the other side ends this node.
+        int unknown = 0;
         for (int n = 0; n < count; ++n) {
-            if (!visit(board_.after(at, squares[n]), !asks) && !is_spent) return true;
+            int known = decided_.find(children[n].key);
+            if (!known) return true;
+            if (known < 0) children[unknown++] = children[n];
+        }
+        for (int n = 0; n < unknown; ++n) {
+            int known = n ? decided_.find(children[n].key) : -1;
+            if (known < 0) known = visit(children[n], !asks);
             if (is_spent) return false;
+            if (!known) return true;
+        }
+        return false;
+    }
+
+    // The positions behind the moves, those with the most threats first; the lines of the table that they need are
+    // fetched meanwhile. True where one is lost at once for the other side, or the game is over there as it should be.
+    bool lay_out(const Child& node, bool asks, Child* children, int& count) {
+        for (Word rest = node.moves; rest; rest &= rest - 1) {
+            Word square = rest & -rest;
+            Position next = board_.after(node.at, square);
+            Word threats = board_.wins(node.at.own | square, next.men);
+            Word moves = board_.unforced(next.men, threats);
+            if (!moves) {
+                if (next.men != board_.full || !asks) return true;
+                continue;
+            }
+            Child child = {next, moves, key_of(next), count_of(threats) * 32 + weight_[__builtin_ctzll(square)]};
+            decided_.prefetch(child.key);
+            int n = count++;
+            for (; n > 0 && children[n - 1].score < child.score; --n) children[n] = children[n - 1];
+            children[n] = child;
         }
         return false;
     }

@@ -4,16 +4,19 @@
 #include <cstdlib>
 #include <cstring>
 #include <filesystem>
+#include <optional>
 #include <sys/stat.h>
 #include <unistd.h>
 
+#include "better.h"
 #include "game.h"
-#include "strategy.h"
+#include "writer.h"
 
 static const char usage[] =
     "usage: solve [-o FILE] [--memory MIB] [--lemmas N] [--book FILE] [--mirror N] [--reach N] [--order N]\n"
     "             [--closure N] [--high N] [--probe N] [--part N] [--no-reuse] [--look N] [--rounds N] [--nodes N]\n"
-    "             [--deep N] [--seconds N] [--quiet] [GAME]\n"
+    "             [--starts N] [--sweeps N] [--seed N] [--seconds N] [--format N] [--start FILE] [--also FILE]...\n"
+    "             [--below MOVES]... [--beside] [--changes FILE FILE]... [--quiet] [GAME]\n"
     "Reads the text of a game from the file GAME or from standard input, and writes a proof of its value to FILE or\n"
     "to standard output. docs/SOLVED.md says more.\n";
 
@@ -28,8 +31,8 @@ static std::string file_behind(std::string name) {
     return name;
 }
 
-// Where the proof goes: standard output, or a file's FILE.part until it is whole. A pipe or a device is written to as it
-// stands.
+// Where the proof goes: standard output, or a file's FILE.part until it is whole. A pipe or a device is written to as
+// it stands.
 class Output {
   public:
     explicit Output(const std::string& name) : said_(name.empty() ? "standard output" : name) {
@@ -78,8 +81,9 @@ class Output {
 };
 
 // The game, as a proof of it begins.
-static std::string head_of(const Game& game) {
-    return "victor 1\nboard " + std::to_string(game.columns) + " " + std::to_string(game.rows) + "\nmoves " +
+static std::string head_of(const Game& game, int format) {
+    return "victor " + std::to_string(format) + "\nboard " + std::to_string(game.columns) + " " +
+           std::to_string(game.rows) + (game.length == 5 ? " 5" : "") + "\nmoves " +
            (game.moves.empty() ? "-" : game.moves) + "\n";
 }
 
@@ -90,12 +94,23 @@ class Prover {
         : game_(game), options_(options), board_(board), root_(position_of(game, board_)), book_(board_),
           decided_(table_bytes(board_, root_, options)) {
         if (!options.book.empty()) book_.read(options.book);
+        if (!options.start.empty()) start_.emplace(board_, options.start);
+        for (const std::string& name : options.changes) changes_.emplace_back(board_, name);
+        for (const std::string& name : options.also) also_.emplace_back(board_, name);
+        if (start_ && board_.key(start_->root()) != board_.key(root_)) {
+            throw Fault(options.start + " is a proof of another game");
+        }
+        for (const Game& part : options.below) {
+            if (part.moves.find_first_not_of(std::string("abcdefghij", size_t(board.columns))) != std::string::npos) {
+                throw Fault("--below takes moves, and not " + part.moves);
+            }
+        }
         progress.bytes = decided_.bytes();
     }
 
     void run(const std::string& name) {
         Output out(name);
-        out.write(head_of(game_));
+        out.write(head_of(game_, options_.format));
         int mover = count_of(root_.men) & 1;
         std::string verdict;
         if (int winner = winner_of(); winner >= 0) {
@@ -119,6 +134,9 @@ class Prover {
     Board<ROWS> board_;
     Position root_;
     Book<ROWS> book_;
+    std::optional<ProofMoves<ROWS>> start_;
+    std::vector<ProofMoves<ROWS>> changes_;  // old and new ones in turn
+    std::vector<ProofMoves<ROWS>> also_;
     Decided decided_;
     uint32_t written_ = 0;
 
@@ -128,8 +146,9 @@ class Prover {
         return std::min(options.memory / 2, uint64_t(1) << std::min(40, 10 + empty * 3 / 4));
     }
 
-    // The side that wins, or -1.
+    // The side that wins, or -1. What a proof says is taken, since without it there is none to be written.
     int winner_of() {
+        if (start_) return start_->value == "draw" ? -1 : (count_of(root_.men) & 1) ^ (start_->value != "win");
         for (int asker : {0, 1}) {
             if (asker) decided_.clear();
             if (board_.is_ended(root_)) {
@@ -154,49 +173,48 @@ class Prover {
         int asker = wins ? prover : 1 - prover;
         Search<ROWS> search(board_, decided_, asker, root_);
         uint64_t bytes = options_.memory > decided_.bytes() ? options_.memory - decided_.bytes() : 0;
-        Strategy<ROWS> strategy(board_, search, prover, book_, options_, bytes);
+        Bettered<ROWS> strategy(board_, search, prover, book_, options_, bytes);
         progress.stage = "choosing";
-        strategy.build(root_);
-        progress.line(search.nodes);
-        uint64_t gains = 0;
-        for (int n = 0; n < options_.rounds && progress.seconds() < double(options_.seconds); ++n) {
-            uint64_t before = strategy.size();
-            progress.stage = "improving";
-            strategy.round(n % 5 < 4 ? n % 5 : 3, n % 5 == 4);
-            if (n % 5 == 4 && options_.deep) strategy.deep_round(options_.deep);
-            progress.lemmas = strategy.size();
-            progress.line(search.nodes);
-            gains = n % 5 ? gains : 0;
-            gains += before - strategy.size();
-            if (n % 5 == 4 && gains <= strategy.size() / 200) break;
+        if (start_) {
+            strategy.keep(start_->of(asker, wins));
+            for (size_t n = 0; n < changes_.size(); n += 2) {
+                strategy.keep_changed(changes_[n].of(asker, wins), changes_[n + 1].of(asker, wins));
+            }
+            strategy.start(root_);
+        } else {
+            strategy.build(root_);
         }
+        progress.line(search.nodes);
+        for (size_t n = 0; n < also_.size(); ++n) strategy.offer(also_[n].of(asker, wins), int(n % 4));
+        better(strategy, search);
         if (written_ + strategy.size() > options_.lemmas) {
             throw Fault("the proof would have " + std::to_string(written_ + strategy.size()) + " lemmas, more than " +
                         std::to_string(options_.lemmas));
         }
-        std::string claim = std::string(asker ? " B" : " W") + (wins ? "+" : "-");
-        strategy.visit([&](Position at, const std::string& path) {
-            out.write(lemma(strategy, at, path, claim));
-            return written_;
-        });
-        return written_;
+        std::string claim = std::string(asker ? " B" : " W") + (wins ? "+ " : "- ");
+        return Writer(board_, strategy, claim, options_.format == 2, out, written_).write(root_);
     }
 
-    // The next lemma.
-    std::string lemma(Strategy<ROWS>& strategy, Position at, const std::string& path, const std::string& claim) {
-        std::string text = std::to_string(++written_) + " " + (path.empty() ? "-" : path) + claim;
-        if (board_.is_ended(at)) return text + " end\n";
-        if (std::string plan = strategy.plan_of(at); !plan.empty()) return text + " plan" + plan + "\n";
-        bool proves = strategy.proves(at);
-        text += proves ? " one" : " all";
-        Word moves = proves ? strategy.move_of(at) : board_.playable(at.men);
-        for (Word rest = moves; rest; rest &= rest - 1) {
-            text += ' ';
-            text += char('a' + __builtin_ctzll(rest) / board_.HEIGHT);
-            text += proves ? ' ' : ':';
-            text += std::to_string(strategy.find(board_.after(at, rest & -rest))->number());
+    // Rounds, then sweeps and renewed parts in turn, while they make the strategy smaller.
+    void better(Bettered<ROWS>& strategy, Search<ROWS>& search) {
+        auto is_late = [&] { return progress.seconds() >= double(options_.seconds); };
+        for (int n = 0; n < options_.rounds && !is_late(); ++n) {
+            progress.stage = "improving";
+            strategy.round(n % 5 < 4 ? n % 5 : 3, n % 5 == 4);
+            progress.lemmas = strategy.size();
+            progress.line(search.nodes);
         }
-        return text + "\n";
+        int idle = 0;
+        for (uint64_t n = 0; n < options_.sweeps && idle < 3 && !is_late(); ++n) {
+            uint64_t before = strategy.size();
+            progress.stage = "sweeping";
+            strategy.sweep();
+            progress.stage = "renewing";
+            strategy.renew(100 * before);
+            progress.lemmas = strategy.size();
+            progress.line(search.nodes);
+            idle = before - strategy.size() > before / 50000 ? 0 : idle + 1;
+        }
     }
 };
 
@@ -216,7 +234,10 @@ static void run(int count, char** words) {
         else if (word == "--rounds") options.rounds = int(number(0, 1000));
         else if (word == "--nodes") options.nodes = number(0, 1'000'000'000);
         else if (word == "--seconds") options.seconds = number(0, 1'000'000'000);
-        else if (word == "--deep") options.deep = number(0, 1'000'000'000);
+        else if (word == "--format") options.format = int(number(1, 2));
+        else if (word == "--sweeps") options.sweeps = number(0, 1'000'000'000);
+        else if (word == "--starts") options.starts = int(number(0, 63));
+        else if (word == "--seed") options.seed = number(0, 1'000'000'000);
         else if (word == "--closure") options.closure = number(0, 1'000'000);
         else if (word == "--part") options.part = number(0, 1'000'000'000);
         else if (word == "--high") options.high = int(number(0, 63));
@@ -227,6 +248,14 @@ static void run(int count, char** words) {
         else if (word == "--no-reuse") options.reuses = false;
         else if (word == "--quiet") progress.is_quiet = true;
         else if (word == "--book" && n + 1 < count && *words[n + 1]) options.book = words[++n];
+        else if (word == "--start" && n + 1 < count && *words[n + 1]) options.start = words[++n];
+        else if (word == "--also" && n + 1 < count && *words[n + 1]) options.also.push_back(words[++n]);
+        else if (word == "--below" && n + 1 < count) options.below.emplace_back().moves = words[++n];
+        else if (word == "--beside") options.beside = true;
+        else if (word == "--changes" && n + 2 < count) {
+            options.changes.push_back(words[++n]);
+            options.changes.push_back(words[++n]);
+        }
         else if (word == "-o" && n + 1 < count && *words[n + 1]) output = words[++n];
         else if (word[0] == '-' && word != "-") throw Fault("unknown option " + word + "; --help lists them");
         else if (input.empty()) input = word;

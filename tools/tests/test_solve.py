@@ -17,16 +17,16 @@ SOURCES = os.path.join(TOOLS, "solve")
 COMPILER = shutil.which("g++")
 
 
-def game_text(columns, rows, moves):
-    return "board %d %d\nmoves %s\n" % (columns, rows, moves or "-")
+def game_text(columns, rows, moves, line=4):
+    return "board %d %d%s\nmoves %s\n" % (columns, rows, " 5" if line == 5 else "", moves or "-")
 
 
-def late_game(rng, columns, rows, length):
+def late_game(rng, columns, rows, length, line=4):
     """A random game of this length that goes on before its last move; it may end with that."""
     while True:
-        game = boards.Game(columns, rows)
+        game = boards.Game(columns, rows, length=line)
         while len(game.moves) < length and not game.is_over:
-            longer = [boards.Game(columns, rows, game.moves + [column]) for column in game.open_columns()]
+            longer = [boards.Game(columns, rows, game.moves + [column], line) for column in game.open_columns()]
             game = rng.choice([one for one in longer if not one.is_over] or longer)
         if len(game.moves) == length:
             return game.letters()
@@ -57,7 +57,8 @@ class SolveTest(ToolTest):
         """A proof that both checkers accept, and the line that they write."""
         status, proof, err = self.solve(text, "--quiet", "--memory", "300", *words)
         self.assertEqual((status, err), (0, ""), text)
-        self.assertTrue(proof.startswith("victor 1\n" + text), proof[:100])
+        version = words[words.index("--format") + 1] if "--format" in words else "1"
+        self.assertTrue(proof.startswith("victor %s\n%s" % (version, text)), proof[:100])
         answer = mutants.answer_of([program(), "check"], proof.encode())
         self.assertEqual(answer[0], 0, (text, answer))
         self.assertEqual(mutants.answer_here(proof.encode()), answer)
@@ -77,13 +78,28 @@ class SolveTest(ToolTest):
         for columns, rows in ((4, 4), (6, 4), (10, 4), (4, 6), (7, 6), (9, 6), (5, 8), (7, 8), (4, 10), (5, 10)):
             for empty in (0, 2, 7, 11, 14, 16):
                 moves = late_game(rng, columns, rows, columns * rows - empty)
-                text = game_text(columns, rows, moves)
-                said = self.proof_of(text)[1].split()
-                run = mutants.answer_of([program(), "prove", "--nodes", "1000000"], text.encode())
-                self.assertEqual(run[0], 0, text)
-                self.assertEqual(run[1].split("\n")[-2].split()[1], said[1], text)
-                words.add(said[1])
+                words.add(self.value_of(game_text(columns, rows, moves)))
         self.assertEqual(words, {"win", "loss", "draw"})
+
+    def test_lines_of_five(self):
+        """The same where lines of five win. That White doesn't win an empty board is one lemma, by a plan."""
+        rng = random.Random(5)
+        words = set()
+        for columns, rows in ((5, 4), (7, 6), (9, 6)):
+            for empty in (0, 6, 11):
+                moves = late_game(rng, columns, rows, columns * rows - empty, 5)
+                words.add(self.value_of(game_text(columns, rows, moves, 5)))
+        self.assertLess({"draw"}, words)
+        proof = self.proof_of(game_text(4, 4, "", 5))[0]
+        self.assertTrue(proof.split("\n")[3].startswith("1 - W- plan "))
+
+    def value_of(self, text):
+        """The value in an accepted proof, which is that of `victor prove`."""
+        said = self.proof_of(text)[1].split()
+        run = mutants.answer_of([program(), "prove", "--nodes", "1000000"], text.encode())
+        self.assertEqual(run[0], 0, text)
+        self.assertEqual(run[1].split("\n")[-2].split()[1], said[1], text)
+        return said[1]
 
     def test_plans(self):
         """Plans close positions in proofs of draws: on 5 by 4 the first. Here each of the nine rules comes."""
@@ -110,13 +126,67 @@ class SolveTest(ToolTest):
         """Each way to choose gives a proof, and the better ones a smaller one."""
         text = game_text(7, 6, "dcddddababec")
         plain = self.proof_of(text, "--order", "0", "--no-reuse", "--look", "0", "--rounds", "0", "--part", "0",
-                              "--high", "0")[0]
+                              "--high", "0", "--sweeps", "0")[0]
         for words in (["--order", "1"], ["--order", "2"], ["--order", "2", "--closure", "0"], ["--part", "10"],
-                      ["--high", "42", "--probe", "100"], ["--order", "3", "--deep", "0"], ["--seconds", "0"],
-                      ["--mirror", "42"], ["--reach", "1"], []):
+                      ["--high", "42", "--probe", "100"], ["--order", "3", "--sweeps", "0"], ["--starts", "16"],
+                      ["--seed", "7"], ["--seconds", "0"], ["--mirror", "42"], ["--reach", "1"], []):
             proof = self.proof_of(text, *words)[0]
             self.assertLessEqual(proof.count("\n"), plain.count("\n"))
         self.assertLess(proof.count("\n") * 5, plain.count("\n"))
+
+    def test_images(self):
+        """With the second format a position and its image are shown once, which takes fewer lemmas."""
+        text = game_text(5, 4, "")
+        with_images = self.proof_of(text, "--format", "2", "--sweeps", "0")[0]
+        self.assertIn(" mirror ", with_images)
+        self.assertLess(with_images.count("\n"), self.proof_of(text, "--sweeps", "0")[0].count("\n"))
+
+    def test_bettered(self):
+        """Sweeps and renewed parts make a strategy smaller, from nothing or from a proof of either format."""
+        text = game_text(5, 4, "")
+        rough = self.proof_of(text, "--rounds", "0", "--sweeps", "0", "--part", "0")[0]
+        start = self.file("start", rough)
+        for form in ("1", "2"):
+            again = self.proof_of(text, "--format", form, "--start", start, "--rounds", "0", "--sweeps", "0")[0]
+            self.assertLessEqual(again.count("\n"), rough.count("\n"))
+            swept = self.proof_of(text, "--format", form, "--start", start, "--rounds", "0", "--sweeps", "5")[0]
+            self.assertLess(swept.count("\n") * 10, again.count("\n") * 9)
+        for also in (rough, swept):
+            self.proof_of(text, "--start", start, "--also", self.file("also", also), "--rounds", "1", "--sweeps", "0")
+
+    def test_parts_apart(self):
+        """Two runs make two parts of a strategy smaller, and both gains come together."""
+        text = game_text(6, 4, "")
+        rough = self.file("rough", self.proof_of(text, "--format", "2", "--rounds", "1", "--sweeps", "0")[0])
+        start = ["--format", "2", "--rounds", "0", "--start"]
+        below, beside = (self.proof_of(text, *start, rough, "--sweeps", "1", "--below", "c", *words)[0]
+                         for words in ([], ["--beside"]))
+        both = self.proof_of(text, *start, self.file("below", below), "--sweeps", "0", "--changes", rough,
+                             self.file("beside", beside))[0]
+        self.assertLessEqual(both.count("\n"), min(below.count("\n"), beside.count("\n")))
+        self.fails(text, "--below takes moves", "--below", "cg")
+
+    def test_bad_proofs(self):
+        """Nothing of a proof that is named is trusted."""
+        text = game_text(4, 4, "dcddd")
+        proof = self.proof_of(text)[0]
+        head = "\n".join(proof.split("\n")[:3]) + "\n"
+        for bad, said in (("", "line 1"), ("victor 3\n" + text, "line 1"), ("victor 1\nboard 5 4\nmoves -\n", "line 2"),
+                          (head, "it has no value"), (head + "nothing\n", "line 4"),
+                          (head + "1 dddd W- end\n", "it has no value"), (head + "1 d W- one d 1\n", "line 4"),
+                          (head + "1 - W- one e 1\n", "line 4")):
+            for option in ("--start", "--also"):
+                self.fails(text, "no proof of this board: " + said, option, self.file("bad", bad))
+        self.fails(text, "another game", "--start", self.file("bad", self.proof_of(game_text(4, 4, "dcdd"))[0]))
+        self.fails(text, "can't read", "--start", os.path.join(self.folder, "no such proof"))
+        self.fails(text, "don't lead to the end", "--start", self.file("bad", head + "value win 1\n"))
+        self.proof_of(text, "--also", self.file("bad", head + "1 - W- one a 1\n2 - B- one a 1\nvalue draw 1 2\n"))
+
+    def file(self, name, text):
+        path = os.path.join(self.folder, name)
+        with open(path, "w", encoding="ascii") as out:
+            out.write(text)
+        return path
 
     def book(self, text):
         path = os.path.join(self.folder, "a book")
@@ -214,7 +284,7 @@ class SolveTest(ToolTest):
                            ("board 4 4\nmoves e\n", "BadColumn at 16"), ("board 4 4\nmoves \n", "BadColumn at 16"),
                            ("board 4 4\nmoves ae\n", "BadColumn at 17"), ("board 4 4\nmoves -a\n", "Trailing at 17"),
                            ("board 4 4\nmoves aaaaa\n", "ColumnFull"), ("board 4 4\nmoves abababab\n", "GameOver"),
-                           ("board 10 10\nmoves -\n", "too large")):
+                           ("board 10 10\nmoves -\n", "too large"), ("board 4 4 6\nmoves -\n", "BadSize at 10")):
             self.fails(text, said)
         text = game_text(4, 4, "")
         self.fails(text, "--lemmas", "--lemmas", "0")
