@@ -39,6 +39,7 @@ LEFT_OUT = {
 }
 # What stands there before a document's commands.
 FIRST = {
+    "docs/FOLLOW.md": "xz -dc proofs/usual-board.txt.xz > usual-board.txt",
     "docs/SOLVED.md": "./victor prove < examples/usual-board.txt > proof.txt",
     "docs/USE.md": r"printf 'board 7 6\nmoves dcdcdc\n' > game.txt; ./victor prove < game.txt > proof.txt;"
                    r" printf 'board 7 6\r\nmoves dcdcdc\r\n' > game-of-windows.txt; moves=dcdcdc",
@@ -108,7 +109,7 @@ class DocumentsTest(unittest.TestCase):
     def setUp(self):
         self.folder = tempfile.mkdtemp()
         self.addCleanup(shutil.rmtree, self.folder)
-        for name in ("tools", "examples", "docs"):
+        for name in ("tools", "examples", "docs", "proofs"):
             # Copied, so that the tools take the program beside them.
             others = shutil.ignore_patterns("solve", "wrong-bodies", "__pycache__")
             shutil.copytree(os.path.join(boards.TOP, name), os.path.join(self.folder, name), ignore=others)
