@@ -145,8 +145,8 @@ class SentenceTest(ToolTest):
                   "--board", "5x4x5", "aabbccdde")
         self.says("White, who is to move, wins after aabbddee on 5 by 4 with lines of five", "--board", "5x4x5",
                   "aabbddee")
-        self.refuses("ask.py", "--by", "solve", "--solver", "/bin/true", "--board", "5x4x5", "aabbddee",
-                     said="solve takes boards with lines of four")
+        self.refuses("ask.py", "--by", "solve", "--solver", "/bin/true", "--victor", program(), "--board", "5x4x5",
+                     "aabbddee", said="solve takes boards with lines of four")
 
     def test_pipe_from_draw(self):
         """The pipe of docs/TOOLS.md."""
@@ -360,7 +360,7 @@ class KnownTest(ToolTest):
         for moves in ("dccbbdbbddcc" + path, ("dccbbdbbddcc" + path).translate(str.maketrans("abcd", "dcba"))):
             self.says("found in ", "--from", proof, "--board", "4x4", moves)
         self.assertNotIn("found in", self.says("who is to move (", "--from", proof, "--board", "4x4", "cdccddcdaaaabb")[1])
-        self.refuses("ask.py", "--from", example("forced-win.txt"), "-", said="is no proof")
+        self.refuses("ask.py", "--from", example("forced-win.txt"), "--victor", program(), "-", said="is no proof")
 
     def test_packed(self):
         with tempfile.TemporaryDirectory() as folder:
