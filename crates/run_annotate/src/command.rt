@@ -1,22 +1,22 @@
 //! The command, over any source and any sink.
-ghost use Rattle.std.specs.Prelude.{◌≡◌, ◌≤◌, ℕ, List, Option};
+ghost use Rattle.std.specs.Prelude.{◌≡◌, ◌≤◌, ℕ, List, Option, Err};
 ghost use Rattle.std.specs.Io.KnownBytes.{IsAtEnd};
 ghost use Rattle.device_rules.specs.Devices.{Rose};
 ghost use Rattle.game_rules.specs.Game.{IsTextOf};
 ghost use Rattle.proof_text.specs.Spelling.{greatest_number};
-ghost use Rattle.run_annotate.specs.Annotates.{annotated_status, AnnotatesFrom, Annotates, AnnotateCompletes};
-ghost use Rattle.run_annotate.specs.declared.annotated.Annotated.TheVariants as ends;
-ghost use Rattle.run_frame.specs.Streams.{StillHolds};
+ghost use Rattle.run_annotate.specs.Annotates.{AnnotatesFrom, AnnotateOwes};
+ghost use Rattle.run_frame.specs.Streams.{streams};
 ghost use Rattle.run_frame.specs.declared.game_input.InputStop.{InputStop};
-ghost use Rattle.run_frame.specs.declared.game_input.InputStop.TheVariants as stops;
+ghost use Rattle.run_frame.specs.declared.run_stop.MemoryStop.TheVariants as memory;
+ghost use Rattle.run_frame.specs.declared.run_stop.RunStop.TheVariants as stops;
 
-use crate::annotated::Annotated;
+use crate::annotated::{Annotated, Annotating};
 use crate::searcher::Searcher;
 use crate::writing::write_marks;
 use board_bits::Game;
 use io_ports::{Failed, Sink, Source};
 use proof_tools::annotate as marks_of;
-use run_frame::read_game_input;
+use run_frame::{MemoryStop, RunStop, read_game_input};
 use std::alloc::{AllocError, Global};
 
 /// Reads a game and marks its last moves, `last` of them, or all where there are fewer, by searches that may enter `nodes`
@@ -24,71 +24,40 @@ use std::alloc::{AllocError, Global};
 /// cost of the position before or after its move. Nothing is written before all positions were searched.
 pub fn annotate<S: Source, O: Sink>(
     alloc: Global,
-    nodes: u32,
-    reach: u32,
-    last: u32,
+    how: Annotating,
     source: &mut S,
     out: &mut O,
 ) -> Annotated
-    requires nodes { nodes ≤ greatest_number }
-    ensures outcome { Annotates nodes reach last
-        (record { input = S.left source.old; left = S.left source.new; last_read = S.last_read source.new; old = O.written out.old; new = O.written out.new }) result }
-    ensures held { StillHolds (O.written out.old) (O.written out.new) }
-    ensures read_fault { result ≡ ends.Input stops.Read → Rose (S.faults source.old) (S.faults source.new) }
-    ensures write_fault { result ≡ ends.Write → Rose (O.faults out.old) (O.faults out.new) }
-    ensures complete { (Rose (S.faults source.old) (S.faults source.new) → ⊥) → (Rose (O.faults out.old) (O.faults out.new) → ⊥)
-        → AnnotateCompletes (S.left source.old) (annotated_status result) }
-{
-    annotate_input(alloc, nodes, reach, last, source, out)
-}
-
-/// The same, without what a run owes where no stream failed.
-fn annotate_input<S: Source, O: Sink>(
-    alloc: Global,
-    nodes: u32,
-    reach: u32,
-    last: u32,
-    source: &mut S,
-    out: &mut O,
-) -> Annotated
-    requires nodes { nodes ≤ greatest_number }
-    ensures outcome { Annotates nodes reach last
-        (record { input = S.left source.old; left = S.left source.new; last_read = S.last_read source.new; old = O.written out.old; new = O.written out.new }) result }
-    ensures read_fault { result ≡ ends.Input stops.Read → Rose (S.faults source.old) (S.faults source.new) }
-    ensures write_fault { result ≡ ends.Write → Rose (O.faults out.old) (O.faults out.new) }
+    requires nodes { how.nodes ≤ greatest_number }
+    ensures { AnnotateOwes how.nodes how.reach how.last (streams S.left S.last_read O.written source.old source.new out.old out.new)
+        (Rose (S.faults source.old) (S.faults source.new)) (Rose (O.faults out.old) (O.faults out.new)) result }
 {
     match read_game_input(source) {
-        Ok(game) => annotate_game(alloc, &game, nodes, reach, last, out),
-        Err(stop) => Annotated::Input(stop),
+        Ok(game) => annotate_game(alloc, &game, how, out),
+        Err(stop) => Err(RunStop::Own(MemoryStop::Input(stop))),
     }
 }
 
 /// Marks the last moves of a game, and writes their lines.
-fn annotate_game<O: Sink>(
-    alloc: Global,
-    game: &Game,
-    nodes: u32,
-    reach: u32,
-    last: u32,
-    out: &mut O,
-) -> Annotated
-    requires nodes { nodes ≤ greatest_number }
-    ensures annotates { (text : List ℕ) (input left : Option (List ℕ)) (last_read : ℕ) → IsTextOf text game.now → IsAtEnd left → AnnotatesFrom nodes reach last text
+fn annotate_game<O: Sink>(alloc: Global, game: &Game, how: Annotating, out: &mut O) -> Annotated
+    requires nodes { how.nodes ≤ greatest_number }
+    ensures annotates { (text : List ℕ) (input left : Option (List ℕ)) (last_read : ℕ) → IsTextOf text game.now → IsAtEnd left
+        → AnnotatesFrom how.nodes how.reach how.last text
         (record { input = input; left = left; last_read = last_read; old = O.written out.old; new = O.written out.new }) result }
-    ensures no_input { (stop : InputStop) → result ≡ ends.Input stop → ⊥ }
-    ensures write_fault { result ≡ ends.Write → Rose (O.faults out.old) (O.faults out.new) }
+    ensures no_input { (stop : InputStop) → result ≡ Err (stops.Own (memory.Input stop)) → ⊥ }
+    ensures write_fault { result ≡ Err stops.Write → Rose (O.faults out.old) (O.faults out.new) }
 {
-    let mut searcher = Searcher::new(alloc, nodes, reach);
+    let mut searcher = Searcher::new(alloc, how.nodes, how.reach);
     match marks_of(
         game.position().size(),
         game.moves(),
-        last as usize,
+        how.last as usize,
         &mut searcher,
     ) {
-        Ok(marks) => match write_marks(game, last as usize, marks.as_slice(), out) {
-            Ok(()) => Annotated::Marked,
-            Err(Failed) => Annotated::Write,
+        Ok(marks) => match write_marks(game, how.last as usize, marks.as_slice(), out) {
+            Ok(()) => Ok(()),
+            Err(Failed) => Err(RunStop::Write),
         },
-        Err(AllocError) => Annotated::Memory,
+        Err(AllocError) => Err(RunStop::Own(MemoryStop::Memory)),
     }
 }

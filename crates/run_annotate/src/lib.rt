@@ -8,5 +8,5 @@ mod command;
 mod searcher;
 mod writing;
 
-pub use annotated::Annotated;
+pub use annotated::{Annotated, Annotating};
 pub use command::annotate;

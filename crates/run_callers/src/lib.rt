@@ -3,7 +3,7 @@
 //! memory; the second names how a run ends, where it can't be for want of a budget.
 #![tactic(auto)]
 
-ghost use Rattle.std.specs.Prelude.{◌≡◌, ◌⊎◌, ℕ, Option, ◌≤◌, List, Ok, Some, map, string_bytes};
+ghost use Rattle.std.specs.Prelude.{◌≡◌, ◌⊎◌, ℕ, Option, ◌≤◌, List, Ok, Err, Some, map, string_bytes};
 ghost use Rattle.device_rules.specs.Devices.{Rose};
 ghost use Rattle.game_rules.specs.Position.{Position};
 ghost use Rattle.game_rules.specs.Cost.{cost};
@@ -11,9 +11,10 @@ ghost use Rattle.game_rules.specs.Text.{game_at};
 ghost use Rattle.deep_search.specs.Planned.{solved_within};
 ghost use Rattle.victor_words.specs.Words.{IsWritten};
 ghost use Rattle.victor_words.specs.declared.form.Form.TheVariants as forms;
-ghost use Rattle.run_prove.specs.Proves.{proved_status};
-ghost use Rattle.run_prove.specs.declared.proved.Proved.{Proved};
-ghost use Rattle.run_prove.specs.declared.proved.Proved.TheVariants as ends;
+ghost use Rattle.run_frame.specs.declared.run_stop.MemoryStop.TheVariants as memory;
+ghost use Rattle.run_frame.specs.declared.run_stop.RunStop.TheVariants as stops;
+ghost use Rattle.run_frame.specs.declared.run_stop.Sought.TheVariants as sought;
+ghost use Rattle.run_prove.specs.Proves.{Proved, proved_status};
 ghost use Rattle.victor_run.specs.Outcome.{version_named};
 ghost use Rattle.run_callers.specs.Held.{StillHolds, HoldsProof};
 
@@ -47,7 +48,7 @@ pub fn prove_within_budget<S: Source, O: Sink>(
     ensures { (nodes reach table format : ℕ) (front : Option ℕ) (bytes : List ℕ) (p : Position) → IsWritten (map string_bytes words.now) (forms.Prove nodes reach front table format)
         → S.left source.old ≡ Some bytes → game_at bytes ≡ Ok p → cost (solved_within reach) p ≤ nodes
         → (Rose (S.faults source.old) (S.faults source.new) → ⊥) → (Rose (O.faults out.old) (O.faults out.new) → ⊥)
-        → (end : Proved) × (result ≡ proved_status end) × ((end ≡ ends.Value) ⊎ (end ≡ ends.Memory)) }
+        → (end : Proved) × (result ≡ proved_status end) × ((end ≡ Ok sought.Found) ⊎ (end ≡ Err (stops.Own memory.Memory))) }
 {
     run(alloc, words, source, out, &mut NullSink)
 }

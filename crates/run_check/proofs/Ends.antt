@@ -6,18 +6,18 @@ use Rattle.proof_text.specs.Lemma.{Lemma}
 use Rattle.cert_checker.specs.declared.stops.Accepted.{Accepted as Right}
 use Rattle.run_frame.specs.Streams.{Streams, StillHolds}
 use Rattle.run_frame.specs.declared.game_input.InputStop.TheVariants as inputs
+use Rattle.run_frame.specs.declared.run_stop.RunStop.TheVariants.{Own, Write}
+use Rattle.run_frame.proofs.Owed.{owed}
 use Rattle.run_frame.proofs.Inputs.{of_each, IfSome_more, kept_still, appended_still, cut_still}
 use Rattle.run_proof.specs.Steps.{Judges}
 use Rattle.run_proof.specs.declared.stop.ProofStop.{ProofStop}
 use Rattle.run_proof.specs.declared.stop.ProofStop.TheVariants as stops
 use Rattle.run_proof.proofs.Judging.{stopped, judged_few}
-use Rattle.run_check.specs.Checks.{accepted_line, checked_status, Checks, CheckCompletes}
-use Rattle.run_check.specs.declared.checked.Checked.{Checked}
-use Rattle.run_check.specs.declared.checked.Checked.TheVariants.{Accepted, Stopped, Write}
+use Rattle.run_check.specs.Checks.{accepted_line, Checked, checked_status, Checks, CheckCompletes, CheckOwes}
 
 module _ (s : Streams) (before after : ℕ) (had has : Option (List Lemma)) where
   pub checks_done : (accepted : Right) → Judges None s.input s.left s.last_read before after had has (Ok accepted)
-      → Appends s.old s.new (accepted_line accepted.verdict accepted.lemmas) → Checks s Accepted
+      → Appends s.old s.new (accepted_line accepted.verdict accepted.lemmas) → Checks s (Ok tt)
   checks_done accepted judged put = record {
     taken = judged.taken;
     gave = judged.gave;
@@ -26,7 +26,7 @@ module _ (s : Streams) (before after : ℕ) (had has : Option (List Lemma)) wher
   }
 
   pub checks_cut : (accepted : Right) → Judges None s.input s.left s.last_read before after had has (Ok accepted)
-      → AppendsPrefix false s.old s.new (accepted_line accepted.verdict accepted.lemmas) → Checks s Write
+      → AppendsPrefix false s.old s.new (accepted_line accepted.verdict accepted.lemmas) → Checks s (Err Write)
   checks_cut accepted judged put = record {
     taken = judged.taken;
     gave = judged.gave;
@@ -34,7 +34,7 @@ module _ (s : Streams) (before after : ℕ) (had has : Option (List Lemma)) wher
     holds = ((accepted.verdict, accepted.lemmas, judged.answer, put), judged.lines);
   }
 
-  pub checks_stop : (stop : ProofStop) → Judges None s.input s.left s.last_read before after had has (Err stop) → Keeps s.old s.new → Checks s (Stopped stop)
+  pub checks_stop : (stop : ProofStop) → Judges None s.input s.left s.last_read before after had has (Err stop) → Keeps s.old s.new → Checks s (Err (Own stop))
   checks_stop stop judged kept = record {
     taken = judged.taken;
     gave = judged.gave;
@@ -42,19 +42,23 @@ module _ (s : Streams) (before after : ℕ) (had has : Option (List Lemma)) wher
     holds = ((stopped None s before after had has stop judged, kept), judged.lines);
   }
 
-pub check_completes : (s : Streams) (end : Checked) → Checks s end → (end ≡ Stopped (stops.Input inputs.Read) → ⊥) → (end ≡ Write → ⊥)
+pub check_completes : (s : Streams) (end : Checked) → Checks s end → (end ≡ Err (Own (stops.Input inputs.Read)) → ⊥) → (end ≡ Err Write → ⊥)
     → CheckCompletes s.input (checked_status end)
-check_completes s Accepted o unread unwritten = of_each s.input _ (λ bytes v count right. inl refl)
-check_completes s (Stopped stops.Memory) o unread unwritten = of_each s.input _ (λ bytes v count right. inr refl)
-check_completes s (Stopped (stops.Input (inputs.NoGame fault))) o unread unwritten = IfSome_more s.input _ _ o.holds.0.0.0.1
+check_completes s (Ok done) o unread unwritten = of_each s.input _ (λ bytes v count right. inl refl)
+check_completes s (Err (Own stops.Memory)) o unread unwritten = of_each s.input _ (λ bytes v count right. inr refl)
+check_completes s (Err (Own (stops.Input (inputs.NoGame fault)))) o unread unwritten = IfSome_more s.input _ _ o.holds.0.0.0.1
     (λ bytes refused v count right. absurd (cc (sym right ∙ refused)))
-check_completes s (Stopped (stops.Refused refusal)) o unread unwritten = IfSome_more s.input _ _ o.holds.0.0.0.1
+check_completes s (Err (Own (stops.Refused refusal))) o unread unwritten = IfSome_more s.input _ _ o.holds.0.0.0.1
     (λ bytes refused v count right. absurd (cc (sym right ∙ refused)))
-check_completes s (Stopped (stops.Input inputs.Read)) o unread unwritten = absurd (unread refl)
-check_completes s Write o unread unwritten = absurd (unwritten refl)
+check_completes s (Err (Own (stops.Input inputs.Read))) o unread unwritten = absurd (unread refl)
+check_completes s (Err Write) o unread unwritten = absurd (unwritten refl)
 
 -- however it ends, what the sink held stands there still
 pub check_held : (s : Streams) (end : Checked) → Checks s end → StillHolds s.old s.new
-check_held s Accepted o = appended_still s.old s.new _ o.holds.0.3
-check_held s Write o = cut_still s.old s.new _ o.holds.0.3
-check_held s (Stopped stop) o = kept_still s.old s.new o.holds.0.1
+check_held s (Ok done) o = appended_still s.old s.new _ o.holds.0.3
+check_held s (Err Write) o = cut_still s.old s.new _ o.holds.0.3
+check_held s (Err (Own stop)) o = kept_still s.old s.new o.holds.0.1
+
+pub check_owes : (s : Streams) (unread unwritten : Type 0) (end : Checked) → Checks s end → (end ≡ Err (Own (stops.Input inputs.Read)) → unread)
+    → (end ≡ Err Write → unwritten) → CheckOwes s unread unwritten end
+check_owes s unread unwritten end = owed checked_status Checks CheckCompletes _ _ s unread unwritten end (check_held s end) (check_completes s end)

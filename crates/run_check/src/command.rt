@@ -1,16 +1,13 @@
 //! The command, over any source and any sink.
 ghost use Rattle.std.specs.Prelude.{◌≡◌, is_ok};
 ghost use Rattle.device_rules.specs.Devices.{Rose, HasCause, AppendsPrefix};
-ghost use Rattle.run_check.specs.Checks.{accepted_line, checked_status, Checks, CheckCompletes};
-ghost use Rattle.run_check.specs.declared.checked.Checked.TheVariants as ends;
-ghost use Rattle.run_frame.specs.Streams.{StillHolds};
-ghost use Rattle.run_frame.specs.declared.game_input.InputStop.TheVariants as inputs;
-ghost use Rattle.run_proof.specs.declared.stop.ProofStop.TheVariants as stops;
+ghost use Rattle.run_check.specs.Checks.{accepted_line, CheckOwes};
+ghost use Rattle.run_frame.specs.Streams.{streams};
 
 use crate::checked::Checked;
 use cert_checker::Accepted;
 use io_ports::{Failed, Sink, Source};
-use run_frame::put_line;
+use run_frame::{RunStop, put_line};
 use run_proof::{KeepsNone, read_proof};
 use std::alloc::Global;
 use text_words::{LineText, push_number, push_text};
@@ -18,30 +15,15 @@ use text_words::{LineText, push_number, push_text};
 /// Reads a proof of either version, and writes one line where it is right. It ends as the definitions answer the text, unless a stream
 /// failed, which comes only where its count of faults rose, or memory ran out.
 pub fn check<S: Source, O: Sink>(alloc: Global, source: &mut S, out: &mut O) -> Checked
-    ensures outcome { Checks
-        (record { input = S.left source.old; left = S.left source.new; last_read = S.last_read source.new; old = O.written out.old; new = O.written out.new }) result }
-    ensures held { StillHolds (O.written out.old) (O.written out.new) }
-    ensures read_fault { result ≡ ends.Stopped (stops.Input inputs.Read) → Rose (S.faults source.old) (S.faults source.new) }
-    ensures write_fault { result ≡ ends.Write → Rose (O.faults out.old) (O.faults out.new) }
-    ensures complete { (Rose (S.faults source.old) (S.faults source.new) → ⊥) → (Rose (O.faults out.old) (O.faults out.new) → ⊥)
-        → CheckCompletes (S.left source.old) (checked_status result) }
-{
-    check_input(alloc, source, out)
-}
-
-/// The same, without what a run owes where no stream failed.
-fn check_input<S: Source, O: Sink>(alloc: Global, source: &mut S, out: &mut O) -> Checked
-    ensures outcome { Checks
-        (record { input = S.left source.old; left = S.left source.new; last_read = S.last_read source.new; old = O.written out.old; new = O.written out.new }) result }
-    ensures read_fault { result ≡ ends.Stopped (stops.Input inputs.Read) → Rose (S.faults source.old) (S.faults source.new) }
-    ensures write_fault { result ≡ ends.Write → Rose (O.faults out.old) (O.faults out.new) }
+    ensures { CheckOwes (streams S.left S.last_read O.written source.old source.new out.old out.new)
+        (Rose (S.faults source.old) (S.faults source.new)) (Rose (O.faults out.old) (O.faults out.new)) result }
 {
     match read_proof(alloc, None, source, &mut KeepsNone) {
         Ok(accepted) => match put_accepted(out, accepted) {
-            Ok(()) => Checked::Accepted,
-            Err(Failed) => Checked::Write,
+            Ok(()) => Ok(()),
+            Err(Failed) => Err(RunStop::Write),
         },
-        Err(stop) => Checked::Stopped(stop),
+        Err(stop) => Err(RunStop::Own(stop)),
     }
 }
 

@@ -1,1 +1,1 @@
-pub mod Drilling
+pub mod Tallying

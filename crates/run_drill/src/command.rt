@@ -1,22 +1,20 @@
 //! The command, over any sink.
-ghost use Rattle.std.specs.Prelude.{◌≡◌, ℕ, ◌<◌, ◌≤◌, [], IfOk, is_ok};
+ghost use Rattle.std.specs.Prelude.{◌≡◌, ℕ, ◌<◌, ◌≤◌, [], Err, IfOk, is_ok};
 ghost use Rattle.device_rules.specs.Devices.{HasCause, Rose, AppendsPrefix};
 ghost use Rattle.game_rules.specs.Cost.{cost};
 ghost use Rattle.proof_text.specs.Spelling.{greatest_number};
-ghost use Rattle.drill_games.specs.Games.{games_from};
 ghost use Rattle.drill_games.specs.Summary.{IsSummary};
 ghost use Rattle.deep_search.specs.Planned.{solved_within};
 ghost use Rattle.run_frame.specs.Streams.{StillHolds};
-ghost use Rattle.run_drill.specs.Drills.{Drills, DrillCompletes, drill_line, drilled_status};
-ghost use Rattle.run_drill.specs.declared.drilled.Drilled.TheVariants as ends;
+ghost use Rattle.run_frame.specs.declared.run_stop.RunStop.TheVariants as stops;
+ghost use Rattle.run_drill.specs.Drills.{games_of, Drills, DrillCompletes, drill_line, drilled_status};
 
-use crate::drilled::Drilled;
-use board_bits::Size;
+use crate::drilled::{Drilled, Drilling};
 use drill_games::{Tally, next_game};
 use io_ports::{Failed, Sink};
 use position_table::Table;
 use rule_chooser::Chooser;
-use run_frame::put_line;
+use run_frame::{RunStop, put_line};
 use run_questions::find_value;
 use std::alloc::{AllocError, Global};
 use text_words::{LineText, push_number, push_text};
@@ -27,51 +25,34 @@ const GAME_TABLE: u32 = 100_000;
 /// Makes `games` games of at most `moves` moves each on a board of this size, from the number `seed`; searches each as
 /// `prove` does, within `nodes` positions and with plans from the first `reach` sets of zones; and writes how many are won,
 /// drawn and lost for the side to move, and of how many nothing was found.
-pub fn drill<O: Sink>(
-    alloc: Global,
-    size: Size,
-    moves: u32,
-    seed: u32,
-    games: u32,
-    nodes: u32,
-    reach: u32,
-    out: &mut O,
-) -> Drilled
-    requires nodes { nodes ≤ greatest_number }
-    ensures outcome { Drills (games_from games size moves seed) nodes reach (O.written out.old) (O.written out.new) result }
+pub fn drill<O: Sink>(alloc: Global, how: &Drilling, out: &mut O) -> Drilled
+    requires nodes { how.now.nodes ≤ greatest_number }
+    ensures outcome { Drills (games_of how.now) how.now.nodes how.now.reach (O.written out.old) (O.written out.new) result }
     ensures held { StillHolds (O.written out.old) (O.written out.new) }
-    ensures write_fault { result ≡ ends.Write → Rose (O.faults out.old) (O.faults out.new) }
+    ensures write_fault { result ≡ Err stops.Write → Rose (O.faults out.old) (O.faults out.new) }
     ensures complete { (Rose (O.faults out.old) (O.faults out.new) → ⊥) → DrillCompletes (drilled_status result) }
 {
-    match tally_of(alloc, size, moves, seed, games, nodes, reach) {
+    match tally_of(alloc, how) {
         Ok(tally) => match put_line(out, drill_line(tally).as_slice()) {
-            Ok(()) => Drilled::Counted,
-            Err(Failed) => Drilled::Write,
+            Ok(()) => Ok(()),
+            Err(Failed) => Err(RunStop::Write),
         },
-        Err(AllocError) => Drilled::Memory,
+        Err(AllocError) => Err(RunStop::Own(AllocError)),
     }
 }
 
 /// The counts of what is found of the games, each with a table of its own.
-fn tally_of(
-    alloc: Global,
-    size: Size,
-    moves: u32,
-    seed: u32,
-    games: u32,
-    nodes: u32,
-    reach: u32,
-) -> Result<Tally, AllocError>
-    requires nodes { nodes ≤ greatest_number }
-    ensures { IfOk result (IsSummary (cost (solved_within reach)) nodes (games_from games size moves seed)) }
+fn tally_of(alloc: Global, how: &Drilling) -> Result<Tally, AllocError>
+    requires nodes { how.now.nodes ≤ greatest_number }
+    ensures { IfOk result (IsSummary (cost (solved_within how.now.reach)) how.now.nodes (games_of how.now)) }
 {
     let mut chooser = Chooser::new();
     let mut tally = Tally::new();
-    let mut state = seed;
-    for made in 0..games {
-        let game = next_game(size, moves, &mut state);
+    let mut state = how.seed;
+    for made in 0..how.games {
+        let game = next_game(how.size, how.moves, &mut state);
         let mut table = Table::new(alloc, GAME_TABLE)?;
-        tally.count(find_value(&game, nodes, reach, &mut table, &mut chooser));
+        tally.count(find_value(&game, how.nodes, how.reach, &mut table, &mut chooser));
     }
     Ok(tally)
 }

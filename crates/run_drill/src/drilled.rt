@@ -1,39 +1,25 @@
-//! How `drill` ends.
-use io_ports::WRITE_FAULT;
-use run_frame::{Ending, memory_text, write_text};
-use text_words::LineText;
+//! What `drill` is asked for, and how it ends.
+use board_bits::Size;
+use run_frame::RunStop;
+use std::alloc::AllocError;
 
-/// How a run of `drill` ends.
+/// What a run of `drill` is asked for.
 #[derive(Clone, Copy)]
-pub enum Drilled {
-    /// The games were searched, and the line of the counts was written: status 0.
-    Counted,
-    /// The sink of the output failed, which comes only where its count of faults rose: status 7.
-    Write,
-    /// Memory for a table ran out, and nothing was written: status 8.
-    Memory,
+pub struct Drilling {
+    /// The board of the games.
+    pub size: Size,
+    /// The most moves of a game.
+    pub moves: u32,
+    /// The number that the games are made from.
+    pub seed: u32,
+    /// How many games are made.
+    pub games: u32,
+    /// How many positions the search of each game may enter, up to 10,000,000.
+    pub nodes: u32,
+    /// How many sets of zones a walk looks at.
+    pub reach: u32,
 }
 
-impl Ending for Drilled {
-    ghost use Rattle.run_drill.specs.Drills.{drilled_status, drilled_text};
-
-    ghost status_of = { drilled_status };
-
-    ghost text_of = { drilled_text };
-
-    fn status(&self) -> u8 {
-        match self {
-            Drilled::Counted => 0,
-            Drilled::Write => WRITE_FAULT,
-            Drilled::Memory => 8,
-        }
-    }
-
-    fn text(&self) -> LineText {
-        match self {
-            Drilled::Counted => LineText::new(),
-            Drilled::Write => write_text(),
-            Drilled::Memory => memory_text(),
-        }
-    }
-}
+/// How a run of `drill` ends. The games were searched, and the line of the counts was written: status 0. Or memory for a table ran out,
+/// and nothing was written: status 8. Or the sink of the output failed: status 7.
+pub type Drilled = Result<(), RunStop<AllocError>>;

@@ -6,4 +6,4 @@ mod command;
 mod drilled;
 
 pub use command::drill;
-pub use drilled::Drilled;
+pub use drilled::{Drilled, Drilling};

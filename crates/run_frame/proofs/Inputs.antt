@@ -2,17 +2,17 @@
 use Rattle.std.proofs.Common.{[], false, append-nil, ◌≡◌, ℕ, ◌<◌, ◌≤◌, List, Option, Some, None, Ok, Err, IfSome, length, take, refl, sym}
 use Rattle.std.proofs.Common.{ap, ◌∙◌, inl, inr, arith}
 use Rattle.std.specs.Io.KnownBytes.{Keeps, Appends, Consumes, IsAtEnd}
-use Rattle.std.proofs.KnownBytes.{Consumes-whole}
+use Rattle.std.proofs.KnownBytes.{Keeps-refl, Consumes-whole}
 use Rattle.std.proofs.lemmas.Bool.{cases_lt}
 use Rattle.std.proofs.lemmas.List.{length-take-le}
 use Rattle.device_rules.specs.Devices.{AppendsPrefix}
+use Rattle.game_rules.specs.Game.{Game, IsTextOf}
 use Rattle.game_rules.specs.Position.{Position}
 use Rattle.game_rules.specs.Text.{game_at}
 use Rattle.game_rules.proofs.Prefix.{same_prefix, game_short}
-use Rattle.game_rules.specs.declared.InputFault.{InputFault}
 use Rattle.run_frame.specs.declared.game_input.InputStop.{InputStop}
 use Rattle.run_frame.specs.declared.game_input.InputStop.TheVariants.{NoGame, Read}
-use Rattle.run_frame.specs.GameInput.{most_input, TookText, TakesGame}
+use Rattle.run_frame.specs.GameInput.{most_input, TookText, TakesGame, ReadsNoGame}
 use Rattle.run_frame.specs.Streams.{Streams, Took, StillHolds}
 
 -- what stands in the buffer after a read of all that it has room for
@@ -55,18 +55,17 @@ same_position bytes p q one another = let same : Ok p ≡ Ok q = sym one ∙ ano
 abbrev pub unwritten : (input left : Option (List ℕ)) → ℕ → Option (List ℕ) → Streams
 unwritten input left last_read out = record { input = input; left = left; last_read = last_read; old = out; new = out }
 
--- where no game was read, a run keeps what it promises of a fault and of a source that failed, whatever its ends are
-pub no_game : {E : Type 0} (ended : InputStop → E) (Holds : List ℕ → Streams → E → Type 0) (input left : Option (List ℕ)) (last_read : ℕ)
-    (out : Option (List ℕ))
-    → ((taken : List ℕ) (fault : InputFault) → game_at taken ≡ Err fault → IfSome input (λ bytes. game_at bytes ≡ Err fault)
-    → Holds taken (unwritten input left last_read out) (ended (NoGame fault)))
-    → ((taken : List ℕ) → Holds taken (unwritten input left last_read out) (ended Read))
-    → (stop : InputStop) → TakesGame input left (Err stop)
-    → Took (unwritten input left last_read out) most_input (λ taken. Holds taken (unwritten input left last_read out) (ended stop))
-no_game ended Holds input left last_read out faulty failed (NoGame fault) takes =
-    record { taken = takes.0; gave = takes.1.gave; few = takes.1.few; holds = faulty takes.0 fault takes.2 takes.3 }
-no_game ended Holds input left last_read out faulty failed Read takes =
-    record { taken = takes.0; gave = takes.1.gave; few = takes.1.few; holds = failed takes.0 }
+-- where no game was read, and nothing was written
+pub no_game : (input left : Option (List ℕ)) (last_read : ℕ) (out : Option (List ℕ)) (stop : InputStop) → TakesGame input left (Err stop)
+    → Took (unwritten input left last_read out) most_input (λ taken. ReadsNoGame taken (unwritten input left last_read out) stop)
+no_game input left last_read out (NoGame fault) takes =
+    record { taken = takes.0; gave = takes.1.gave; few = takes.1.few; holds = (takes.2, takes.3, Keeps-refl out) }
+no_game input left last_read out Read takes = record { taken = takes.0; gave = takes.1.gave; few = takes.1.few; holds = Keeps-refl out }
+
+-- where a game was read, what holds of its text holds of the bytes that were taken
+pub of_game : (s : Streams) (Holds : List ℕ → Type 0) (game : Game) → TakesGame s.input s.left (Ok game)
+    → ((taken : List ℕ) → IsTextOf taken game → IsAtEnd s.left → Holds taken) → Took s most_input Holds
+of_game s Holds game takes holds = record { taken = takes.0; gave = takes.1.gave; few = takes.1.few; holds = holds takes.0 takes.2 takes.3 }
 
 -- what was kept, or written behind what was there, or begun to be, stands behind what was there
 pub kept_still : (before after : Option (List ℕ)) → Keeps before after → StillHolds before after
@@ -83,3 +82,7 @@ pub cut_still : (before after : Option (List ℕ)) (text : List ℕ) → Appends
 cut_still None after text written = tt
 cut_still (Some old) None text written = tt
 cut_still (Some old) (Some new) text written = (take written.0 text, written.1)
+
+pub unread_still : (s : Streams) (taken : List ℕ) (stop : InputStop) → ReadsNoGame taken s stop → StillHolds s.old s.new
+unread_still s taken (NoGame fault) left = kept_still s.old s.new left.2
+unread_still s taken Read left = kept_still s.old s.new left

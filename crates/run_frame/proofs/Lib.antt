@@ -3,3 +3,4 @@ pub mod Cuts
 pub mod GameRead
 pub mod Taken
 pub mod Passing
+pub mod Owed

@@ -1,5 +1,6 @@
 pub mod Streams
 pub mod Texts
 pub mod Ended
+pub mod Stops
 pub mod Reading
 pub mod GameInput

@@ -11,6 +11,11 @@ pub record Streams : Type 0 where
   pub old : Option (List ℕ)
   pub new : Option (List ℕ)
 
+-- those of a run over a source and a sink, by what the two tell of themselves
+abbrev pub streams : {S O : Type 0} → (left : S → Option (List ℕ)) (last_read : S → ℕ) (written : O → Option (List ℕ)) → (source given : S) → (out put : O) → Streams
+streams left last_read written source given out put =
+    record { input = left source; left = left given; last_read = last_read given; old = written out; new = written put }
+
 -- There are bytes, at most so many, which the source gave as far as it tells, and this holds of them. A source that
 -- tells its bytes determines them; one that tells nothing doesn't.
 pub record Took (s : Streams) (most : ℕ) (Holds : List ℕ → Type 0) : Type 0 where

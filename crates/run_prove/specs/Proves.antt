@@ -12,41 +12,43 @@ use Rattle.proof_text.specs.declared.Version.{Version}
 use Rattle.position_table.specs.declared.table.TheConstants.{MOST_ROOM}
 use Rattle.deep_search.specs.Planned.{solved_within}
 use Rattle.io_ports.specs.declared.ports.Failed.{Failed}
-use Rattle.run_frame.specs.Ended.{EndsBy}
-use Rattle.run_frame.specs.GameInput.{most_input}
+use Rattle.run_frame.specs.Ended.{EndsBy, Owes}
+use Rattle.run_frame.specs.GameInput.{most_input, ReadsNoGame}
+use Rattle.run_frame.specs.Stops.{of_result, run_stop_status, run_stop_text, memory_stop_status, memory_stop_text, sought_status}
 use Rattle.run_frame.specs.Streams.{Streams, Took}
-use Rattle.run_frame.specs.Texts.{stop_status, stop_text, write_line, memory_line}
+use Rattle.run_frame.specs.Texts.{stop_status, stop_text}
+use Rattle.run_frame.specs.declared.game_input.InputStop.{InputStop}
 use Rattle.run_frame.specs.declared.game_input.InputStop.TheVariants as stops
+use Rattle.run_frame.specs.declared.run_stop.MemoryStop.{MemoryStop}
+use Rattle.run_frame.specs.declared.run_stop.MemoryStop.TheVariants.{Input, Memory}
+use Rattle.run_frame.specs.declared.run_stop.RunStop.{RunStop}
+use Rattle.run_frame.specs.declared.run_stop.RunStop.TheVariants.{Own, Write}
+use Rattle.run_frame.specs.declared.run_stop.Sought.{Sought}
+use Rattle.run_frame.specs.declared.run_stop.Sought.TheVariants.{Found, Missing}
 use Rattle.run_prove.specs.Proof.{IsProofOf, MayStandFor}
-use Rattle.run_prove.specs.declared.proved.Proved.{Proved}
-use Rattle.run_prove.specs.declared.proved.Proved.TheVariants.{Value, Unknown, Input, Write, Memory}
 
 -- how many settled positions a table may keep
 abbrev pub IsRoom : ℕ → Type 0
 IsRoom n = (1 ≤ n) × (n ≤ MOST_ROOM)
 
+-- how it ends: it finds the value, or leaves it unknown, or something stops it
+abbrev pub Proved : Type 0
+Proved = Result Sought (RunStop (MemoryStop InputStop))
+
 -- the exit status of an end, and its text for the error stream
 abbrev pub proved_status : Proved → ℕ
-proved_status Value = 0
-proved_status Unknown = 5
-proved_status (Input stop) = stop_status stop
-proved_status Write = 7
-proved_status Memory = 8
+proved_status = of_result sought_status (run_stop_status (memory_stop_status stop_status))
 
 abbrev pub proved_text : Proved → List ℕ
-proved_text Value = []
-proved_text Unknown = []
-proved_text (Input stop) = stop_text stop
-proved_text Write = write_line
-proved_text Memory = memory_line
+proved_text = of_result (λ sought. []) (run_stop_text (memory_stop_text stop_text))
 
 -- the end of a run that wrote a proof with the verdict, or failed to
 abbrev pub proved_of : Result Verdict Failed → Proved
-proved_of (Ok (verdicts.Win lemma)) = Value
-proved_of (Ok (verdicts.Loss lemma)) = Value
-proved_of (Ok (verdicts.Draw white black)) = Value
-proved_of (Ok verdicts.Unknown) = Unknown
-proved_of (Err failed) = Write
+proved_of (Ok (verdicts.Win lemma)) = Ok Found
+proved_of (Ok (verdicts.Loss lemma)) = Ok Found
+proved_of (Ok (verdicts.Draw white black)) = Ok Found
+proved_of (Ok verdicts.Unknown) = Ok Missing
+proved_of (Err failed) = Err Write
 
 abbrev pub IsGame : List ℕ → Type 0
 IsGame bytes = (p : Position) × (game_at bytes ≡ Ok p)
@@ -82,13 +84,11 @@ pub record WasCut (version : Version) (nodes reach : ℕ) (slots : Option ℕ) (
 -- end. A proof is of the game that they are, and all of the input was read then, as it was where memory runs out; a fault is theirs, and that of all of
 -- the input, where the source tells it.
 abbrev pub ProvesFrom : Version → (nodes reach : ℕ) (slots : Option ℕ) → List ℕ → Streams → Proved → Type 0
-ProvesFrom version nodes reach slots taken s Value = HasProved version nodes reach slots taken s.old s.new × IsAtEnd s.left
-ProvesFrom version nodes reach slots taken s Unknown = LeavesUnknown version nodes reach slots taken s.old s.new × IsAtEnd s.left
-ProvesFrom version nodes reach slots taken s Write = WasCut version nodes reach slots taken s.old s.new × IsAtEnd s.left
-ProvesFrom version nodes reach slots taken s (Input (stops.NoGame fault)) =
-    (game_at taken ≡ Err fault) × IfSome s.input (λ bytes. game_at bytes ≡ Err fault) × Keeps s.old s.new
-ProvesFrom version nodes reach slots taken s (Input stops.Read) = Keeps s.old s.new
-ProvesFrom version nodes reach slots taken s Memory = IsGame taken × IsAtEnd s.left × Keeps s.old s.new
+ProvesFrom version nodes reach slots taken s (Ok Found) = HasProved version nodes reach slots taken s.old s.new × IsAtEnd s.left
+ProvesFrom version nodes reach slots taken s (Ok Missing) = LeavesUnknown version nodes reach slots taken s.old s.new × IsAtEnd s.left
+ProvesFrom version nodes reach slots taken s (Err Write) = WasCut version nodes reach slots taken s.old s.new × IsAtEnd s.left
+ProvesFrom version nodes reach slots taken s (Err (Own (Input stop))) = ReadsNoGame taken s stop
+ProvesFrom version nodes reach slots taken s (Err (Own Memory)) = IsGame taken × IsAtEnd s.left × Keeps s.old s.new
 
 -- `prove` with this version and these numbers
 abbrev pub Proves : Version → (nodes reach : ℕ) (slots : Option ℕ) → Streams → Proved → Type 0
@@ -102,3 +102,8 @@ ProveRuns version nodes reach slots s status text = EndsBy proved_status proved_
 abbrev pub ProveCompletes : (nodes reach : ℕ) → Option (List ℕ) → (status : ℕ) → Type 0
 ProveCompletes nodes reach input status =
     IfSome input (λ bytes. (p : Position) → game_at bytes ≡ Ok p → cost (solved_within reach) p ≤ nodes → (status ≡ 0) ⊎ (status ≡ 8))
+
+-- what it owes of a run
+abbrev pub ProveOwes : Version → (nodes reach : ℕ) (slots : Option ℕ) → Streams → (unread unwritten : Type 0) → Proved → Type 0
+ProveOwes version nodes reach slots =
+    Owes proved_status (Proves version nodes reach slots) (ProveCompletes nodes reach) (Err (Own (Input stops.Read))) (Err Write)

@@ -6,4 +6,4 @@ mod proved;
 mod writing;
 
 pub use command::prove;
-pub use proved::Proved;
+pub use proved::{Proved, Proving};

@@ -1,46 +1,23 @@
-//! How `prove` ends.
-use io_ports::WRITE_FAULT;
-use run_frame::{Ending, InputStop, memory_text, write_text};
-use text_words::LineText;
+//! What `prove` is asked for, and how it ends.
+use cert_format::Version;
+use run_frame::{InputStop, MemoryStop, RunStop, Sought};
 
-/// How a run of `prove` ends.
+/// What a run of `prove` is asked for.
 #[derive(Clone, Copy)]
-pub enum Proved {
-    /// A proof of the game's value was written: status 0.
-    Value,
-    /// The budget is below the cost of the position, and what was written says that the value is unknown: status 5.
-    Unknown,
-    /// The input is no game, or the source failed: status 3 or 6.
-    Input(InputStop),
-    /// The sink of the output failed, which comes only where its count of faults rose: status 7.
-    Write,
-    /// Memory for the table or the front ran out, and nothing was written: status 8.
-    Memory,
+pub struct Proving {
+    /// How many positions a search may enter, up to 10,000,000.
+    pub nodes: u32,
+    /// How many sets of zones a walk looks at.
+    pub reach: u32,
+    /// How many slots a front has before each search, from 1 to 1,000,000; None for no front.
+    pub slots: Option<u32>,
+    /// How many settled positions a table keeps, from 1 to 1,000,000.
+    pub table: u32,
+    /// The version of the proof. In the second, mirror images of positions that were found are not searched again.
+    pub version: Version,
 }
 
-impl Ending for Proved {
-    ghost use Rattle.run_prove.specs.Proves.{proved_status, proved_text};
-
-    ghost status_of = { proved_status };
-
-    ghost text_of = { proved_text };
-
-    fn status(&self) -> u8 {
-        match self {
-            Proved::Value => 0,
-            Proved::Unknown => 5,
-            Proved::Input(stop) => stop.status(),
-            Proved::Write => WRITE_FAULT,
-            Proved::Memory => 8,
-        }
-    }
-
-    fn text(&self) -> LineText {
-        match self {
-            Proved::Value | Proved::Unknown => LineText::new(),
-            Proved::Input(stop) => stop.text(),
-            Proved::Write => write_text(),
-            Proved::Memory => memory_text(),
-        }
-    }
-}
+/// How a run of `prove` ends. A proof of the game's value was written, or the budget is below the cost of the position, and what was
+/// written says that the value is unknown: status 0 or 5. Or the input is no game, or the source failed: status 3 or 6. Or
+/// memory for the table or the front ran out, and nothing was written: status 8. Or the sink of the output failed: status 7.
+pub type Proved = Result<Sought, RunStop<MemoryStop<InputStop>>>;

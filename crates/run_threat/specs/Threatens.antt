@@ -12,18 +12,12 @@ use Rattle.run_threat.specs.declared.no_threat.NoThreat.{NoThreat}
 
 -- ---- what a caller sees
 
--- the exit status where there is no threat, and the text for the error stream
-abbrev pub head_status : NoThreat → ℕ
-head_status none = 5
-
-abbrev pub head_text : NoThreat → List ℕ
-head_text none = []
-
+-- the exit status, 5 where there is no threat, and the text for the error stream
 abbrev pub threat_status : GameEnding NoThreat → ℕ
-threat_status end = ending_status head_status end
+threat_status = ending_status (λ none. 5)
 
 abbrev pub threat_text : GameEnding NoThreat → List ℕ
-threat_text end = ending_text head_text end
+threat_text = ending_text (λ none. [])
 
 -- ---- what is promised
 

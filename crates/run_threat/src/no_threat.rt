@@ -14,11 +14,11 @@ pub type ThreatStop = GameStop<NoThreat>;
 pub type ThreatEnding = GameEnding<NoThreat>;
 
 impl Ending for NoThreat {
-    ghost use Rattle.run_threat.specs.Threatens.{head_status, head_text};
+    ghost use Rattle.std.specs.Prelude.{[]};
 
-    ghost status_of = { head_status };
+    ghost status_of = { λ none. 5 };
 
-    ghost text_of = { head_text };
+    ghost text_of = { λ none. [] };
 
     fn status(&self) -> u8 {
         5

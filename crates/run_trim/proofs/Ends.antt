@@ -8,6 +8,9 @@ use Rattle.tool_text.specs.Trim.{CitesEarlier, numbers_named, trimmed_lines}
 use Rattle.proof_tools.specs.Reach.{AreWithin}
 use Rattle.run_frame.specs.Streams.{Streams, StillHolds}
 use Rattle.run_frame.specs.declared.game_input.InputStop.TheVariants as inputs
+use Rattle.run_frame.specs.declared.run_stop.MemoryStop.TheVariants.{Input, Memory}
+use Rattle.run_frame.specs.declared.run_stop.RunStop.TheVariants.{Own, Write}
+use Rattle.run_frame.proofs.Owed.{owed}
 use Rattle.run_frame.proofs.Inputs.{of_each, IfSome_more, kept_still, appended_still, cut_still}
 use Rattle.run_proof.specs.Heads.{JudgesWhole}
 use Rattle.run_proof.specs.Taken.{text_lemmas}
@@ -15,9 +18,7 @@ use Rattle.run_proof.specs.declared.reading.ProofRead.{ProofRead}
 use Rattle.run_proof.specs.declared.stop.ProofStop.{ProofStop}
 use Rattle.run_proof.specs.declared.stop.ProofStop.TheVariants as stops
 use Rattle.run_proof.proofs.Judging.{stopped, judged_few}
-use Rattle.run_trim.specs.Trims.{IsTrimmed, PutsTrimmed, trimmed_status, TrimsFrom, Trims, TrimCompletes}
-use Rattle.run_trim.specs.declared.trimmed.Trimmed.{Trimmed}
-use Rattle.run_trim.specs.declared.trimmed.Trimmed.TheVariants.{Done, Stopped, Write, Memory}
+use Rattle.run_trim.specs.Trims.{IsTrimmed, PutsTrimmed, Trimmed, trimmed_status, TrimsFrom, Trims, TrimCompletes, TrimOwes}
 use Rattle.run_trim.proofs.Texts.{text_read, head_read, lemmas_read}
 use Rattle.run_trim.proofs.Trimming.{lemmas_ordered, verdict_within, trims}
 
@@ -67,13 +68,13 @@ module _ (input left : Option (List ℕ)) (last_read before after : ℕ) (book l
     }
       where
         of : (end : Trimmed) → PutsTrimmed proof.version proof.game ls proof.accepted.verdict old new end → TrimsFrom whole.judged.taken streams end
-        of Done puts = record { text = written; is = is; all = whole.judged.answer.whole; written = puts }
-        of Write puts = record { text = written; is = is; all = whole.judged.answer.whole; written = puts }
-        of Memory kept = ((proof.accepted.verdict, proof.accepted.lemmas, whole.judged.answer), kept)
-        of (Stopped stop) never = absurd never
+        of (Ok done) puts = record { text = written; is = is; all = whole.judged.answer.whole; written = puts }
+        of (Err Write) puts = record { text = written; is = is; all = whole.judged.answer.whole; written = puts }
+        of (Err (Own Memory)) kept = ((proof.accepted.verdict, proof.accepted.lemmas, whole.judged.answer), kept)
+        of (Err (Own (Input stop))) never = absurd never
 
 pub trims_stop : (s : Streams) (before after : ℕ) (had has : Option (List Lemma)) (stop : ProofStop)
-    → JudgesWhole None s.input s.left s.last_read before after had has (Err stop) → Keeps s.old s.new → Trims s (Stopped stop)
+    → JudgesWhole None s.input s.left s.last_read before after had has (Err stop) → Keeps s.old s.new → Trims s (Err (Own (Input stop)))
 trims_stop s before after had has stop whole kept = record {
   taken = whole.judged.taken;
   gave = whole.judged.gave;
@@ -81,21 +82,26 @@ trims_stop s before after had has stop whole kept = record {
   holds = ((stopped None s before after had has stop whole.judged, kept), whole.judged.lines);
 }
 
-pub trim_completes : (s : Streams) (end : Trimmed) → Trims s end → (end ≡ Stopped (stops.Input inputs.Read) → ⊥) → (end ≡ Write → ⊥)
+pub trim_completes : (s : Streams) (end : Trimmed) → Trims s end → (end ≡ Err (Own (Input (stops.Input inputs.Read))) → ⊥)
+    → (end ≡ Err Write → ⊥)
     → TrimCompletes s.input (trimmed_status end)
-trim_completes s Done o unread unwritten = of_each s.input _ (λ bytes v count right. inl refl)
-trim_completes s Memory o unread unwritten = of_each s.input _ (λ bytes v count right. inr refl)
-trim_completes s (Stopped stops.Memory) o unread unwritten = of_each s.input _ (λ bytes v count right. inr refl)
-trim_completes s (Stopped (stops.Input (inputs.NoGame fault))) o unread unwritten = IfSome_more s.input _ _ o.holds.0.0.0.1
+trim_completes s (Ok done) o unread unwritten = of_each s.input _ (λ bytes v count right. inl refl)
+trim_completes s (Err (Own Memory)) o unread unwritten = of_each s.input _ (λ bytes v count right. inr refl)
+trim_completes s (Err (Own (Input stops.Memory))) o unread unwritten = of_each s.input _ (λ bytes v count right. inr refl)
+trim_completes s (Err (Own (Input (stops.Input (inputs.NoGame fault))))) o unread unwritten = IfSome_more s.input _ _ o.holds.0.0.0.1
     (λ bytes refused v count right. absurd (cc (sym right ∙ refused)))
-trim_completes s (Stopped (stops.Refused refusal)) o unread unwritten = IfSome_more s.input _ _ o.holds.0.0.0.1
+trim_completes s (Err (Own (Input (stops.Refused refusal)))) o unread unwritten = IfSome_more s.input _ _ o.holds.0.0.0.1
     (λ bytes refused v count right. absurd (cc (sym right ∙ refused)))
-trim_completes s (Stopped (stops.Input inputs.Read)) o unread unwritten = absurd (unread refl)
-trim_completes s Write o unread unwritten = absurd (unwritten refl)
+trim_completes s (Err (Own (Input (stops.Input inputs.Read)))) o unread unwritten = absurd (unread refl)
+trim_completes s (Err Write) o unread unwritten = absurd (unwritten refl)
 
 -- however it ends, what the sink held stands there still
 pub trim_held : (s : Streams) (end : Trimmed) → Trims s end → StillHolds s.old s.new
-trim_held s Done o = appended_still s.old s.new _ o.holds.0.written
-trim_held s Write o = cut_still s.old s.new _ o.holds.0.written
-trim_held s Memory o = kept_still s.old s.new o.holds.0.1
-trim_held s (Stopped stop) o = kept_still s.old s.new o.holds.0.1
+trim_held s (Ok done) o = appended_still s.old s.new _ o.holds.0.written
+trim_held s (Err Write) o = cut_still s.old s.new _ o.holds.0.written
+trim_held s (Err (Own Memory)) o = kept_still s.old s.new o.holds.0.1
+trim_held s (Err (Own (Input stop))) o = kept_still s.old s.new o.holds.0.1
+
+pub trim_owes : (s : Streams) (unread unwritten : Type 0) (end : Trimmed) → Trims s end → (end ≡ Err (Own (Input (stops.Input inputs.Read))) → unread)
+    → (end ≡ Err Write → unwritten) → TrimOwes s unread unwritten end
+trim_owes s unread unwritten end = owed trimmed_status Trims TrimCompletes _ _ s unread unwritten end (trim_held s end) (trim_completes s end)

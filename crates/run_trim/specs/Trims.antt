@@ -1,6 +1,6 @@
 -- How `trim` ends, what it writes, and what it promises of the bytes that it took and of its sink, by its end. What is said of
 -- what a sink holds is said of a sink that tells it.
-use Rattle.std.specs.Prelude.{◌≡◌, ◌⊎◌, ℕ, Bool, true, false, List, [], ◌++◌, length, Contains, Option, None, IfSome}
+use Rattle.std.specs.Prelude.{◌≡◌, ◌⊎◌, ℕ, Bool, true, false, List, [], ◌++◌, length, Contains, Option, None, IfSome, Result, Ok, Err, ⊤}
 use Rattle.std.specs.Io.KnownBytes.{Keeps, IsAtEnd}
 use Rattle.device_rules.specs.Devices.{AppendsPrefix}
 use Rattle.game_rules.specs.Game.{Game, board_played}
@@ -11,26 +11,29 @@ use Rattle.proof_text.specs.Words.{verdict_word}
 use Rattle.proof_text.specs.declared.Verdict.{Verdict}
 use Rattle.proof_text.specs.declared.Version.{Version}
 use Rattle.tool_text.specs.Trim.{IsReached, trimmed, trimmed_verdict, trimmed_lines, IsTrimmedText}
-use Rattle.run_frame.specs.Ended.{EndsBy}
+use Rattle.run_frame.specs.Ended.{EndsBy, Owes}
+use Rattle.run_frame.specs.Stops.{of_result, run_stop_status, run_stop_text, memory_stop_status, memory_stop_text}
 use Rattle.run_frame.specs.Streams.{Streams, Took, TakesLines}
-use Rattle.run_frame.specs.Texts.{write_line, memory_line}
+use Rattle.run_frame.specs.declared.game_input.InputStop.TheVariants as inputs
+use Rattle.run_frame.specs.declared.run_stop.MemoryStop.{MemoryStop}
+use Rattle.run_frame.specs.declared.run_stop.MemoryStop.TheVariants.{Input, Memory}
+use Rattle.run_frame.specs.declared.run_stop.RunStop.{RunStop}
+use Rattle.run_frame.specs.declared.run_stop.RunStop.TheVariants.{Own, Write}
 use Rattle.run_proof.specs.Stops.{stop_status, stop_text, IsStopped}
 use Rattle.run_proof.specs.Whole.{IsRightInput, most_lines_read, most_taken}
-use Rattle.run_trim.specs.declared.trimmed.Trimmed.{Trimmed}
-use Rattle.run_trim.specs.declared.trimmed.Trimmed.TheVariants.{Done, Stopped, Write, Memory}
+use Rattle.run_proof.specs.declared.stop.ProofStop.{ProofStop}
+use Rattle.run_proof.specs.declared.stop.ProofStop.TheVariants as stops
+
+-- how it ends: it writes what the verdict rests on, or something stops it
+abbrev pub Trimmed : Type 0
+Trimmed = Result ⊤ (RunStop (MemoryStop ProofStop))
 
 -- the exit status of an end, and its text for the error stream
 abbrev pub trimmed_status : Trimmed → ℕ
-trimmed_status Done = 0
-trimmed_status (Stopped stop) = stop_status stop
-trimmed_status Write = 7
-trimmed_status Memory = 8
+trimmed_status = of_result (λ done. 0) (run_stop_status (memory_stop_status stop_status))
 
 abbrev pub trimmed_text : Trimmed → List ℕ
-trimmed_text Done = []
-trimmed_text (Stopped stop) = stop_text stop
-trimmed_text Write = write_line
-trimmed_text Memory = memory_line
+trimmed_text = of_result (λ done. []) (run_stop_text (memory_stop_text stop_text))
 
 -- The bytes are a right proof, of which this is the trimmed text: its head, and those of its lemmas that are reached with its
 -- verdict, numbered anew. That is a right proof in the same version, which `check` accepts, its verdict has the same word, and each of
@@ -58,10 +61,10 @@ pub record HasTrimmed (whole : Bool) (bytes : List ℕ) (left old new : Option (
 
 -- from the bytes that it took, by its end
 abbrev pub TrimsFrom : List ℕ → Streams → Trimmed → Type 0
-TrimsFrom taken s Done = HasTrimmed true taken s.left s.old s.new
-TrimsFrom taken s Write = HasTrimmed false taken s.left s.old s.new
-TrimsFrom taken s Memory = ((v : Verdict) × (count : ℕ) × IsRightInput None taken s.left v count) × Keeps s.old s.new
-TrimsFrom taken s (Stopped stop) = IsStopped None taken s stop × Keeps s.old s.new
+TrimsFrom taken s (Ok done) = HasTrimmed true taken s.left s.old s.new
+TrimsFrom taken s (Err Write) = HasTrimmed false taken s.left s.old s.new
+TrimsFrom taken s (Err (Own Memory)) = ((v : Verdict) × (count : ℕ) × IsRightInput None taken s.left v count) × Keeps s.old s.new
+TrimsFrom taken s (Err (Own (Input stop))) = IsStopped None taken s stop × Keeps s.old s.new
 
 -- `trim`; it takes the lines of a proof at most, and behind the last of them what came with it
 abbrev pub Trims : Streams → Trimmed → Type 0
@@ -75,11 +78,15 @@ TrimRuns s status text = EndsBy trimmed_status trimmed_text (Trims s) status tex
 abbrev pub TrimCompletes : Option (List ℕ) → (status : ℕ) → Type 0
 TrimCompletes input status = IfSome input (λ bytes. (v : Verdict) (count : ℕ) → check_of bytes ≡ answers.Accepted v count → (status ≡ 0) ⊎ (status ≡ 8))
 
+-- what it owes of a run
+abbrev pub TrimOwes : Streams → (unread unwritten : Type 0) → Trimmed → Type 0
+TrimOwes = Owes trimmed_status Trims TrimCompletes (Err (Own (Input (stops.Input inputs.Read)))) (Err Write)
+
 -- ---- what is written of a proof that was read
 
 -- its head, and those of its lemmas that are reached with its verdict, were put, or a prefix of that; or memory ran out
 abbrev pub PutsTrimmed : Version → Game → List Lemma → Verdict → Option (List ℕ) → Option (List ℕ) → Trimmed → Type 0
-PutsTrimmed version game ls v old new Done = AppendsPrefix true old new (head_of version (board_played game) game.moves ++ trimmed_lines ls v)
-PutsTrimmed version game ls v old new Write = AppendsPrefix false old new (head_of version (board_played game) game.moves ++ trimmed_lines ls v)
-PutsTrimmed version game ls v old new Memory = Keeps old new
-PutsTrimmed version game ls v old new (Stopped stop) = ⊥
+PutsTrimmed version game ls v old new (Ok done) = AppendsPrefix true old new (head_of version (board_played game) game.moves ++ trimmed_lines ls v)
+PutsTrimmed version game ls v old new (Err Write) = AppendsPrefix false old new (head_of version (board_played game) game.moves ++ trimmed_lines ls v)
+PutsTrimmed version game ls v old new (Err (Own Memory)) = Keeps old new
+PutsTrimmed version game ls v old new (Err (Own (Input stop))) = ⊥

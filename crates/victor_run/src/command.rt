@@ -9,14 +9,14 @@ ghost use Rattle.victor_run.specs.Outcome.{version_named, Outcome, Completes};
 use crate::no_form::NoForm;
 use cert_format::Version;
 use io_ports::{Sink, Source};
-use run_annotate::annotate;
+use run_annotate::{Annotating, annotate};
 use run_check::check;
-use run_drill::drill;
+use run_drill::{Drilling, drill};
 use run_explain::explain;
 use run_follow::follow;
 use run_frame::report;
 use run_play::play;
-use run_prove::prove;
+use run_prove::{Proving, prove};
 use run_threat::threat;
 use run_trim::trim;
 use run_upgrade::upgrade;
@@ -89,8 +89,14 @@ fn run_form<S: Source, O: Sink, E: Sink>(
             format,
         } => {
             let version = version_named(format);
-            let proved = prove(alloc, nodes, reach, front, table, version, source, out);
-            report(&proved, err)
+            let how = Proving {
+                nodes,
+                reach,
+                slots: front,
+                table,
+                version,
+            };
+            report(&prove(alloc, how, source, out), err)
         }
         Form::Check => report(&check(alloc, source, out), err),
         Form::Play => report(&play(source, out), err),
@@ -102,16 +108,24 @@ fn run_form<S: Source, O: Sink, E: Sink>(
             games,
             nodes,
             reach,
-        } => report(
-            &drill(alloc, size, moves, seed, games, nodes, reach, out),
-            err,
-        ),
+        } => {
+            let how = Drilling {
+                size,
+                moves,
+                seed,
+                games,
+                nodes,
+                reach,
+            };
+            report(&drill(alloc, &how, out), err)
+        }
         Form::Upgrade => report(&upgrade(alloc, source, out), err),
         Form::Threat => report(&threat(source, out), err),
         Form::Follow { holder } => report(&follow(alloc, holder, source, out), err),
         Form::Trim => report(&trim(alloc, source, out), err),
         Form::Annotate { nodes, reach, last } => {
-            report(&annotate(alloc, nodes, reach, last, source, out), err)
+            let how = Annotating { nodes, reach, last };
+            report(&annotate(alloc, how, source, out), err)
         }
     }
 }

@@ -1,11 +1,16 @@
-use Rattle.run_annotate.proofs.Ends.{annotate_completes, annotate_held}
+use Rattle.std.proofs.Common.{Err}
+use Rattle.run_frame.specs.declared.run_stop.MemoryStop.TheVariants.{Input}
+use Rattle.run_frame.specs.declared.run_stop.RunStop.TheVariants.{Own}
+use Rattle.run_frame.proofs.Inputs.{of_game, no_game}
+use Rattle.run_annotate.proofs.Ends.{annotate_owes}
 use Rattle.run_annotate.proofs.command.annotate.Goals as goal
 
-pub returns-clause-complete : goal.returns-clause-complete
-returns-clause-complete g c = λ unread unwritten.
-    let ended = c.annotate_input.ensures in
-    annotate_completes c.args.nodes c.args.reach c.args.last _ c.annotate_input.result ended.outcome (λ failed. unread (ended.read_fault failed))
-    (λ failed. unwritten (ended.write_fault failed))
+pub returns-in-Ok : goal.returns-in-Ok
+returns-in-Ok g c =
+    annotate_owes c.args.how.nodes c.args.how.reach c.args.how.last _ _ _ c.annotate_game.result
+    (of_game _ _ c.in-Ok.game c.in-Ok.ensures.takes (λ taken. c.annotate_game.ensures.annotates taken _ _ (g.S.Source.last_read c.read_game_input.new.source)))
+    (λ is. absurd (c.annotate_game.ensures.no_input _ is)) c.annotate_game.ensures.write_fault
 
-pub returns-clause-held : goal.returns-clause-held
-returns-clause-held g c = annotate_held c.args.nodes c.args.reach c.args.last _ c.annotate_input.result c.annotate_input.ensures.outcome
+pub returns-in-Err : goal.returns-in-Err
+returns-in-Err g c = annotate_owes c.args.how.nodes c.args.how.reach c.args.how.last _ _ _ (Err (Own (Input c.in-Err.stop))) (no_game _ _ _ _ c.in-Err.stop c.in-Err.ensures.takes)
+    (λ is. c.in-Err.ensures.cause (cc is)) (λ is. absurd (cc is))

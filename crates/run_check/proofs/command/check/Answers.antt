@@ -1,10 +1,21 @@
-use Rattle.run_check.proofs.Ends.{check_completes, check_held}
+use Rattle.std.proofs.Common.{None, ◌≡◌, refl, subst}
+use Rattle.std.proofs.KnownBytes.{Keeps-refl}
+use Rattle.run_frame.specs.declared.game_input.InputStop.TheVariants.{Read}
+use Rattle.run_proof.specs.declared.stop.ProofStop.TheVariants.{Input}
+use Rattle.run_proof.specs.Steps.{AtHead, StopsBy}
+use Rattle.run_check.proofs.Ends.{checks_done, checks_cut, checks_stop, check_owes}
 use Rattle.run_check.proofs.command.check.Goals as goal
 
-pub returns-clause-complete : goal.returns-clause-complete
-returns-clause-complete g c = λ unread unwritten.
-    let ended = c.check_input.ensures in
-    check_completes _ c.check_input.result ended.outcome (λ failed. unread (ended.read_fault failed)) (λ failed. unwritten (ended.write_fault failed))
+pub returns-in-Ok-put_accepted : goal.returns-in-Ok-put_accepted
+returns-in-Ok-put_accepted g c = check_owes _ _ _ _
+    (checks_done _ _ _ _ _ c.in-Ok.accepted c.in-Ok.ensures c.in-Ok-put_accepted.ensures.written) (λ is. absurd (cc is)) (λ is. absurd (cc is))
 
-pub returns-clause-held : goal.returns-clause-held
-returns-clause-held g c = check_held _ c.check_input.result c.check_input.ensures.outcome
+pub returns-in-Err-put_accepted : goal.returns-in-Err-put_accepted
+returns-in-Err-put_accepted g c = check_owes _ _ _ _
+    (checks_cut _ _ _ _ _ c.in-Ok.accepted c.in-Ok.ensures c.in-Err-put_accepted.ensures.written) (λ is. absurd (cc is))
+    (λ is. c.in-Err-put_accepted.ensures.cause.failed refl)
+
+pub returns-in-Err : goal.returns-in-Err
+returns-in-Err g c = check_owes _ _ _ _ (checks_stop _ _ _ _ _ c.in-Err.stop c.in-Err.ensures (Keeps-refl (g.O.Sink.written c.args.out.now)))
+    (λ is. let same : c.in-Err.stop ≡ Input Read = cc (is) in
+    subst (StopsBy (AtHead None) c.in-Err.ensures.taken _ _) same c.in-Err.ensures.answer.0) (λ is. absurd (cc is))
