@@ -25,12 +25,9 @@ use Rattle.run_annotate.specs.Lines.{moves_before, PutsLines}
 abbrev pub Annotated : Type 0
 Annotated = Result ⊤ (RunStop (MemoryStop InputStop))
 
--- the exit status of an end, and its text for the error stream
+-- the exit status of an end
 abbrev pub annotated_status : Annotated → ℕ
 annotated_status = of_result (λ done. 0) (run_stop_status (memory_stop_status stop_status))
-
-abbrev pub annotated_text : Annotated → List ℕ
-annotated_text = of_result (λ done. []) (run_stop_text (memory_stop_text stop_text))
 
 -- The bytes are the text of a game. Its last moves, or all where there are fewer, have these marks: one is left open only where
 -- so many nodes are below the cost of the position before or after its move. Their lines were written, or, where they weren't
@@ -57,7 +54,7 @@ Annotates nodes reach last s end = Took s most_input (λ taken. AnnotatesFrom no
 
 -- the same, as a caller of `run` sees it
 abbrev pub AnnotateRuns : (nodes reach last : ℕ) → Streams → (status : ℕ) → (text : List ℕ) → Type 0
-AnnotateRuns nodes reach last s status text = EndsBy annotated_status annotated_text (Annotates nodes reach last s) status text
+AnnotateRuns nodes reach last s status text = EndsBy annotated_status (of_result (λ done. []) (run_stop_text (memory_stop_text stop_text))) (Annotates nodes reach last s) status text
 
 -- how it ends on a game, where no stream failed: its moves are marked, unless memory runs out
 abbrev pub AnnotateCompletes : Option (List ℕ) → (status : ℕ) → Type 0

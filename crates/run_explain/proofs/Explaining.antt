@@ -14,16 +14,21 @@ use Rattle.game_rules.proofs.Groups.{Among-groups_gives}
 use Rattle.game_rules.specs.Position.{Position, board_of}
 use Rattle.plan_rules.specs.Rules.{RuleInstance}
 use Rattle.plan_text.specs.Items.{square_text, group_text, instance_text}
+use Rattle.plan_text.specs.PlanLine.{plan_text}
 use Rattle.proof_text.specs.Spelling.{as_line}
 use Rattle.rule_compat.specs.declared.instance.Instance.{Instance}
 use Rattle.rule_compat.specs.Written.{written}
 use Rattle.rule_compat.specs.Planned.{Planned, members}
-use Rattle.explain_text.specs.Explanation.{squares_text, is_white, answer_line, answer_lines}
+use Rattle.explain_text.specs.Explanation.{squares_text, is_white, owns_lines, answer_line, answer_lines, plan_explained}
 use Rattle.explain_text.proofs.Answers.{IsNamed}
 
 -- the line of one group, where it has one
 abbrev pub lines_of_group : Position → List RuleInstance → Group → List ℕ
 lines_of_group p ws g = answer_lines p ws (g ∷ [])
+
+-- the same of a plan
+abbrev pub lines_for : Planned → Group → List ℕ
+lines_for plan = lines_of_group plan.at (members plan)
 
 -- the lines of all are those of each
 pub lines_by_group : (p : Position) (ws : List RuleInstance) (gs : List Group) → answer_lines p ws gs ≡ flat_map (lines_of_group p ws) gs
@@ -40,6 +45,16 @@ white_line p ws g white = ap (λ white. flat_map (answer_line p ws) (cond white 
 
 pub other_line : (p : Position) (ws : List RuleInstance) (g : Group) → is_white p g ≡ false → lines_of_group p ws g ≡ []
 other_line p ws g other = ap (λ white. flat_map (answer_line p ws) (cond white (g ∷ []) [])) other
+
+-- what is written of a plan: its list, and then what it answers
+abbrev pub listed_of : Planned → List ℕ
+listed_of plan = as_line (plan_text (members plan)) ++ owns_lines (members plan)
+
+abbrev pub answered : Planned → List ℕ
+answered plan = answer_lines plan.at (members plan) (groups_of (board_of plan.at))
+
+pub explained_in_two : (plan : Planned) → plan_explained plan.at (members plan) ≡ listed_of plan ++ answered plan
+explained_in_two plan = sym (append_assoc (as_line (plan_text (members plan))) (owns_lines (members plan)) (answered plan))
 
 -- where there are squares, each stands with a space before it
 pub squares_some : (us : List Square) → (length us == 0) ≡ false → squares_text us ≡ flat_map (λ u. 32 ∷ square_text u) us

@@ -12,7 +12,8 @@ pub record Streams : Type 0 where
   pub new : Option (List ℕ)
 
 -- those of a run over a source and a sink, by what the two tell of themselves
-abbrev pub streams : {S O : Type 0} → (left : S → Option (List ℕ)) (last_read : S → ℕ) (written : O → Option (List ℕ)) → (source given : S) → (out put : O) → Streams
+abbrev pub streams : {S O : Type 0} → (left : S → Option (List ℕ)) (last_read : S → ℕ) (written : O → Option (List ℕ))
+    → (source given : S) (out put : O) → Streams
 streams left last_read written source given out put =
     record { input = left source; left = left given; last_read = last_read given; old = written out; new = written put }
 

@@ -11,7 +11,7 @@ use Rattle.run_turns.specs.declared.game_end.GameEnding.TheVariants.{Done, Stopp
 use Rattle.run_turns.specs.declared.game_end.GameStop.TheVariants as stops
 use Rattle.run_turns.specs.Inputs.{end_given}
 use Rattle.run_turns.proofs.Ends.{HasLaws, ends_as, all_done}
-use Rattle.run_threat.specs.Threatens.{threat_form, most_threat_lines, threat_status, Threatens, ThreatCompletes}
+use Rattle.run_threat.specs.Threatens.{threat_form, head_status, most_threat_lines, threat_status, Threatens, ThreatCompletes}
 use Rattle.run_threat.specs.declared.no_threat.NoThreat.{NoThreat}
 
 pub threat_laws : HasLaws threat_form IsTold most_threat_lines
@@ -37,6 +37,6 @@ pub threat_completes : (s : Streams) (end : GameEnding NoThreat) → Threatens s
 threat_completes s end o unread unwritten =
     let ended = ends_as threat_form IsTold most_threat_lines threat_laws s end o unread unwritten (λ none is never. cc never) in (
       IfSome_more s.input _ _ ended
-          (λ bytes is right. all_done threat_form (λ none. 5) (λ none is. cc is) end (is ∙ ap Some right)),
+          (λ bytes is right. all_done threat_form head_status (λ none is. cc is) end (is ∙ ap Some right)),
       IfSome_more s.input _ _ ended (λ bytes is right. none_said end (is ∙ ap Some right)),
     )

@@ -12,9 +12,12 @@ use Rattle.run_threat.specs.declared.no_threat.NoThreat.{NoThreat}
 
 -- ---- what a caller sees
 
--- the exit status, 5 where there is no threat, and the text for the error stream
+-- the exit status, and the text for the error stream, which is empty where there is no threat
+abbrev pub head_status : NoThreat → ℕ
+head_status none = 5
+
 abbrev pub threat_status : GameEnding NoThreat → ℕ
-threat_status = ending_status (λ none. 5)
+threat_status = ending_status head_status
 
 abbrev pub threat_text : GameEnding NoThreat → List ℕ
 threat_text = ending_text (λ none. [])

@@ -15,8 +15,9 @@ pub type ThreatEnding = GameEnding<NoThreat>;
 
 impl Ending for NoThreat {
     ghost use Rattle.std.specs.Prelude.{[]};
+    ghost use Rattle.run_threat.specs.Threatens.{head_status};
 
-    ghost status_of = { λ none. 5 };
+    ghost status_of = { head_status };
 
     ghost text_of = { λ none. [] };
 

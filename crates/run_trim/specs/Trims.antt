@@ -28,12 +28,9 @@ use Rattle.run_proof.specs.declared.stop.ProofStop.TheVariants as stops
 abbrev pub Trimmed : Type 0
 Trimmed = Result ⊤ (RunStop (MemoryStop ProofStop))
 
--- the exit status of an end, and its text for the error stream
+-- the exit status of an end
 abbrev pub trimmed_status : Trimmed → ℕ
 trimmed_status = of_result (λ done. 0) (run_stop_status (memory_stop_status stop_status))
-
-abbrev pub trimmed_text : Trimmed → List ℕ
-trimmed_text = of_result (λ done. []) (run_stop_text (memory_stop_text stop_text))
 
 -- The bytes are a right proof, of which this is the trimmed text: its head, and those of its lemmas that are reached with its
 -- verdict, numbered anew. That is a right proof in the same version, which `check` accepts, its verdict has the same word, and each of
@@ -72,7 +69,7 @@ Trims s end = Took s most_taken (λ taken. TrimsFrom taken s end × TakesLines m
 
 -- the same, as a caller of `run` sees it
 abbrev pub TrimRuns : Streams → (status : ℕ) → (text : List ℕ) → Type 0
-TrimRuns s status text = EndsBy trimmed_status trimmed_text (Trims s) status text
+TrimRuns s status text = EndsBy trimmed_status (of_result (λ done. []) (run_stop_text (memory_stop_text stop_text))) (Trims s) status text
 
 -- how it ends on a proof that is right, where no stream failed: it trims it, unless memory runs out
 abbrev pub TrimCompletes : Option (List ℕ) → (status : ℕ) → Type 0

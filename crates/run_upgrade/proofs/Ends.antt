@@ -141,6 +141,20 @@ module _ (input : Option (List ℕ)) (begun : ℕ) (game : Game) (mid : Pending)
     say = refl;
   }
 
+  has_written : (whole : Bool) (bytes rest : List ℕ) (at : ℕ) (shown : List Shown) (lines more : List (List ℕ)) → Begins game bytes rest
+      → lines_in (pieces rest) ≡ lines ++ more → length lines + first_number ≡ at → AreRight game.position [] (said game.position lines) shown
+      → AppendsPrefix whole old new (head_text ++ (lines_of (upgraded game.position [] (said game.position lines)) ++ []))
+      → HasWritten whole bytes at [] old new
+  has_written whole bytes rest at shown lines more begins cut counted right put = record {
+    game = game;
+    lemmas = said game.position lines;
+    shown = shown;
+    lines = has_lines bytes rest at lines more begins cut counted;
+    right = right;
+    ends = inl refl;
+    written = put;
+  }
+
   -- the head couldn't be written
   pub ends_head : AppendsPrefix false old new head_text → Upgrades (over input mid old new) (Stopped Write)
   ends_head put =
@@ -178,16 +192,9 @@ module _ (input : Option (List ℕ)) (begun : ℕ) (game : Game) (mid : Pending)
           passes_most (3 + (at - 3)) at bytes rest (omega (arith, wrote.counted)) (passes_then 3 (at - 3) bytes m rest p.0 q.few),
           (
             stops_earlier _ _ bytes m [] first before after stop p.1.goes later q.stopped,
-            record {
-              game = game;
-              lemmas = said game.position wrote.lines;
-              shown = shown;
-              lines = has_lines bytes m at wrote.lines q.begins.0 p.1 q.begins.1 wrote.counted;
-              right = wrote.right;
-              ends = inl refl;
-              written = subst (λ more. Appends old new (head_text ++ more)) (sym (append-nil text))
-                  (Appends-trans old held new head_text text put wrote.written);
-            },
+            has_written true bytes m at shown wrote.lines q.begins.0 p.1 q.begins.1 wrote.counted wrote.right
+                (subst (λ more. Appends old new (head_text ++ more)) (sym (append-nil text))
+                (Appends-trans old held new head_text text put wrote.written)),
           ),
         )))
         (λ taken holds all lines. (
@@ -204,15 +211,8 @@ module _ (input : Option (List ℕ)) (begun : ℕ) (game : Game) (mid : Pending)
         took input begun last old new at (λ bytes. HasWritten false bytes at [] old new) (Stopped Write) few
         (Reads_then _ _ _ _ _ _ head wrote.reads (λ bytes m rest p q. (
           passes_most (3 + (at - 3)) at bytes rest (omega (arith, wrote.counted)) (passes_then 3 (at - 3) bytes m rest p.0 q.0),
-          record {
-            game = game;
-            lemmas = said game.position wrote.lines;
-            shown = shown;
-            lines = has_lines bytes m at wrote.lines q.1.0 p.1 q.1.1 wrote.counted;
-            right = wrote.right;
-            ends = inl refl;
-            written = AppendsPrefix_more false old held new head_text (text ++ []) put (AppendsPrefix_take held new text [] wrote.written);
-          },
+          has_written false bytes m at shown wrote.lines q.1.0 p.1 q.1.1 wrote.counted wrote.right
+              (AppendsPrefix_more false old held new head_text (text ++ []) put (AppendsPrefix_take held new text [] wrote.written)),
         )))
         (λ taken here all lines. (at, [], here))
 

@@ -20,11 +20,19 @@ use Rattle.proof_text.proofs.Refusals.{right_of_none, line_of_none}
 use Rattle.proof_text.proofs.Spelled.{line_read}
 use Rattle.cert_checker.specs.Index.{Numbers, Follows, Keeps, kept_for}
 use Rattle.cert_checker.proofs.Follows.{follows_push}
+use Rattle.cert_format.specs.Shape.{viewed}
+use Rattle.cert_format.specs.declared.lines.LineView.{LineView}
+use Rattle.run_proof.specs.Steps.{IsAccepted}
 use Rattle.run_proof.proofs.Known.{not_refused, next_lemma}
 use Rattle.run_proof.specs.declared.stop.ProofStop.TheVariants as stops
 use Rattle.run_upgrade.specs.Steps.{said, text_behind, IsAdded, InStep, WritesLemma, WritesLine}
 use Rattle.run_upgrade.specs.declared.upgraded.UpgradeStop.{UpgradeStop}
 use Rattle.run_upgrade.specs.declared.upgraded.UpgradeStop.TheVariants.{Proof, Write}
+
+-- what was accepted of a line, whatever it is seen as
+pub accepted_as : (s t : CheckerState) (at : ℕ) (bytes : List ℕ) (line as_seen : LineView) → line ≡ as_seen → IsAccepted One s t at bytes (viewed line)
+    → IsAccepted One s t at bytes (viewed as_seen)
+accepted_as s t at bytes line as_seen same accepted = subst (λ line. IsAccepted One s t at bytes (viewed line)) same accepted
 
 -- a line that says something, and isn't refused
 module _ (s : CheckerState) (at : ℕ) (bytes : List ℕ) (line : Said) (few : at ≤ most_lines) (reads : read_line One (board_of s.root) bytes ≡ Some line)

@@ -53,6 +53,11 @@ pub record Begins (game : Game) (bytes rest : List ℕ) : Type 0 where
   pub text : IsTextOf (game_of more) game
   pub behind : behind_game more ≡ lines_in (pieces rest)
 
+-- of an input of which nothing had been taken, the head and the game were read
+abbrev pub HasBegun : Option (List ℕ) → ℕ → Game → Pending → Type 0
+HasBegun input begun game mid =
+    Reads (record { ended = false; ahead = []; left = input; last_read = begun }) mid (λ bytes rest. PassesLines 3 bytes rest × Begins game bytes rest)
+
 -- how the head and the game are read
 abbrev pub ReadsBeginning : (before after : ℕ) → Result Game ProofStop → List ℕ → List ℕ → Type 0
 ReadsBeginning before after (Ok game) bytes rest = PassesLines 3 bytes rest × Begins game bytes rest

@@ -1,12 +1,16 @@
 //! The command, over any source and any sink.
-ghost use Rattle.std.specs.Prelude.{◌≡◌, ◌≤◌, IfErr};
+ghost use Rattle.std.specs.Prelude.{◌≡◌, ℕ, ◌≤◌, List, Option, IfErr};
+ghost use Rattle.std.specs.Io.KnownBytes.{Appends};
 ghost use Rattle.device_rules.specs.Devices.{Rose};
+ghost use Rattle.game_rules.specs.Game.{board_played};
 ghost use Rattle.io_ports.specs.Reading.{pending, Reads};
+ghost use Rattle.proof_text.specs.Texts.{head_of};
+ghost use Rattle.proof_text.specs.declared.Version.TheVariants.{Two};
 ghost use Rattle.run_frame.specs.Streams.{StillHolds};
 ghost use Rattle.run_frame.specs.declared.game_input.InputStop.TheVariants as inputs;
 ghost use Rattle.run_proof.specs.declared.stop.ProofStop.TheVariants as proofs;
 ghost use Rattle.run_proof.specs.Steps.{IsFirstStop};
-ghost use Rattle.run_upgrade.specs.Steps.{end_of, ReadsBeginning, SourceRose, SinkRose};
+ghost use Rattle.run_upgrade.specs.Steps.{end_of, HasBegun, ReadsBeginning, SourceRose, SinkRose};
 ghost use Rattle.run_upgrade.specs.Upgrades.{upgrade_status, Upgrades, UpgradeCompletes};
 ghost use Rattle.run_upgrade.specs.declared.upgraded.UpgradeEnd.TheVariants as ends;
 ghost use Rattle.run_upgrade.specs.declared.upgraded.UpgradeStop.TheVariants as stops;
@@ -57,10 +61,31 @@ fn upgrade_all<S: Source, O: Sink>(
     let mut lines = Lines::new();
     let game = read_beginning(&mut lines, source)?;
     put_all(out, head_of(Version::Two, &game).as_slice())?;
+    upgrade_game(alloc, &game, &mut lines, source, out)?;
+    Ok(())
+}
+
+/// Reads the lines of a proof behind its game, of which the head was written, and writes what becomes of them and of the
+/// verdict. Where a line stops this, what was written is handed on.
+fn upgrade_game<S: Source, O: Sink>(
+    alloc: Global,
+    game: &Game,
+    lines: &mut Lines,
+    source: &mut S,
+    out: &mut O,
+) -> Result<(), UpgradeStop>
+    ensures outcome { (input old : Option (List ℕ)) (begun : ℕ)
+        → HasBegun input begun game.now (pending lines.old (S.left source.old) (S.last_read source.old))
+        → Appends old (O.written out.old) (head_of Two (board_played game.now) game.now.moves)
+        → Upgrades (record { input = input; left = S.left source.new; last_read = S.last_read source.new; old = old; new = O.written out.new })
+        (end_of result) }
+    ensures read_fault { IfErr result (SourceRose (S.faults source.old) (S.faults source.new)) }
+    ensures write_fault { IfErr result (SinkRose (O.faults out.old) (O.faults out.new)) }
+{
     let mut checker = Checker::new(alloc, *game.position());
     let mut writer = Writer::new(alloc);
     let size = game.position().size();
-    let end = upgrade_lines(&mut checker, &mut writer, size, &mut lines, source, out)?;
+    let end = upgrade_lines(&mut checker, &mut writer, size, lines, source, out)?;
     match checker.finish(end) {
         Ok(accepted) => {
             put_verdict(accepted.verdict, out)?;

@@ -18,17 +18,15 @@ bounds-list-place g c = rw c.list.ensures.value
 pub returns-in_err-print_item-clause-written : goal.returns-in_err-print_item-clause-written
 returns-in_err-print_item-clause-written g c =
     let same = err_from_is_err_and c.from_residual.result c.from_residual.ensures.1 in
-    let plan = c.args.plan.now in
-    let one = named plan.at (members plan) c.args.group c.in-Some.place (sym c.in-Some.ensures.member) in
-    rw (same.1, named_line plan c.args.group c.in-Some.place one)
+    let one = named c.args.plan.now.at (members c.args.plan.now) c.args.group c.in-Some.place (sym c.in-Some.ensures.member) in
+    rw (same.1, named_line c.args.plan.now c.args.group c.in-Some.place one)
     (line_cut_first (group_text c.args.group) (codes " by ") (instance_text one.member) _ _ c.in_err-print_item.ensures.written)
 
 pub returns-in_err-put_all-clause-written : goal.returns-in_err-put_all-clause-written
 returns-in_err-put_all-clause-written g c =
     let same = err_from_is_err_and c.from_residual-in_err-put_all.result c.from_residual-in_err-put_all.ensures.1 in
-    let plan = c.args.plan.now in
-    let one = named plan.at (members plan) c.args.group c.in-Some.place (sym c.in-Some.ensures.member) in
-    rw (same.1, named_line plan c.args.group c.in-Some.place one)
+    let one = named c.args.plan.now.at (members c.args.plan.now) c.args.group c.in-Some.place (sym c.in-Some.ensures.member) in
+    rw (same.1, named_line c.args.plan.now c.args.group c.in-Some.place one)
     (line_cut_second (group_text c.args.group) (codes " by ") (instance_text one.member) _ _ c.in_ok-print_item.ensures.written _
     c.in_err-put_all.ensures.bytes)
 

@@ -12,5 +12,5 @@ returns-in-Ok g c =
     (λ is. absurd (c.prove_game.ensures.no_input _ is)) c.prove_game.ensures.write_fault
 
 pub returns-in-Err : goal.returns-in-Err
-returns-in-Err g c = prove_owes c.args.how.version c.args.how.nodes c.args.how.reach c.args.how.slots _ _ _ (Err (Own (Input c.in-Err.stop))) (no_game _ _ _ _ c.in-Err.stop c.in-Err.ensures.takes)
-    (λ is. c.in-Err.ensures.cause (cc is)) (λ is. absurd (cc is))
+returns-in-Err g c = prove_owes c.args.how.version c.args.how.nodes c.args.how.reach c.args.how.slots _ _ _
+    (Err (Own (Input c.in-Err.stop))) (no_game _ _ _ _ c.in-Err.stop c.in-Err.ensures.takes) (λ is. c.in-Err.ensures.cause (cc is)) (λ is. absurd (cc is))

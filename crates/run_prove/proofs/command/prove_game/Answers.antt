@@ -22,5 +22,5 @@ returns-clause-proves g c = λ text input left last_read is_text ended.
     let s : Streams = record { input = input; left = left; last_read = last_read; old = old; new = new } in
     let written = subst (λ slots. Writes c.args.how.version c.args.how.nodes c.args.how.reach slots text p old new c.write_proof-proved.result)
     c.in-Ok-front_for.ensures.slots (c.write_proof-proved.ensures.written text is_text) in
-    rw c.proved_of.ensures (proves_game c.args.how.version c.args.how.nodes c.args.how.reach c.args.how.slots s p text ended (game_is_read text c.args.game.now is_text)
-    c.write_proof-proved.result written c.write_proof-proved.ensures.unknown)
+    rw c.proved_of.ensures (proves_game c.args.how.version c.args.how.nodes c.args.how.reach c.args.how.slots s p text ended
+    (game_is_read text c.args.game.now is_text) c.write_proof-proved.result written c.write_proof-proved.ensures.unknown)

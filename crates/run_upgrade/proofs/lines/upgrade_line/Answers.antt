@@ -1,17 +1,13 @@
-use Rattle.std.proofs.Common.{◌≡◌, Some, sym, ap, ◌∙◌, subst, arith}
+use Rattle.std.proofs.Common.{◌≡◌, Some, sym, ap, ◌∙◌, arith}
 use Rattle.game_rules.specs.Position.{played}
-use Rattle.cert_format.specs.Shape.{lemma_viewed, viewed}
-use Rattle.cert_format.specs.declared.lines.LineView.{LineView}
-use Rattle.proof_text.specs.declared.Version.TheVariants.{One}
-use Rattle.run_proof.specs.Steps.{IsAccepted}
-use Rattle.run_upgrade.proofs.Written.{lemma_right, lemma_fits, lemma_written}
+use Rattle.cert_format.specs.Shape.{lemma_viewed}
+use Rattle.run_upgrade.proofs.Written.{accepted_as, lemma_right, lemma_fits, lemma_written}
 use Rattle.run_upgrade.proofs.lines.upgrade_line.Goals as goal
 
 pub put-requires-clause-room : goal.put-requires-clause-room
 put-requires-clause-room g c =
     let s = c.args.checker.now.stands in
-    let P : LineView → Type 0 = λ line. IsAccepted One s c.accept_line.new.checker.stands c.args.at c.args.bytes.now (viewed line) in
-    let is = subst P c.in-Ok-Lemma.field-0-is c.in-Ok-Lemma.ensures in
+    let is = accepted_as s c.accept_line.new.checker.stands c.args.at c.args.bytes.now _ _ c.in-Ok-Lemma.field-0-is c.in-Ok-Lemma.ensures in
     let l = lemma_viewed c.in-Ok-Lemma.lemma in
     omega (
       arith,
@@ -23,8 +19,7 @@ put-requires-clause-room g c =
 pub returns-in-Some-clause-in_step : goal.returns-in-Some-clause-in_step
 returns-in-Some-clause-in_step g c =
     let s = c.args.checker.now.stands in
-    let P : LineView → Type 0 = λ line. IsAccepted One s c.accept_line.new.checker.stands c.args.at c.args.bytes.now (viewed line) in
-    let is = subst P c.in-Ok-Lemma.field-0-is c.in-Ok-Lemma.ensures in
+    let is = accepted_as s c.accept_line.new.checker.stands c.args.at c.args.bytes.now _ _ c.in-Ok-Lemma.field-0-is c.in-Ok-Lemma.ensures in
     let l = lemma_viewed c.in-Ok-Lemma.lemma in
     let along : played s.root l.path ≡ Some c.in-Some.position = sym (c.in-Some.ensures.position
     ∙ ap (λ t. played t.root c.as_slice.result.now) is.next ∙ ap (played s.root) c.as_slice.ensures.value) in

@@ -16,23 +16,23 @@ reply-white-requires c =
 pub returns-clause-answered : goal.returns-clause-answered
 returns-clause-answered c =
     let q = c.self.inside.stands in
-    let threat = c.self.inside.threat in
     let made = move_made q c.in_ok-now.now c.args.column (sym c.play.ensures ∙ c.in_ok-now.was) in
-    let next = c.after-self-inside.result in
     let next_is = c.after-self-inside.ensures ∙ ap (after_move c.in_ok-now.now) c.column.ensures in
     let told = c.turn_line.ensures ∙ ap (answer_line c.unwrap-last.result c.reply-white.result) c.ended.ensures in
-    let From : ThreatGame → Type 0 = λ old. player_turn old c.args.column ≡ Some (c.turn_line.result.items, record { threat = threat; stands = next }) in
-    subst From c.self.view_is (turn_answered threat q c.args.column c.self.invariant made.0 c.in_ok-now.now next c.unwrap-last.result
-    c.reply-white.result made.1
+    let From : ThreatGame → Type 0 = λ old. player_turn old c.args.column ≡ Some (
+      c.turn_line.result.items,
+      record { threat = c.self.inside.threat; stands = c.after-self-inside.result },
+    ) in
+    subst From c.self.view_is (turn_answered c.self.inside.threat q c.args.column c.self.invariant made.0 c.in_ok-now.now c.after-self-inside.result
+    c.unwrap-last.result c.reply-white.result made.1
     (sym c.playable.ensures ∙ c.unwrap-last.ensures) c.reply-white.ensures.reply next_is c.turn_line.result.items told)
 
 pub returns-clause-fewer : goal.returns-clause-fewer
 returns-clause-fewer c =
     let q = c.self.inside.stands in
-    let threat = c.self.inside.threat in
     let made = move_made q c.in_ok-now.now c.args.column (sym c.play.ensures ∙ c.in_ok-now.was) in
-    let next = c.after-self-inside.result in
     let next_is = c.after-self-inside.ensures ∙ ap (after_move c.in_ok-now.now) c.column.ensures in
-    let From : ThreatGame → Type 0 = λ old. empty_count next / 2 < turns_left old in
-    subst From c.self.view_is (fewer_left threat q c.args.column c.self.invariant made.0 c.in_ok-now.now next c.unwrap-last.result c.reply-white.result made.1
+    let From : ThreatGame → Type 0 = λ old. empty_count c.after-self-inside.result / 2 < turns_left old in
+    subst From c.self.view_is (fewer_left c.self.inside.threat q c.args.column c.self.invariant made.0 c.in_ok-now.now c.after-self-inside.result
+    c.unwrap-last.result c.reply-white.result made.1
     (sym c.playable.ensures ∙ c.unwrap-last.ensures) c.reply-white.ensures.reply next_is)
