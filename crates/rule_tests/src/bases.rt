@@ -1,5 +1,5 @@
-//! Answers through the trait, shapes that are refused, lists as counted by hand, and the sizes of the types.
-use crate::squares::named;
+//! Answers through the trait, shapes that are refused, and lists as counted by hand.
+use crate::squares::{Written, are_named, are_those, named};
 use base_rules::{Baseclaim, Baseinverse, list_baseclaim, list_baseinverse};
 use board_bits::{Position, Size, read_game};
 use rule_law::answer_at_start;
@@ -11,27 +11,31 @@ const EMPTY: &[u8] = b"board 4 4\nmoves -\n";
 /// One man in the first and one in the third column, and the last one full.
 const UNEVEN: &[u8] = b"board 4 4\nmoves daddcd\n";
 
-/// Games, and by their names the squares of each Baseinverse that fits.
-const BASEINVERSES: &[(&[u8], &[[&[u8]; 2]])] = &[
+/// Games, and by its squares each Baseinverse and each Baseclaim that fits.
+const LISTS: &[(&[u8], &[&[u8]], &[&[u8]])] = &[
     (
         EMPTY,
-        &[
-            [b"a1", b"b1"],
-            [b"a1", b"c1"],
-            [b"a1", b"d1"],
-            [b"b1", b"c1"],
-            [b"b1", b"d1"],
-            [b"c1", b"d1"],
-        ],
+        &[b"a1b1", b"a1c1", b"a1d1", b"b1c1", b"b1d1", b"c1d1"],
+        &[],
     ),
-    (UNEVEN, &[[b"a2", b"b1"], [b"a2", b"c2"], [b"b1", b"c2"]]),
+    (
+        UNEVEN,
+        &[b"a2b1", b"a2c2", b"b1c2"],
+        &[b"a2b1c2", b"c2b1a2"],
+    ),
 ];
 
-/// The same of Baseclaims.
-const BASECLAIMS: &[(&[u8], &[[&[u8]; 3]])] = &[
-    (EMPTY, &[]),
-    (UNEVEN, &[[b"a2", b"b1", b"c2"], [b"c2", b"b1", b"a2"]]),
-];
+impl Written for Baseinverse {
+    fn is_of(&self, size: Size, names: &[u8]) -> bool {
+        are_named(&[self.s(), self.t()], size, names)
+    }
+}
+
+impl Written for Baseclaim {
+    fn is_of(&self, size: Size, names: &[u8]) -> bool {
+        are_named(&[self.a(), self.b(), self.e()], size, names)
+    }
+}
 
 #[test]
 fn a_baseinverse_answers_a_square_by_the_other(rt: HostRuntime) -> Result<(), Fail> {
@@ -63,51 +67,11 @@ fn a_baseclaim_answers_its_first_square_by_its_third(rt: HostRuntime) -> Result<
 }
 
 #[test]
-fn baseinverses_of_two_games(rt: HostRuntime) -> Result<(), Fail> {
-    for (game, want) in BASEINVERSES {
-        let position = read_game(game)?;
-        let list = list_baseinverse(&position);
-        assert_eq!(rt; list.len(), want.len());
-        for ([s, t], found) in want.iter().zip(list.as_slice().iter()) {
-            assert_eq!(rt; Some(found.s()), named(position.size(), s));
-            assert_eq!(rt; Some(found.t()), named(position.size(), t));
-        }
+fn baseinverses_and_baseclaims_of_two_games(rt: HostRuntime) -> Result<(), Fail> {
+    for (game, baseinverses, baseclaims) in LISTS {
+        let p = read_game(game)?;
+        assert!(rt; are_those(list_baseinverse(&p).as_slice(), p.size(), baseinverses));
+        assert!(rt; are_those(list_baseclaim(&p).as_slice(), p.size(), baseclaims));
     }
-    Ok(())
-}
-
-#[test]
-fn baseclaims_of_two_games(rt: HostRuntime) -> Result<(), Fail> {
-    for (game, want) in BASECLAIMS {
-        let position = read_game(game)?;
-        let list = list_baseclaim(&position);
-        assert_eq!(rt; list.len(), want.len());
-        for ([a, b, e], found) in want.iter().zip(list.as_slice().iter()) {
-            assert_eq!(rt; Some(found.a()), named(position.size(), a));
-            assert_eq!(rt; Some(found.b()), named(position.size(), b));
-            assert_eq!(rt; Some(found.e()), named(position.size(), e));
-        }
-    }
-    Ok(())
-}
-
-/// How many Baseinverses and Baseclaims fit.
-fn counts(p: &Position) -> (usize, usize) {
-    (list_baseinverse(p).len(), list_baseclaim(p).len())
-}
-
-#[test]
-fn counts_on_larger_boards(rt: HostRuntime) -> Result<(), Fail> {
-    let midgame = read_game(b"board 7 6\nmoves dddcceba\n")?;
-    assert_eq!(rt; counts(&midgame), (21, 36));
-    let widest = Position::empty(Size::new(10, 10)?);
-    assert_eq!(rt; counts(&widest), (45, 0));
-    Ok(())
-}
-
-#[test]
-fn a_type_has_its_written_squares_alone(rt: HostRuntime) -> Result<(), Fail> {
-    assert_eq!(rt; size_of::<Baseinverse>(), 4);
-    assert_eq!(rt; size_of::<Baseclaim>(), 6);
     Ok(())
 }

@@ -31,13 +31,3 @@ fn a_lower_square_is_answered_by_the_upper(rt: HostRuntime) -> Result<(), Fail> 
     assert!(rt; Claimeven::new(position.size(), upper).is_none());
     Ok(())
 }
-
-#[test]
-fn counts_on_larger_boards(rt: HostRuntime) -> Result<(), Fail> {
-    let midgame = read_game(b"board 7 6\nmoves dddcceba\n")?;
-    assert_eq!(rt; list_claimeven(&midgame).len(), 15);
-    let widest = Position::empty(Size::new(10, 10)?);
-    assert_eq!(rt; list_claimeven(&widest).len(), 50);
-    assert_eq!(rt; size_of::<Claimeven>(), 2);
-    Ok(())
-}

@@ -1,5 +1,5 @@
-//! Answers through the trait, shapes that are refused, lists as counted by hand, and the sizes of the types.
-use crate::squares::named;
+//! Answers through the trait, shapes that are refused, and lists as counted by hand.
+use crate::squares::{Written, are_named, are_those, named};
 use board_bits::{Position, Size, Square, read_game};
 use inverse_rules::{
     Highinverse, Lowinverse, Vertical, list_highinverse, list_lowinverse, list_vertical,
@@ -16,43 +16,42 @@ const EMPTY: &[u8] = b"board 4 4\nmoves -\n";
 /// One man in the first and one in the third column, and the last one full.
 const UNEVEN: &[u8] = b"board 4 4\nmoves daddcd\n";
 
-/// Games, and by their names the squares of each Lowinverse that fits.
-const LOWINVERSES: &[(&[u8], &[[&[u8]; 4]])] = &[
+/// Games, and by its squares each Lowinverse, each Highinverse and each Vertical that fits.
+const LISTS: &[(&[u8], &[&[u8]], &[&[u8]], &[&[u8]])] = &[
     (
         EMPTY,
         &[
-            [b"a2", b"a4", b"b2", b"b4"],
-            [b"a2", b"a4", b"c2", b"c4"],
-            [b"a2", b"a4", b"d2", b"d4"],
-            [b"b2", b"b4", b"c2", b"c4"],
-            [b"b2", b"b4", b"d2", b"d4"],
-            [b"c2", b"c4", b"d2", b"d4"],
+            b"a2a4b2b4",
+            b"a2a4c2c4",
+            b"a2a4d2d4",
+            b"b2b4c2c4",
+            b"b2b4d2d4",
+            b"c2c4d2d4",
         ],
+        &[b"a2b2", b"a2c2", b"a2d2", b"b2c2", b"b2d2", b"c2d2"],
+        &[b"a2", b"b2", b"c2", b"d2"],
     ),
-    (UNEVEN, &[[b"a2", b"a4", b"c2", b"c4"]]),
+    (UNEVEN, &[b"a2a4c2c4"], &[b"a2c2"], &[b"a2", b"b2", b"c2"]),
 ];
 
-/// The same of Highinverses.
-const HIGHINVERSES: &[(&[u8], &[[&[u8]; 2]])] = &[
-    (
-        EMPTY,
-        &[
-            [b"a2", b"b2"],
-            [b"a2", b"c2"],
-            [b"a2", b"d2"],
-            [b"b2", b"c2"],
-            [b"b2", b"d2"],
-            [b"c2", b"d2"],
-        ],
-    ),
-    (UNEVEN, &[[b"a2", b"c2"]]),
-];
+impl Written for Lowinverse {
+    fn is_of(&self, size: Size, names: &[u8]) -> bool {
+        let squares = [self.x(), self.x_top(), self.y(), self.y_top()];
+        are_named(&squares, size, names)
+    }
+}
 
-/// The same of Verticals.
-const VERTICALS: &[(&[u8], &[&[u8]])] = &[
-    (EMPTY, &[b"a2", b"b2", b"c2", b"d2"]),
-    (UNEVEN, &[b"a2", b"b2", b"c2"]),
-];
+impl Written for Highinverse {
+    fn is_of(&self, size: Size, names: &[u8]) -> bool {
+        are_named(&[self.x(), self.y()], size, names)
+    }
+}
+
+impl Written for Vertical {
+    fn is_of(&self, size: Size, names: &[u8]) -> bool {
+        are_named(&[self.e()], size, names)
+    }
+}
 
 /// The answer to a move to the second square of the first column, if the rule fits.
 fn answer_at_a2<R: Rule>(rule: &R, position: &Position) -> Result<Option<Square>, Fail> {
@@ -105,71 +104,12 @@ fn a_vertical_answers_nothing(rt: HostRuntime) -> Result<(), Fail> {
 }
 
 #[test]
-fn lowinverses_of_two_games(rt: HostRuntime) -> Result<(), Fail> {
-    for (game, want) in LOWINVERSES {
-        let position = read_game(game)?;
-        let size = position.size();
-        let list = list_lowinverse(&position);
-        assert_eq!(rt; list.len(), want.len());
-        for ([x, x_top, y, y_top], found) in want.iter().zip(list.as_slice().iter()) {
-            assert_eq!(rt; Some(found.x()), named(size, x));
-            assert_eq!(rt; Some(found.x_top()), named(size, x_top));
-            assert_eq!(rt; Some(found.y()), named(size, y));
-            assert_eq!(rt; Some(found.y_top()), named(size, y_top));
-        }
+fn lowinverses_highinverses_and_verticals_of_two_games(rt: HostRuntime) -> Result<(), Fail> {
+    for (game, lowinverses, highinverses, verticals) in LISTS {
+        let p = read_game(game)?;
+        assert!(rt; are_those(list_lowinverse(&p).as_slice(), p.size(), lowinverses));
+        assert!(rt; are_those(list_highinverse(&p).as_slice(), p.size(), highinverses));
+        assert!(rt; are_those(list_vertical(&p).as_slice(), p.size(), verticals));
     }
-    Ok(())
-}
-
-#[test]
-fn highinverses_of_two_games(rt: HostRuntime) -> Result<(), Fail> {
-    for (game, want) in HIGHINVERSES {
-        let position = read_game(game)?;
-        let list = list_highinverse(&position);
-        assert_eq!(rt; list.len(), want.len());
-        for ([x, y], found) in want.iter().zip(list.as_slice().iter()) {
-            assert_eq!(rt; Some(found.x()), named(position.size(), x));
-            assert_eq!(rt; Some(found.y()), named(position.size(), y));
-        }
-    }
-    Ok(())
-}
-
-#[test]
-fn verticals_of_two_games(rt: HostRuntime) -> Result<(), Fail> {
-    for (game, want) in VERTICALS {
-        let position = read_game(game)?;
-        let list = list_vertical(&position);
-        assert_eq!(rt; list.len(), want.len());
-        for (e, found) in want.iter().zip(list.as_slice().iter()) {
-            assert_eq!(rt; Some(found.e()), named(position.size(), e));
-        }
-    }
-    Ok(())
-}
-
-/// How many Lowinverses, Highinverses and Verticals fit.
-fn counts(p: &Position) -> (usize, usize, usize) {
-    (
-        list_lowinverse(p).len(),
-        list_highinverse(p).len(),
-        list_vertical(p).len(),
-    )
-}
-
-#[test]
-fn counts_on_larger_boards(rt: HostRuntime) -> Result<(), Fail> {
-    let midgame = read_game(b"board 7 6\nmoves dddcceba\n")?;
-    assert_eq!(rt; counts(&midgame), (26, 9, 12));
-    let widest = Position::empty(Size::new(10, 10)?);
-    assert_eq!(rt; counts(&widest), (720, 45, 40));
-    Ok(())
-}
-
-#[test]
-fn a_type_has_its_written_squares_alone(rt: HostRuntime) -> Result<(), Fail> {
-    assert_eq!(rt; size_of::<Lowinverse>(), 8);
-    assert_eq!(rt; size_of::<Highinverse>(), 4);
-    assert_eq!(rt; size_of::<Vertical>(), 2);
     Ok(())
 }

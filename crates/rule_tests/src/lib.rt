@@ -17,4 +17,6 @@ mod inverses;
 #[cfg(test)]
 mod line_rules;
 #[cfg(test)]
+mod numbers;
+#[cfg(test)]
 mod squares;

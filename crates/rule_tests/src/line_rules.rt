@@ -1,4 +1,4 @@
-//! The lists of small boards as counted by hand, calls through the trait, and the sizes of the types.
+//! The lists of small boards as counted by hand, and calls through the trait.
 use crate::squares::square_of;
 use arrayvec::ArrayVec;
 use board_bits::{Mask, Position, Size, read_game};
@@ -38,49 +38,32 @@ fn lines_on_an_empty_board(rt: HostRuntime) -> Result<(), Fail> {
     Ok(())
 }
 
-/// How many Afterevens, Befores and Specialbefores fit.
-fn counts(p: &Position) -> (usize, usize, usize) {
-    (
-        list_aftereven(p).len(),
-        list_before(p).len(),
-        list_specialbefore(p).len(),
-    )
-}
-
-#[test]
-fn counts_on_larger_boards(rt: HostRuntime) -> Result<(), Fail> {
-    let midgame = read_game(b"board 7 6\nmoves dddcceba\n")?;
-    assert_eq!(rt; counts(&midgame), (44, 28, 130));
-    let widest = Position::empty(Size::new(10, 10)?);
-    assert_eq!(rt; counts(&widest), (238, 207, 384));
-    let of_five = Position::empty(Size::with_line(10, 10, 5)?);
-    assert_eq!(rt; counts(&of_five), (192, 164, 348));
-    Ok(())
-}
-
-#[test]
-fn one_rising_line_is_left(rt: HostRuntime) -> Result<(), Fail> {
+/// A position where one rising line is left, with that line, and its Specialbefore.
+fn with_one_line() -> Result<(Position, GroupId, Specialbefore), Fail> {
     let position = read_game(b"board 5 4\nmoves abbaabbaddceedee\n")?;
     let size = position.size();
     let rising = group_of(size, 1, 1, Way::U).ok_or("no b1u")?;
     let d4 = square_of(size, 3, 4).ok_or("no d4")?;
     let c2 = square_of(size, 2, 2).ok_or("no c2")?;
+    if Specialbefore::new(size, rising, c2, d4).is_some() {
+        return Err("a Specialbefore with its squares exchanged".into());
+    }
+    let special = Specialbefore::new(size, rising, d4, c2).ok_or("no Specialbefore")?;
+    Ok((position, rising, special))
+}
+
+#[test]
+fn one_rising_line_is_left(rt: HostRuntime) -> Result<(), Fail> {
+    let (position, rising, special) = with_one_line()?;
     assert!(rt; list_aftereven(&position).as_slice() == [Aftereven::new(rising)].as_slice());
     assert!(rt; list_before(&position).as_slice() == [Before::new(rising)].as_slice());
-    let special = Specialbefore::new(size, rising, d4, c2).ok_or("no Specialbefore")?;
     assert!(rt; list_specialbefore(&position).as_slice() == [special].as_slice());
-    assert!(rt; Specialbefore::new(size, rising, c2, d4).is_none());
     Ok(())
 }
 
 #[test]
 fn each_rule_through_the_trait(rt: HostRuntime) -> Result<(), Fail> {
-    let position = read_game(b"board 5 4\nmoves abbaabbaddceedee\n")?;
-    let size = position.size();
-    let rising = group_of(size, 1, 1, Way::U).ok_or("no b1u")?;
-    let d4 = square_of(size, 3, 4).ok_or("no d4")?;
-    let c2 = square_of(size, 2, 2).ok_or("no c2")?;
-    let special = Specialbefore::new(size, rising, d4, c2).ok_or("no Specialbefore")?;
+    let (position, rising, special) = with_one_line()?;
     assert_eq!(rt;
         asked(&Aftereven::new(rising), &position),
         (Kind::Aftereven, true, false)
@@ -95,13 +78,5 @@ fn each_rule_through_the_trait(rt: HostRuntime) -> Result<(), Fail> {
     );
     assert!(rt; group_mask(special.g()).has(special.e0()));
     assert!(rt; !group_mask(special.g()).has(special.f()));
-    Ok(())
-}
-
-#[test]
-fn a_type_has_its_written_parts_alone(rt: HostRuntime) -> Result<(), Fail> {
-    assert_eq!(rt; size_of::<Aftereven>(), 4);
-    assert_eq!(rt; size_of::<Before>(), 4);
-    assert_eq!(rt; size_of::<Specialbefore>(), 8);
     Ok(())
 }

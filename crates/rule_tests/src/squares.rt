@@ -13,3 +13,34 @@ pub(crate) fn named(size: Size, name: &[u8]) -> Option<Square> {
         _ => None,
     }
 }
+
+/// A rule that is written by its squares.
+pub(crate) trait Written {
+    /// Whether these are the names of its squares, one behind the other.
+    fn is_of(&self, size: Size, names: &[u8]) -> bool;
+}
+
+/// Whether these squares have these names, one behind the other.
+pub(crate) fn are_named(squares: &[Square], size: Size, names: &[u8]) -> bool {
+    let mut rest = names;
+    for square in squares {
+        let [column, row, behind @ ..] = rest else {
+            return false;
+        };
+        if named(size, &[*column, *row]) != Some(*square) {
+            return false;
+        }
+        rest = behind;
+    }
+    rest.is_empty()
+}
+
+/// Whether the rules that were found are those with the squares of these names.
+pub(crate) fn are_those<R: Written>(found: &[R], size: Size, want: &[&[u8]]) -> bool {
+    for (rule, names) in found.iter().zip(want.iter()) {
+        if !rule.is_of(size, names) {
+            return false;
+        }
+    }
+    found.len() == want.len()
+}
