@@ -3,7 +3,8 @@ use crate::devices::{
     ANNOTATE, DUEL, DUEL_ANSWERS, MISTAKE, MISTAKE_MARKS, PLAY, PROVE_BY_SEARCH, THREAT, TRIM,
     TWO_SQUARES_LEFT, TWO_SQUARES_PROOF, UPGRADE, UPGRADED, ZUGZWANG, ZUGZWANG_ANSWERS,
 };
-use crate::running::{Devices, SOUND, run_over};
+use crate::running::{Devices, Ran, SOUND, run_over};
+use std::alloc::Global;
 use std::test::Fail;
 
 /// No run here makes more calls of one device.
@@ -21,6 +22,20 @@ const WHOLE: [Whole; 6] = [
     (ANNOTATE, MISTAKE, MISTAKE_MARKS),
 ];
 
+/// A run over devices of which a call fails; None where it doesn't make that call, so that it ends well.
+fn failed_run(
+    alloc: Global,
+    words: &[&str],
+    input: &str,
+    devices: Devices<'_>,
+) -> Result<Option<Ran>, Fail> {
+    let got = run_over(alloc, words, input.as_bytes(), devices)?;
+    if got.status == 0 {
+        return Ok(None);
+    }
+    Ok(Some(got))
+}
+
 #[test]
 fn each_failing_call_of_the_sink_leaves_a_prefix(rt: HostRuntime) -> Result<(), Fail> {
     for (words, input, whole) in WHOLE {
@@ -31,11 +46,10 @@ fn each_failing_call_of_the_sink_leaves_a_prefix(rt: HostRuntime) -> Result<(), 
                 out_fails: &[call],
                 ..SOUND
             };
-            let got = run_over(rt.alloc(), words, input.as_bytes(), devices)?;
-            ended = got.status == 0;
-            if ended {
+            let Some(got) = failed_run(rt.alloc(), words, input, devices)? else {
+                ended = true;
                 break;
-            }
+            };
             assert_eq!(rt; got.status, 7, "{words:?} {call}");
             assert!(rt;
                 whole.as_bytes().starts_with(got.out.as_slice()),
@@ -64,11 +78,10 @@ fn each_failing_call_of_the_source_leaves_whole_lines(rt: HostRuntime) -> Result
                 source_fails: &[call],
                 ..SOUND
             };
-            let got = run_over(rt.alloc(), words, input.as_bytes(), devices)?;
-            ended = got.status == 0;
-            if ended {
+            let Some(got) = failed_run(rt.alloc(), words, input, devices)? else {
+                ended = true;
                 break;
-            }
+            };
             let answered = got.out.as_slice();
             let by_line = words == UPGRADE || words == PLAY || words == THREAT;
             let lines = answered.is_empty() || (by_line && answered.ends_with(b"\n"));

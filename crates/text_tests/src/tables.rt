@@ -3,11 +3,26 @@ use board_bits::{InputFault, Position, read_game};
 use cert_checker::MirrorIndex;
 use cert_format::Claim;
 use position_table::{Found, Question, Table};
+use std::alloc::Global;
 use std::test::Fail;
 
 const FIRST: &[u8] = b"board 4 4\nmoves a\n";
 
 const SECOND: &[u8] = b"board 4 4\nmoves b\n";
+
+/// One man in the first column of three boards.
+const BOARDS: [&[u8]; 3] = [
+    b"board 4 4\nmoves a\n",
+    b"board 4 6\nmoves a\n",
+    b"board 6 4\nmoves a\n",
+];
+
+/// Men in the last two columns of the largest board.
+const LAST_COLUMNS: [&[u8]; 3] = [
+    b"board 10 10\nmoves i\n",
+    b"board 10 10\nmoves j\n",
+    b"board 10 10\nmoves ij\n",
+];
 
 fn found(lemma: u32) -> Found {
     Found {
@@ -83,34 +98,33 @@ fn an_entry_is_of_one_position_and_one_question(rt: HostRuntime) -> Result<(), F
     Ok(())
 }
 
-#[test]
-fn an_entry_is_of_one_board(rt: HostRuntime) -> Result<(), Fail> {
-    let low = read_game(b"board 4 4\nmoves a\n")?;
-    let high = read_game(b"board 4 6\nmoves a\n")?;
-    let mut table = Table::new(rt.alloc(), 2)?;
-    table.keep(&low, Question::WhiteWins, found(1))?;
-    assert_eq!(rt; table.find(&high, Question::WhiteWins), None);
-    table.keep(&high, Question::WhiteWins, found(2))?;
-    assert_eq!(rt; table.find(&low, Question::WhiteWins), Some(found(1)));
-    assert_eq!(rt; table.find(&high, Question::WhiteWins), Some(found(2)));
+/// Of each game nothing is found before it is kept, and what was kept of it once all are.
+fn are_told_apart(alloc: Global, games: [&[u8]; 3]) -> Result<(), Fail> {
+    let mut table = Table::new(alloc, 3)?;
+    for (game, number) in games.iter().zip([1, 2, 3].iter()) {
+        let position = read_game(game)?;
+        if table.find(&position, Question::WhiteWins).is_some() {
+            return Err("found before it was kept".into());
+        }
+        table.keep(&position, Question::WhiteWins, found(*number))?;
+    }
+    for (game, number) in games.iter().zip([1, 2, 3].iter()) {
+        let kept = table.find(&read_game(game)?, Question::WhiteWins);
+        if kept != Some(found(*number)) {
+            return Err("lost or exchanged".into());
+        }
+    }
     Ok(())
 }
 
 #[test]
+fn an_entry_is_of_one_board(rt: HostRuntime) -> Result<(), Fail> {
+    are_told_apart(rt.alloc(), BOARDS)
+}
+
+#[test]
 fn men_in_the_last_columns_tell_positions_apart(rt: HostRuntime) -> Result<(), Fail> {
-    let left = read_game(b"board 10 10\nmoves i\n")?;
-    let right = read_game(b"board 10 10\nmoves j\n")?;
-    let both = read_game(b"board 10 10\nmoves ij\n")?;
-    let mut table = Table::new(rt.alloc(), 3)?;
-    table.keep(&left, Question::WhiteWins, found(1))?;
-    assert_eq!(rt; table.find(&right, Question::WhiteWins), None);
-    table.keep(&right, Question::WhiteWins, found(2))?;
-    assert_eq!(rt; table.find(&both, Question::WhiteWins), None);
-    table.keep(&both, Question::WhiteWins, found(3))?;
-    assert_eq!(rt; table.find(&left, Question::WhiteWins), Some(found(1)));
-    assert_eq!(rt; table.find(&right, Question::WhiteWins), Some(found(2)));
-    assert_eq!(rt; table.find(&both, Question::WhiteWins), Some(found(3)));
-    Ok(())
+    are_told_apart(rt.alloc(), LAST_COLUMNS)
 }
 
 #[test]

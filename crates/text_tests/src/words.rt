@@ -148,10 +148,9 @@ const DRILL: [(&str, Numbers); 6] = [
 #[test]
 fn options_stand_before_between_and_after_the_numbers(rt: HostRuntime) -> Result<(), Fail> {
     for (text, (cols, rows, moves, seed, games, nodes, reach)) in DRILL {
-        let size = Size::new(cols, rows)?;
         let got = read_behind(rt.alloc(), "drill", text)?;
         let wanted = Form::Drill {
-            size,
+            size: Size::new(cols, rows)?,
             moves,
             seed,
             games,
