@@ -1,13 +1,18 @@
 """The lemmas of an accepted proof: which stand at a position, a best line, and one proof from several."""
 
+import contextlib
 import dataclasses
+import hashlib
 import itertools
 import lzma
+import mmap
 import os
 import shutil
+import subprocess
 import tempfile
-from typing import Iterator, Optional
+from typing import BinaryIO, Iterator, Optional
 
+import boards
 import victor
 from victor import LETTERS, Fault, Game
 
@@ -26,21 +31,146 @@ def known_proof() -> Optional[str]:
     return next((path for path in paths if os.path.isfile(path)), None)
 
 
-def unpacked(path: str, folder: str) -> str:
-    """The path of the plain text of a proof, which is unpacked into a folder where it is packed."""
+def kept_path(path: str) -> str:
+    """Where the text of a packed proof is kept, by the sum of what it is packed in: among what programs of this user
+    keep to be quicker, and may lose."""
+    folder = os.environ.get("XDG_CACHE_HOME") or os.path.join(os.path.expanduser("~"), ".cache")
+    with open(path, "rb") as source:
+        return os.path.join(folder, "victor", hashlib.sha256(source.read()).hexdigest()[:32] + ".txt")
+
+
+def unpacked(path: str, folder: str, is_kept: bool = False) -> str:
+    """The path of the plain text of a proof. Where it is packed, it is unpacked into a folder; or it is kept from one
+    time to the next, where it can be. Nothing of a text that was kept is trusted, since it is checked as any other."""
     if not path.endswith(".xz"):
         return path
-    with lzma.open(path) as source, tempfile.NamedTemporaryFile(dir=folder, prefix="known-", delete=False) as out:
-        shutil.copyfileobj(source, out, 1 << 20)
+    kept = kept_path(path) if is_kept else None
+    if kept and os.path.isfile(kept):
+        return kept
+    if kept:
+        with contextlib.suppress(OSError):
+            os.makedirs(os.path.dirname(kept), exist_ok=True)
+            with boards.output(kept) as out:
+                unpack(path, out)
+            return kept
+    with tempfile.NamedTemporaryFile(dir=folder, prefix="known-", delete=False) as out:
+        unpack(path, out)
     return out.name
+
+
+def forget(path: str) -> bool:
+    """Drops the text that was kept of a packed proof, and says whether there was one."""
+    with contextlib.suppress(OSError):
+        os.remove(kept_path(path))
+        return True
+    return False
+
+
+def unpack(path: str, out: BinaryIO) -> None:
+    """Writes the text that a file packs: by `xz` where it is there, which is quicker."""
+    if shutil.which("xz"):
+        if subprocess.run(["xz", "-dc", "--", path], stdout=out, stderr=subprocess.DEVNULL).returncode:
+            raise Fault("%s can't be unpacked" % path)
+        return
+    with lzma.open(path) as source:
+        shutil.copyfileobj(source, out, 1 << 20)
 
 
 def game_of(path: str) -> Game:
     """The game that a proof is about."""
-    with open(path, "rb") as source:
-        if source.readline(victor.LONGEST_HEAD) not in victor.FORMATS:
+    with lzma.open(path) if str(path).endswith(".xz") else open(path, "rb") as source:
+        try:
+            first, *game = itertools.islice(source, 3)
+        except (lzma.LZMAError, EOFError, ValueError):
+            first = b""
+        if first not in victor.FORMATS:
             raise Fault("%s is no proof" % path)
-        return victor.read_game(b"".join(itertools.islice(source, 2)).decode("ascii", "replace"))
+        return victor.read_game(b"".join(game).decode("ascii", "replace"))
+
+
+class Numbered:
+    """The lemmas of a proof's text by their numbers, which count from 1 in the order of the lines. A line is found
+    where it stands, and the others aren't read."""
+
+    def __init__(self, text: mmap.mmap) -> None:
+        self.text = text
+
+    def words(self, number: int) -> list[bytes]:
+        """The words of a lemma behind its number, or none where there is no such lemma."""
+        low, high = 0, len(self.text)
+        while low < high:
+            begin = self.text.rfind(b"\n", low, (low + high) // 2) + 1 or low
+            found, after = self.lemma_from(begin, high)
+            if found is None or int(found[0]) > number:
+                high = begin
+            elif int(found[0]) == number:
+                return found[1:]
+            else:
+                low = after
+        return []
+
+    def lemma_from(self, begin: int, end: int) -> tuple[Optional[list[bytes]], int]:
+        """The first lemma in a line from one that begins here, and where its line ends."""
+        while begin < end:
+            after = self.text.find(b"\n", begin) + 1 or len(self.text)
+            words = self.text[begin:after].split()
+            if words and words[0].isdigit():
+                return words, after
+            begin = after
+        return None, end
+
+
+def claims_below(path: str, game: Game) -> set[bytes]:
+    """The claims at a position, or at its mirror image, of the lemmas on which the verdict rests and to which moves
+    lead that the game has, in any order. None where the text is no proof, which the checker will say."""
+    root = game_of(path)
+    if root.size != game.size:
+        return set()
+    goals = [frozenset(game.men.items())]
+    goals.append(mirrored(goals[0], game.cols))
+    with open(path, "rb") as source, mmap.mmap(source.fileno(), 0, access=mmap.ACCESS_READ) as text:
+        left = [(int(number), frozenset(root.men.items())) for number in verdict_of(path)[1:]]
+        try:
+            return claims_from(Numbered(text), left, goals, game.cols)
+        except (ValueError, IndexError):
+            return set()
+
+
+def claims_from(lemmas: Numbered, left: list[tuple[int, frozenset]], goals: list[frozenset], cols: int) -> set[bytes]:
+    """The claims at some positions of lemmas, each with its men, and of what they rest on."""
+    found, seen = set(), set()
+    while left:
+        number, men = left.pop()
+        if number in seen or not any(men <= goal for goal in goals):
+            continue
+        seen.add(number)
+        _, claim, *reason = lemmas.words(number)
+        if men in goals:
+            found.add(claim)
+        elif reason[0] == b"mirror":
+            left.append((int(reason[1]), mirrored(men, cols)))
+        else:
+            left += [(cited, after(men, column)) for column, cited in cites_of(reason).items()]
+    return found
+
+
+def mirrored(men: frozenset, cols: int) -> frozenset:
+    """The men as a mirror shows them."""
+    return frozenset(((cols - 1 - column, row), side) for (column, row), side in men)
+
+
+def after(men: frozenset, column: int) -> frozenset:
+    """The men after a move."""
+    row = 1 + sum(i == column for (i, _), _ in men)
+    return men | {((column, row), "WB"[len(men) % 2])}
+
+
+def cites_of(words: list[bytes]) -> dict[int, int]:
+    """The lemmas that a reason by moves cites, by the columns of the moves."""
+    letters = LETTERS.encode()
+    if words[0] == b"one":
+        return {letters.index(words[1]): int(words[2])}
+    return {letters.index(word[:1]): int(word[2:]) for word in words[1:]} if words[0] == b"all" else {}
 
 
 def claims_at(path: str, game: Game) -> set[bytes]:

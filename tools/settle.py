@@ -4,20 +4,23 @@
 import dataclasses
 import os
 import pathlib
+import resource
 import sys
-import time
 from typing import Optional
 
 import lemmas
 import victor
 from victor import MOST_NODES, MOST_REACH, Fault
 
-SECONDS = 60
+SECONDS = 60  # of processor time
 MEMORY = 2000  # MiB for solve
 NODES, REACH = 1_000_000, 1_000  # for prove
 OUT_OF_MEMORY = 8  # the status of prove
 SHARE = 0.75  # of the time is solve's, and the rest is left to prove
 MORE = 5  # times the seconds are advised where they were spent
+# How solve has a first proof soon: it takes the moves by which its search has just found the value.
+SOON = {"order": 0, "high": 0, "part": 0}
+AS_IT_STANDS = {"rounds": 0, "sweeps": 0}  # and these better none
 ENGINES = {"solve": ("solve",), "prove": ("prove",), "both": ("solve", "prove")}
 EARLY = 16  # men, below which a proof of the whole game is looked in first
 TURNED = {"win": "loss", "loss": "win", "draw": "draw", "unknown": "unknown"}
@@ -50,7 +53,8 @@ class Means:
     nodes: int = NODES
     reach: int = REACH
     memory: Optional[int] = None  # MiB
-    seconds: Optional[float] = None
+    seconds: Optional[float] = None  # of processor time
+    small: bool = False  # half of solve's time is for a smaller proof
     tool: Optional[str] = None
 
     def require_ranges(self) -> None:
@@ -70,7 +74,9 @@ def add_options(parser) -> None:
     parser.add_argument("--by", choices=tuple(ENGINES),
                         help="what looks for a proof; both is solve, and then prove (both where tools/solve is built)")
     parser.add_argument("--seconds", type=float, metavar="S",
-                        help="how long they may take for a position (%d; prove alone: as its budget takes)" % SECONDS)
+                        help="how many seconds of processor time they may take for a position (%d; prove alone: as its "
+                        "budget takes)" % SECONDS)
+    parser.add_argument("--small", action="store_true", help="solve makes its proof smaller for half of its time")
     parser.add_argument("--memory", type=int, metavar="MIB", help="how much memory each may take (solve: %d)" % MEMORY)
     parser.add_argument("--nodes", type=int, default=NODES, metavar="N", help="the budget of prove (%d)" % NODES)
     parser.add_argument("--reach", type=int, default=REACH, metavar="K",
@@ -81,7 +87,8 @@ def add_options(parser) -> None:
 
 def means_of(words, tool: Optional[str] = None) -> Means:
     """What the words of a command line say of it."""
-    means = Means(words.by, words.victor, words.solver, words.nodes, words.reach, words.memory, words.seconds, tool)
+    means = Means(words.by, words.victor, words.solver, words.nodes, words.reach, words.memory, words.seconds,
+                  words.small, tool)
     means.require_ranges()
     return means
 
@@ -102,41 +109,35 @@ class Asker:
         self.solver = victor.find_solver(means.solver) if "solve" in self.engines else None
         self.program = victor.find_program(means.program)
         self.nodes, self.reach, self.memory = means.nodes, means.reach, means.memory
+        self.choices = SOON if means.small else {**SOON, **AS_IT_STANDS}
         # Alone, prove takes what its budget takes.
         self.seconds = means.seconds or (SECONDS if self.solver else None)
         self.known: Optional[Known] = None
 
     def answer(self, game, name="proof"):
         """What the first program says that decides a position; else why each did not, and what may help."""
-        begin, answers = time.monotonic(), []
         known = self.known.answer(game) if self.known else None
         if known:
             return known
-        for engine in self.engines_for(game):
+        begin, answers = spent_by_programs(), []
+        for engine in self.engines:
             asked = {"solve": self.by_solve, "prove": self.by_prove}[engine]
-            left = None if self.seconds is None else max(0.1, self.seconds - (time.monotonic() - begin))
+            left = None if self.seconds is None else max(0.1, self.seconds - (spent_by_programs() - begin))
             answers.append(asked(game, os.path.join(self.folder, name), left))
             if answers[-1].value != "unknown":
                 return answers[-1]
         wishes = next((one.wishes for one in answers if one.wishes), ())
         return dataclasses.replace(answers[-1], whys=sum((one.whys for one in answers), ()), wishes=wishes)
 
-    def engines_for(self, game):
-        """The programs that take its board: solve has lines of four alone."""
-        engines = tuple(engine for engine in self.engines if engine != "solve" or game.length == 4)
-        if not engines:
-            raise Fault("solve takes boards with lines of four: --by prove asks about lines of five")
-        return engines
-
     def by_solve(self, game, path, seconds):
-        """What `tools/solve` says, by the first proof that it finds."""
+        """What `tools/solve` says, by the first proof that it finds; or by a smaller one, where that is wanted."""
         share = seconds * SHARE if "prove" in self.engines else seconds
         memory = self.memory or MEMORY
         try:
-            proof = victor.solve(game, rounds=0, part=0, into=path, program=self.solver, seconds=share, memory=memory,
+            proof = victor.solve(game, **self.choices, into=path, program=self.solver, seconds=share, memory=memory,
                                  tell=self.teller("solve", game, share))
-        except victor.OutOfTime:
-            return self.out_of_time("solve")
+        except victor.OutOfTime as fault:
+            return self.out_of_time("solve", fault)
         except victor.Failed as fault:
             if "memory" in fault.text:
                 return out_of_memory("solve", memory)
@@ -152,8 +153,8 @@ class Asker:
         try:
             proof = victor.prove(game, nodes=self.nodes, reach=self.reach, into=path, program=self.program,
                                  seconds=seconds, memory=self.memory, tell=self.teller("prove", game, seconds))
-        except victor.OutOfTime:
-            return self.out_of_time("prove")
+        except victor.OutOfTime as fault:
+            return self.out_of_time("prove", fault)
         except (victor.Failed, victor.OtherGame) as fault:
             if self.memory and getattr(fault, "status", 0) == OUT_OF_MEMORY:
                 return out_of_memory("prove", self.memory)
@@ -166,9 +167,10 @@ class Asker:
         why = "the budget of %s is below its cost" if self.solver is None else "prove's budget of %s is below the cost"
         return dataclasses.replace(answer, whys=(why % count_of(self.nodes, "position"),), wishes=tuple(wishes))
 
-    def out_of_time(self, engine):
+    def out_of_time(self, engine, fault):
         share = "its share of " if len(self.engines) > 1 else ""
-        return Answer(whys=("%s didn't end within %s%s" % (engine, share, count_of(self.seconds, "second")),),
+        why = "%s had too little of a processor to spend %s%s" if fault.is_starved else "%s didn't end within %s%s"
+        return Answer(whys=(why % (engine, share, count_of(self.seconds, "second")),),
                       wishes=("--seconds %g" % (MORE * self.seconds),))
 
     def accepted(self, proof, engine):
@@ -207,36 +209,58 @@ class Asker:
 
 
 class Known:
-    """A proof of a whole game, in which positions are looked up. It is checked once, where one was found in it."""
+    """A proof of a whole game, in which positions are looked up. It is checked once, where one was found in it. One
+    that is at hand is looked in for positions with few men alone."""
 
-    def __init__(self, path: str, program: str, folder: str, early: Optional[int] = None) -> None:
-        self.name, self.program, self.early = os.path.relpath(path), program, early
-        self.path = lemmas.unpacked(path, folder)
-        self.size = lemmas.game_of(self.path).size
+    def __init__(self, path: str, program: str, folder: str, is_at_hand: bool = False) -> None:
+        self.name, self.program, self.folder, self.is_at_hand = os.path.relpath(path), program, folder, is_at_hand
+        self.given, self.size = path, lemmas.game_of(path).size
+        self.path: Optional[str] = None  # of the plain text
+        self.is_renewed = False
         self.accepted: Optional[victor.Accepted] = None
 
     def answer(self, game) -> Optional[Answer]:
         """What lemmas at the position say of it, or None."""
-        if game.size != self.size or self.early is not None and len(game.moves) >= self.early:
+        if game.size != self.size or self.is_at_hand and len(game.men) >= EARLY:
             return None
-        value = lemmas.value_of(lemmas.claims_at(self.path, game), game.side)
-        if value == "unknown":
-            return None
-        if self.accepted is None:
-            try:
-                self.accepted = victor.check(pathlib.Path(self.path), program=self.program)
-            except victor.Failed as fault:
+        value = self.value_of(game)
+        if value != "unknown" and not self.accepted and not self.is_accepted():
+            value = self.value_of(game)
+        return Answer(value, self.name, self.accepted.lemmas) if value != "unknown" else None
+
+    def value_of(self, game) -> str:
+        self.path = self.path or lemmas.unpacked(self.given, self.folder, is_kept=self.is_at_hand)
+        claims = lemmas.claims_below(self.path, game)
+        if not claims and not self.is_at_hand:
+            claims = lemmas.claims_at(self.path, game)  # those on which the verdict doesn't rest
+        return lemmas.value_of(claims, game.side)
+
+    def is_accepted(self) -> bool:
+        """The checker accepts the proof. False where it does so only once the text is unpacked again."""
+        try:
+            self.accepted = victor.check(pathlib.Path(self.path), program=self.program)
+            return True
+        except victor.Failed as fault:
+            if self.is_renewed or not self.is_at_hand or not lemmas.forget(self.given):
                 raise Unproved("%s wasn't accepted: %s" % (self.name, fault.text)) from fault
-        return Answer(value, self.name, self.accepted.lemmas)
+        self.is_renewed, self.path = True, lemmas.unpacked(self.given, self.folder, is_kept=True)
+        self.is_accepted()
+        return False
 
 
 def known_for(path: Optional[str], by: Optional[str], asker: Asker) -> Optional[Known]:
     """The proof of a whole game to look in: the one named; else, where no program is asked for alone, one of the usual
-    board that is at hand, for positions with few men."""
+    board that is at hand."""
     if path is not None:
         return Known(path, asker.program, asker.folder)
     path = lemmas.known_proof() if by is None else None
-    return Known(path, asker.program, asker.folder, EARLY) if path else None
+    return Known(path, asker.program, asker.folder, is_at_hand=True) if path else None
+
+
+def spent_by_programs() -> float:
+    """The processor time of all programs that have ended, in seconds."""
+    used = resource.getrusage(resource.RUSAGE_CHILDREN)
+    return used.ru_utime + used.ru_stime
 
 
 def out_of_memory(engine, memory):

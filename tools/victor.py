@@ -4,9 +4,10 @@
     proof = victor.prove(game)
     accepted = victor.check(proof)
 
-A function that runs a program takes these by keyword: `program`, its path, else the one that is found; `seconds` and
-`memory`, in MiB, which it may take at most; and `tell`, which is called with the seconds that are spent, now and then
-from two on. What gives no answer is a `Fault`, and a program that ended so a `Failed`, with its own text and status.
+A function that runs a program takes these by keyword: `program`, its path, else the one that is found; `seconds` of
+processor time and `memory`, in MiB, which it may take at most; and `tell`, which is called with the seconds that are
+spent, now and then from two on. What gives no answer is a `Fault`, and a program that ended so a `Failed`, with its own
+text and status.
 
 A column is a number from 0 at the left, a row from 1 at the bottom, and a square the pair of both. Nothing is proved of
 this module; what a proof shows, `check` says.
@@ -38,6 +39,8 @@ MOST_REACH = 1_000_000
 MOST_TRIED = 2_000_000
 MAYBE_SCORE = "%r may be a score and no move: moves as digits stand in one word, or with commas between them"
 FIRST_TOLD = 2.0  # seconds after which `tell` is called for the first time
+SLOWEST = 4  # times its seconds of processor time a program may take by the clock on the wall
+POLL = 0.02  # seconds between two looks at a program whose time is nearly spent
 FORMATS = (b"victor 1\n", b"victor 2\n")
 LONGEST_HEAD = 16  # bytes of a first line, and more
 TAIL = 1 << 16  # bytes that hold the last lines of a proof
@@ -64,10 +67,14 @@ class Failed(Fault):
 
 
 class OutOfTime(Failed):
-    """A program was ended because its seconds were spent."""
+    """A program was ended because its seconds of processor time were spent; or they weren't, and it had too little of a
+    processor beside other work."""
+
+    is_starved = False
 
     def __str__(self) -> str:
-        return "%s was ended, as its seconds were spent" % self.name
+        why = "it had too little of a processor" if self.is_starved else "its seconds were spent"
+        return "%s was ended, as %s" % (self.name, why)
 
 
 # ---------------------------------------------------------------------------------------------------------------------
@@ -438,15 +445,17 @@ def run(name: str, words: list[str], source: BinaryIO, out: BinaryIO, good: Iter
         process = subprocess.Popen(words, stdin=source, stdout=out, stderr=err,
                                    preexec_fn=functools.partial(limit_memory, memory) if memory else None)
         try:
-            is_over = wait(process, seconds, tell)
+            spent = wait(process, seconds, tell)
         finally:
             if process.poll() is None:
                 process.kill()
                 process.wait()
         err.seek(0)
         said = err.read().decode("ascii", "replace")
-    if not is_over:
-        raise OutOfTime(name, process.returncode, said)
+    if spent is not None:
+        fault = OutOfTime(name, process.returncode, said)
+        fault.is_starved = spent < seconds
+        raise fault
     if process.returncode not in good:
         raise Failed(name, process.returncode, said)
     return process.returncode
@@ -457,26 +466,33 @@ def limit_memory(memory: int) -> None:
     resource.setrlimit(resource.RLIMIT_AS, (memory << 20, memory << 20))
 
 
-def wait(process: subprocess.Popen, seconds: Optional[float], tell: Optional[Tell]) -> bool:
-    """Waits until the program is over or its seconds are spent, and says whether it is over. The times of what is told
-    double."""
+def wait(process: subprocess.Popen, seconds: Optional[float], tell: Optional[Tell]) -> Optional[float]:
+    """Waits until the program is over, or until its seconds of processor time are spent, or by the clock some times as
+    many; then it gives what was spent. The times of what is told double."""
     if seconds is None and tell is None:
         process.wait()
-        return True
-    begin, next_told = time.monotonic(), FIRST_TOLD if tell else float("inf")
+        return None
+    next_told = FIRST_TOLD if tell else float("inf")
     most = float("inf") if seconds is None else seconds
-    while True:
-        spent = time.monotonic() - begin
-        if spent >= most:
-            return process.poll() is not None
+    end = time.monotonic() + SLOWEST * most
+    while process.poll() is None:
+        spent, left = processor_seconds(process.pid), end - time.monotonic()
+        if spent >= most or left <= 0:
+            return spent
         if spent >= next_told:
             tell(spent)
             next_told *= 2
-        try:
-            process.wait(min(most, next_told) - spent)
-            return True
-        except subprocess.TimeoutExpired:
-            continue
+        with contextlib.suppress(subprocess.TimeoutExpired):
+            process.wait(max(POLL, min(most - spent, next_told - spent, left)))
+    return None
+
+
+def processor_seconds(pid: int) -> float:
+    """The processor time that a process has taken, in seconds, without that of its children."""
+    try:
+        return time.clock_gettime(~pid << 3 | 2)  # the number that Linux gives to this clock
+    except OSError:
+        return 0.0  # it is over
 
 
 @contextlib.contextmanager
@@ -579,9 +595,7 @@ def solve(game: Game, *, book: Optional[Path] = None, into: Optional[Path] = Non
           seconds: Optional[float] = None, memory: Optional[int] = None, tell: Optional[Tell] = None,
           **numbers: int) -> Proof:
     """The proof that `tools/solve` writes, with its other options as numbers. Behind half of the seconds it makes the
-    proof no smaller. It takes boards with lines of four alone."""
-    if game.length != 4:
-        raise Fault("solve takes boards with lines of four, and this one has lines of five")
+    proof no smaller."""
     words = [find_solver(program), "--quiet"] + options_of(memory=memory, book=book, **numbers)
     words += ["--seconds", str(int(seconds / 2))] if seconds is not None else []
     return written_proof("solve", words, game, into, seconds=seconds, tell=tell)

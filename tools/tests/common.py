@@ -3,6 +3,7 @@
 import os
 import subprocess
 import sys
+import tempfile
 import unittest
 
 HERE = os.path.dirname(os.path.abspath(__file__))
@@ -10,6 +11,9 @@ TOOLS = os.path.dirname(HERE)
 sys.path[:0] = [HERE, TOOLS]
 import boards  # noqa: E402
 
+# What the tools keep to be quicker is kept for the time of the tests.
+KEPT = tempfile.TemporaryDirectory(prefix="kept-")
+os.environ["XDG_CACHE_HOME"] = KEPT.name
 EXAMPLES = os.path.join(boards.TOP, "examples")
 PROGRAM = None
 

@@ -13,10 +13,12 @@ from unittest import mock
 
 from common import TOOLS, ToolTest, boards, example, heard, program, read, tool
 import ask
+import lemmas
 import mutants
 import settle
 import victor
 
+BUSY = "while :; do :; done"  # a program that never ends
 TOLD = re.compile(r"(ask\.py: [a-z]+ has taken [0-9.]+( of [0-9.]+)? seconds for [-a-j]+\n)*")
 
 
@@ -145,8 +147,6 @@ class SentenceTest(ToolTest):
                   "--board", "5x4x5", "aabbccdde")
         self.says("White, who is to move, wins after aabbddee on 5 by 4 with lines of five", "--board", "5x4x5",
                   "aabbddee")
-        self.refuses("ask.py", "--by", "solve", "--solver", "/bin/true", "--victor", program(), "--board", "5x4x5",
-                     "aabbddee", said="solve takes boards with lines of four")
 
     def test_pipe_from_draw(self):
         """The pipe of docs/TOOLS.md."""
@@ -289,14 +289,23 @@ class EngineTest(ToolTest):
             self.assertEqual((status, out, err.count("\n")), (1, "", 1), err)
             self.assertIn(said, err)
 
+    def test_what_solve_is_told(self):
+        """The first proof that it finds is wanted, or a smaller one."""
+        words = os.path.join(self.folder, "words")
+        for more, told in (((), "--rounds 0 --sweeps 0 "), (("--small",), "")):
+            self.says("found by solve", "dcdcdc", *more, solver="echo \"$@\" >'%s'; cat \"$0.proof\"" % words)
+            self.assertEqual(read(words), "--quiet --memory 2000 --order 0 --high 0 --part 0 %s--seconds 22\n" % told)
+
     def test_out_of_time(self):
-        """Where the seconds are spent, more of them are advised; and what takes long says so."""
+        """Where the seconds of processor time are spent, more of them are advised; and what takes long says so."""
         small = ("--board", "4x4", "-", "--nodes", "3", "--reach", "0")
         why = "since solve didn't end within its share of 4 seconds and prove's budget of 3 positions is below the cost"
-        got = self.says(why + ": try --seconds 20.", *small, "--seconds", "4", solver="exec sleep 60", status=5)
+        got = self.says(why + ": try --seconds 20.", *small, "--seconds", "4", solver=BUSY, status=5)
         self.assertRegex(got[2], "^ask.py: solve has taken [23] of 3 seconds for -\n$")
         self.says("since prove didn't end within 0.5 seconds: try --seconds 2.5.", *small, "--by", "prove", "--seconds",
-                  "0.5", prover="exec sleep 60", status=5)
+                  "0.5", prover=BUSY, status=5)
+        self.says("since prove had too little of a processor to spend 0.5 seconds: try --seconds 2.5.", *small, "--by",
+                  "prove", "--seconds", "0.5", prover="exec sleep 60", status=5)
 
     def test_what_may_help(self):
         """What is advised is what would help: more memory, or a greater budget for prove where solve can't be used."""
@@ -332,7 +341,7 @@ class EngineTest(ToolTest):
             "lemmas": 361, "accepted": True, "best": ["a"],
             "values": {"a": "draw", "b": "loss", "c": "loss", "d": "loss"},
         })
-        status, out, err = self.asks("--json", "dcdcdc", "--seconds", "0.5", "--by", "solve", solver="exec sleep 60")
+        status, out, err = self.asks("--json", "dcdcdc", "--seconds", "0.5", "--by", "solve", solver=BUSY)
         data = json.loads(out)
         self.assertEqual((status, data["value"], data["by"], data["accepted"]), (5, "unknown", None, False), err)
         self.assertEqual((data["why"], data["advice"]), (["solve didn't end within 0.5 seconds"], ["--seconds 2.5"]))
@@ -340,6 +349,7 @@ class EngineTest(ToolTest):
     @unittest.skipUnless(os.access(victor.SOLVER, os.X_OK), "tools/solve isn't built: make -C tools/solve")
     def test_solve_itself(self):
         self.says("is a draw for White, who is to move (found by solve, ", "--board", "4x4", "-")
+        self.says("wins after aabbddee on 5 by 4 with lines of five (found by solve, ", "--board", "5x4x5", "aabbddee")
 
 
 class KnownTest(ToolTest):
@@ -368,6 +378,60 @@ class KnownTest(ToolTest):
             with lzma.open(packed, "wb") as out:
                 out.write(read(example("forced-win.proof")).encode())
             self.says("found in ", "--from", packed, "--board", "4x4", "dccbbdbbddcc")
+
+    def test_at_hand(self):
+        """The proof of the usual board answers for it, and for what comes up in it; its text is kept for the next time."""
+        with tempfile.TemporaryDirectory() as folder, mock.patch.dict(os.environ, XDG_CACHE_HOME=folder):
+            for words, said in (
+                (("",), "White, who is to move, wins on the empty board of 7 by 6"),
+                (("4",), "White wins after d on 7 by 6 against Black, who is to move"),
+                (("dddddebg",), "White, who is to move, wins after dddddebg on 7 by 6"),
+                # The image of what another order of the moves of dae leads to.
+                (("cgd",), "White wins after cgd on 7 by 6 against Black, who is to move"),
+            ):
+                status, out, err = tool("ask.py", "--victor", program(), *words)
+                self.assertEqual(status, 0, err)
+                self.assertRegex(out, "%s .found in .*proofs/usual-board.txt.xz, 1,888,504 lemmas accepted." % said)
+                kept = os.listdir(os.path.join(folder, "victor"))
+                self.assertEqual(len(kept), 1)
+
+    def test_kept_text(self):
+        """A text that was kept isn't trusted: one that isn't accepted is unpacked again."""
+        with tempfile.TemporaryDirectory() as folder, mock.patch.dict(os.environ, XDG_CACHE_HOME=folder):
+            packed = os.path.join(folder, "proof.txt.xz")
+            with lzma.open(packed, "wb") as out:
+                out.write(read(example("forced-win.proof")).encode())
+            game = boards.Game.read("dccbbdbbddcc", (4, 4))
+            proof, kept = read(example("forced-win.proof")), lemmas.kept_path(packed)
+            for wrong in (None, proof.replace("value win 4", "value win 3")):
+                if wrong:
+                    with open(kept, "w", encoding="ascii") as out:
+                        out.write(wrong)
+                known = settle.Known(packed, program(), folder, is_at_hand=True)
+                found = known.answer(game)
+                self.assertEqual((found.value, found.lemmas, read(kept)), ("win", 4, proof))
+            with open(packed, "rb") as source:
+                spoiled = source.read().replace(b"7zXZ", b"7zxz")
+            with open(packed, "wb") as out:
+                out.write(spoiled)
+            self.refuses("ask.py", "--from", packed, "--victor", program(), "-", said="is no proof")
+
+    def test_lookup(self):
+        """What lemmas are found by the moves of a game is what is found by reading all."""
+        rng = random.Random(5)
+        with tempfile.NamedTemporaryFile("w", suffix=".txt") as made:
+            proof = victor.prove(boards.Game.read("ab", (4, 4)), version=2, reach=0, program=program())
+            made.write(victor.trim(proof, program=program()).text)
+            made.flush()
+            count = 0
+            for _ in range(60):
+                game = boards.Game.read("ab", (4, 4))
+                while not game.is_over and rng.random() < 0.85:
+                    game.play(rng.choice(game.open_columns()))
+                there = lemmas.claims_at(made.name, game)
+                self.assertEqual(lemmas.claims_below(made.name, game), there, game)
+                count += bool(there)
+            self.assertGreater(count, 10)
 
     def test_line(self):
         """A best line ends the game as the value says, and each of its moves keeps that value."""

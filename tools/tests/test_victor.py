@@ -42,7 +42,6 @@ class GameTest(ToolTest):
         self.fails(lambda: victor.Game.read("aabbccdde", (5, 4)), "move 8: the game has ended before it")
         self.fails(lambda: victor.Game.read("board 5 4 4\nmoves aa"), "5 behind them where lines of five win")
         self.fails(lambda: victor.board_size("8x6x6"), "no board has lines of 6")
-        self.fails(lambda: victor.solve(victor.Game(5, 4, length=5), program="true"), "this one has lines of five")
 
     def fails(self, call, said):
         with self.assertRaises(victor.Fault) as caught:
@@ -197,10 +196,13 @@ class RunTest(ToolTest):
         begin = time.monotonic()
         with mock.patch.object(victor, "FIRST_TOLD", 0.1):
             fault = self.fails(victor.OutOfTime, victor.prove, self.game, seconds=0.5, tell=told.append,
-                               program=self.stub("echo begun >&2; exec sleep 60"))
+                               program=self.stub("echo begun >&2; while :; do :; done"))
         self.assertLess(time.monotonic() - begin, 20)
-        self.assertEqual((fault.status, fault.text), (-9, "begun\n"))
+        self.assertEqual((fault.status, fault.text, fault.is_starved), (-9, "begun\n", False))
         self.assertIn("its seconds were spent", str(fault))
+        fault = self.fails(victor.OutOfTime, victor.prove, self.game, seconds=0.1, program=self.stub("exec sleep 60"))
+        self.assertTrue(fault.is_starved)
+        self.assertIn("too little of a processor", str(fault))
         self.assertTrue(0.1 <= told[0] <= told[-1] < 20, told)
         self.assertEqual(victor.prove(self.game, seconds=60, tell=told.append).value, "win")
 
