@@ -8,8 +8,8 @@ docs = share/doc/victor
 # What the documents speak of, but for the sources and what is made.
 texts = README.md CHANGELOG.md CONTRIBUTING.md examples/runs $(wildcard docs/*.md docs/img/*.png examples/*.* \
     examples/*/*.* examples/*/*/*.* tools/boards.py tools/lemmas.py tools/settle.py tools/victor.py tools/proof.html tools/board.html tools/tests/*.py \
-    tools/solve/Makefile tools/solve/usual.book tools/solve/*.h tools/solve/*.cpp)
-tools = $(addprefix tools/,ask.py batch board check.py draw.py parts pictures play.py sheet test why words.py)
+    tools/solve/Makefile tools/solve/usual.book tools/solve/*.h tools/solve/*.cpp proofs/*)
+tools = $(addprefix tools/,ask.py batch board check.py draw.py game parts pictures play.py sheet test why words.py)
 
 all:
 	./victor check <examples/usual-board.proof >/dev/null

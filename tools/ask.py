@@ -15,9 +15,9 @@ import tempfile
 import boards
 import settle
 import victor
-from lemmas import Lemmas
+from lemmas import Lemmas, Line, mapped
 from settle import Asker, Unproved, count_of
-from victor import LETTERS, Fault, read_question
+from victor import LETTERS, Fault
 
 SIDES = {"W": "White", "B": "Black"}
 
@@ -60,8 +60,9 @@ def advice(answer, engines):
     """What may help where a value is unknown."""
     if not answer.wishes:
         return "no greater budget can be given"
-    is_budget = engines == ("prove",) and answer.proof is not None
-    return "%s %s" % ("raise it by" if is_budget else "try", " or ".join(answer.wishes))
+    is_budget = engines == ("prove",) and answer.proof is not None and answer.wishes != (settle.BUILD,)
+    said = "%s %s" % ("raise it by" if is_budget else "try", " or ".join(answer.wishes))
+    return said.replace(" or " + settle.BUILD, ", or try " + settle.BUILD)
 
 
 def best_of(moves):
@@ -96,7 +97,12 @@ def said_of_moves(moves):
 def said_of_line(line):
     if line is None:
         return ""
-    return " No line is known." if not line else " A best line: %s." % "".join(LETTERS[column] for column in line)
+    if not line.columns:
+        return " No line is known."
+    said = " A best line: %s." % line.letters()
+    if line.most is not None:
+        said += " By the proof the game ends within %s, whatever is played against it." % count_of(line.most, "move")
+    return said
 
 
 def data_of(game, answer, engines, moves=None, line=None):
@@ -113,7 +119,7 @@ def data_of(game, answer, engines, moves=None, line=None):
     if moves is not None:
         data.update(best=best_of(moves), values={LETTERS[column]: value for column, value in moves})
     if line is not None:
-        data.update(line="".join(LETTERS[column] for column in line))
+        data.update(line=line.letters(), within=line.most)
     return data
 
 
@@ -122,7 +128,7 @@ def ask(words):
     game = game_of(words)
     with tempfile.TemporaryDirectory(prefix="ask-") as folder:
         asker = Asker(settle.means_of(words, "ask.py"), folder)
-        if not words.keep:
+        if words.known or not words.keep:
             asker.known = settle.known_for(words.known, words.by, asker)
         answer, moves = asker.answer(game), None
         if words.moves:
@@ -131,7 +137,7 @@ def ask(words):
         if words.keep and answer.proof:
             kept = victor.trim(answer.proof, os.path.join(folder, "kept"), program=asker.program)
             answer = answer if answer.value == "unknown" else asker.accepted(kept, answer.by)
-        line = line_of(answer, asker.program) if words.line else None
+        line = line_of(game, answer, asker.program) if words.line else None
         if kept:
             with open(kept.path, "rb") as source, boards.output(words.keep) as out:
                 shutil.copyfileobj(source, out)
@@ -140,21 +146,22 @@ def ask(words):
     return 5 if answer.value == "unknown" else 0
 
 
-def line_of(answer, program):
-    """A best line by the proof that was accepted, and none where there is no proof."""
-    return Lemmas(answer.proof.path).line(program) if answer.proof and answer.value != "unknown" else []
+def line_of(game, answer, program):
+    """A best line by the proof that was accepted: an empty one where there is no proof."""
+    path = answer.proof.path if answer.proof else answer.path
+    if not path or answer.value == "unknown":
+        return Line()
+    with mapped(path) as text:
+        lemmas = Lemmas(path, text)
+        return lemmas.line(game, answer.places or lemmas.verdict, program)
 
 
 def game_of(words):
     """The game that is asked about."""
     size = boards.board_size(words.board) if words.board else None
-    text = (words.position or "-") if words.position is not None else boards.read_input(words.file)
-    try:
-        return read_question(text, size)
-    except Fault as fault:
-        if words.position is not None and os.path.isfile(words.position):
-            raise Fault("%s is a file, which --file reads, and no position" % words.position) from fault
-        raise
+    if words.file:
+        return boards.read_question(boards.read_input(words.file), size)
+    return boards.asked_game(words.position, size)
 
 
 # ---------------------------------------------------------------------------------------------------------------------
@@ -168,8 +175,9 @@ def parse():
         "a game, or a diagram of rows of X, O and `.` from the top, in which X moved first. Status: 0 where the value "
         "is known, 5 where it isn't, 2 where the question is none, 1 where no proof was accepted.",
     )
-    parser.add_argument("position", nargs="?", help="the position; without it, it is read from standard input")
-    parser.add_argument("--file", metavar="FILE", help="the file to read it from")
+    parser.add_argument("position", nargs="?",
+                        help="the position, or a file that has one; without it, it is read from standard input")
+    parser.add_argument("--file", metavar="FILE", help="the file to read it from, whatever its name")
     parser.add_argument("--board", metavar="7x6", help="the board of a list of moves (7x6), as 8x6x5 for lines of five")
     parser.add_argument("--moves", action="store_true", help="say also which moves are best, each by its own proof")
     parser.add_argument("--line", action="store_true", help="say also a best line, by the proof")

@@ -2,12 +2,13 @@
 
 import contextlib
 import os
+import re
 import shutil
 import sys
 
 from victor import (  # noqa: F401, some for those who import them from here
     COLUMNS, LETTERS, ROWS, TOP, WAYS, Fault, Game, Size, board_size, columns_of, line_through, read_game,
-    find_program as program,
+    read_question, find_program as program,
 )
 
 NUMBERS = {4: "four", 5: "five"}
@@ -79,6 +80,28 @@ def complain(tool, message):
     """Says in one line what is wrong, and gives the status."""
     sys.stderr.write("%s: %s\n" % (tool, " ".join(str(message).split())))
     return 2
+
+
+def named_game(word, size=None):
+    """The game that a word of a command line names, and the text of its file. The word is a position as people write
+    it, of which an empty one is the empty board, and has no file; else it is the name of a file that has one, and may
+    have more behind the text of a game, or be a proof."""
+    try:
+        return read_question(word or "-", size), ""
+    except Fault as fault:
+        if os.path.isdir(word) or not os.path.exists(word):
+            more = "; and there is no file %s" % word if re.search("[./]", word) and "\n" not in word else ""
+            raise Fault("%s%s" % (fault, more)) from fault
+    text = read_input(word).replace("\r", "")
+    lines = text.split("\n")
+    if lines[0].startswith("victor "):
+        lines.pop(0)
+    return read_question("\n".join(lines[:2] if lines[0].startswith("board ") else lines), size), text
+
+
+def asked_game(word, size=None):
+    """The same game; it is read from standard input where there is no word."""
+    return read_question(read_input(None), size) if word is None else named_game(word, size)[0]
 
 
 def read_input(name):

@@ -40,8 +40,11 @@ class Picture:
         self.pieces.append(piece)
         self.width, self.height = max(self.width, right), max(self.height, low)
 
-    def write(self, x, y, text, kind="note", anchor="start", colour=None):
-        fill = ' style="fill:%s"' % colour if colour else ""
+    def write(self, x, y, text, kind="note", anchor="start", colour=None, behind=None):
+        """Writes a text; `behind` is a colour around its letters, where lines may lie below it."""
+        styles = ["fill:%s" % colour] if colour else []
+        styles += ["paint-order:stroke", "stroke:%s" % behind, "stroke-width:3px"] if behind else []
+        fill = ' style="%s"' % ";".join(styles) if styles else ""
         self.add(
             '<text x="%d" y="%d" class="%s" text-anchor="%s"%s>%s</text>'
             % (x, y, kind, anchor, fill, html.escape(text)),
@@ -203,12 +206,12 @@ def draw_plan(plan, is_text):
     picture.write(8, 18, title, "head")
     fills = {square: COLOURS[plan.members[n - 1][:2]] for square, n in plan.owner.items()}
     grid.draw(picture, plan.men, fills)
+    standing = [draw_standing(picture, grid, member, n, plan.length) for n, member in enumerate(plan.members, 1)]
     for square, n in plan.owner.items():
         x, y = grid.middle(square)
-        picture.write(x, y - 2, plan.members[n - 1][:2], "small", "middle")
-        picture.write(x, y + 12, str(n), "small", "middle")
-    for n, member in enumerate(plan.members, 1):
-        draw_standing(picture, grid, member, n, plan.length)
+        picture.write(x, y - 2, plan.members[n - 1][:2], "small", "middle", behind=fills[square])
+        picture.write(x, y + 12, str(n), "small", "middle", behind=fills[square])
+    number_lines(picture, grid, standing, plan, fills)
     low = picture.height
     x = grid.x + grid.cols * CELL + 18
     y = draw_legend(picture, plan, x)
@@ -219,7 +222,7 @@ def draw_plan(plan, is_text):
 
 
 def draw_standing(picture, grid, member, n, length):
-    """The line of a standing rule, with its number at the first square."""
+    """The line of a standing rule. It gives its first square, or nothing for another rule."""
     rule, parts = member[:2], member[3:].split(",")
     if rule == "VE":
         square = square_of(parts[0])
@@ -227,22 +230,33 @@ def draw_standing(picture, grid, member, n, length):
     elif rule in ("AE", "BE", "SB"):
         squares = group_of(parts[0], length)
     else:
-        return
-    # Lines of several instances lie beside one another.
-    off = (n % 5 - 2) * 3.5
+        return None
+    # Lines of several instances lie beside one another, and upright ones beside what is written in the squares.
+    right, down = (15 - n % 2 * 4, 0) if squares[0][0] == squares[-1][0] else [(n % 5 - 2) * 3.5] * 2
     (x, y), (x2, y2) = grid.middle(squares[0]), grid.middle(squares[-1])
     colour = COLOURS[rule]
     dash = {"VE": "", "AE": "", "BE": "7 4", "SB": "2 3"}[rule]
     picture.add(
         '<line x1="%g" y1="%g" x2="%g" y2="%g" stroke="%s" stroke-width="3" stroke-dasharray="%s" '
-        'stroke-linecap="round" opacity="0.8"/>' % (x + off, y + off, x2 + off, y2 + off, colour, dash)
+        'stroke-linecap="round" opacity="0.8"/>' % (x + right, y + down, x2 + right, y2 + down, colour, dash)
     )
     for part in parts[1:]:
         x, y = grid.middle(square_of(part))
         picture.add('<circle cx="%g" cy="%g" r="17" fill="none" stroke="%s" stroke-width="2.5" stroke-dasharray="2 3"/>'
                     % (x, y, colour))
-    x, y = grid.middle(squares[0])
-    picture.write(x - 18, y - 12 + 2 * off, str(n), "small", "start", colour)
+    return squares[0]
+
+
+def number_lines(picture, grid, standing, plan, fills):
+    """The numbers of standing rules, each in the corner of the square where its line begins; of several one below the
+    other."""
+    begun = {}
+    for n, (square, member) in enumerate(zip(standing, plan.members), 1):
+        if square:
+            x, y = grid.middle(square)
+            place = begun[square] = begun.get(square, -1) + 1
+            picture.write(x - 20, y - 11 + 11 * place, str(n), "small", "start", COLOURS[member[:2]],
+                          fills.get(square, "#f7f5ec"))
 
 
 def draw_legend(picture, plan, x):
@@ -504,20 +518,21 @@ def draw_proof(game, lemmas, verdict, most):
 def main():
     parser = argparse.ArgumentParser(
         prog="draw.py", description="Draws a position, a plan, a duel or a proof, as SVG, as text or as an HTML page.",
-        epilog="position: the text of a game. plan: what `victor explain` writes. duel: what `victor play`, "
-        "`victor threat` or `victor follow` writes. proof: what `victor prove` writes. What is drawn isn't checked, "
-        "and nothing is proved of this program.",
+        epilog="position: moves, a diagram, or a file that has them or the text of a game. plan: what `victor explain` "
+        "writes. duel: what `victor play`, `victor threat` or `victor follow` writes. proof: what `victor prove` "
+        "writes. What is drawn isn't checked, and nothing is proved of this program.",
     )
     parser.add_argument("kind", choices=("position", "plan", "duel", "proof"))
-    parser.add_argument("file", nargs="?", help="the file to draw; without it, standard input")
+    parser.add_argument("file", nargs="?",
+                        help="the file to draw, or the moves of a position; without it, standard input")
     form = parser.add_mutually_exclusive_group()
     form.add_argument("--svg", action="store_true", help="as SVG, which all but a proof are without an option")
     form.add_argument("--text", action="store_true", help="as text")
     form.add_argument("--html", action="store_true", help="a page, for a proof alone")
-    parser.add_argument("--game", metavar="FILE",
-                        help="a plan's or a duel's game: a file whose first two lines are one, or a proof of it")
+    parser.add_argument("--game", metavar="GAME",
+                        help="a plan's or a duel's game: moves, or a file whose first two lines are one, or a proof")
     parser.add_argument("--board", metavar="7x6",
-                        help="the board of a duel, where no game is named (8x6x5 for lines of five)")
+                        help="the board of moves (7x6), or of a duel without a game (8x6x5 for lines of five)")
     parser.add_argument("--most", type=int, default=MOST_SHOWN, metavar="N",
                         help="how many lemmas a page shows at most (%d)" % MOST_SHOWN)
     parser.add_argument("-o", "--out", metavar="FILE", help="where to write; without it, standard output")
@@ -545,17 +560,14 @@ def draw(words):
         raise Fault("only a proof is drawn as a page")
     if words.most < 1:
         raise Fault("--most takes a number from 1")
+    size = boards.board_size(words.board) if words.board else None
     game, by = None, "a plan"
     if words.game:
-        lines = boards.read_input(words.game).replace("\r", "").split("\n", 3)
-        if lines[0] in FORMATS:
-            by = "a proof"
-            lines.pop(0)
-        game = boards.read_game("\n".join(lines[:2]))
-    size = boards.board_size(words.board) if words.board else None
-    text = boards.read_input(words.file)
+        game, named = boards.named_game(words.game, size)
+        by = "a proof" if named.split("\n", 1)[0] in FORMATS else by
     if words.kind == "position":
-        return draw_position(boards.read_game(text), words.text)
+        return draw_position(boards.asked_game(words.file if words.file != "-" else None, size), words.text)
+    text = boards.read_input(words.file)
     if words.kind == "plan":
         return draw_plan(Explained(text, game), words.text)
     if words.kind == "duel":

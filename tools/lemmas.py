@@ -10,7 +10,7 @@ import os
 import shutil
 import subprocess
 import tempfile
-from typing import BinaryIO, Iterator, Optional
+from typing import BinaryIO, Iterator, NamedTuple, Optional
 
 import boards
 import victor
@@ -120,33 +120,50 @@ class Numbered:
         return None, end
 
 
-def claims_below(path: str, game: Game) -> set[bytes]:
+class Place(NamedTuple):
+    """A lemma by its number, and whether it stands at the mirror image of the position that is asked about."""
+
+    number: int
+    is_turned: bool
+
+
+Claims = dict[bytes, Place]  # and the lemma that claims it
+
+
+def claims_below(path: str, game: Game) -> Claims:
     """The claims at a position, or at its mirror image, of the lemmas on which the verdict rests and to which moves
     lead that the game has, in any order. None where the text is no proof, which the checker will say."""
     root = game_of(path)
     if root.size != game.size:
-        return set()
+        return {}
     goals = [frozenset(game.men.items())]
     goals.append(mirrored(goals[0], game.cols))
-    with open(path, "rb") as source, mmap.mmap(source.fileno(), 0, access=mmap.ACCESS_READ) as text:
+    with mapped(path) as text:
         left = [(int(number), frozenset(root.men.items())) for number in verdict_of(path)[1:]]
         try:
             return claims_from(Numbered(text), left, goals, game.cols)
         except (ValueError, IndexError):
-            return set()
+            return {}
 
 
-def claims_from(lemmas: Numbered, left: list[tuple[int, frozenset]], goals: list[frozenset], cols: int) -> set[bytes]:
+@contextlib.contextmanager
+def mapped(path: str) -> Iterator[mmap.mmap]:
+    """The bytes of a file, of which those alone are read that are looked at."""
+    with open(path, "rb") as source, mmap.mmap(source.fileno(), 0, access=mmap.ACCESS_READ) as text:
+        yield text
+
+
+def claims_from(numbered: Numbered, left: list[tuple[int, frozenset]], goals: list[frozenset], cols: int) -> Claims:
     """The claims at some positions of lemmas, each with its men, and of what they rest on."""
-    found, seen = set(), set()
+    found, seen = {}, set()
     while left:
         number, men = left.pop()
         if number in seen or not any(men <= goal for goal in goals):
             continue
         seen.add(number)
-        _, claim, *reason = lemmas.words(number)
+        _, claim, *reason = numbered.words(number)
         if men in goals:
-            found.add(claim)
+            found.setdefault(claim, Place(number, men != goals[0]))
         elif reason[0] == b"mirror":
             left.append((int(reason[1]), mirrored(men, cols)))
         else:
@@ -173,17 +190,18 @@ def cites_of(words: list[bytes]) -> dict[int, int]:
     return {letters.index(word[:1]): int(word[2:]) for word in words[1:]} if words[0] == b"all" else {}
 
 
-def claims_at(path: str, game: Game) -> set[bytes]:
-    """The claims of a proof's lemmas that stand at a position or at its mirror image, whatever moves lead there."""
+def claims_at(path: str, game: Game) -> Claims:
+    """The claims of all lemmas of a proof that stand at a position or at its mirror image, whatever moves lead
+    there."""
     root = game_of(path)
     more = len(game.moves) - len(root.moves)
     if root.size != game.size or more < 0:
-        return set()
-    images = [game, Game.on(game.size, [game.cols - 1 - column for column in game.moves])]
+        return {}
+    images = [Game.on(game.size, [game.cols - 1 - column for column in game.moves]), game]
     wanted = {path_key(image.moves, root.moves): image.men for image in images}
     if None in wanted:
         del wanted[None]
-    found = set()
+    found = {}
     with open(path, "rb") as source:
         for line in itertools.islice(source, 3, None):
             words = line.split(b" ", 3)
@@ -192,7 +210,7 @@ def claims_at(path: str, game: Game) -> set[bytes]:
             moves = b"" if words[1] == b"-" else words[1]
             men = wanted.get(bytes(sorted(moves)))
             if len(moves) == more and men is not None and men_after(root, moves) == men:
-                found.add(words[2])
+                found[words[2]] = Place(int(words[0]), men != game.men)
     return found
 
 
@@ -211,14 +229,13 @@ def path_key(moves: list[int], before: list[int]) -> Optional[bytes]:
     return "".join(LETTERS[column] for column in left).encode()
 
 
-def value_of(claims: set[bytes], side: str) -> str:
-    """The value for a side to move that claims show."""
+def value_of(claims: Claims, side: str) -> tuple[str, tuple[Place, ...]]:
+    """The value for a side to move that claims show, and the lemmas that show it."""
     other = "WB"[side == "W"]
-    if (side + "+").encode() in claims:
-        return "win"
-    if (other + "+").encode() in claims:
-        return "loss"
-    return "draw" if {b"W-", b"B-"} <= claims else "unknown"
+    for value, words in (("win", [side + "+"]), ("loss", [other + "+"]), ("draw", ["W-", "B-"])):
+        if all(word.encode() in claims for word in words):
+            return value, tuple(claims[word.encode()] for word in words)
+    return "unknown", ()
 
 
 # ---------------------------------------------------------------------------------------------------------------------
@@ -226,49 +243,36 @@ def value_of(claims: set[bytes], side: str) -> str:
 
 
 @dataclasses.dataclass(frozen=True)
-class Lemma:
-    """A lemma's reason: its word, and the lemma that is cited for each column, or the plan's text. `depth` is how many
-    moves the longest play by its cites has."""
+class Line:
+    """The moves of a best line; and where a side wins, how many moves the game lasts at most by the proof, whatever the
+    other side plays."""
 
-    word: str
-    cites: dict
-    plan: str
-    depth: int
+    columns: tuple[int, ...] = ()
+    most: Optional[int] = None
+
+    def letters(self) -> str:
+        return "".join(LETTERS[column] for column in self.columns)
 
 
 class Lemmas:
-    """All lemmas of a proof, by number."""
+    """All lemmas of a proof whose text is mapped, by number. `depths` has how many moves the longest play by the cites
+    of each has."""
 
-    def __init__(self, path: str) -> None:
-        self.root = game_of(path)
-        self.lemmas: dict[int, Lemma] = {}
-        self.verdict: list[str] = ["unknown"]
-        with open(path, "rb") as source:
-            for line in itertools.islice(source, 3, None):
-                words = line.decode("ascii").split()
-                if words[0] == "value":
-                    self.verdict = words[1:]
-                elif words[0].isdigit():
-                    self.keep(int(words[0]), words[3:])
+    def __init__(self, path: str, text: mmap.mmap) -> None:
+        self.root, self.numbered, self.depths = game_of(path), Numbered(text), bytearray(1)
+        self.verdict = tuple(Place(int(number), False) for number in verdict_of(path)[1:])
+        for line in lemma_lines(path):
+            if len(self.depths) > MOST_LINE:
+                raise Fault("the proof has more than %d lemmas, too many for a line" % MOST_LINE)
+            words = line.split()[3:]
+            cited = [int(words[1])] if words[0] == b"mirror" else cites_of(words).values()
+            longest = max((self.depths[n] for n in cited), default=-1)
+            self.depths.append(longest + (words[0] != b"mirror"))
 
-    def keep(self, number: int, words: list[str]) -> None:
-        if len(self.lemmas) >= MOST_LINE:
-            raise Fault("the proof has more than %d lemmas, too many for a line" % MOST_LINE)
-        cites = {}
-        if words[0] == "one":
-            cites = {LETTERS.index(words[1]): int(words[2])}
-        elif words[0] == "all":
-            cites = {LETTERS.index(word[0]): int(word[2:]) for word in words[1:]}
-        elif words[0] == "mirror":
-            cites = {None: int(words[1])}
-        longest = max((self.lemmas[n].depth for n in cites.values()), default=-1)
-        plan = " ".join(words[1:]) if words[0] == "plan" else ""
-        self.lemmas[number] = Lemma(words[0], cites, plan, longest + (words[0] != "mirror"))
-
-    def line(self, program: Optional[str] = None) -> list[int]:
-        """The moves of a best line: who is served by a lemma plays by it, and the other side so that it lasts."""
-        halves = [Half(self, int(number)) for number in self.verdict[1:]]
-        game, moves = Game.on(self.root.size, self.root.moves), []
+    def line(self, game: Game, places: tuple[Place, ...], program: Optional[str] = None) -> Line:
+        """A best line: who is served by a lemma plays by it, and the other side so that it lasts. One lemma shows that
+        a side wins, and two a draw."""
+        halves, moves = [Half(self, place) for place in places], []
         while halves and not game.is_over:
             column = next(filter(lambda found: found is not None, (half.own(game, program) for half in halves)), None)
             if column is None:
@@ -277,52 +281,52 @@ class Lemmas:
                 half.go(game, column)
             game = game.after(column)
             moves.append(column)
-        return moves
+        return Line(tuple(moves), self.depths[places[0].number] if len(places) == 1 else None)
 
 
 class Half:
-    """Play by one of the lemmas that a verdict names: where it stands, whether the board is turned there, and the plan
+    """Play by one of the lemmas that show a value: where it stands, whether the board is turned there, and the plan
     that it has come to, with White's moves since."""
 
-    def __init__(self, lemmas: Lemmas, number: int) -> None:
-        self.lemmas, self.number, self.turned = lemmas.lemmas, number, False
+    def __init__(self, lemmas: Lemmas, place: Place) -> None:
+        self.lemmas, self.number, self.turned = lemmas, place.number, place.is_turned
         self.plan, self.begun, self.since = "", None, []
 
     def seen(self, game: Game, column: int) -> int:
         return game.cols - 1 - column if self.turned else column
 
-    def here(self, game: Game) -> Lemma:
-        """The lemma, behind any mirrors."""
-        while self.lemmas[self.number].word == "mirror":
-            self.number, self.turned = self.lemmas[self.number].cites[None], not self.turned
-        lemma = self.lemmas[self.number]
-        if lemma.word == "plan" and not self.plan:
-            self.plan = lemma.plan
+    def here(self, game: Game) -> tuple[bytes, dict[int, int]]:
+        """The word of the lemma's reason, behind any mirrors, and the lemmas that it cites."""
+        _, _, *reason = self.lemmas.numbered.words(self.number)
+        while reason[0] == b"mirror":
+            self.number, self.turned = int(reason[1]), not self.turned
+            _, _, *reason = self.lemmas.numbered.words(self.number)
+        if reason[0] == b"plan" and not self.plan:
+            self.plan = b" ".join(reason[1:]).decode("ascii")
             self.begun = Game.on(game.size, [self.seen(game, column) for column in game.moves])
-        return lemma
+        return reason[0], cites_of(reason)
 
     def own(self, game: Game, program: Optional[str]) -> Optional[int]:
         """The move that the lemma or its plan wants here, or None where any move will do."""
-        lemma = self.here(game)
+        word, cites = self.here(game)
         if self.plan:
             if game.side == "W":
                 return None
             told = victor.play(self.begun, self.plan, self.since, program=program).turns[-1][1]
             return self.seen(game, LETTERS.index(told[0]))
-        return self.seen(game, next(iter(lemma.cites))) if lemma.word == "one" else None
+        return self.seen(game, next(iter(cites))) if word == b"one" else None
 
     def depth(self, game: Game, column: int) -> int:
         """How long play may last after the move."""
-        lemma = self.here(game)
-        cited = lemma.cites.get(self.seen(game, column))
-        return self.lemmas[cited].depth if cited else 0
+        cited = self.here(game)[1].get(self.seen(game, column))
+        return self.lemmas.depths[cited] if cited else 0
 
     def go(self, game: Game, column: int) -> None:
-        lemma, seen = self.here(game), self.seen(game, column)
+        cites, seen = self.here(game)[1], self.seen(game, column)
         if self.plan:
             self.since += [seen] if game.side == "W" else []
-        elif seen in lemma.cites:
-            self.number = lemma.cites[seen]
+        elif seen in cites:
+            self.number = cites[seen]
 
 
 # ---------------------------------------------------------------------------------------------------------------------

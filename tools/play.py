@@ -347,12 +347,12 @@ def read_start(words):
     if words.side:
         raise Fault("a plan is Black's, so you have White; --side is for a proof")
     given = plan_line(boards.read_input(words.plan)) if words.plan else None
-    if not words.game:
-        return Game.on(boards.board_size(words.board or "6x6"), boards.columns_of(words.moves or "-")), given
-    if words.board or words.moves:
-        raise Fault("the file names the game, so --board and --moves can't")
-    text = boards.read_input(words.game)
-    start = boards.read_game("\n".join(text.replace("\r", "").split("\n")[:2]))
+    size = boards.board_size(words.board) if words.board else None
+    if words.game is None:
+        return boards.read_question(words.moves or "-", size or boards.Size(6, 6)), given
+    if words.moves:
+        raise Fault("the game is named, so --moves can't name one")
+    start, text = boards.named_game(words.game, size)
     return start, given or (plan_line(text) if "\nplan " in text else None)
 
 
@@ -364,11 +364,11 @@ def main():
         "against a proof. Status: 0 where the game was played or left, 2 where there is no game, no plan or no proof, "
         "1 where the program failed.",
     )
-    parser.add_argument("game", nargs="?", metavar="FILE",
-                        help="the text of a game, where one begins; a plan may be its third line")
+    parser.add_argument("game", nargs="?", metavar="GAME",
+                        help="where one begins: moves, or a file, which may have a plan behind the text of a game")
     parser.add_argument("--board", metavar="6x6",
-                        help="the board, where no file is named (6x6), as 8x6x5 for lines of five")
-    parser.add_argument("--moves", metavar="LETTERS", help="the moves so far, where no file is named (none)")
+                        help="the board (of moves 7x6, and 6x6 where nothing is named), as 8x6x5 for lines of five")
+    parser.add_argument("--moves", metavar="MOVES", help="the moves so far, where no game is named (none)")
     parser.add_argument("--plan", metavar="FILE", help="a file with the plan; else `victor explain` gives one")
     parser.add_argument("--proof", metavar="FILE", help="a proof to play against, from its own position")
     parser.add_argument("--side", choices=("white", "black"),

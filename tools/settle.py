@@ -21,8 +21,10 @@ MORE = 5  # times the seconds are advised where they were spent
 # How solve has a first proof soon: it takes the moves by which its search has just found the value.
 SOON = {"order": 0, "high": 0, "part": 0}
 AS_IT_STANDS = {"rounds": 0, "sweeps": 0}  # and these better none
+BUILD = "tools/solve, which decides many more positions (make -C tools/solve)"
 ENGINES = {"solve": ("solve",), "prove": ("prove",), "both": ("solve", "prove")}
-EARLY = 16  # men, below which a proof of the whole game is looked in first
+USUAL = victor.Size(7, 6)
+EARLY = 16  # men, below which a proof of the usual board is looked in first
 TURNED = {"win": "loss", "loss": "win", "draw": "draw", "unknown": "unknown"}
 
 
@@ -33,7 +35,8 @@ class Unproved(Exception):
 @dataclasses.dataclass(frozen=True)
 class Answer:
     """What was found out about a position: its value, by which program, and how many lemmas were accepted. Where it is
-    unknown, `whys` says why, and `wishes` has what may help."""
+    unknown, `whys` says why, and `wishes` has what may help. Where a proof of a whole game has it, `path` is that of
+    its text, and `places` has the lemmas that show the value."""
 
     value: str = "unknown"
     by: str = ""
@@ -41,6 +44,8 @@ class Answer:
     proof: Optional[victor.Proof] = None
     whys: tuple = ()
     wishes: tuple = ()
+    path: Optional[str] = None
+    places: tuple = ()
 
 
 @dataclasses.dataclass(frozen=True)
@@ -54,6 +59,7 @@ class Means:
     reach: int = REACH
     memory: Optional[int] = None  # MiB
     seconds: Optional[float] = None  # of processor time
+    clock: Optional[float] = None  # seconds by the clock, for each program
     small: bool = False  # half of solve's time is for a smaller proof
     tool: Optional[str] = None
 
@@ -65,6 +71,8 @@ class Means:
             raise Fault("--reach takes a number from 0 to %d" % MOST_REACH)
         if self.seconds is not None and not 0 < self.seconds < float("inf"):
             raise Fault("--seconds takes a number above 0")
+        if self.clock is not None and not 0 < self.clock < float("inf"):
+            raise Fault("--clock takes a number above 0")
         if self.memory is not None and not 1 <= self.memory <= 1 << 20:
             raise Fault("--memory takes a number from 1 to %d" % (1 << 20))
 
@@ -76,6 +84,8 @@ def add_options(parser) -> None:
     parser.add_argument("--seconds", type=float, metavar="S",
                         help="how many seconds of processor time they may take for a position (%d; prove alone: as its "
                         "budget takes)" % SECONDS)
+    parser.add_argument("--clock", type=float, metavar="S",
+                        help="how many seconds by the clock each may take (%d times as many)" % victor.SLOWEST)
     parser.add_argument("--small", action="store_true", help="solve makes its proof smaller for half of its time")
     parser.add_argument("--memory", type=int, metavar="MIB", help="how much memory each may take (solve: %d)" % MEMORY)
     parser.add_argument("--nodes", type=int, default=NODES, metavar="N", help="the budget of prove (%d)" % NODES)
@@ -88,7 +98,7 @@ def add_options(parser) -> None:
 def means_of(words, tool: Optional[str] = None) -> Means:
     """What the words of a command line say of it."""
     means = Means(words.by, words.victor, words.solver, words.nodes, words.reach, words.memory, words.seconds,
-                  words.small, tool)
+                  words.clock, words.small, tool)
     means.require_ranges()
     return means
 
@@ -107,8 +117,9 @@ class Asker:
         self.folder, self.tool = folder, means.tool
         self.engines = engines_of(means.by, means.solver)
         self.solver = victor.find_solver(means.solver) if "solve" in self.engines else None
+        self.could_solve = means.by is None and not self.solver
         self.program = victor.find_program(means.program)
-        self.nodes, self.reach, self.memory = means.nodes, means.reach, means.memory
+        self.nodes, self.reach, self.memory, self.clock = means.nodes, means.reach, means.memory, means.clock
         self.choices = SOON if means.small else {**SOON, **AS_IT_STANDS}
         # Alone, prove takes what its budget takes.
         self.seconds = means.seconds or (SECONDS if self.solver else None)
@@ -134,8 +145,8 @@ class Asker:
         share = seconds * SHARE if "prove" in self.engines else seconds
         memory = self.memory or MEMORY
         try:
-            proof = victor.solve(game, **self.choices, into=path, program=self.solver, seconds=share, memory=memory,
-                                 tell=self.teller("solve", game, share))
+            proof = victor.solve(game, **self.choices, into=path, program=self.solver, seconds=share, clock=self.clock,
+                                 memory=memory, tell=self.teller("solve", game, share))
         except victor.OutOfTime as fault:
             return self.out_of_time("solve", fault)
         except victor.Failed as fault:
@@ -152,7 +163,8 @@ class Asker:
         """What `victor prove` says within its budget."""
         try:
             proof = victor.prove(game, nodes=self.nodes, reach=self.reach, into=path, program=self.program,
-                                 seconds=seconds, memory=self.memory, tell=self.teller("prove", game, seconds))
+                                 seconds=seconds, clock=self.clock, memory=self.memory,
+                                 tell=self.teller("prove", game, seconds))
         except victor.OutOfTime as fault:
             return self.out_of_time("prove", fault)
         except (victor.Failed, victor.OtherGame) as fault:
@@ -164,6 +176,7 @@ class Asker:
             return answer
         wishes = ["--nodes above %d" % self.nodes] if self.nodes < MOST_NODES else []
         wishes += ["--reach above %d" % self.reach] if self.reach < MOST_REACH else []
+        wishes += [BUILD] if self.could_solve else []
         why = "the budget of %s is below its cost" if self.solver is None else "prove's budget of %s is below the cost"
         return dataclasses.replace(answer, whys=(why % count_of(self.nodes, "position"),), wishes=tuple(wishes))
 
@@ -221,14 +234,17 @@ class Known:
 
     def answer(self, game) -> Optional[Answer]:
         """What lemmas at the position say of it, or None."""
-        if game.size != self.size or self.is_at_hand and len(game.men) >= EARLY:
+        if game.size != self.size or self.is_at_hand and not is_early(game):
             return None
-        value = self.value_of(game)
+        value, places = self.value_of(game)
         if value != "unknown" and not self.accepted and not self.is_accepted():
-            value = self.value_of(game)
-        return Answer(value, self.name, self.accepted.lemmas) if value != "unknown" else None
+            value, places = self.value_of(game)
+        if value == "unknown":
+            return None
+        return Answer(value, self.name, self.accepted.lemmas, path=self.path, places=places)
 
-    def value_of(self, game) -> str:
+    def value_of(self, game) -> tuple[str, tuple[lemmas.Place, ...]]:
+        """The value that lemmas show, and which they are."""
         self.path = self.path or lemmas.unpacked(self.given, self.folder, is_kept=self.is_at_hand)
         claims = lemmas.claims_below(self.path, game)
         if not claims and not self.is_at_hand:
@@ -251,10 +267,15 @@ class Known:
 def known_for(path: Optional[str], by: Optional[str], asker: Asker) -> Optional[Known]:
     """The proof of a whole game to look in: the one named; else, where no program is asked for alone, one of the usual
     board that is at hand."""
-    if path is not None:
-        return Known(path, asker.program, asker.folder)
-    path = lemmas.known_proof() if by is None else None
-    return Known(path, asker.program, asker.folder, is_at_hand=True) if path else None
+    there = lemmas.known_proof()
+    if path is None:
+        path = there if by is None else None
+    return Known(path, asker.program, asker.folder, is_at_hand=path == there) if path else None
+
+
+def is_early(game) -> bool:
+    """A proof of the usual board that is at hand is looked in for this position."""
+    return game.size == USUAL and len(game.men) < EARLY
 
 
 def spent_by_programs() -> float:

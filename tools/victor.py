@@ -5,9 +5,9 @@
     accepted = victor.check(proof)
 
 A function that runs a program takes these by keyword: `program`, its path, else the one that is found; `seconds` of
-processor time and `memory`, in MiB, which it may take at most; and `tell`, which is called with the seconds that are
-spent, now and then from two on. What gives no answer is a `Fault`, and a program that ended so a `Failed`, with its own
-text and status.
+processor time, `clock`, seconds by the clock, and `memory`, in MiB, which it may take at most; and `tell`, which is
+called with the seconds that are spent, now and then from two on. What gives no answer is a `Fault`, and a program that
+ended so a `Failed`, with its own text and status.
 
 A column is a number from 0 at the left, a row from 1 at the bottom, and a square the pair of both. Nothing is proved of
 this module; what a proof shows, `check` says.
@@ -39,7 +39,7 @@ MOST_REACH = 1_000_000
 MOST_TRIED = 2_000_000
 MAYBE_SCORE = "%r may be a score and no move: moves as digits stand in one word, or with commas between them"
 FIRST_TOLD = 2.0  # seconds after which `tell` is called for the first time
-SLOWEST = 4  # times its seconds of processor time a program may take by the clock on the wall
+SLOWEST = 10  # times its seconds of processor time a program may take by the clock on the wall
 POLL = 0.02  # seconds between two looks at a program whose time is nearly spent
 FORMATS = (b"victor 1\n", b"victor 2\n")
 LONGEST_HEAD = 16  # bytes of a first line, and more
@@ -288,7 +288,7 @@ def digits_of(text):
 
 def diagram_rows(text):
     """The rows of a diagram from the top, as texts of X, O and `.`, or None where the text is none. What draw.py writes
-    below a position says nothing more than its men."""
+    below a position says nothing more than its men. R and Y may stand for X and O, or for O and X."""
     rows = []
     for line in text.split("\n"):
         if re.match(r"\s*[0-9]+ by [0-9]+ (with lines of five )?after ", line):
@@ -296,12 +296,21 @@ def diagram_rows(text):
         bare = re.sub(r"^\s*[0-9]{1,2}(?=\s)|[|\s]", "", line)
         if not bare or re.fullmatch(r"[a-jA-J]+|[0-9]+|[-+=]+", bare) and not re.fullmatch(r"[Bb]+", bare):
             continue
-        if re.fullmatch(r"[RYry.]*\.[RYry.]*", bare) and bare.strip("."):
-            raise Fault("a diagram has X and O, or W and B: which of R and Y moved first can't be known")
-        if not re.fullmatch(r"[XOxoWB.]+", bare):
+        if not re.fullmatch(r"[XOxoWB.]+|[RYry.]+", bare):
             return None
         rows.append(bare.upper().replace("W", "X").replace("B", "O"))
-    return rows if len(rows) >= 4 and all(len(row) >= 4 for row in rows) else None
+    if len(rows) < 4 or any(len(row) < 4 for row in rows):
+        return None
+    return uncoloured(rows) if re.search("[RY]", "".join(rows)) else rows
+
+
+def uncoloured(rows):
+    """A diagram in red and yellow with X for the side that moved first. That is known where it has a man more."""
+    red, yellow = ("".join(rows).count(man) for man in "RY")
+    if red == yellow or re.search("[XO]", "".join(rows)):
+        raise Fault("which of R and Y moved first can't be known: write X for the one that did, and O for the other")
+    first, second = "RY" if red > yellow else "YR"
+    return [row.replace(first, "X").replace(second, "O") for row in rows]
 
 
 def read_diagram(rows, size):
@@ -439,13 +448,14 @@ Text = Union[str, bytes, os.PathLike]  # a text, or the path of one
 
 
 def run(name: str, words: list[str], source: BinaryIO, out: BinaryIO, good: Iterable[int] = (0,), *,
-        seconds: Optional[float] = None, memory: Optional[int] = None, tell: Optional[Tell] = None) -> int:
+        seconds: Optional[float] = None, clock: Optional[float] = None, memory: Optional[int] = None,
+        tell: Optional[Tell] = None) -> int:
     """Runs a program from one file to another, and gives its status, which is one of the good ones."""
     with tempfile.TemporaryFile() as err:
         process = subprocess.Popen(words, stdin=source, stdout=out, stderr=err,
                                    preexec_fn=functools.partial(limit_memory, memory) if memory else None)
         try:
-            spent = wait(process, seconds, tell)
+            spent = wait(process, seconds, clock, tell)
         finally:
             if process.poll() is None:
                 process.kill()
@@ -454,7 +464,7 @@ def run(name: str, words: list[str], source: BinaryIO, out: BinaryIO, good: Iter
         said = err.read().decode("ascii", "replace")
     if spent is not None:
         fault = OutOfTime(name, process.returncode, said)
-        fault.is_starved = spent < seconds
+        fault.is_starved = seconds is None or spent < seconds
         raise fault
     if process.returncode not in good:
         raise Failed(name, process.returncode, said)
@@ -466,15 +476,16 @@ def limit_memory(memory: int) -> None:
     resource.setrlimit(resource.RLIMIT_AS, (memory << 20, memory << 20))
 
 
-def wait(process: subprocess.Popen, seconds: Optional[float], tell: Optional[Tell]) -> Optional[float]:
-    """Waits until the program is over, or until its seconds of processor time are spent, or by the clock some times as
-    many; then it gives what was spent. The times of what is told double."""
-    if seconds is None and tell is None:
+def wait(process: subprocess.Popen, seconds: Optional[float], clock: Optional[float],
+         tell: Optional[Tell]) -> Optional[float]:
+    """Waits until the program is over, or until its seconds of processor time are spent or those by the clock, which
+    else are some times as many; then it gives what was spent. The times of what is told double."""
+    if seconds is None and clock is None and tell is None:
         process.wait()
         return None
     next_told = FIRST_TOLD if tell else float("inf")
     most = float("inf") if seconds is None else seconds
-    end = time.monotonic() + SLOWEST * most
+    end = time.monotonic() + (SLOWEST * most if clock is None else clock)
     while process.poll() is None:
         spent, left = processor_seconds(process.pid), end - time.monotonic()
         if spent >= most or left <= 0:
@@ -592,13 +603,13 @@ def prove(game: Game, *, nodes: Optional[int] = None, reach: Optional[int] = Non
 
 
 def solve(game: Game, *, book: Optional[Path] = None, into: Optional[Path] = None, program: Optional[str] = None,
-          seconds: Optional[float] = None, memory: Optional[int] = None, tell: Optional[Tell] = None,
-          **numbers: int) -> Proof:
+          seconds: Optional[float] = None, clock: Optional[float] = None, memory: Optional[int] = None,
+          tell: Optional[Tell] = None, **numbers: int) -> Proof:
     """The proof that `tools/solve` writes, with its other options as numbers. Behind half of the seconds it makes the
     proof no smaller."""
     words = [find_solver(program), "--quiet"] + options_of(memory=memory, book=book, **numbers)
     words += ["--seconds", str(int(seconds / 2))] if seconds is not None else []
-    return written_proof("solve", words, game, into, seconds=seconds, tell=tell)
+    return written_proof("solve", words, game, into, seconds=seconds, clock=clock, tell=tell)
 
 
 def written_proof(name: str, words: list[str], game: Game, into: Optional[Path], good: Iterable[int] = (0,),

@@ -229,11 +229,13 @@ def main():
         "program.",
     )
     parser.add_argument("file", nargs="?", help="what explain wrote; without it, standard input")
-    parser.add_argument("--game", metavar="FILE", help="the game, which the plan has to be one of")
+    parser.add_argument("--game", metavar="GAME", help="the game, which the plan has to be one of: moves, or a file")
+    parser.add_argument("--board", metavar="7x6", help="the board of moves (7x6)")
     parser.error = lambda message: sys.exit(boards.complain("words.py", message))
     words = parser.parse_intermixed_args()
     try:
-        game = boards.read_game(boards.read_input(words.game)) if words.game else None
+        size = boards.board_size(words.board) if words.board else None
+        game = boards.named_game(words.game, size)[0] if words.game is not None else None
         sys.stdout.write(words_of(boards.read_input(words.file), game))
         sys.stdout.flush()
     except Fault as fault:

@@ -29,13 +29,13 @@ def diagram_of(game, men="XO"):
 
 class QuestionTest(ToolTest):
     def reads(self, text, letters, size=None):
-        game = ask.read_question(text, size)
+        game = victor.read_question(text, size)
         self.assertEqual(game.letters(), letters, text)
         return game
 
     def fails(self, text, said, size=None):
         with self.assertRaises(boards.Fault) as caught:
-            ask.read_question(text, size)
+            victor.read_question(text, size)
         self.assertIn(said, str(caught.exception))
 
     def test_lists(self):
@@ -71,7 +71,7 @@ class QuestionTest(ToolTest):
         self.fails("board 7 6\nmoves a", "another board", (6, 6))
 
     def test_diagrams(self):
-        game = ask.read_question("""
+        game = victor.read_question("""
             .......
             .......
             ...O...
@@ -89,7 +89,7 @@ class QuestionTest(ToolTest):
         for cols, rows, letters in ((4, 4, "cccdcd"), (7, 6, "-"), (7, 6, "dcdcdcd"), (10, 10, "jjjiiiaaaaaaaaaa")):
             game = boards.Game(cols, rows, boards.columns_of(letters))
             drawn = tool("draw.py", "position", "--text", text=game.text())[1]
-            found = ask.read_question(drawn)
+            found = victor.read_question(drawn)
             self.assertEqual((found.cols, found.rows, found.men), (cols, rows, game.men), drawn)
 
     def test_random_diagrams(self):
@@ -101,7 +101,7 @@ class QuestionTest(ToolTest):
             most = rng.randrange(cols * rows + 1)
             while not game.is_over and len(game.moves) < most:
                 game.play(rng.choice(game.open_columns()))
-            found = ask.read_question(diagram_of(game, rng.choice(("XO", "xo", "WB"))))
+            found = victor.read_question(diagram_of(game, rng.choice(("XO", "xo", "WB"))))
             self.assertEqual((found.men, found.line, found.is_over), (game.men, game.line, game.is_over))
 
     def test_faults_of_diagrams(self):
@@ -111,6 +111,7 @@ class QuestionTest(ToolTest):
         self.fails(".....\n....\n.....\n.....", "row 2 of the diagram, from the top, has 4 squares")
         self.fails("....\n....\n....\n....\n....", "no board has 4 columns and 5 rows")
         self.fails("....\n....\n....\nRY..", "which of R and Y moved first")
+        self.reads("....\n....\nR...\nRY..", "aba", (4, 4))
         self.fails("....\n....\n....\n....", "has 4 columns and 4 rows", (7, 6))
         # Both have four in a line.
         self.fails("....\n....\nOOOO\nXXXX", "no single last man made")
@@ -133,6 +134,7 @@ class SentenceTest(ToolTest):
         self.says("White, who is to move, wins after dcdcdc on 7 by 6 (2 lemmas accepted).", "dcdcdc")
         self.says("White, who is to move, wins after dcdcdc", text="4 3 4 3 4 3\r\n")
         self.says("White, who is to move, wins after dcdcdc", "--file", example("usual-board.txt"))
+        self.says("White, who is to move, wins after dcdcdc", example("usual-board.txt"))
         self.says("White has four in a line after abababa on 4 by 4, so Black has lost", "--board", "4x4", "abababa")
         self.says("is a draw for White, who is to move", "--board", "4x4", "cdccddcdaaaabb")
         self.says(("is a draw, since the board is full", "; there is no move."), "--moves", "--board", "4x4",
@@ -190,7 +192,7 @@ class SentenceTest(ToolTest):
         for words, said in (
             (["dcdcdcx"], "'x' is no column"), (["--board", "7", "d"], "no board"), (["--nodes", "0", "d"], "--nodes"),
             (["--reach", "-1", "d"], "--reach"), (["d", "--file", "x"], "given twice"),
-            (["--file", "/no/such"], "No such file"), ([example("usual-board.txt")], "is a file, which --file reads"),
+            (["--file", "/no/such"], "No such file"), (["no-such.txt"], "there is no file no-such.txt"),
             (["d", "--victor", "/no/such"], "is no program"), (["--nodes", "many", "d"], "--nodes"),
             (["d", "--solver", "/no/such"], "is no program"), (["--by", "luck", "d"], "--by"),
             (["--seconds", "0", "d"], "--seconds"), (["--seconds", "nan", "d"], "--seconds"),
@@ -279,6 +281,14 @@ class EngineTest(ToolTest):
         with mock.patch.object(victor, "SOLVER", program()):
             self.assertEqual(settle.engines_of(None, None), ("solve", "prove"))
             self.assertEqual(settle.engines_of("prove", None), ("prove",))
+        # Where tools/solve isn't made, it is what is advised.
+        with mock.patch.object(victor, "SOLVER", "/no/such"), tempfile.TemporaryDirectory() as folder:
+            game = boards.Game.read("-", (4, 4))
+            answer = settle.Asker(settle.Means(program=program(), nodes=3, reach=0), folder).answer(game)
+            self.assertEqual(ask.advice(answer, ("prove",)),
+                             "raise it by --nodes above 3 or --reach above 0, or try " + settle.BUILD)
+            answer = settle.Asker(settle.Means(by="prove", program=program(), nodes=3, reach=0), folder).answer(game)
+            self.assertEqual(ask.advice(answer, ("prove",)), "raise it by --nodes above 3 or --reach above 0")
 
     def test_refused(self):
         """A proof of solve's that isn't accepted is told, whatever prove would say."""
@@ -408,7 +418,8 @@ class KnownTest(ToolTest):
                     with open(kept, "w", encoding="ascii") as out:
                         out.write(wrong)
                 known = settle.Known(packed, program(), folder, is_at_hand=True)
-                found = known.answer(game)
+                with mock.patch.object(settle, "is_early", lambda _: True):
+                    found = known.answer(game)
                 self.assertEqual((found.value, found.lemmas, read(kept)), ("win", 4, proof))
             with open(packed, "rb") as source:
                 spoiled = source.read().replace(b"7zXZ", b"7zxz")
