@@ -145,8 +145,10 @@ class PlayTest(ToolTest):
             (["--board", "4x4", "--moves", "dccbbdbbddcc"], "there is no plan after dccbbdbbddcc"),
             (["--reach", "1"], "explain finds no plan after - on 6 by 6 in its reach of 1"),
             (["--reach", "-1"], "--reach takes"), (["--board", "5x5"], "no board has"), (["--moves", "x"], "'x'"),
-            (["/no/such/file"], "No such file"), (["--plan", "/no/such/file"], "No such file"),
-            ([example("usual-board.txt"), "--board", "7x6"], "the file names the game"),
+            (["/no/such/file"], "there is no file"), (["--plan", "/no/such/file"], "No such file"),
+            ([example("usual-board.txt"), "--board", "4x4"], "another board"),
+            ([example("usual-board.txt"), "--moves", "d"], "--moves can't name one"),
+            (["434343"], "there is no plan after dcdcdc on 7 by 6"),
             (["--victor", "/no"], "is no program"),
         ):
             if "--victor" not in words:

@@ -94,10 +94,10 @@ class SheetTest(ToolTest):
     def test_faults(self):
         self.helps("sheet")
         for words, said in (
-            ([], "the following arguments are required"), (["/no/such/file"], "No such file"),
+            ([], "the following arguments are required"), (["/no/such/file"], "there is no file"),
             ([example("full-board.txt")], "the game has ended"), (["--ask", "why", "x"], "--ask takes some of move"),
             (["--nodes", "0", "x"], "--nodes takes"), (["--reach", "-1", "x"], "--reach takes"),
-            ([example("usual-board.proof")], "usual-board.proof: "),
+            (["dcx"], "dcx: move 3: 'x' is no column"),
         ):
             self.refuses("sheet", *words, said=said)
         self.refuses("sheet", "-", "--nodes", "1", "--reach", "1", "--victor", program(), text="-",
