@@ -28,14 +28,13 @@ LEFT_OUT = {
     "tools/check.py usual-board.txt": "the same, and takes a minute",
     "tools/batch": "tools/tests/test_batch.py runs it, and Slurm is elsewhere",
     "tools/parts": "tools/tests/test_parts.py runs it, and it takes tools/solve",
-    "tools/ask.py ''": "it needs the proof that takes 40 minutes",
-    "tools/ask.py d": "the same",
+    "tools/ask.py dddcccbb": "it takes tools/solve, which isn't copied there",
     "python3 tools/tests/mutants.py": "it takes minutes",
     "tools/board": "it serves until it is interrupted; tools/tests/test_board.py asks it",
     "tools/play.py": "it asks a person; tools/tests/test_play.py plays it",
     "./victor play": "it asks a person; a test below plays it",
     "./victor threat": "the same",
-    "tools/ask.py --seconds 4 dccdcdb": "the same",
+    "tools/ask.py --seconds 4 ab": "it takes tools/solve too",
 }
 # What stands there before a document's commands.
 FIRST = {

@@ -148,7 +148,7 @@ class PlayTest(ToolTest):
             (["/no/such/file"], "there is no file"), (["--plan", "/no/such/file"], "No such file"),
             ([example("usual-board.txt"), "--board", "4x4"], "another board"),
             ([example("usual-board.txt"), "--moves", "d"], "--moves can't name one"),
-            (["434343"], "there is no plan after dcdcdc on 7 by 6"),
+            (["434343"], "finds no plan after dcdcdc on 7 by 6"),
             (["--victor", "/no"], "is no program"),
         ):
             if "--victor" not in words:
