@@ -66,6 +66,9 @@ class BoardTest(ToolTest):
         self.assertEqual(status, 200)
         self.assertIn('"count":%d' % answer["lemmas"], page)
         self.assertEqual(self.get("/proof/999")[0], 404)
+        # The proof of the usual board that is at hand answers at once, and has no page.
+        status, answer = self.call("/ask", size="7x6", moves="d")
+        self.assertEqual((status, answer["value"], answer["lemmas"], "proof" in answer), (200, "loss", 1888504, False))
         status, told = self.call("/explain", size="4x4", moves="")
         self.assertEqual((status, told["found"], told["lines"][0]), (200, True, PLAN))
         self.assertFalse(self.call("/explain", size="4x4", moves="d")[1]["found"])
