@@ -90,6 +90,8 @@ def said_of_moves(moves):
     best = best_of(moves)
     if not best:
         return "; of the moves " + join(said)
+    if len(best) == len(moves) > 1:
+        return "; each move %s" % next(single for word, single, _ in verbs if word == moves[0][1])
     head = "; %s %s" % ("the best move is" if len(best) == 1 else "the best moves are", join(best))
     return head + (" (%s)" % "; ".join(said[1:]) if said[1:] else "")
 

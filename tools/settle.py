@@ -204,9 +204,15 @@ class Asker:
             after = self.answer(game.after(column), "after")
             moves.append((column, TURNED[after.value]))
             if answer.value == "unknown" and after.value == "loss":
-                path = os.path.join(self.folder, "proof")
-                answer = self.accepted(victor.prove_by_move(game, column, after.proof, path), after.by)
+                answer = self.won_by(game, column, after)
         return answer, moves
+
+    def won_by(self, game, column, after):
+        """The answer to a position, from that to the one behind a move that wins."""
+        if not after.proof:  # the proof of a whole game has it
+            return dataclasses.replace(after, value="win", path=None, places=())
+        path = os.path.join(self.folder, "proof")
+        return self.accepted(victor.prove_by_move(game, column, after.proof, path), after.by)
 
     def teller(self, engine, game, seconds):
         """What says on standard error how long a program has run, where a tool's name was given."""

@@ -161,6 +161,8 @@ class SentenceTest(ToolTest):
     def test_moves(self):
         self.says("; the best move is d", "--moves", "--nodes", "20000", "dcdcdc")
         self.says("; the best move is b.", "--moves", "--board", "4x4", "cdccddcdaaaabb")
+        self.says("; each move loses.", "--moves", "--board", "4x4", "ddadcbacaabd")
+        self.says("; each move wins.", "--moves", "--board", "4x4", "ddbccadabdbb")
         # White has three men in column a.
         self.says("; the best move is a (b, c and d lose).", "--moves", "--board", "4x4", "ababa")
 
@@ -341,6 +343,15 @@ class EngineTest(ToolTest):
         self.says("White, who is to move, wins after dccbbdbbddcc on 4 by 4 (4 lemmas accepted); the best move is a.",
                   *words, "--moves", "--keep", kept, prover=prover)
         self.assertEqual(read(kept), read(example("forced-win.proof")))
+
+    def test_win_by_a_known_move(self):
+        """So does one behind which a proof of a whole game has the position, and nothing is written of it."""
+        asker = settle.Asker(settle.Means(by="prove", program=program(), nodes=1, reach=0), self.folder)
+        asker.known = mock.Mock(answer=lambda game: settle.Answer("loss", "a proof", 7) if game.side == "B" else None)
+        game = boards.Game.read("dccbbdbbddcc", (4, 4))
+        answer, moves = asker.moves_of(game, asker.answer(game))
+        self.assertEqual((answer.value, answer.by, answer.lemmas, answer.proof), ("win", "a proof", 7, None))
+        self.assertEqual(moves, [(0, "win")])
 
     def test_json(self):
         status, out, err = self.asks("--json", "--moves", "--board", "4x4", "ababa", "--by", "prove")
