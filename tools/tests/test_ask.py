@@ -273,6 +273,14 @@ class EngineTest(ToolTest):
         self.assertEqual((status, out), (1, ""))
         self.assertIn("too large", err)
 
+    def test_lines_of_five(self):
+        """solve is asked about boards with lines of five as about others, and gets the length in its text."""
+        self.proof = read(example("five", "win.proof"))
+        solver = '[ "$(head -n 1)" = "board 5 4 5" ] && cat "$0.proof"'
+        for words in ([], ["--by", "solve"]):
+            self.says("White, who is to move, wins after aabbddee on 5 by 4 with lines of five (found by solve, ",
+                      "--board", "5x4x5", "aabbddee", *words, solver=solver, prover="exit 1")
+
     def test_what_is_asked(self):
         """Where nothing else is said, both are asked where tools/solve was made, and else prove alone."""
         with mock.patch.object(victor, "SOLVER", "/no/such"):

@@ -232,6 +232,9 @@ class RunTest(ToolTest):
         self.assertEqual((proof.value, proof.lemmas, proof.text, proof.status), ("win", 2, USUAL, 0))
         self.assertEqual(words.read_text(encoding="ascii"), "--quiet --memory 500 --rounds 3 --seconds 30\n")
         self.assertEqual(victor.check(proof).value, "win")
+        five = victor.Game.read("aabbddee", (5, 4, 5))
+        proof = victor.solve(five, program=self.stub("cat '%s'" % example("five", "win.proof")))
+        self.assertEqual((proof.value, proof.game.size), ("win", five.size))
         fault = self.fails(victor.Failed, victor.solve, self.game, program=self.stub("echo solve: no >&2; exit 2"))
         self.assertEqual((fault.status, fault.text), (2, "solve: no\n"))
         with mock.patch.object(victor, "SOLVER", "/no/such"):
