@@ -5,7 +5,7 @@
 #include <unordered_map>
 #include <vector>
 
-#include "strategy.h"
+#include "renew.h"
 
 template <int ROWS>
 class Bettered : public Strategy<ROWS> {
@@ -51,6 +51,24 @@ class Bettered : public Strategy<ROWS> {
     void start(Position root) {
         root_ = standing(root);
         if (!take(root_)) throw Fault("the moves of " + options_.start + " don't lead to the end that they should");
+        report();
+    }
+
+    // Takes what the graph of the strategy comes to when it is made smaller.
+    void better_in_graph() {
+        std::vector<Moved> moves;
+        for (const std::vector<Word>& keys : prover_keys()) {
+            for (Word key : keys) moves.push_back({key, unsigned(table_.find(key)->move)});
+        }
+        if (moves.empty() || (proves(root_) && winning(root_))) return;
+        auto ends = [this](Position at) { return closes(at); };
+        Renewed<ROWS> graph(board_, search_, wins_, folds_, options_, ends, options_.graph);
+        graph.start(root_, proves(root_), moves);
+        graph.better();
+        moves = graph.moves();
+        drop(root_);
+        keep(moves);
+        if (!take(root_)) throw Fault("what was dropped can't be taken in again");
         report();
     }
 
@@ -110,6 +128,7 @@ class Bettered : public Strategy<ROWS> {
     using Base::drop;
     using Base::drop_noted;
     using Base::find;
+    using Base::folds_;
     using Base::free_move;
     using Base::is_live;
     using Base::live_;
@@ -120,6 +139,7 @@ class Bettered : public Strategy<ROWS> {
     using Base::proves;
     using Base::random;
     using Base::report;
+    using Base::search_;
     using Base::square_in;
     using Base::standing;
     using Base::table_;
@@ -127,6 +147,7 @@ class Bettered : public Strategy<ROWS> {
     using Base::take_again;
     using Base::take_one;
     using Base::winning;
+    using Base::wins_;
     using Base::work_;
 
     static constexpr size_t MOST_EMPTY = 32;       // squares above a part that is renewed

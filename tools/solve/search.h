@@ -99,6 +99,9 @@ class Search {
         return known >= 0 ? known : visit(root, asks);
     }
 
+    // Notes what is known of a position: whether the side to move reaches its end.
+    void know(Position at, bool answer) { decided_.put(key_of(at), answer, true); }
+
     uint64_t nodes = 0;
     bool is_spent = false;
 

@@ -16,7 +16,7 @@ static const char usage[] =
     "usage: solve [-o FILE] [--memory MIB] [--lemmas N] [--book FILE] [--mirror N] [--reach N] [--order N]\n"
     "             [--closure N] [--high N] [--probe N] [--part N] [--no-reuse] [--look N] [--rounds N] [--nodes N]\n"
     "             [--starts N] [--sweeps N] [--seed N] [--seconds N] [--format N] [--start FILE] [--also FILE]...\n"
-    "             [--below MOVES]... [--beside] [--changes FILE FILE]... [--quiet] [GAME]\n"
+    "             [--below MOVES]... [--beside] [--changes FILE FILE]... [--graph MIB] [--quiet] [GAME]\n"
     "Reads the text of a game from the file GAME or from standard input, and writes a proof of its value to FILE or\n"
     "to standard output. docs/SOLVED.md says more.\n";
 
@@ -204,6 +204,10 @@ class Prover {
             progress.lemmas = strategy.size();
             progress.line(search.nodes);
         }
+        if (options_.graph && !is_late()) {
+            progress.stage = "renewing";
+            strategy.better_in_graph();
+        }
         int idle = 0;
         for (uint64_t n = 0; n < options_.sweeps && idle < 3 && !is_late(); ++n) {
             uint64_t before = strategy.size();
@@ -230,6 +234,7 @@ static void run(int count, char** words) {
         }
         if (word == "--memory") options.memory = number(1, 1 << 20) << 20;
         else if (word == "--lemmas") options.lemmas = number(1, 10'000'000);
+        else if (word == "--graph") options.graph = number(0, 1 << 20) << 20;
         else if (word == "--look") options.look = int(number(0, 63));
         else if (word == "--rounds") options.rounds = int(number(0, 1000));
         else if (word == "--nodes") options.nodes = number(0, 1'000'000'000);

@@ -12,6 +12,7 @@ import unittest
 
 from common import TOOLS, ToolTest, boards, heard, program, read
 import mutants
+import victor
 
 SOURCES = os.path.join(TOOLS, "solve")
 COMPILER = shutil.which("g++")
@@ -92,6 +93,8 @@ class SolveTest(ToolTest):
         self.assertLess({"draw"}, words)
         proof = self.proof_of(game_text(4, 4, "", 5))[0]
         self.assertTrue(proof.split("\n")[3].startswith("1 - W- plan "))
+        found = victor.solve(boards.Game(4, 4, length=5), program=self.solver, memory=300)
+        self.assertEqual((found.value, found.text), ("draw", proof))
 
     def value_of(self, text):
         """The value in an accepted proof, which is that of `victor prove`."""
@@ -129,7 +132,7 @@ class SolveTest(ToolTest):
                               "--high", "0", "--sweeps", "0")[0]
         for words in (["--order", "1"], ["--order", "2"], ["--order", "2", "--closure", "0"], ["--part", "10"],
                       ["--high", "42", "--probe", "100"], ["--order", "3", "--sweeps", "0"], ["--starts", "16"],
-                      ["--seed", "7"], ["--seconds", "0"], ["--mirror", "42"], ["--reach", "1"], []):
+                      ["--seed", "7"], ["--seconds", "0"], ["--mirror", "42"], ["--reach", "1"], ["--graph", "40"], []):
             proof = self.proof_of(text, *words)[0]
             self.assertLessEqual(proof.count("\n"), plain.count("\n"))
         self.assertLess(proof.count("\n") * 5, plain.count("\n"))
@@ -153,6 +156,19 @@ class SolveTest(ToolTest):
             self.assertLess(swept.count("\n") * 10, again.count("\n") * 9)
         for also in (rough, swept):
             self.proof_of(text, "--start", start, "--also", self.file("also", also), "--rounds", "1", "--sweeps", "0")
+
+    def test_graph(self):
+        """The same in a graph: of a draw, of which one half has plans, of a late game, and with lines of five."""
+        for text in (game_text(5, 4, ""), game_text(4, 4, "", 5), game_text(6, 4, "cc")):
+            rough = self.proof_of(text, "--rounds", "0", "--sweeps", "0", "--part", "0", "--order", "2")[0]
+            start = ["--start", self.file("start", rough), "--rounds", "0", "--sweeps", "0"]
+            for form in ("1", "2"):
+                again = self.proof_of(text, "--format", form, *start)[0]
+                bettered = self.proof_of(text, "--format", form, *start, "--graph", "60")[0]
+                self.assertLess(bettered.count("\n") * 10, again.count("\n") * 9)
+        self.fails(text, "needs more memory than its graph has", *start, "--graph", "1")
+        # With little memory, what isn't of the strategy is dropped again and again.
+        self.proof_of(game_text(5, 4, ""), "--graph", "1")
 
     def test_parts_apart(self):
         """Two runs make two parts of a strategy smaller, and both gains come together."""
