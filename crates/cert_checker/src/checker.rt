@@ -184,6 +184,7 @@ impl Checker {
 
 /// Tests that the lemma is right behind the lemmas known, and else answers the first name of what is wrong with it. The
 /// trail is then at its path.
+#[inline(always)]
 fn check_lemma(trail: &mut Trail, known: &Known, lemma: &LemmaView<'_>) -> Result<(), Why>
     requires { board_of trail.old.root ≡ known.now.board }
     ensures refusal { Finds result (lemma_refusal trail.old.root known.now.shown (lemma_viewed lemma.now)) }

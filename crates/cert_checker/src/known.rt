@@ -105,6 +105,7 @@ impl Known {
 
     /// One more lemma, which shows this claim at the position. Memory is taken only where there is no room, and where none
     /// is found nothing has changed.
+    #[inline(always)]
     pub(crate) fn push(&mut self, position: &Position, claim: Claim) -> Result<(), AllocError>
         requires board { board_of position.now ≡ self.old.board }
         requires few { length self.old.shown + 1 < 2 ^ 32 }

@@ -1,18 +1,20 @@
 -- Words as they are read: one is cut off at the first space, and a number is a word of its own.
 use Rattle.std.proofs.Common.{◌≡◌, ◌≢◌, ℕ, ◌+◌, ◌-◌, ◌<◌, ◌≤◌, ◌⊎◌, Bool, true, false, not, cond, ◌==◌, ◌&&◌, nat_le, nat_lt, List, [], ◌∷◌, ◌++◌, take, drop}
-use Rattle.std.proofs.Common.{length, Option, Some, None, codes, Bor, refl, sym, ap, ◌∙◌, subst, inl, inr, arith}
+use Rattle.std.proofs.Common.{length, get_or, Option, Some, None, codes, Bor, refl, sym, ap, ◌∙◌, subst, inl, inr, arith}
 use Rattle.std.specs.List.{position, position_or_len, onto_first}
 use Rattle.std.specs.Cmp.Lexicographic.{same_text}
 use Rattle.std.specs.Option.{option_map}
 use Rattle.std.specs.Str.{bytes_eq}
 use Rattle.std.specs.Fmt.{decimal}
 use Rattle.std.proofs.lemmas.List.{take_rest}
+use Rattle.std.proofs.lemmas.List.Sums.{position_or_len_is}
 use Rattle.std.proofs.lemmas.List.Splits.{slice_split-cons_no, slice_split_first, length-slice_split, join_with_byte-slice_split}
 use Rattle.std.proofs.lemmas.Option.{cond_some}
-use Rattle.std.proofs.lemmas.Bool.{ltb-true, le-leb, lt-leb, lt-ltb, le-ltb, and_from}
+use Rattle.std.proofs.lemmas.Bool.{ltb-true, le-leb, lt-leb, lt-ltb, le-ltb, and_from, eq-eqb, ne_eqb}
 use Rattle.std.proofs.Math.Bool.{and-false}
 use Rattle.std.proofs.lemmas.Bool.Decides.{nat_tests}
 use Rattle.bstr.specs.Find.{IsFirstByte, is_byte}
+use borrow.Author.Count.{below_more}
 use Rattle.io_ports.proofs.FirstByte.{first_none, first_found}
 use Rattle.proof_text.specs.Lemma.{Cite, Reason, ByEnd, ByOne, ByAll, ByMirror}
 use Rattle.proof_text.specs.Spelling.{spaced, most_cites}
@@ -31,15 +33,35 @@ is_space byte = byte == 32
 
 -- ---- cutting
 
+-- where the first space stands, by its place, or that there is none
+pub space_near : (bytes : List ℕ) (at : ℕ) → position_or_len is_space bytes ≡ at → at < length bytes → Some at ≡ position is_space bytes
+space_near bytes at there within =
+    let found : position_or_len is_space bytes < length bytes = omega (arith, there, within) in
+    sym (ap (λ b. cond b (Some (position_or_len is_space bytes)) None) (lt-ltb (position_or_len is_space bytes) (length bytes) found) ∙ ap Some there)
+
+pub space_nowhere : (bytes : List ℕ) → position_or_len is_space bytes ≡ length bytes → None ≡ position is_space bytes
+space_nowhere bytes past =
+    sym (ap (λ b. cond b (Some (position_or_len is_space bytes)) None) (le-ltb (position_or_len is_space bytes) (length bytes) (omega (arith, past))))
+
 -- a search for a space
 pub space_found : (bytes : List ℕ) (r : Option ℕ) → IsFirstByte (is_byte 32) bytes r → r ≡ position is_space bytes
-space_found bytes None nowhere =
-    let past = first_none 32 bytes nowhere in
-    sym (ap (λ b. cond b (Some (position_or_len is_space bytes)) None) (le-ltb (position_or_len is_space bytes) (length bytes) (omega (arith, past))))
-space_found bytes (Some at) found =
-    let there = first_found 32 bytes at found in
-    let within : position_or_len is_space bytes < length bytes = omega (arith, there, found.0.high) in
-    sym (ap (λ b. cond b (Some (position_or_len is_space bytes)) None) (lt-ltb (position_or_len is_space bytes) (length bytes) within) ∙ ap Some there)
+space_found bytes None nowhere = space_nowhere bytes (first_none 32 bytes nowhere)
+space_found bytes (Some at) found = space_near bytes at (first_found 32 bytes at found) found.0.high
+
+-- a search that goes through the bytes one by one
+abbrev pub AreNoSpaces : List ℕ → ℕ → Type 0
+AreNoSpaces bytes at = (k : ℕ) → k < at → is_space (get_or bytes k 0) ≡ false
+
+pub no_spaces_more : (bytes : List ℕ) (at : ℕ) → AreNoSpaces bytes at → (get_or bytes at 0 ≡ 32 → ⊥) → AreNoSpaces bytes (at + 1)
+no_spaces_more bytes at none other = below_more (λ k. is_space (get_or bytes k 0) ≡ false) at none (ne_eqb _ _ other)
+
+pub space_there : (bytes : List ℕ) (at : ℕ) → AreNoSpaces bytes at → get_or bytes at 0 ≡ 32 → at < length bytes → Some at ≡ position is_space bytes
+space_there bytes at none is within =
+    space_near bytes at (position_or_len_is is_space bytes at 0 (omega (arith, within)) none (λ _. eq-eqb _ _ is)) within
+
+pub no_space : (bytes : List ℕ) (at : ℕ) → AreNoSpaces bytes at → length bytes ≤ at → None ≡ position is_space bytes
+no_space bytes at none past = space_nowhere bytes (position_or_len_is is_space bytes (length bytes) 0 (omega arith)
+    (λ k below. none k (omega (arith, below, past))) (λ beyond. absurd (omega (arith, beyond))))
 
 pub cut_at : (bytes : List ℕ) (end : ℕ) → position is_space bytes ≡ Some end
     → words_of bytes ≡ take end bytes ∷ words_of (take (length bytes - (end + 1)) (drop (end + 1) bytes))

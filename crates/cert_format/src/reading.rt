@@ -1,6 +1,6 @@
 //! The reading of a line, word by word. Each reader gives what the definition of the same name gives of its words. A word
 //! that only a few can be is compared where it stands, with the space behind it; of any other the end is looked for.
-ghost use Rattle.std.specs.Prelude.{◌≡◌, ◌≢◌, ℕ, ◌<◌, List, ◌∷◌, ◌++◌, [], Some, None, IfSome, MatchOption, length, map, option_map, position, ◌==◌};
+ghost use Rattle.std.specs.Prelude.{◌≡◌, ◌≢◌, ℕ, ◌<◌, ◌≤◌, List, ◌∷◌, ◌++◌, [], Some, None, IfSome, MatchOption, length, map, option_map, position, take, ◌==◌};
 ghost use Rattle.std.specs.Str.{bytes_eq};
 ghost use Rattle.std.specs.List.{list_all};
 ghost use Rattle.proof_text.specs.Lemma.{ByOne, ByAll, allows};
@@ -68,6 +68,7 @@ fn allows(version: Version, room: &LemmaRoom, kind: Kind) -> bool
 }
 
 /// Reads a line of any version, a lemma into this room.
+#[inline(always)]
 fn read_any(room: &mut LemmaRoom, bytes: &[u8], size: Size) -> Result<Kind, LineFault>
     ensures { ReadsInto room.new result (read_any size bytes.now) }
 {
@@ -105,7 +106,7 @@ fn are_printable(bytes: &[u8]) -> bool
 fn read_lemma(room: &mut LemmaRoom, number: &[u8], rest: &[u8], size: Size) -> Option<()>
     ensures { option_map (λ _. lemma_in room.new) result ≡ lemma_of size (number.now ∷ words_of rest.now) }
 {
-    let (path, rest) = split_word(rest);
+    let (path, rest) = split_path(rest);
     room.number = number_of(number)?;
     read_path(&mut room.path, path, size)?;
     let (claim, rest) = split_claim(rest?)?;
@@ -126,11 +127,22 @@ fn read_path(path: &mut ArrayVec<Column, LONGEST_PATH>, word: &[u8], size: Size)
         return None;
     }
     let kept = named_moves(path.as_slice(), word, size.cols());
-    path.truncate(kept);
+    shorten(path, kept);
     for letter in &word[kept..] {
         path.push(size.column_named(*letter)?);
     }
     Some(())
+}
+
+/// Takes the moves behind the first so many off a path, one by one: mostly there are one or two.
+#[inline(always)]
+fn shorten(path: &mut ArrayVec<Column, LONGEST_PATH>, kept: usize)
+    requires { kept ≤ length path.old.items }
+    ensures { path.new.items ≡ take kept path.old.items }
+{
+    while path.len() > kept {
+        path.pop();
+    }
 }
 
 /// The column that a word of one letter names.
@@ -164,10 +176,16 @@ fn split_claim(bytes: &[u8]) -> Option<(Claim, &[u8])>
 }
 
 /// What stands behind the text, if the bytes begin with it.
+#[inline(always)]
 fn behind<'a>(bytes: &'a [u8], text: &[u8]) -> Option<&'a [u8]>
     ensures { MatchOption result ((rest : List ℕ) → bytes.now ≢ text.now ++ rest) (λ rest. bytes.now ≡ text.now ++ rest.now) }
 {
-    bytes.strip_prefix(text)
+    for at in 0..text.len() {
+        if at >= bytes.len() || bytes[at] != text[at] {
+            return None;
+        }
+    }
+    Some(&bytes[text.len()..])
 }
 
 /// Reads the words of a reason into this room.
@@ -199,6 +217,7 @@ fn read_reason(room: &mut ReasonRoom, bytes: &[u8], size: Size) -> Option<()>
 }
 
 /// A letter and a number, as two words.
+#[inline(always)]
 fn one_of(bytes: &[u8], size: Size) -> Option<Cite>
     ensures { option_map (λ cite. ByOne (shape.cite_of cite)) result ≡ one_of size.cols (words_of bytes.now) }
 {
@@ -210,6 +229,7 @@ fn one_of(bytes: &[u8], size: Size) -> Option<Cite>
 }
 
 /// At most ten cites, each a word.
+#[inline(always)]
 fn all_of(bytes: &[u8], size: Size, cites: &mut ArrayVec<Cite, MOST_CITES>) -> Option<()>
     ensures { option_map (λ _. ByAll (map shape.cite_of cites.new.items)) result ≡ all_of size.cols (words_of bytes.now) }
 {
@@ -267,30 +287,65 @@ fn draw_of(bytes: &[u8]) -> Option<Verdict>
 }
 
 /// The number that a word spells, from 1 to 10,000,000.
+#[inline(always)]
 fn number_of(word: &[u8]) -> Option<u32>
     ensures { result ≡ number_of word.now }
 {
     number_between(1, GREATEST_NUMBER, word)
 }
 
-/// The first word, and what stands behind the space after it, if there is one.
+/// The first word, and what stands behind the space after it, if there is one. It is gone through byte by byte, since most
+/// words are short.
+#[inline(always)]
 pub(crate) fn split_word(bytes: &[u8]) -> (&[u8], Option<&[u8]>)
     ensures words { MatchOption result.1 (words_of bytes.now ≡ result.0.now ∷ []) (λ rest. words_of bytes.now ≡ result.0.now ∷ words_of rest.now) }
     ensures shorter { IfSome result.1 (λ rest. length rest.now < length bytes.now) }
 {
-    match first_space(bytes) {
+    split_at(bytes, near_space(bytes))
+}
+
+/// The same, where the word may be a long one: the space is looked for in blocks.
+fn split_path(bytes: &[u8]) -> (&[u8], Option<&[u8]>)
+    ensures words { MatchOption result.1 (words_of bytes.now ≡ result.0.now ∷ []) (λ rest. words_of bytes.now ≡ result.0.now ∷ words_of rest.now) }
+    ensures shorter { IfSome result.1 (λ rest. length rest.now < length bytes.now) }
+{
+    split_at(bytes, first_space(bytes))
+}
+
+/// What stands before the first space, which is at this place, and what behind it; where there is none, all.
+#[inline(always)]
+fn split_at(bytes: &[u8], space: Option<usize>) -> (&[u8], Option<&[u8]>)
+    requires { space ≡ position (λ byte. byte == 32) bytes.now }
+    ensures words { MatchOption result.1 (words_of bytes.now ≡ result.0.now ∷ []) (λ rest. words_of bytes.now ≡ result.0.now ∷ words_of rest.now) }
+    ensures shorter { IfSome result.1 (λ rest. length rest.now < length bytes.now) }
+{
+    match space {
         Some(end) => (&bytes[..end], Some(&bytes[end + 1..])),
         None => (bytes, None),
     }
 }
 
+/// Where the first space stands, gone to byte by byte.
+#[inline(always)]
+fn near_space(bytes: &[u8]) -> Option<usize>
+    ensures { result ≡ position (λ byte. byte == 32) bytes.now }
+{
+    for at in 0..bytes.len() {
+        if bytes[at] == b' ' {
+            return Some(at);
+        }
+    }
+    None
+}
+
+/// The same, looked for in blocks.
 fn first_space(bytes: &[u8]) -> Option<usize>
-    ensures place { result ≡ position (λ byte. byte == 32) bytes.now }
-    ensures within { IfSome result (λ end. end < length bytes.now) }
+    ensures { result ≡ position (λ byte. byte == 32) bytes.now }
 {
     bytes.find_byte(b' ')
 }
 
+#[inline(always)]
 fn is_word(word: &[u8], text: &[u8]) -> bool
     ensures { result ≡ bytes_eq word.now text.now }
 {
