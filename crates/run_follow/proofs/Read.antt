@@ -1,25 +1,23 @@
 -- What each step of the reading up to the verdict says of the bytes: what comes of them goes on, or how it ends.
-use Rattle.std.proofs.Common.{◌≡◌, ℕ, ◌+◌, ◌<◌, ◌≤◌, Bool, List, [], ◌∷◌, ◌++◌, length, Some, None, Result, Ok, Err, MatchResult, IfErr, OnOk, refl, sym, ap, ◌∙◌, subst, inr, arith}
+use Rattle.std.proofs.Common.{◌≡◌, ℕ, ◌+◌, ◌≤◌, Bool, List, [], ◌∷◌, ◌++◌, Some, None, Result, Ok, Err, MatchResult, IfErr, OnOk, refl, sym, ap, ◌∙◌, subst, inr, arith}
 use Rattle.device_rules.specs.Devices.{Rose}
 use Rattle.game_rules.specs.Position.{board_of}
 use Rattle.io_ports.specs.Lines.{Gives}
+use Rattle.io_ports.specs.declared.line_reader.LineGot.{LineGot}
 use Rattle.io_ports.specs.declared.line_reader.LineGot.TheVariants.{Line, Long, Done, Failed}
 use Rattle.io_ports.specs.Reading.{Pending, Reads, PassesLines}
 use Rattle.proof_text.specs.Checked.{CheckerState, line_refusal, with_line, lemmas_in}
 use Rattle.proof_text.specs.Lemma.{Lemma, Line as Said, ALemma, ARemark, AVerdict}
-use Rattle.proof_text.specs.Reading.{read_line}
 use Rattle.proof_text.specs.Right.{IsVerdict}
-use Rattle.proof_text.specs.Spelling.{greatest_number}
 use Rattle.proof_text.specs.Texts.{pieces, lines_in, lemmas_said, with_said, with_bytes}
 use Rattle.proof_text.specs.declared.Version.{Version}
 use Rattle.proof_text.specs.declared.Why.TheVariants.{BadLine, EndedEarly}
 use Rattle.proof_text.proofs.Accepted.{with_bytes_root}
 use Rattle.proof_text.proofs.First.{out_of_bounds}
-use Rattle.proof_text.proofs.Refusals.{line_of_none, right_of_none, verdict_of_none}
-use Rattle.proof_text.proofs.Spelled.{line_read}
+use Rattle.proof_text.proofs.Refusals.{line_of_none, verdict_of_none}
 use Rattle.proof_text.proofs.Upgraded.{right_line}
 use Rattle.proof_text.proofs.Whole.{shown_count}
-use Rattle.cert_checker.specs.Checking.{why_of}
+use Rattle.cert_checker.specs.Checking.{why_of, IsLemma}
 use Rattle.play_text.specs.Play as ends
 use Rattle.play_text.specs.Play.{Played, ended}
 use Rattle.follow_text.specs.Follow.{judged_from}
@@ -27,11 +25,12 @@ use Rattle.follow_text.proofs.Judged.{judged_ended, judged_refused, judged_step}
 use Rattle.run_frame.specs.declared.game_input.InputStop.TheVariants as inputs
 use Rattle.run_frame.proofs.Cuts.{line_first, long_first, none_left}
 use Rattle.run_frame.proofs.GameRead.{by_line}
-use Rattle.run_proof.specs.Steps.{IsAccepted, StopsAtLine, lines_read_until}
+use Rattle.run_proof.specs.Steps.{IsAccepted, AcceptsNext, StopsAtLine, StopsAtGot, lines_read_until}
+use Rattle.run_proof.specs.Taken.{Gains, InStep}
 use Rattle.run_proof.specs.Whole.{most_lines_read}
 use Rattle.run_proof.specs.declared.stop.ProofStop.{ProofStop}
 use Rattle.run_proof.specs.declared.stop.ProofStop.TheVariants as stops
-use Rattle.run_proof.proofs.Known.{not_refused}
+use Rattle.run_proof.proofs.Known.{not_refused, next_lemma}
 use Rattle.run_follow.specs.Reading.{judged_by, AreKept, KeepsLine, GoesTo, StopsReading}
 
 -- ---- a line
@@ -112,6 +111,15 @@ module _ (a b : Pending) (text : List ℕ) (fed : Bool) (version : Version) (s :
       × StopsReading (λ holder. judged_by holder version s ls at bytes) before after (stops.Input inputs.Read))
   next_unread before after gives rose = by_line a b Failed text fed gives _ (λ bytes rest is. rose)
 
+  -- what stops the reading, whatever was got
+  pub next_got : (before after : ℕ) (stop : ProofStop) (got : LineGot) → Reads a b (λ bytes rest. Gives bytes rest got text fed)
+      → StopsAtGot version s at before after text stop got
+      → Reads a b (λ bytes rest. PassesLines 1 bytes rest × StopsReading (λ holder. judged_by holder version s ls at bytes) before after stop)
+  next_got before after stop Line gives stopped = next_stops before after stop gives stopped
+  next_got before after stop Long gives stopped = rw stopped (next_long before after gives)
+  next_got before after stop Done gives stopped = absurd stopped
+  next_got before after stop Failed gives stopped = rw stopped.0 (next_unread before after gives stopped.1)
+
   -- a line that was kept, or stopped the reading
   pub next_read : {X : Type 0} (t : CheckerState) (ms : List Lemma) (before after : ℕ) (result : Result X ProofStop)
       → Reads a b (λ bytes rest. Gives bytes rest Line text fed)
@@ -120,6 +128,19 @@ module _ (a b : Pending) (text : List ℕ) (fed : Bool) (version : Version) (s :
       (StopsReading (λ holder. judged_by holder version s ls at bytes) before after))
   next_read t ms before after (Ok x) gives keeps = next_goes t ms gives keeps
   next_read t ms before after (Err stop) gives stopped = next_stops before after stop gives stopped
+
+-- a line that was accepted and handed to the book
+module _ (a b : Pending) (version : Version) (s t : CheckerState) (ls ms : List Lemma) (at : ℕ) (line : Said) (kept : AreKept s ls)
+    (is : AcceptsNext a b version s t at line) where
+  pub next_step : InStep (Some ls) s
+  next_step = sym (shown_count s.root ls s.known kept.right)
+
+  pub next_kept : {X : Type 0} (result : Result X ProofStop)
+      → MatchResult result (λ _. Gains (Some ls) (Some ms) (lemmas_in (line ∷ []))) (λ stop. (stop ≡ stops.Memory) × IsLemma line × (Some ms ≡ Some ls))
+      → MatchResult result (λ _. KeepsLine version s t ls ms at is.text) (StopsAtLine version s at is.text)
+  next_kept (Ok x) gains = line_keeps version s t ls ms at is.text line kept is.accepted (cc gains)
+  next_kept (Err stop) untaken = subst (StopsAtLine version s at is.text) (sym untaken.0)
+      (next_lemma version s at is.text (board_of s.root) line refl is.accepted.few is.accepted.said is.accepted.stands untaken.1)
 
 -- it is kept that what stands is what right lemmas show
 pub read_kept : {X : Type 0} (version : Version) (s t : CheckerState) (ls ms : List Lemma) (at : ℕ) (text : List ℕ) (result : Result X ProofStop)
@@ -140,15 +161,3 @@ read_until version s t ls ms at text (Ok x) keeps few = tt
 read_until version s t ls ms at text (Err (stops.Refused r)) stopped few = (omega (arith, stopped.1), omega (arith, stopped.1, few))
 read_until version s t ls ms at text (Err stops.Memory) stopped few = (few, omega arith)
 read_until version s t ls ms at text (Err (stops.Input why)) stopped few = absurd stopped
-
--- ---- the next lemma
-
--- there is room for it in a book, and it has the next number
-pub lemma_next : (version : Version) (s : CheckerState) (ls : List Lemma) (bytes : List ℕ) (l : Lemma) → AreKept s ls
-    → read_line version (board_of s.root) bytes ≡ Some (ALemma l) → line_refusal s (ALemma l) ≡ None
-    → (length ls < greatest_number) × (l.number ≡ length ls + 1)
-lemma_next version s ls bytes l kept said stands =
-    let right = right_of_none s.root s.known l (line_of_none s (ALemma l) stands).1 in
-    let count = shown_count s.root ls s.known kept.right in
-    let fits = (line_read version (board_of s.root) bytes (ALemma l) said).1.0 in
-    (omega (arith, right.1.next, count, fits.number.1), omega (arith, right.1.next, count))

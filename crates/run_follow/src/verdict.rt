@@ -4,20 +4,20 @@ ghost use Rattle.game_rules.specs.Position.{board_of};
 ghost use Rattle.io_ports.specs.Reading.{pending, Reads, PassesLines};
 ghost use Rattle.proof_text.specs.Texts.{first_number, start};
 ghost use Rattle.follow_text.specs.Follow.{follow_of};
-ghost use Rattle.run_proof.specs.Steps.{StopsAtLine, lines_read_until};
+ghost use Rattle.run_proof.specs.Steps.{lines_read_until};
 ghost use Rattle.run_proof.specs.Whole.{most_lines_read};
 ghost use Rattle.run_proof.specs.declared.stop.ProofStop.TheVariants as stops;
 ghost use Rattle.proof_text.specs.declared.Why.TheVariants as whys;
-ghost use Rattle.run_follow.specs.Reading.{judged_by, AreKept, KeepsLine, GoesTo, StopsReading, IsToVerdict, IsRightProof};
+ghost use Rattle.run_follow.specs.Reading.{judged_by, AreKept, GoesTo, StopsReading, IsToVerdict, IsRightProof};
 
 use board_bits::{Position, Size};
 use cert_checker::{Checker, Refusal, Why};
-use cert_format::{LineBuffer, LineView, Verdict, Version};
-use io_ports::{LineGot, Lines, Source};
+use cert_format::{LineBuffer, Verdict, Version};
+use io_ports::{Lines, Source};
 use proof_book::Book;
-use run_frame::{InputStop, read_game_lines};
-use run_proof::{FIRST_NUMBER, ProofStop, accept_line, bad_line, read_head};
-use std::alloc::{AllocError, Global};
+use run_frame::read_game_lines;
+use run_proof::{FIRST_NUMBER, ProofStop, accept_next, hand_on, read_head};
+use std::alloc::Global;
 
 /// A proof that is right up to its verdict: its game's position, the verdict, and the number of its line.
 #[derive(Drop)]
@@ -114,38 +114,9 @@ fn add_next<S: Source>(
     ensures stops { at ≤ most_lines_read → IfErr result (λ stop. (at ≤ lines_read_until stop) × (lines_read_until stop ≤ most_lines_read)) }
     ensures later { S.faults source.old ≤ S.faults source.new }
 {
-    match lines.next(source) {
-        LineGot::Line => add_line(checker, book, room, size, version, at, lines.text()),
-        LineGot::Long => Err(bad_line(at)),
-        LineGot::Done => Err(ended_early(at)),
-        LineGot::Failed => Err(ProofStop::Input(InputStop::Read)),
-    }
-}
-
-/// Adds the line at this number, given by its bytes. It is read into the room.
-fn add_line(
-    checker: &mut Checker,
-    book: &mut Book,
-    room: &mut LineBuffer,
-    size: Size,
-    version: Version,
-    at: u64,
-    bytes: &[u8],
-) -> Result<(), ProofStop>
-    requires board { board_of checker.old.stands.root ≡ size }
-    requires kept { AreKept checker.old.stands book.old }
-    ensures kept { MatchResult result
-        (λ _. KeepsLine version checker.old.stands checker.new.stands book.old book.new at bytes.now)
-        (StopsAtLine version checker.old.stands at bytes.now) }
-    ensures few { OnOk result (at < most_lines_read) }
-{
-    match accept_line(checker, room, size, version, at, bytes) {
-        Ok(LineView::Lemma(lemma)) => match book.keep_view(&lemma) {
-            Ok(()) => Ok(()),
-            Err(AllocError) => Err(ProofStop::Memory),
-        },
-        Ok(LineView::Remark) => Ok(()),
-        Ok(LineView::Verdict(_)) => Ok(()),
+    match accept_next(checker, room, size, version, at, lines, source) {
+        Ok(Some(line)) => hand_on(book, &line),
+        Ok(None) => Err(ended_early(at)),
         Err(stop) => Err(stop),
     }
 }

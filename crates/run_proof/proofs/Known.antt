@@ -1,7 +1,9 @@
 -- What each step of `check` says of the bytes, where those are known: that the answer goes on, or what it is.
-use Rattle.std.proofs.Common.{◌≡◌, ℕ, ◌+◌, ◌≤◌, Bool, List, [], ◌∷◌, ◌++◌, length, Option, Some, None, Result, Ok, Err, MatchResult, OnOk}
-use Rattle.std.proofs.Common.{refl, sym, ap, ◌∙◌, subst}
+use Rattle.std.proofs.Common.{◌≡◌, ℕ, ◌+◌, ◌≤◌, Bool, List, [], ◌∷◌, ◌++◌, length, Option, Some, None, Result, Ok, Err, MatchResult, MatchOption, OnOk}
+use Rattle.std.proofs.Common.{refl, sym, ap, ◌∙◌, subst, arith}
+use Rattle.std.specs.Bool.{⊤}
 use Rattle.std.proofs.lemmas.Bool.{le-leb}
+use Rattle.std.proofs.lemmas.Option.{MatchOption-at_some}
 use Rattle.std.specs.Io.KnownBytes.{IsAtEnd}
 use Rattle.io_ports.specs.Lines.{Cut, next_line, Gives}
 use Rattle.io_ports.specs.declared.line_reader.LineGot.{LineGot}
@@ -19,9 +21,12 @@ use Rattle.proof_text.specs.declared.Why.TheVariants.{BadLine}
 use Rattle.proof_text.specs.Reading.{read_line}
 use Rattle.proof_text.specs.Lemma.{Lemma, Line as Said, ALemma, ARemark, AVerdict}
 use Rattle.cert_checker.specs.Checking.{why_of, IsLemma}
+use Rattle.cert_format.specs.Shape.{viewed}
+use Rattle.cert_format.specs.declared.lines.LineView.{LineView}
 use Rattle.run_proof.specs.Taken.{lemmas_said, lemmas_from_lines, Gains, InStep}
-use Rattle.run_proof.specs.Whole.{judged, version_named, IsRightInput, SaysTruth}
+use Rattle.run_proof.specs.Whole.{judged, version_named, IsRightInput, SaysTruth, most_lines_read}
 use Rattle.run_proof.specs.Steps.{lines_from, IsNamed, IsNextLemma, LinesReach, AtHead, AtGame, AtLine, GoesOn, Gets, StopsBy, StopsWith, StopsAtLine}
+use Rattle.run_proof.specs.Steps.{AcceptsNext, EndsLines, StopsAtGot, StopsNext, lines_read_until}
 use Rattle.io_ports.specs.Reading.{Pending, Reads, PassesLines}
 use Rattle.device_rules.specs.Devices.{Rose}
 use Rattle.run_frame.specs.declared.game_input.InputStop.TheVariants as inputs
@@ -152,6 +157,79 @@ module _ (version : Version) (s : CheckerState) (at : ℕ) (bytes : List ℕ) (s
       let next : t ≡ with_bytes version s bytes = added ∙ ap (with_said s) (sym here) in
       let gains : Gains had has (lemmas_said version (board_of s.root) (bytes ∷ [])) = rw here h in
       ((not_refused, next), gains, step_more version s bytes at t had has not_refused next step gains)
+
+-- ---- what is got of the lines
+
+-- the line that is lent was accepted
+pub got_line : {a b : Pending} {version : Version} {s t : CheckerState} {at : ℕ} {got : Option LineView} (IfNone : Type 0) (line same : LineView) → got ≡ Some line
+    → line ≡ same → MatchOption got IfNone (λ line. AcceptsNext a b version s t at (viewed line)) → AcceptsNext a b version s t at (viewed same)
+got_line {a} {b} {version} {s} {t} {at} IfNone line same is kind next =
+    subst (λ line. AcceptsNext a b version s t at (viewed line)) kind (MatchOption-at_some _ _ line is next)
+
+module _ (version : Version) (a b : Pending) (s t : CheckerState) (at : ℕ) (had has : Option (List Lemma)) where
+  -- a line that was accepted and handed to the taker
+  pub accepted_known : (line : Said) → AcceptsNext a b version s t at line → InStep had s → Gains had has (lemmas_in (line ∷ []))
+      → Gets a b had has (λ lemmas bytes rest. PassesLines 1 bytes rest × GoesOn (AtLine version s at) bytes (AtLine version t (at + 1)) rest lemmas)
+      × InStep has t × (at ≤ most_lines) × (t.root ≡ s.root)
+  accepted_known line is step gains =
+      let took : Result ⊤ ProofStop = Ok tt in
+      let known = handed version s at is.text (board_of s.root) line refl is.accepted.few is.accepted.said is.accepted.stands t had has took
+      is.accepted.next step gains in (
+        line_known version a b is.text is.fed s at had has is.gives known.0.0 t known.0.1 known.1,
+        known.2,
+        is.accepted.few,
+        ap (λ t. t.root) known.0.1 ∙ with_bytes_root version s is.text,
+      )
+
+  -- one that the taker didn't take
+  pub untaken_stops : (line : Said) → AcceptsNext a b version s t at line → InStep had s → (before after : ℕ) (stop : ProofStop)
+      → (stop ≡ stops.Memory) × IsLemma line × (has ≡ had)
+      → Gets a b had has (λ lemmas bytes rest. PassesLines 1 bytes rest × StopsWith (AtLine version s at) lemmas bytes before after stop)
+  untaken_stops line is step before after stop untaken =
+      let took : Result ⊤ ProofStop = Err stop in
+      let known = handed version s at is.text (board_of s.root) line refl is.accepted.few is.accepted.said is.accepted.stands t had has took
+      is.accepted.next step untaken in
+      line_stops version a b is.text is.fed s at had has is.gives untaken.2 before after stop known.0
+
+  -- no line
+  pub ended_known : (ended : Bool) → EndsLines a b s t ended → has ≡ had
+      → Gets a b had has (λ lemmas bytes rest. PassesLines 1 bytes rest
+      × ((lines_from version s at bytes ≡ verdict_answer at (length t.known) t.verdict) × (lemmas_from_lines version (board_of s.root) bytes ≡ lemmas)))
+  ended_known ended is same =
+      let P : CheckerState → Type 0 = λ t. Gets a b had has (λ lemmas bytes rest. PassesLines 1 bytes rest
+      × ((lines_from version s at bytes ≡ verdict_answer at (length t.known) t.verdict) × (lemmas_from_lines version (board_of s.root) bytes ≡ lemmas))) in
+      subst P (sym is.same) (none_known version a b is.text is.fed s at had has is.gives same)
+
+-- what stops the reading
+pub got_stops : (version : Version) (a b : Pending) (s : CheckerState) (at : ℕ) (had has : Option (List Lemma)) (before after : ℕ) (stop : ProofStop)
+    → StopsNext a b version s at before after stop → has ≡ had
+    → Gets a b had has (λ lemmas bytes rest. PassesLines 1 bytes rest × StopsWith (AtLine version s at) lemmas bytes before after stop)
+got_stops version a b s at had has before after stop is same = by_got is.got is.text is.fed is.gives is.stopped
+  where
+    by_got : (got : LineGot) (text : List ℕ) (fed : Bool) → Reads a b (λ bytes rest. Gives bytes rest got text fed)
+        → StopsAtGot version s at before after text stop got
+        → Gets a b had has (λ lemmas bytes rest. PassesLines 1 bytes rest × StopsWith (AtLine version s at) lemmas bytes before after stop)
+    by_got Line text fed gives stopped = line_stops version a b text fed s at had has gives same before after stop stopped
+    by_got Long text fed gives stopped = rw stopped (long_stops version a b text fed s at had has gives same before after)
+    by_got Done text fed gives stopped = absurd stopped
+    by_got Failed text fed gives stopped = rw stopped.0 (unread_stops version a b text fed s at had has gives same before after stopped.1)
+
+-- the line with this number is the last that is read, at least
+pub got_until : (version : Version) (a b : Pending) (s : CheckerState) (at before after : ℕ) (stop : ProofStop)
+    → StopsNext a b version s at before after stop → at ≤ most_lines_read → (at ≤ lines_read_until stop) × (lines_read_until stop ≤ most_lines_read)
+got_until version a b s at before after stop is few = by_got is.got is.text is.stopped
+  where
+    at_line : (text : List ℕ) (stop : ProofStop) → StopsAtLine version s at text stop → (at ≤ lines_read_until stop) × (lines_read_until stop ≤ most_lines_read)
+    at_line text (stops.Refused r) stopped = (omega (arith, stopped.1), omega (arith, stopped.1, few))
+    at_line text stops.Memory stopped = (few, omega arith)
+    at_line text (stops.Input why) stopped = absurd stopped
+
+    by_got : (got : LineGot) (text : List ℕ) → StopsAtGot version s at before after text stop got
+        → (at ≤ lines_read_until stop) × (lines_read_until stop ≤ most_lines_read)
+    by_got Line text stopped = at_line text stop stopped
+    by_got Long text stopped = rw stopped (omega arith, few)
+    by_got Done text stopped = absurd stopped
+    by_got Failed text stopped = rw stopped.0 (few, omega arith)
 
 -- ---- a whole text
 

@@ -11,12 +11,16 @@ use Rattle.proof_text.specs.Reading.{read_line}
 use Rattle.proof_text.specs.Texts.{most_lines, pieces, lines_in, first_number, game_of, behind_game, first_line, bytes_refusal, with_bytes, start, CheckAnswer, NoGame, Refused, game_answer, verdict_answer, check_from}
 use Rattle.cert_checker.specs.Checking.{why_of}
 use Rattle.cert_checker.specs.declared.stops.Accepted.{Accepted}
+use Rattle.io_ports.specs.Lines.{Gives}
 use Rattle.io_ports.specs.Reading.{Pending, Reads}
+use Rattle.io_ports.specs.declared.line_reader.LineGot.{LineGot}
+use Rattle.io_ports.specs.declared.line_reader.LineGot.TheVariants as gets
 use Rattle.run_frame.specs.Streams.{TakesLines}
 use Rattle.run_frame.specs.declared.game_input.InputStop.TheVariants as inputs
 use Rattle.run_proof.specs.Taken.{text_lemmas, lemmas_from_game, lemmas_from_lines, Gains, BeginWith}
 use Rattle.run_proof.specs.Whole.{judged, BeginsProof, IsRightInput, most_lines_read}
 use Rattle.proof_text.specs.declared.Version.{Version}
+use Rattle.proof_text.specs.declared.Why.TheVariants.{BadLine}
 use Rattle.run_proof.specs.declared.stop.ProofStop.{ProofStop}
 use Rattle.run_proof.specs.declared.stop.ProofStop.TheVariants as stops
 
@@ -112,6 +116,35 @@ pub record IsAccepted (version : Version) (s t : CheckerState) (at : ℕ) (bytes
   pub said : read_line version (board_of s.root) bytes ≡ Some line
   pub stands : line_refusal s line ≡ None
   pub next : t ≡ with_line s line
+
+-- the next line that is got is accepted
+pub record AcceptsNext (a b : Pending) (version : Version) (s t : CheckerState) (at : ℕ) (line : Line) : Type 0 where
+  pub text : List ℕ
+  pub fed : Bool
+  pub gives : Reads a b (λ bytes rest. Gives bytes rest gets.Line text fed)
+  pub accepted : IsAccepted version s t at text line
+
+-- no line is left, and the end of the input was reached
+pub record EndsLines (a b : Pending) (s t : CheckerState) (ended : Bool) : Type 0 where
+  pub text : List ℕ
+  pub fed : Bool
+  pub gives : Reads a b (λ bytes rest. Gives bytes rest gets.Done text fed)
+  pub same : t ≡ s
+  pub whole : ended ≡ true
+
+-- what is got stops the reading: a line that is refused, or for which memory runs out, one that is too long, or a fault
+abbrev pub StopsAtGot : Version → CheckerState → (at before after : ℕ) → List ℕ → ProofStop → LineGot → Type 0
+StopsAtGot version s at before after text stop gets.Line = StopsAtLine version s at text stop
+StopsAtGot version s at before after text stop gets.Long = stop ≡ stops.Refused (record { at = at; why = BadLine })
+StopsAtGot version s at before after text stop gets.Done = ⊥
+StopsAtGot version s at before after text stop gets.Failed = (stop ≡ stops.Input inputs.Read) × Rose before after
+
+pub record StopsNext (a b : Pending) (version : Version) (s : CheckerState) (at before after : ℕ) (stop : ProofStop) : Type 0 where
+  pub got : LineGot
+  pub text : List ℕ
+  pub fed : Bool
+  pub gives : Reads a b (λ bytes rest. Gives bytes rest got text fed)
+  pub stopped : StopsAtGot version s at before after text stop got
 
 -- the number of the last line that is read, at most, by what stops the reading
 abbrev pub lines_read_until : ProofStop → ℕ

@@ -8,7 +8,7 @@ mod stop;
 mod taker;
 
 pub use reading::{
-    FIRST_NUMBER, ProofRead, accept_line, bad_line, read_head, read_proof, read_whole_proof,
+    FIRST_NUMBER, ProofRead, accept_next, hand_on, read_head, read_proof, read_whole_proof,
 };
 pub use stop::ProofStop;
 pub use taker::{KeepsNone, LemmaTaker, NotTaken};

@@ -1,14 +1,14 @@
 //! The reading of a proof: line by line, and each line is judged as it comes, so that only what its lemmas show is kept.
 //! Reading stops at the first line that is refused.
-ghost use Rattle.std.specs.Prelude.{◌≡◌, ◌+◌, ◌-◌, ◌≤◌, true, false, [], ◌∷◌, length, is_ok, Ok, Some, MatchResult, IfOk, IfErr, OnOk};
+ghost use Rattle.std.specs.Prelude.{◌≡◌, ◌+◌, ◌-◌, ◌≤◌, true, false, [], ◌∷◌, length, Ok, MatchResult, MatchOption, IfOk, IfErr, OnOk};
 ghost use Rattle.game_rules.specs.Position.{board_of};
 ghost use Rattle.cert_checker.specs.Checking.{IsLemma};
 ghost use Rattle.cert_format.specs.Shape.{viewed};
 ghost use Rattle.proof_text.specs.Checked.{lemmas_in};
-ghost use Rattle.proof_text.specs.Texts.{first_number, bytes_refusal, with_bytes, verdict_answer};
+ghost use Rattle.proof_text.specs.Texts.{first_number, verdict_answer};
 ghost use Rattle.run_proof.specs.Whole.{version_named, IsAsked, most_lines_read};
-ghost use Rattle.run_proof.specs.Taken.{lemmas_said, Gains, MayHandOn, InStep, HasNone};
-ghost use Rattle.run_proof.specs.Steps.{lines_from, lemmas_at, AtHead, AtGame, AtLine, GoesOn, Gets, Adds, IsAccepted, IsFirstStop, IsNamed, IsStopAt, StopsBy, StopsWith, StopsAtLine, lines_read_until, Judges};
+ghost use Rattle.run_proof.specs.Taken.{Gains, MayHandOn, InStep, HasNone};
+ghost use Rattle.run_proof.specs.Steps.{lines_from, lemmas_at, AtHead, AtGame, AtLine, GoesOn, Gets, Adds, IsAccepted, AcceptsNext, EndsLines, StopsNext, IsFirstStop, IsNamed, IsStopAt, StopsBy, StopsWith, StopsAtLine, lines_read_until, Judges};
 ghost use Rattle.run_proof.specs.Heads.{JudgesWhole};
 ghost use Rattle.io_ports.specs.Reading.{pending, Reads, PassesLines};
 ghost use Rattle.run_proof.specs.declared.stop.ProofStop.TheVariants as stops;
@@ -183,47 +183,54 @@ fn add_next<S: Source, T: LemmaTaker>(
     ensures stops { at ≤ most_lines_read → IfErr result (λ stop. (at ≤ lines_read_until stop) × (lines_read_until stop ≤ most_lines_read)) }
     ensures later { S.faults source.old ≤ S.faults source.new }
 {
-    match lines.next(source) {
-        LineGot::Line => {
-            add_line(checker, taker, room, size, version, at, lines.text())?;
+    match accept_next(checker, room, size, version, at, lines, source) {
+        Ok(Some(line)) => {
+            hand_on(taker, &line)?;
             Ok(true)
         }
-        LineGot::Long => Err(bad_line(at)),
-        LineGot::Done => Ok(false),
-        LineGot::Failed => Err(ProofStop::Input(InputStop::Read)),
+        Ok(None) => Ok(false),
+        Err(stop) => Err(stop),
     }
 }
 
-/// Adds the line at this number, given by its bytes. It is read into the room.
-fn add_line<T: LemmaTaker>(
+/// Accepts the next line, which has this number and is read into the room, and lends it from there; None where the input
+/// has ended. Every command that reads a proof reads its lines by this. It is made a part of each caller, so that no line is
+/// moved.
+#[inline(always)]
+pub fn accept_next<'a, S: Source>(
     checker: &mut Checker,
-    taker: &mut T,
-    room: &mut LineBuffer,
+    room: &'a mut LineBuffer,
     size: Size,
     version: Version,
     at: u64,
-    bytes: &[u8],
-) -> Result<(), ProofStop>
+    lines: &mut Lines,
+    source: &mut S,
+) -> Result<Option<LineView<'a>>, ProofStop>
     requires board { board_of checker.old.stands.root ≡ size }
-    requires in_step { InStep (T.lemmas taker.old) checker.old.stands }
     ensures answer { MatchResult result
-        (λ _. (bytes_refusal version checker.old.stands at bytes.now ≡ None) × (checker.new.stands ≡ with_bytes version checker.old.stands bytes.now))
-        (StopsAtLine version checker.old.stands at bytes.now) }
-    ensures taken { MatchResult result
-        (λ _. Gains (T.lemmas taker.old) (T.lemmas taker.new) (lemmas_said version (board_of checker.old.stands.root) (bytes.now ∷ [])))
-        (λ _. T.lemmas taker.new ≡ T.lemmas taker.old) }
-    ensures in_step { OnOk result (InStep (T.lemmas taker.new) checker.new.stands) }
-    ensures few { OnOk result (at ≤ MOST_LINES) }
+        (λ got. MatchOption got
+        (EndsLines (pending lines.old (S.left source.old) (S.last_read source.old)) (pending lines.new (S.left source.new) (S.last_read source.new))
+        checker.old.stands checker.new.stands lines.new.ended)
+        (λ line. AcceptsNext (pending lines.old (S.left source.old) (S.last_read source.old)) (pending lines.new (S.left source.new) (S.last_read source.new))
+        version checker.old.stands checker.new.stands at (viewed line)))
+        (StopsNext (pending lines.old (S.left source.old) (S.last_read source.old)) (pending lines.new (S.left source.new) (S.last_read source.new))
+        version checker.old.stands at (S.faults source.old) (S.faults source.new)) }
+    ensures later { S.faults source.old ≤ S.faults source.new }
 {
-    match accept_line(checker, room, size, version, at, bytes) {
-        Ok(line) => hand_on(taker, &line),
-        Err(stop) => Err(stop),
+    match lines.next(source) {
+        LineGot::Line => match accept_line(checker, room, size, version, at, lines.text()) {
+            Ok(line) => Ok(Some(line)),
+            Err(stop) => Err(stop),
+        },
+        LineGot::Long => Err(bad_line(at)),
+        LineGot::Done => Ok(None),
+        LineGot::Failed => Err(ProofStop::Input(InputStop::Read)),
     }
 }
 
 /// Accepts the line at this number, given by its bytes, which is read into the room, and lends it from there.
 #[inline(always)]
-pub fn accept_line<'a>(
+fn accept_line<'a>(
     checker: &mut Checker,
     room: &'a mut LineBuffer,
     size: Size,
@@ -262,7 +269,7 @@ fn make_room(checker: &mut Checker, line: &LineView<'_>)
 }
 
 /// Hands an accepted line to the taker, where it is a lemma.
-fn hand_on<T: LemmaTaker>(taker: &mut T, line: &LineView<'_>) -> Result<(), ProofStop>
+pub fn hand_on<T: LemmaTaker>(taker: &mut T, line: &LineView<'_>) -> Result<(), ProofStop>
     requires { MayHandOn (T.lemmas taker.old) (viewed line.now) }
     ensures { MatchResult result
         (λ _. Gains (T.lemmas taker.old) (T.lemmas taker.new) (lemmas_in (viewed line.now ∷ [])))
@@ -278,7 +285,7 @@ fn hand_on<T: LemmaTaker>(taker: &mut T, line: &LineView<'_>) -> Result<(), Proo
 }
 
 /// The line at this number is none of a proof.
-pub fn bad_line(at: u64) -> ProofStop
+fn bad_line(at: u64) -> ProofStop
     ensures { result ≡ stops.Refused (record { at = at; why = whys.BadLine }) }
 {
     ProofStop::Refused(Refusal {

@@ -6,6 +6,8 @@ ghost use Rattle.cert_format.specs.Shape.{lemma_viewed};
 ghost use Rattle.run_proof.specs.Taken.{Gains, IsNext, IsSpelled};
 
 use cert_format::LemmaView;
+use proof_book::Book;
+use std::alloc::AllocError;
 
 /// The lemma was not taken: memory ran out, or what the taker hands its lemmas to failed, which the taker then tells.
 #[derive(Clone, Copy)]
@@ -36,5 +38,19 @@ impl LemmaTaker for KeepsNone {
 
     fn take(&mut self, _lemma: &LemmaView<'_>) -> Result<(), NotTaken> {
         Ok(())
+    }
+}
+
+/// A book keeps each lemma whole.
+impl LemmaTaker for Book {
+    ghost use Rattle.std.specs.Prelude.{Some};
+
+    ghost lemmas = { λ book. Some book };
+
+    fn take(&mut self, lemma: &LemmaView<'_>) -> Result<(), NotTaken> {
+        match self.keep_view(lemma) {
+            Ok(()) => Ok(()),
+            Err(AllocError) => Err(NotTaken),
+        }
     }
 }

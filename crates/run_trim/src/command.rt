@@ -7,7 +7,6 @@ ghost use Rattle.run_frame.specs.Streams.{streams};
 ghost use Rattle.run_frame.specs.declared.run_stop.RunStop.TheVariants as stops;
 ghost use Rattle.run_trim.specs.Trims.{PutsTrimmed, TrimOwes};
 
-use crate::keeper::Keeper;
 use crate::trimmed::Trimmed;
 use crate::writing::write_trimmed;
 use io_ports::{Failed, Sink, Source};
@@ -23,11 +22,9 @@ pub fn trim<S: Source, O: Sink>(alloc: Global, source: &mut S, out: &mut O) -> T
     ensures { TrimOwes (streams S.left S.last_read O.written source.old source.new out.old out.new)
         (Rose (S.faults source.old) (S.faults source.new)) (Rose (O.faults out.old) (O.faults out.new)) result }
 {
-    let mut keeper = Keeper {
-        book: Book::new(alloc),
-    };
-    match read_whole_proof(alloc, None, source, &mut keeper) {
-        Ok(proof) => trim_proof(alloc, &proof, &keeper.book, out),
+    let mut book = Book::new(alloc);
+    match read_whole_proof(alloc, None, source, &mut book) {
+        Ok(proof) => trim_proof(alloc, &proof, &book, out),
         Err(stop) => Err(RunStop::Own(MemoryStop::Input(stop))),
     }
 }

@@ -3,7 +3,6 @@
 #![tactic(auto)]
 
 mod command;
-mod keeper;
 mod trimmed;
 mod writing;
 

@@ -1,12 +1,12 @@
 -- What becomes of all lines of a proof that is accepted.
-use Rattle.std.proofs.Common.{◌≡◌, ℕ, true, List, [], ◌∷◌, ◌++◌, map, refl, sym, ap, ◌∙◌, subst}
+use Rattle.std.proofs.Common.{◌≡◌, ℕ, true, List, [], ◌++◌, refl, sym, ap, ◌∙◌, subst}
 use Rattle.game_rules.specs.Game.{Game, board_played, IsTextOf}
 use Rattle.game_rules.specs.Grammar.{last_feed}
 use Rattle.game_rules.specs.Position.{Position}
 use Rattle.proof_text.specs.Right.{AreRight}
-use Rattle.proof_text.specs.Spelling.{lemma_text, verdict_text, VerdictFits}
-use Rattle.proof_text.specs.Texts.{pieces, lines_in, first_number, start, Accepted, Entry, LemmaEntry, RemarkEntry, entry_text, entry_lines, lemmas_among}
-use Rattle.proof_text.specs.Texts.{EntryFits, head_of, IsRightText}
+use Rattle.proof_text.specs.Spelling.{verdict_text}
+use Rattle.proof_text.specs.Texts.{pieces, lines_in, first_number, start, Accepted, entry_lines, lemmas_among}
+use Rattle.proof_text.specs.Texts.{head_of, IsRightText}
 use Rattle.proof_text.specs.Upgrade.{upgraded_text}
 use Rattle.proof_text.specs.declared.Verdict.{Verdict}
 use Rattle.proof_text.specs.declared.Version.TheVariants.{One, Two}

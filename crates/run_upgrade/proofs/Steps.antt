@@ -5,14 +5,17 @@ use Rattle.std.specs.Io.KnownBytes.{Keeps}
 use Rattle.std.proofs.KnownBytes.{Appends-nil, Appends-kept, Keeps-refl}
 use Rattle.std.proofs.lemmas.Bool.{leb-true}
 use Rattle.std.proofs.lemmas.List.{length-append}
-use Rattle.device_rules.specs.Devices.{Rose, AppendsPrefix}
+use Rattle.device_rules.specs.Devices.{AppendsPrefix}
 use Rattle.device_rules.proofs.DeviceLaws.{AppendsPrefix_all, AppendsPrefix_more}
 use Rattle.game_rules.specs.Position.{Position, board_of}
 use Rattle.io_ports.specs.Lines.{Cut, Gives}
 use Rattle.io_ports.specs.Reading.{Pending, Reads, PassesLines}
+use Rattle.io_ports.specs.declared.line_reader.LineGot.{LineGot}
 use Rattle.io_ports.specs.declared.line_reader.LineGot.TheVariants.{Line, Long, Done, Failed}
 use Rattle.io_ports.proofs.Reading.{Reads_start, Reads_more, Reads_then, passes_none, passes_then, passes_most}
+use Rattle.cert_checker.specs.Index.{Numbers}
 use Rattle.proof_text.specs.Checked.{CheckerState, with_line, lemmas_in}
+use Rattle.proof_text.specs.Lemma.{Line as Said, ALemma, ARemark, AVerdict}
 use Rattle.proof_text.specs.Right.{Shown, AreRight}
 use Rattle.proof_text.specs.Spelling.{lines_of}
 use Rattle.proof_text.specs.Texts.{most_lines, pieces, lines_in, first_number, with_said, start, verdict_answer}
@@ -25,18 +28,18 @@ use Rattle.run_frame.proofs.Cuts.{line_first, none_left}
 use Rattle.run_frame.proofs.GameRead.{by_line}
 use Rattle.run_frame.specs.declared.game_input.InputStop.TheVariants as inputs
 use Rattle.proof_text.proofs.Accepted.{with_bytes_root, said_first}
-use Rattle.run_proof.specs.Steps.{Place, AtLine, GoesOn, Gets, StopsBy, StopsWith, StopsAtLine, IsStopAt}
+use Rattle.run_proof.specs.Steps.{AcceptsNext, Place, AtLine, GoesOn, Gets, StopsBy, StopsWith, StopsAtLine, StopsAtGot, IsStopAt}
 use Rattle.run_proof.specs.Whole.{most_lines_read}
 use Rattle.run_proof.specs.declared.stop.ProofStop.{ProofStop}
 use Rattle.run_proof.specs.declared.stop.ProofStop.TheVariants as stops
 use Rattle.run_proof.proofs.Judging.{goes_then, stops_earlier}
 use Rattle.run_proof.proofs.Known.{line_goes, line_stops, long_stops, unread_stops}
 use Rattle.run_proof.proofs.Lines.{none_got}
-use Rattle.run_upgrade.specs.Steps.{said, text_behind, IsAdded, WritesLine, PassesLine, AddsNext, LeavesNone, StopsNext, WritesNext}
+use Rattle.run_upgrade.specs.Steps.{said, text_behind, IsAdded, InStep, WritesLine, PassesLine, AddsNext, LeavesNone, StopsNext, WritesNext}
 use Rattle.run_upgrade.specs.Steps.{Wrote, IsBehind, AreAll, Passes, StopsBehind, WritesLines, SourceRose, SinkRose}
 use Rattle.run_upgrade.specs.declared.upgraded.UpgradeStop.{UpgradeStop}
 use Rattle.run_upgrade.specs.declared.upgraded.UpgradeStop.TheVariants.{Proof, Write}
-use Rattle.run_upgrade.proofs.Written.{line_says}
+use Rattle.run_upgrade.proofs.Written.{line_says, bare_written}
 
 -- ---- the next line
 
@@ -73,31 +76,51 @@ module _ (a b : Pending) (text : List ℕ) (fed : Bool) (s : CheckerState) (at :
     reads = bare a b (AtLine One s at) before after stop (line_stops One a b text fed s at None None gives refl before after stop stopped);
   }
 
-  pub next_long : (before after : ℕ) (old : Option (List ℕ)) → Reads a b (λ bytes rest. Gives bytes rest Long text fed)
-      → StopsNext a b s at before after old old (stops.Refused (record { at = at; why = BadLine }))
-  next_long before after old gives = record {
+  -- what stops the reading, whatever was got
+  pub next_got : (before after : ℕ) (old : Option (List ℕ)) (stop : ProofStop) (got : LineGot) → Reads a b (λ bytes rest. Gives bytes rest got text fed)
+      → StopsAtGot One s at before after text stop got → StopsNext a b s at before after old old stop
+  next_got before after old stop Line gives stopped = record {
+    here = stops_here s at text stop stopped;
+    kept = Keeps-refl old;
+    reads = bare a b (AtLine One s at) before after stop (line_stops One a b text fed s at None None gives refl before after stop stopped);
+  }
+  next_got before after old stop Long gives stopped = rw stopped record {
     here = refl;
     kept = Keeps-refl old;
     reads = bare a b (AtLine One s at) before after (stops.Refused (record { at = at; why = BadLine }))
         (long_stops One a b text fed s at None None gives refl before after);
   }
-
-  pub next_unread : (before after : ℕ) (old : Option (List ℕ)) → Reads a b (λ bytes rest. Gives bytes rest Failed text fed) → Rose before after
-      → StopsNext a b s at before after old old (stops.Input inputs.Read)
-  next_unread before after old gives rose = record {
+  next_got before after old stop Done gives stopped = absurd stopped
+  next_got before after old stop Failed gives stopped = rw stopped.0 record {
     here = tt;
     kept = Keeps-refl old;
-    reads = bare a b (AtLine One s at) before after (stops.Input inputs.Read) (unread_stops One a b text fed s at None None gives refl before after rose);
+    reads = bare a b (AtLine One s at) before after (stops.Input inputs.Read) (unread_stops One a b text fed s at None None gives refl before after stopped.1);
   }
 
-  pub next_none : (old : Option (List ℕ)) → Reads a b (λ bytes rest. Gives bytes rest Done text fed) → LeavesNone a b s s at old old
-  next_none old gives = record {
-    same = refl;
+  pub next_none : (t : CheckerState) (old : Option (List ℕ)) → t ≡ s → Reads a b (λ bytes rest. Gives bytes rest Done text fed)
+      → LeavesNone a b s t at old old
+  next_none t old same gives = record {
+    same = same;
     kept = Keeps-refl old;
     reads = by_line a b Done text fed gives _ (λ bytes rest is.
         let line : Cut = record { got = Done; text = text; fed = fed; rest = rest } in
         (none_got One s at bytes line is refl, (none_left bytes line is refl).0));
   }
+
+-- a line that was got and accepted, and is no lemma
+module _ (a b : Pending) (s t : CheckerState) (at : ℕ) (line : Said) (is : AcceptsNext a b One s t at line) (bare : lemmas_in (line ∷ []) ≡ []) where
+  pub bare_next : (old : Option (List ℕ)) → AddsNext true a b s t at old old
+  bare_next old =
+      let written = bare_written s at is.text line is.accepted.few is.accepted.said is.accepted.stands t is.accepted.next bare old in
+      next_added a b is.text is.fed s at true t old old is.gives written.0 written.1
+
+  pub bare_kept : (numbers : Numbers) (count : ℕ) → InStep s.known numbers count → InStep t.known numbers count
+  bare_kept numbers count step = subst (λ known. InStep known numbers count) (sym (ap (λ t. t.known) is.accepted.next ∙ by_line line bare)) step
+    where
+      by_line : (line : Said) → lemmas_in (line ∷ []) ≡ [] → (with_line s line).known ≡ s.known
+      by_line (ALemma l) bare = cc bare
+      by_line ARemark bare = refl
+      by_line (AVerdict v) bare = refl
 
 -- ---- further lines
 

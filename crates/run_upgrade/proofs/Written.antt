@@ -1,6 +1,6 @@
 -- What becomes of a line that isn't refused.
-use Rattle.std.proofs.Common.{◌≡◌, ℕ, ◌+◌, ◌≤◌, false, List, [], ◌∷◌, ◌++◌, length, Option, Some, None, Result, Ok, Err, OnOk}
-use Rattle.std.proofs.Common.{refl, sym, ap, ◌∙◌, subst, append-nil}
+use Rattle.std.proofs.Common.{◌≡◌, ℕ, ◌+◌, ◌<◌, ◌≤◌, false, List, [], ◌∷◌, ◌++◌, length, Option, Some, None, Result, Ok, Err, OnOk}
+use Rattle.std.proofs.Common.{refl, sym, ap, ◌∙◌, subst, append-nil, arith}
 use Rattle.std.proofs.KnownBytes.{Appends-nil}
 use Rattle.std.proofs.lemmas.List.{length-append}
 use Rattle.std.specs.Io.KnownBytes.{Appends}
@@ -11,7 +11,7 @@ use Rattle.proof_text.specs.Checked.{CheckerState, line_refusal, shown_of, with_
 use Rattle.proof_text.specs.Lemma.{Lemma, Line as Said, ALemma}
 use Rattle.proof_text.specs.Reading.{read_line}
 use Rattle.proof_text.specs.Right.{IsRight}
-use Rattle.proof_text.specs.Spelling.{Fits, lemma_line, lines_of}
+use Rattle.proof_text.specs.Spelling.{Fits, greatest_number, lemma_line, lines_of}
 use Rattle.proof_text.specs.Texts.{most_lines, with_said}
 use Rattle.proof_text.specs.Upgrade.{image_at, upgraded_lemma, upgraded, resting_on}
 use Rattle.proof_text.specs.declared.Version.TheVariants.{One}
@@ -20,19 +20,13 @@ use Rattle.proof_text.proofs.Refusals.{right_of_none, line_of_none}
 use Rattle.proof_text.proofs.Spelled.{line_read}
 use Rattle.cert_checker.specs.Index.{Numbers, Follows, Keeps, kept_for}
 use Rattle.cert_checker.proofs.Follows.{follows_push}
-use Rattle.cert_format.specs.Shape.{viewed}
-use Rattle.cert_format.specs.declared.lines.LineView.{LineView}
-use Rattle.run_proof.specs.Steps.{IsAccepted}
+use Rattle.io_ports.specs.Reading.{Pending}
+use Rattle.run_proof.specs.Steps.{AcceptsNext}
 use Rattle.run_proof.proofs.Known.{not_refused, next_lemma}
 use Rattle.run_proof.specs.declared.stop.ProofStop.TheVariants as stops
 use Rattle.run_upgrade.specs.Steps.{said, text_behind, IsAdded, InStep, WritesLemma, WritesLine}
 use Rattle.run_upgrade.specs.declared.upgraded.UpgradeStop.{UpgradeStop}
 use Rattle.run_upgrade.specs.declared.upgraded.UpgradeStop.TheVariants.{Proof, Write}
-
--- what was accepted of a line, whatever it is seen as
-pub accepted_as : (s t : CheckerState) (at : ℕ) (bytes : List ℕ) (line as_seen : LineView) → line ≡ as_seen → IsAccepted One s t at bytes (viewed line)
-    → IsAccepted One s t at bytes (viewed as_seen)
-accepted_as s t at bytes line as_seen same accepted = subst (λ line. IsAccepted One s t at bytes (viewed line)) same accepted
 
 -- a line that says something, and isn't refused
 module _ (s : CheckerState) (at : ℕ) (bytes : List ℕ) (line : Said) (few : at ≤ most_lines) (reads : read_line One (board_of s.root) bytes ≡ Some line)
@@ -87,3 +81,18 @@ module _ (s : CheckerState) (at : ℕ) (bytes : List ℕ) (l : Lemma) (few : at 
         ((next_lemma One s at bytes (board_of s.root) (ALemma l) refl few reads stands tt, kept), tt)
     lemma_written t after count counted old new (Err (Proof (stops.Refused r))) next many never more = absurd never
     lemma_written t after count counted old new (Err (Proof (stops.Input why))) next many never more = absurd never
+
+-- a lemma that was got and accepted
+module _ (a b : Pending) (s t : CheckerState) (at : ℕ) (l : Lemma) (is : AcceptsNext a b One s t at (ALemma l)) (count : ℕ) (many : count ≡ length s.known) where
+  pub put_next : l.number ≡ count + 1
+  put_next = (lemma_right s at is.text l is.accepted.few is.accepted.said is.accepted.stands).1.next ∙ ap (λ n. n + 1) (sym many)
+
+  pub put_room : count < greatest_number
+  put_room = omega (arith, put_next, (lemma_fits s at is.text l is.accepted.few is.accepted.said is.accepted.stands).number.1)
+
+  pub put_written : {X : Type 0} (u : CheckerState) → u ≡ t → (p : Position) → played s.root l.path ≡ Some p → (before after : Numbers)
+      → Follows s.known before → (counted : ℕ) (old new : Option (List ℕ)) (result : Result X UpgradeStop) → WritesLemma p l before after old new result
+      → OnOk result (counted ≡ count + 1) → WritesLine s u at is.text old new result × OnOk result (InStep u.known after counted)
+  put_written u same p along before after follows counted old new result put more =
+      lemma_written s at is.text l is.accepted.few is.accepted.said is.accepted.stands p along before follows u after count counted old new result
+      (same ∙ is.accepted.next) many put more

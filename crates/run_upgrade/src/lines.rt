@@ -5,16 +5,15 @@ ghost use Rattle.game_rules.specs.Position.{board_of};
 ghost use Rattle.proof_text.specs.Texts.{start};
 ghost use Rattle.io_ports.specs.Reading.{pending};
 ghost use Rattle.run_proof.specs.Whole.{most_lines_read};
-ghost use Rattle.run_upgrade.specs.Steps.{InStep, WritesLine, WritesNext, WritesLines, SourceRose, SinkRose};
+ghost use Rattle.run_upgrade.specs.Steps.{InStep, WritesNext, WritesLines, SourceRose, SinkRose};
 
 use crate::upgraded::UpgradeStop;
 use crate::writing::Writer;
 use board_bits::Size;
 use cert_checker::Checker;
 use cert_format::{LineBuffer, LineView, Version};
-use io_ports::{LineGot, Lines, Sink, Source};
-use run_frame::InputStop;
-use run_proof::{FIRST_NUMBER, ProofStop, accept_line, bad_line};
+use io_ports::{Lines, Sink, Source};
+use run_proof::{FIRST_NUMBER, accept_next};
 
 /// Adds the lines behind the game, writes what becomes of their lemmas, and answers the number after that of the last line.
 /// Where a line stops this, what was written is handed on.
@@ -99,40 +98,17 @@ fn upgrade_next<S: Source, O: Sink>(
     ensures read_fault { IfErr result (SourceRose (S.faults source.old) (S.faults source.new)) }
     ensures write_fault { IfErr result (SinkRose (O.faults out.old) (O.faults out.new)) }
 {
-    match lines.next(source) {
-        LineGot::Line => {
-            upgrade_line(checker, writer, room, size, at, lines.text(), out)?;
+    match accept_next(checker, room, size, Version::One, at, lines, source) {
+        Ok(Some(LineView::Lemma(lemma))) => {
+            match checker.position_after(lemma.path.as_slice()) {
+                Some(position) => writer.put(&lemma, &position, out)?,
+                None => unreachable!(),
+            }
             Ok(true)
         }
-        LineGot::Long => Err(UpgradeStop::Proof(bad_line(at))),
-        LineGot::Done => Ok(false),
-        LineGot::Failed => Err(UpgradeStop::Proof(ProofStop::Input(InputStop::Read))),
-    }
-}
-
-/// Adds the line at this number, given by its bytes, and writes what becomes of it, where it is a lemma.
-fn upgrade_line<O: Sink>(
-    checker: &mut Checker,
-    writer: &mut Writer,
-    room: &mut LineBuffer,
-    size: Size,
-    at: u64,
-    bytes: &[u8],
-    out: &mut O,
-) -> Result<(), UpgradeStop>
-    requires board { board_of checker.old.stands.root ≡ size }
-    requires in_step { InStep checker.old.stands.known writer.old.index writer.old.lemmas }
-    ensures written { WritesLine checker.old.stands checker.new.stands at bytes.now (O.written out.old) (O.written out.new) result }
-    ensures in_step { OnOk result (InStep checker.new.stands.known writer.new.index writer.new.lemmas) }
-    ensures later { O.faults out.old ≤ O.faults out.new }
-    ensures write_fault { IfErr result (SinkRose (O.faults out.old) (O.faults out.new)) }
-{
-    match accept_line(checker, room, size, Version::One, at, bytes) {
-        Ok(LineView::Lemma(lemma)) => match checker.position_after(lemma.path.as_slice()) {
-            Some(position) => writer.put(&lemma, &position, out),
-            None => unreachable!(),
-        },
-        Ok(LineView::Remark | LineView::Verdict(_)) => Ok(()),
+        Ok(Some(LineView::Remark)) => Ok(true),
+        Ok(Some(LineView::Verdict(_))) => Ok(true),
+        Ok(None) => Ok(false),
         Err(stop) => Err(UpgradeStop::Proof(stop)),
     }
 }

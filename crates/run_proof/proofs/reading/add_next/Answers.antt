@@ -1,49 +1,43 @@
-use Rattle.std.proofs.Common.{List, ℕ, refl, sym, ap, ◌∙◌, subst}
+use Rattle.std.proofs.Common.{refl}
+use Rattle.std.proofs.lemmas.Option.{MatchOption-at_some, MatchOption-at_none}
 use Rattle.std.proofs.lemmas.Result.{err_from_is_err_and}
-use Rattle.io_ports.specs.Lines.{Gives}
-use Rattle.io_ports.specs.declared.line_reader.LineGot.TheVariants.{Line}
-use Rattle.io_ports.specs.Reading.{pending, Reads}
-use Rattle.proof_text.proofs.Accepted.{with_bytes_root}
-use Rattle.run_proof.proofs.Known.{line_known, line_stops, long_stops, unread_stops, none_known}
+use Rattle.game_rules.specs.Position.{board_of}
+use Rattle.cert_format.specs.Shape.{viewed}
+use Rattle.run_proof.proofs.Taking.{may_hand_on}
+use Rattle.run_proof.proofs.Known.{accepted_known, untaken_stops, ended_known, got_stops}
 use Rattle.run_proof.proofs.reading.add_next.Goals as goal
 
-pub returns-in_err-add_line-in-Line-clause-answer : goal.returns-in_err-add_line-in-Line-clause-answer
-returns-in_err-add_line-in-Line-clause-answer g c =
-    let a = pending c.args.lines.now (g.S.Source.left c.args.source.now) (g.S.Source.last_read c.args.source.now) in
-    let b = pending c.next.new.self (g.S.Source.left c.next.new.source) (g.S.Source.last_read c.next.new.source) in
-    let P : List ℕ → Type 0 = λ text. Reads a b (λ bytes rest. Gives bytes rest Line text c.next.new.self.fed) in
-    let stop = err_from_is_err_and c.from_residual.result c.from_residual.ensures.1 in
-    let here = c.in_err-add_line-in-Line.ensures in
-    rw (stop.1, stop.2) (
-    line_stops c.args.version a b c.text.result.now c.next.new.self.fed c.args.checker.now.stands c.args.at _ _
-    (subst P (sym c.text.ensures) c.in-Line.ensures.gives) here.taken
-    (g.S.Source.faults c.args.source.now) (g.S.Source.faults c.next.new.source) c.in_err-add_line-in-Line.field-0.0 here.answer
-    )
+pub hand_on-requires : goal.hand_on-requires
+hand_on-requires g c =
+    let s = c.args.checker.now.stands in
+    let next = MatchOption-at_some _ _ c.in-Ok-Some.line c.in-Ok-Some.field-0-is c.in-Ok-Some.ensures.answer in
+    may_hand_on c.args.version s next.text (board_of s.root) (viewed c.in-Ok-Some.line) (g.T.LemmaTaker.lemmas c.args.taker.now) c.requires.in_step
+    next.accepted.said next.accepted.stands
 
-pub returns-in_ok-add_line-in-Line-clause-answer : goal.returns-in_ok-add_line-in-Line-clause-answer
-returns-in_ok-add_line-in-Line-clause-answer g c =
-    let a = pending c.args.lines.now (g.S.Source.left c.args.source.now) (g.S.Source.last_read c.args.source.now) in
-    let b = pending c.next.new.self (g.S.Source.left c.next.new.source) (g.S.Source.last_read c.next.new.source) in
-    let P : List ℕ → Type 0 = λ text. Reads a b (λ bytes rest. Gives bytes rest Line text c.next.new.self.fed) in
-    let here = c.in_ok-add_line-in-Line.ensures in
-    line_known c.args.version a b c.text.result.now c.next.new.self.fed c.args.checker.now.stands c.args.at _ _
-    (subst P (sym c.text.ensures) c.in-Line.ensures.gives) here.answer.0
-    c.add_line.new.checker.stands here.answer.1 here.taken
+pub returns-in_err-hand_on-in-Ok-Some-clause-answer : goal.returns-in_err-hand_on-in-Ok-Some-clause-answer
+returns-in_err-hand_on-in-Ok-Some-clause-answer g c =
+    let next = MatchOption-at_some _ _ c.in-Ok-Some.line c.in-Ok-Some.field-0-is c.in-Ok-Some.ensures.answer in
+    let same = err_from_is_err_and c.from_residual.result c.from_residual.ensures.1 in
+    rw (same.1, same.2) (untaken_stops c.args.version _ _ c.args.checker.now.stands c.accept_next.new.checker.stands c.args.at
+    (g.T.LemmaTaker.lemmas c.args.taker.now) (g.T.LemmaTaker.lemmas c.hand_on.new.taker) (viewed c.in-Ok-Some.line) next c.requires.in_step
+    _ _ c.in_err-hand_on-in-Ok-Some.field-0.0 c.in_err-hand_on-in-Ok-Some.ensures)
 
-pub returns-in_ok-add_line-in-Line-clause-root : goal.returns-in_ok-add_line-in-Line-clause-root
-returns-in_ok-add_line-in-Line-clause-root g c = ap (λ s. s.root) c.in_ok-add_line-in-Line.ensures.answer.1
-    ∙ with_bytes_root c.args.version c.args.checker.now.stands c.text.result.now
+pub returns-in_ok-hand_on-in-Ok-Some-clause-answer : goal.returns-in_ok-hand_on-in-Ok-Some-clause-answer
+returns-in_ok-hand_on-in-Ok-Some-clause-answer g c =
+    let next = MatchOption-at_some _ _ c.in-Ok-Some.line c.in-Ok-Some.field-0-is c.in-Ok-Some.ensures.answer in
+    (accepted_known c.args.version _ _ c.args.checker.now.stands c.accept_next.new.checker.stands c.args.at (g.T.LemmaTaker.lemmas c.args.taker.now)
+    (g.T.LemmaTaker.lemmas c.hand_on.new.taker) (viewed c.in-Ok-Some.line) next c.requires.in_step c.in_ok-hand_on-in-Ok-Some.ensures).0
 
-pub returns-in-Long-clause-answer : goal.returns-in-Long-clause-answer
-returns-in-Long-clause-answer g c = rw c.bad_line.ensures (
-    long_stops c.args.version _ _ c.next.new.self.text c.next.new.self.fed c.args.checker.now.stands c.args.at _ _ c.in-Long.ensures.gives refl
-    (g.S.Source.faults c.args.source.now) (g.S.Source.faults c.next.new.source))
+pub returns-in_ok-hand_on-in-Ok-Some-clause-in_step : goal.returns-in_ok-hand_on-in-Ok-Some-clause-in_step
+returns-in_ok-hand_on-in-Ok-Some-clause-in_step g c =
+    let next = MatchOption-at_some _ _ c.in-Ok-Some.line c.in-Ok-Some.field-0-is c.in-Ok-Some.ensures.answer in
+    (accepted_known c.args.version _ _ c.args.checker.now.stands c.accept_next.new.checker.stands c.args.at (g.T.LemmaTaker.lemmas c.args.taker.now)
+    (g.T.LemmaTaker.lemmas c.hand_on.new.taker) (viewed c.in-Ok-Some.line) next c.requires.in_step c.in_ok-hand_on-in-Ok-Some.ensures).1
 
-pub returns-in-Failed-clause-answer : goal.returns-in-Failed-clause-answer
-returns-in-Failed-clause-answer g c =
-    unread_stops c.args.version _ _ c.next.new.self.text c.next.new.self.fed c.args.checker.now.stands c.args.at _ _ c.in-Failed.ensures.gives refl _ _
-    (c.in-Failed.ensures.failed refl)
+pub returns-in-Ok-None-clause-answer : goal.returns-in-Ok-None-clause-answer
+returns-in-Ok-None-clause-answer g c =
+    let next = MatchOption-at_none _ _ c.in-Ok-None.field-0-is c.in-Ok-None.ensures.answer in
+    ended_known c.args.version _ _ c.args.checker.now.stands c.accept_next.new.checker.stands c.args.at _ _ c.accept_next.new.lines.ended next refl
 
-pub returns-in-Done-clause-answer : goal.returns-in-Done-clause-answer
-returns-in-Done-clause-answer g c =
-    none_known c.args.version _ _ c.next.new.self.text c.next.new.self.fed c.args.checker.now.stands c.args.at _ _ c.in-Done.ensures.gives refl
+pub returns-in-Err-clause-answer : goal.returns-in-Err-clause-answer
+returns-in-Err-clause-answer g c = got_stops c.args.version _ _ c.args.checker.now.stands c.args.at _ _ _ _ c.in-Err.stop c.in-Err.ensures.answer refl

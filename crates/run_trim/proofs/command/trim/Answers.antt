@@ -8,16 +8,16 @@ use Rattle.run_trim.proofs.Ends.{book_ordered, book_named, trims_read, trims_sto
 use Rattle.run_trim.proofs.command.trim.Goals as goal
 
 pub trim_proof-requires-clause-earlier : goal.trim_proof-requires-clause-earlier
-trim_proof-requires-clause-earlier g c = book_ordered _ _ _ _ _ c.new.result c.read_whole_proof.new.taker.book c.new.ensures c.in-Ok.proof c.in-Ok.ensures
+trim_proof-requires-clause-earlier g c = book_ordered _ _ _ _ _ c.new-book.result c.read_whole_proof.new.taker c.new-book.ensures c.in-Ok.proof c.in-Ok.ensures
 
 pub trim_proof-requires-clause-named : goal.trim_proof-requires-clause-named
-trim_proof-requires-clause-named g c = book_named _ _ _ _ _ c.new.result c.read_whole_proof.new.taker.book c.new.ensures c.in-Ok.proof c.in-Ok.ensures
+trim_proof-requires-clause-named g c = book_named _ _ _ _ _ c.new-book.result c.read_whole_proof.new.taker c.new-book.ensures c.in-Ok.proof c.in-Ok.ensures
 
 pub returns-in-Ok : goal.returns-in-Ok
 returns-in-Ok g c = trim_owes _ _ _ c.trim_proof.result
-    (trims_read _ _ _ _ _ c.new.result c.read_whole_proof.new.taker.book c.new.ensures c.in-Ok.proof c.in-Ok.ensures
+    (trims_read _ _ _ _ _ c.new-book.result c.read_whole_proof.new.taker c.new-book.ensures c.in-Ok.proof c.in-Ok.ensures
     (g.O.Sink.written c.args.out.now) (g.O.Sink.written c.trim_proof.new.out) c.trim_proof.result c.trim_proof.ensures.puts)
-    (λ is. absurd (subst (PutsTrimmed c.in-Ok.proof.version c.in-Ok.proof.game c.read_whole_proof.new.taker.book c.in-Ok.proof.accepted.verdict
+    (λ is. absurd (subst (PutsTrimmed c.in-Ok.proof.version c.in-Ok.proof.game c.read_whole_proof.new.taker c.in-Ok.proof.accepted.verdict
     (g.O.Sink.written c.args.out.now) (g.O.Sink.written c.trim_proof.new.out)) is c.trim_proof.ensures.puts)) c.trim_proof.ensures.write_fault
 
 pub returns : goal.returns
