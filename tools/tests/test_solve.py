@@ -229,7 +229,7 @@ class SolveTest(ToolTest):
                                     game_text(6, 4, line.replace(" ", "")).encode())
             self.assertEqual(run[1].split("\n")[-2].split()[:2], ["value", "loss"], line)
         for words in ([], ["--mirror", "8"]):
-            self.proof_of(text, "--book", self.book(book), "--rounds", "0", *words)
+            self.proof_of(text, "--book", self.book(book), "--rounds", "0", "--sweeps", "0", *words)
         status, out, err = self.openings(text)
         self.assertEqual((status, out), (2, ""))
         self.assertEqual(err, "openings: that side wasn't seen to win\n")
