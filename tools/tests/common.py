@@ -1,6 +1,7 @@
 """What the tests share."""
 
 import os
+import re
 import subprocess
 import sys
 import tempfile
@@ -32,6 +33,11 @@ def example(*names):
 def read(path):
     with open(path, encoding="utf-8") as source:
         return source.read()
+
+
+def shipped_lemmas():
+    """How many lemmas the shipped proof of the usual board has, by the table beside it."""
+    return int(re.search(r"`accepted win (\d+)`", read(os.path.join(boards.TOP, "proofs", "README.md"))).group(1))
 
 
 def tool(name, *words, text=None, **more):

@@ -10,7 +10,7 @@ import sys
 import time
 import unittest
 
-from common import TOOLS, ToolTest, program
+from common import TOOLS, ToolTest, program, shipped_lemmas
 
 SYSTEM_PYTHON = "/usr/bin/python3"
 BROWSER = shutil.which("chromedriver") and os.path.exists(SYSTEM_PYTHON) and subprocess.run(
@@ -68,7 +68,8 @@ class BoardTest(ToolTest):
         self.assertEqual(self.get("/proof/999")[0], 404)
         # The proof of the usual board that is at hand answers at once, and has no page.
         status, answer = self.call("/ask", size="7x6", moves="d")
-        self.assertEqual((status, answer["value"], answer["lemmas"], "proof" in answer), (200, "loss", 1888504, False))
+        told = status, answer["value"], answer["lemmas"], "proof" in answer
+        self.assertEqual(told, (200, "loss", shipped_lemmas(), False))
         status, told = self.call("/explain", size="4x4", moves="")
         self.assertEqual((status, told["found"], told["lines"][0]), (200, True, PLAN))
         self.assertFalse(self.call("/explain", size="4x4", moves="d")[1]["found"])
