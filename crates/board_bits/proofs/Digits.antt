@@ -11,7 +11,7 @@ unfolding count_ones
 ones_of_zero = refl
 
 -- so many digits of k bits from the given one on, the first of them the lowest
-pub number : (k : ℕ) → (ℕ → ℕ) → ℕ → ℕ → ℕ
+unfoldable pub number : (k : ℕ) → (ℕ → ℕ) → ℕ → ℕ → ℕ
 number k d a zero = 0
 number k d a (suc m) = number k d (a + 1) m * 2 ^ k + d a
 

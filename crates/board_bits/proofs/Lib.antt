@@ -16,5 +16,5 @@ pub mod Words
 pub mod Rows
 pub mod Takes
 pub mod WholeColumns
-pub mod ReadMen
+pub mod MenRead
 pub mod Turns

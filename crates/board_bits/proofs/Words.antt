@@ -33,7 +33,7 @@ module _ (test : Square → Bool) where
   row_bit_small : (c i : ℕ) → row_bit c i < 2 ^ 1
   row_bit_small c i = elim (cases_Bool (test (c, i + 1))) [ inl passes ↦ rw passes (omega arith) | inr fails ↦ rw fails (omega arith) ]
 
-  pub column : ℕ → ℕ
+  unfoldable pub column : ℕ → ℕ
   column c = number 1 (row_bit c) 0 10
 
   column_low : (c : ℕ) → column c < 2 ^ 10
@@ -82,7 +82,7 @@ module _ (test : Square → Bool) where
       ∙ ap (λ n. column c * 2 ^ (11 * c) + n) (columns_sum cs)
       ∙ sym (sum_by-cons (λ c. column c * 2 ^ (11 * c)) c cs)
 
-  word_number : word_of (squares_where test) ≡ number 11 column 0 10
+  pub word_number : word_of (squares_where test) ≡ number 11 column 0 10
   unfolding squares_where squares_of_board
   word_number = columns_sum (below 10) ∙ sum_number 11 column 10 0 ∙ omega arith
 

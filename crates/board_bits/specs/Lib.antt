@@ -2,6 +2,7 @@ pub mod Size
 pub mod Order
 pub mod Halves
 pub mod MenWords
+pub mod MenNumber
 pub mod PositionFields
 pub mod Move
 pub mod Played

@@ -1,10 +1,10 @@
 -- The men of a position apart from its board: a word of each side's men. A column's men are read by their number, which
 -- is that of its bits, and by Black's bits.
-use Rattle.std.specs.Prelude.{◌≡◌, ℕ, ◌+◌, ◌*◌, ◌/◌, ◌^◌, Bool, ◌&&◌, ◌==◌, if◌then◌else◌, List, map, bit_and, bit_or}
+use Rattle.std.specs.Prelude.{ℕ, ◌+◌, ◌*◌, ◌/◌, ◌^◌, ◌==◌, if◌then◌else◌, List, map, bit_and, bit_or}
 use Rattle.std.specs.Int.{bit_at}
 use Rattle.std.specs.Int.RustNames.{count_ones}
 use Rattle.game_rules.specs.Board.{Board, below}
-use Rattle.game_rules.specs.Position.{Position, board_of, has_man}
+use Rattle.game_rules.specs.Position.{Position, has_man}
 use Rattle.game_rules.specs.Squares.{squares_where}
 use Rattle.game_rules.specs.declared.Side.{Side}
 use Rattle.game_rules.specs.declared.Side.TheVariants.{White, Black}
@@ -17,9 +17,6 @@ Words = ℕ × ℕ
 -- the word of a side's men
 abbrev pub side_word : Position → Side → ℕ
 side_word p side = word_of (squares_where (has_man p side))
-
-abbrev pub words_of : Position → Words
-words_of p = (side_word p White, side_word p Black)
 
 -- how many men a column has
 abbrev pub height_in : ℕ → ℕ → ℕ
@@ -35,11 +32,3 @@ column_in white black column = map (λ i. side_in black (11 * column + i)) (belo
 -- the position on a board whose men have these words
 abbrev pub position_in : Board → Words → Position
 position_in board words = record { rows = board.rows; len = board.len; columns = map (column_in words.0 words.1) (below board.cols) }
-
--- the words are those of the position on this board that is read from them
-pub record AreWords (board : Board) (words : Words) : Type 0 where
-  pub board_is : board_of (position_in board words) ≡ board
-  pub words_back : words_of (position_in board words) ≡ words
-
-abbrev pub same_words : Words → Words → Bool
-same_words a b = (a.0 == b.0) && (a.1 == b.1)

@@ -4,10 +4,10 @@ ghost use Rattle.game_rules.specs.Position.{board_of, same_position};
 ghost use Rattle.proof_text.specs.Right.{lemma_at};
 ghost use Rattle.proof_text.specs.Checked.{shown_refusal, is_shown};
 ghost use Rattle.cert_checker.specs.Checking.{Finds};
-ghost use Rattle.board_bits.specs.MenWords.{position_in, AreWords};
+ghost use Rattle.board_bits.specs.MenNumber.{position_read, AreMen};
 
 use crate::stops::Why;
-use board_bits::{MenWords, Position, Size};
+use board_bits::{MenNumber, Position, Size};
 use proof_text::Claim;
 use std::alloc::{AllocError, Global};
 use std::marker::Model;
@@ -15,7 +15,7 @@ use std::marker::Model;
 /// What a lemma shows: a claim at a position with these men.
 #[derive(Clone, Copy)]
 struct Shown {
-    men: MenWords,
+    men: MenNumber,
     claim: Claim,
 }
 
@@ -23,11 +23,11 @@ struct Shown {
 pub const MOST_LEMMAS: u32 = 10_000_000;
 
 /// What each lemma shows, at positions of one board. Their paths are forgotten. The men of the positions stand apart from
-/// the claims, so that a lemma takes 33 bytes. `spare` is how many more find room in both lists.
+/// the claims, so that a lemma takes 17 bytes. `spare` is how many more find room in both lists.
 #[derive(Drop)]
 pub(crate) struct Known {
     size: Size,
-    men: Vec<MenWords>,
+    men: Vec<MenNumber>,
     claims: Vec<Claim>,
     spare: u32,
 }
@@ -115,7 +115,7 @@ impl Known {
         ensures full { OnErr result (self.old.spare ≡ 0) }
     {
         self.reserve(1)?;
-        self.men.push_reserved(MenWords::of(position));
+        self.men.push_reserved(MenNumber::of(position));
         self.claims.push_reserved(claim);
         self.spare -= 1;
         Ok(())
@@ -123,8 +123,8 @@ impl Known {
 
     /// What the lemma with this number, counted from 1, shows.
     fn get(&self, lemma: u32) -> Option<Shown>
-        ensures found { option_map (λ shown. (position_in self.now.board shown.men, shown.claim)) result ≡ lemma_at self.now.shown lemma }
-        ensures words { IfSome result (λ shown. AreWords self.now.board shown.men) }
+        ensures found { option_map (λ shown. (position_read self.now.board shown.men, shown.claim)) result ≡ lemma_at self.now.shown lemma }
+        ensures men { IfSome result (λ shown. AreMen self.now.board shown.men) }
     {
         let index = lemma.checked_sub(1)? as usize;
         if index < self.men.len() {
@@ -172,9 +172,9 @@ pub(crate) fn is_shown(known: &Known, position: &Position, claim: Claim, lemma: 
 }
 
 /// Whether these are the position's men, on its own board.
-fn stands_at(men: &MenWords, position: &Position) -> bool
-    requires { AreWords (board_of position.now) men.now }
-    ensures { result ≡ same_position (position_in (board_of position.now) men.now) position.now }
+fn stands_at(men: &MenNumber, position: &Position) -> bool
+    requires { AreMen (board_of position.now) men.now }
+    ensures { result ≡ same_position (position_read (board_of position.now) men.now) position.now }
 {
-    men.same(&MenWords::of(position))
+    men.same(&MenNumber::of(position))
 }

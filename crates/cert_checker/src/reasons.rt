@@ -19,6 +19,7 @@ use proof_text::{Claim, Verdict};
 use rule_compat::{Instance, Plan};
 
 /// Tests that the reason shows the claim at the position that was reached, by the lemmas known.
+#[inline(always)]
 pub(crate) fn check_reason(
     known: &Known,
     reached: &Reached,

@@ -135,6 +135,7 @@ impl Trail {
     }
 
     /// How many of the first moves of the paths are the same.
+    #[inline(always)]
     fn moves_shared_with(&self, path: &[Column]) -> usize
         ensures kept { result ≤ length self.now.path }
         ensures within { result ≤ length path.now }

@@ -6,23 +6,25 @@ use Rattle.std.specs.Cmp.Lexicographic.{same_text}
 use Rattle.std.specs.Option.{option_map}
 use Rattle.std.specs.Str.{bytes_eq}
 use Rattle.std.specs.Fmt.{decimal}
-use Rattle.std.proofs.lemmas.List.{take_rest}
+use Rattle.std.specs.List.{list_all}
+use Rattle.std.proofs.lemmas.List.{take_rest, get_or-take, length-take-le}
+use Rattle.std.proofs.lemmas.List.Folds.{list_all_at}
 use Rattle.std.proofs.lemmas.List.Sums.{position_or_len_is}
 use Rattle.std.proofs.lemmas.List.Splits.{slice_split-cons_no, slice_split_first, length-slice_split, join_with_byte-slice_split}
 use Rattle.std.proofs.lemmas.Option.{cond_some}
-use Rattle.std.proofs.lemmas.Bool.{ltb-true, le-leb, lt-leb, lt-ltb, le-ltb, and_from, eq-eqb, ne_eqb}
+use Rattle.std.proofs.lemmas.Bool.{cases_Bool, eqb-true, ltb-true, le-leb, lt-leb, lt-ltb, le-ltb, and_from, eq-eqb, ne_eqb}
 use Rattle.std.proofs.Math.Bool.{and-false}
+use Rattle.game_rules.specs.Letters.{is_letter}
+use mathlib.Core.Bool.{true≢false}
 use Rattle.std.proofs.lemmas.Bool.Decides.{nat_tests}
-use Rattle.bstr.specs.Find.{IsFirstByte, is_byte}
 use borrow.Author.Count.{below_more}
-use Rattle.io_ports.proofs.FirstByte.{first_none, first_found}
 use Rattle.proof_text.specs.Lemma.{Cite, Reason, ByEnd, ByOne, ByAll, ByMirror}
 use Rattle.proof_text.specs.Spelling.{spaced, most_cites}
 use Rattle.proof_text.specs.Reading.{◌>>=◌, words_of, number_of, letter_word, cites_of, one_of, all_of, mirror_of, reason_of, with_one, with_two, verdict_of}
 use Rattle.proof_text.specs.declared.Claim.TheVariants.{WhiteWins, WhiteFails, BlackWins, BlackFails}
 use Rattle.proof_text.specs.declared.Verdict.{Verdict}
 use Rattle.proof_text.specs.declared.Verdict.TheVariants.{Win, Loss, Draw, Unknown}
-use Rattle.cert_format.specs.Words.{HasNoClaim}
+use Rattle.cert_format.specs.Words.{HasNoClaim, AreNoSpaces}
 use Rattle.proof_text.proofs.Words.{number_read}
 use Rattle.proof_text.proofs.Spelled.{plain_decimal}
 use Rattle.plan_text.proofs.Spaced.{words_of_spaced}
@@ -43,15 +45,7 @@ pub space_nowhere : (bytes : List ℕ) → position_or_len is_space bytes ≡ le
 space_nowhere bytes past =
     sym (ap (λ b. cond b (Some (position_or_len is_space bytes)) None) (le-ltb (position_or_len is_space bytes) (length bytes) (omega (arith, past))))
 
--- a search for a space
-pub space_found : (bytes : List ℕ) (r : Option ℕ) → IsFirstByte (is_byte 32) bytes r → r ≡ position is_space bytes
-space_found bytes None nowhere = space_nowhere bytes (first_none 32 bytes nowhere)
-space_found bytes (Some at) found = space_near bytes at (first_found 32 bytes at found) found.0.high
-
 -- a search that goes through the bytes one by one
-abbrev pub AreNoSpaces : List ℕ → ℕ → Type 0
-AreNoSpaces bytes at = (k : ℕ) → k < at → is_space (get_or bytes k 0) ≡ false
-
 pub no_spaces_more : (bytes : List ℕ) (at : ℕ) → AreNoSpaces bytes at → (get_or bytes at 0 ≡ 32 → ⊥) → AreNoSpaces bytes (at + 1)
 no_spaces_more bytes at none other = below_more (λ k. is_space (get_or bytes k 0) ≡ false) at none (ne_eqb _ _ other)
 
@@ -62,6 +56,14 @@ space_there bytes at none is within =
 pub no_space : (bytes : List ℕ) (at : ℕ) → AreNoSpaces bytes at → length bytes ≤ at → None ≡ position is_space bytes
 no_space bytes at none past = space_nowhere bytes (position_or_len_is is_space bytes (length bytes) 0 (omega arith)
     (λ k below. none k (omega (arith, below, past))) (λ beyond. absurd (omega (arith, beyond))))
+
+-- letters are no spaces
+pub no_letter_is_a_space : (cols known : ℕ) (bytes : List ℕ) → known ≤ length bytes → list_all (is_letter cols) (take known bytes) ≡ true → AreNoSpaces bytes known
+no_letter_is_a_space cols known bytes within letters k below = elim (cases_Bool (is_space (get_or bytes k 0))) [
+  | inl space ↦ absurd (true≢false (sym letters ∙ list_all_at (is_letter cols) (take known bytes) k 0 (omega (arith, length-take-le known bytes within))
+      (ap (is_letter cols) (get_or-take known bytes k 0 below ∙ eqb-true (get_or bytes k 0) 32 space))))
+  | inr other ↦ other
+]
 
 pub cut_at : (bytes : List ℕ) (end : ℕ) → position is_space bytes ≡ Some end
     → words_of bytes ≡ take end bytes ∷ words_of (take (length bytes - (end + 1)) (drop (end + 1) bytes))

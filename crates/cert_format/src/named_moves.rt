@@ -1,16 +1,13 @@
 //! How much of the path of one lemma the next one repeats. Paths mostly differ only at their end, so the letters are
-//! compared with the moves that are there already, in blocks: a block is compared whole, with no exit from its middle, so
-//! that it takes a few instructions for all of its letters.
+//! compared with the moves that are there already, in blocks as two paths are.
 ghost use Rattle.std.specs.Prelude.{◌≡◌, ◌≤◌, true, length, take};
 ghost use Rattle.cert_format.specs.Names.{AreNamed};
 
 use board_bits::Column;
 use text_words::letter_of;
 
-/// How many letters are compared at a time.
-const BLOCK: usize = 16;
-
 /// How many of the first letters name the first moves, on a board with so many columns.
+#[inline(always)]
 pub(crate) fn named_moves(moves: &[Column], letters: &[u8], cols: u8) -> usize
     requires { cols ≤ 10 }
     ensures moves { result ≤ length moves.now }
@@ -19,40 +16,44 @@ pub(crate) fn named_moves(moves: &[Column], letters: &[u8], cols: u8) -> usize
 {
     let most = moves.len().min(letters.len());
     let (moves, letters) = (&moves[..most], &letters[..most]);
-    for at in named_blocks(moves, letters, cols)..most {
-        let column = moves[at];
-        if letters[at] != letter_of(column) || cols <= column.index() {
-            return at;
-        }
-    }
-    most
+    let at = past_block::<64>(moves, letters, cols, 0);
+    let at = past_block::<32>(moves, letters, cols, at);
+    let at = past_block::<16>(moves, letters, cols, at);
+    let at = past_block::<8>(moves, letters, cols, at);
+    let at = past_block::<4>(moves, letters, cols, at);
+    let at = past_block::<2>(moves, letters, cols, at);
+    past_block::<1>(moves, letters, cols, at)
 }
 
-/// How many letters stand in the first blocks that name moves.
-fn named_blocks(moves: &[Column], letters: &[u8], cols: u8) -> usize
+/// The place behind the block of so many letters that begins here, where they name its moves; else this place.
+#[inline(always)]
+fn past_block<const N: usize>(moves: &[Column], letters: &[u8], cols: u8, at: usize) -> usize
     requires cols { cols ≤ 10 }
     requires pairs { length moves.now ≡ length letters.now }
+    requires within { at ≤ length moves.now }
+    requires named { AreNamed cols (take at moves.now) (take at letters.now) }
     ensures within { result ≤ length moves.now }
     ensures named { AreNamed cols (take result moves.now) (take result letters.now) }
 {
-    let mut at = 0;
-    while moves.len() - at >= BLOCK
-        && block_is_named(&moves[at..at + BLOCK], &letters[at..at + BLOCK], cols)
+    if moves.len() - at >= N
+        && block_is_named::<N>(&moves[at..at + N], &letters[at..at + N], cols)
     {
-        at += BLOCK;
+        at + N
+    } else {
+        at
     }
-    at
 }
 
 /// Whether the letters of a block name its moves.
-fn block_is_named(moves: &[Column], letters: &[u8], cols: u8) -> bool
+#[inline(always)]
+fn block_is_named<const N: usize>(moves: &[Column], letters: &[u8], cols: u8) -> bool
     requires cols { cols ≤ 10 }
-    requires moves { length moves.now ≡ BLOCK }
-    requires letters { length letters.now ≡ BLOCK }
+    requires moves { length moves.now ≡ N }
+    requires letters { length letters.now ≡ N }
     ensures { result ≡ true → AreNamed cols moves.now letters.now }
 {
     let mut named = true;
-    for i in 0..BLOCK {
+    for i in 0..N {
         let column = moves[i];
         named &= (letters[i] == letter_of(column)) & (column.index() < cols);
     }

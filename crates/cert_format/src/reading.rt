@@ -1,6 +1,6 @@
 //! The reading of a line, word by word. Each reader gives what the definition of the same name gives of its words. A word
 //! that only a few can be is compared where it stands, with the space behind it; of any other the end is looked for.
-ghost use Rattle.std.specs.Prelude.{◌≡◌, ◌≢◌, ℕ, ◌<◌, ◌≤◌, List, ◌∷◌, ◌++◌, [], Some, None, IfSome, MatchOption, length, map, option_map, position, take, ◌==◌};
+ghost use Rattle.std.specs.Prelude.{◌≡◌, ◌≢◌, ℕ, ◌<◌, ◌≤◌, List, ◌∷◌, ◌++◌, [], true, Some, None, IfSome, MatchOption, length, map, option_map, position, take, ◌==◌};
 ghost use Rattle.std.specs.Str.{bytes_eq};
 ghost use Rattle.std.specs.List.{list_all};
 ghost use Rattle.proof_text.specs.Lemma.{ByOne, ByAll, allows};
@@ -10,7 +10,9 @@ ghost use Rattle.proof_text.specs.Reading.{words_of, number_of, path_of, letter_
 ghost use Rattle.cert_format.specs.Shape as shape;
 ghost use Rattle.cert_format.specs.Shape.{Reads};
 ghost use Rattle.cert_format.specs.Rooms.{reason_in, lemma_in, kept_in, ReadsInto};
-ghost use Rattle.cert_format.specs.Words.{HasNoClaim};
+ghost use Rattle.cert_format.specs.Words.{HasNoClaim, AreNoSpaces};
+ghost use Rattle.cert_format.specs.Names.{AreNamed};
+ghost use Rattle.game_rules.specs.Letters.{is_letter};
 
 use crate::lines::{Cite, LONGEST_LINE, LONGEST_PATH, Line, LineFault, MOST_CITES, Reason};
 use crate::named_moves::named_moves;
@@ -18,7 +20,6 @@ use crate::plan_line::members_of;
 use crate::room::{Kind, LemmaRoom, ReasonRoom};
 use arrayvec::ArrayVec;
 use board_bits::{Column, Size};
-use bstr::ByteSlice;
 use proof_text::{Claim, Verdict, Version};
 use text_words::number_between;
 
@@ -39,8 +40,9 @@ pub fn read_line(bytes: &[u8], size: Size, version: Version) -> Result<Line, Lin
     }
 }
 
-/// Reads a line of a version, a lemma into this room.
-#[inline(always)]
+/// Reads a line of a version, a lemma into this room. All of the reading is one function, and apart from its callers: what
+/// they keep at hand would else be in its way at each byte.
+#[inline(never)]
 pub(crate) fn read_into(
     room: &mut LemmaRoom,
     bytes: &[u8],
@@ -103,20 +105,31 @@ fn are_printable(bytes: &[u8]) -> bool
 }
 
 /// Reads a lemma's number and what stands behind it into this room.
+#[inline(always)]
 fn read_lemma(room: &mut LemmaRoom, number: &[u8], rest: &[u8], size: Size) -> Option<()>
     ensures { option_map (λ _. lemma_in room.new) result ≡ lemma_of size (number.now ∷ words_of rest.now) }
 {
-    let (path, rest) = split_path(rest);
+    let kept = named_moves(room.path.as_slice(), rest, size.cols());
+    let (path, rest) = split_path(rest, kept, size);
     room.number = number_of(number)?;
-    read_path(&mut room.path, path, size)?;
+    read_path(&mut room.path, path, kept, size)?;
     let (claim, rest) = split_claim(rest?)?;
     room.claim = claim;
     read_reason(&mut room.reason, rest, size)
 }
 
-/// The letters of at most a hundred columns, or `-` for none. The moves of the path before that are named by the same
-/// letters stay, so that only the letters behind them are read.
-fn read_path(path: &mut ArrayVec<Column, LONGEST_PATH>, word: &[u8], size: Size) -> Option<()>
+/// The letters of at most a hundred columns, or `-` for none. So many moves of the path before are named by the same letters
+/// and stay, so that only the letters behind them are read.
+#[inline(always)]
+fn read_path(
+    path: &mut ArrayVec<Column, LONGEST_PATH>,
+    word: &[u8],
+    kept: usize,
+    size: Size,
+) -> Option<()>
+    requires moves { kept ≤ length path.old.items }
+    requires letters { kept ≤ length word.now }
+    requires named { AreNamed size.cols (take kept path.old.items) (take kept word.now) }
     ensures { option_map (λ _. path.new.items) result ≡ path_of size.cols word.now }
 {
     if is_word(word, b"-") {
@@ -126,7 +139,6 @@ fn read_path(path: &mut ArrayVec<Column, LONGEST_PATH>, word: &[u8], size: Size)
     if word.is_empty() || word.len() > LONGEST_PATH {
         return None;
     }
-    let kept = named_moves(path.as_slice(), word, size.cols());
     shorten(path, kept);
     for letter in &word[kept..] {
         path.push(size.column_named(*letter)?);
@@ -157,6 +169,7 @@ fn letter_word(word: &[u8], size: Size) -> Option<Column>
 
 /// The claim that the first word makes, and what stands behind the space after it; None where the first word makes no
 /// claim, or is the last.
+#[inline(always)]
 fn split_claim(bytes: &[u8]) -> Option<(Claim, &[u8])>
     ensures { MatchOption result (HasNoClaim bytes.now) (λ read. words_of bytes.now ≡ claim_word read.0 ∷ words_of read.1.now) }
 {
@@ -247,6 +260,7 @@ fn all_of(bytes: &[u8], size: Size, cites: &mut ArrayVec<Cite, MOST_CITES>) -> O
 }
 
 /// A letter, a colon and a number.
+#[inline(always)]
 fn cite_of(word: &[u8], size: Size) -> Option<Cite>
     ensures { option_map shape.cite_of result ≡ cite_of size.cols word.now }
 {
@@ -301,21 +315,26 @@ pub(crate) fn split_word(bytes: &[u8]) -> (&[u8], Option<&[u8]>)
     ensures words { MatchOption result.1 (words_of bytes.now ≡ result.0.now ∷ []) (λ rest. words_of bytes.now ≡ result.0.now ∷ words_of rest.now) }
     ensures shorter { IfSome result.1 (λ rest. length rest.now < length bytes.now) }
 {
-    split_at(bytes, near_space(bytes))
+    split_at(bytes, first_space(bytes, 0))
 }
 
-/// The same, where the word may be a long one: the space is looked for in blocks.
-fn split_path(bytes: &[u8]) -> (&[u8], Option<&[u8]>)
+/// The same, where so many letters of the first word are known.
+#[inline(always)]
+fn split_path(bytes: &[u8], known: usize, size: Size) -> (&[u8], Option<&[u8]>)
+    requires within { known ≤ length bytes.now }
+    requires letters { list_all (is_letter size.cols) (take known bytes.now) ≡ true }
     ensures words { MatchOption result.1 (words_of bytes.now ≡ result.0.now ∷ []) (λ rest. words_of bytes.now ≡ result.0.now ∷ words_of rest.now) }
-    ensures shorter { IfSome result.1 (λ rest. length rest.now < length bytes.now) }
+    ensures letters { known ≤ length result.0.now }
+    ensures known { take known result.0.now ≡ take known bytes.now }
 {
-    split_at(bytes, first_space(bytes))
+    split_at(bytes, first_space(bytes, known))
 }
 
 /// What stands before the first space, which is at this place, and what behind it; where there is none, all.
 #[inline(always)]
 fn split_at(bytes: &[u8], space: Option<usize>) -> (&[u8], Option<&[u8]>)
     requires { space ≡ position (λ byte. byte == 32) bytes.now }
+    ensures word { MatchOption space (result.0.now ≡ bytes.now) (λ end. result.0.now ≡ take end bytes.now) }
     ensures words { MatchOption result.1 (words_of bytes.now ≡ result.0.now ∷ []) (λ rest. words_of bytes.now ≡ result.0.now ∷ words_of rest.now) }
     ensures shorter { IfSome result.1 (λ rest. length rest.now < length bytes.now) }
 {
@@ -325,24 +344,20 @@ fn split_at(bytes: &[u8], space: Option<usize>) -> (&[u8], Option<&[u8]>)
     }
 }
 
-/// Where the first space stands, gone to byte by byte.
+/// Where the first space stands, which is none of the first so many bytes. It is gone to byte by byte.
 #[inline(always)]
-fn near_space(bytes: &[u8]) -> Option<usize>
-    ensures { result ≡ position (λ byte. byte == 32) bytes.now }
+fn first_space(bytes: &[u8], known: usize) -> Option<usize>
+    requires within { known ≤ length bytes.now }
+    requires none { AreNoSpaces bytes.now known }
+    ensures first { result ≡ position (λ byte. byte == 32) bytes.now }
+    ensures past { IfSome result (λ at. (known ≤ at) × (at < length bytes.now)) }
 {
-    for at in 0..bytes.len() {
+    for at in known..bytes.len() {
         if bytes[at] == b' ' {
             return Some(at);
         }
     }
     None
-}
-
-/// The same, looked for in blocks.
-fn first_space(bytes: &[u8]) -> Option<usize>
-    ensures { result ≡ position (λ byte. byte == 32) bytes.now }
-{
-    bytes.find_byte(b' ')
 }
 
 #[inline(always)]

@@ -9,9 +9,8 @@ use Rattle.std.proofs.lemmas.Bool.{and_parts, and_from}
 use Rattle.game_rules.specs.Position.{Position, same_position}
 use Rattle.game_rules.specs.declared.Question.{Question}
 use Rattle.game_rules.specs.declared.Question.TheVariants.{WhiteWins, BlackWins}
-use Rattle.game_rules.specs.declared.Side.TheVariants.{White, Black}
 use Rattle.game_rules.proofs.Moves.{same_position_Decides}
-use Rattle.board_bits.specs.MenWords.{side_word}
+use Rattle.board_bits.specs.MenNumber.{men_number}
 
 pub record Key : Type 0 where
   pub position : Position
@@ -39,7 +38,7 @@ question_number BlackWins = 1
 
 -- what the hash of a key is made from
 abbrev pub hashed : Key → fed.HashWrites
-hashed key = fed.u128 (side_word key.position White) ++ (fed.u128 (side_word key.position Black) ++ fed.u8 (question_number key.question))
+hashed key = fed.u128 (men_number key.position) ++ fed.u8 (question_number key.question)
 
 pub same_question_is : (a b : Question) → same_question a b ≡ true → a ≡ b
 same_question_is WhiteWins WhiteWins h = refl

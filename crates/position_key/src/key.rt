@@ -1,16 +1,16 @@
-//! The key, in 40 bytes: the words of both sides' men, the board's size and the question. A contract sees the position and
-//! the question. The hash is fed the words and not the board's size, since the positions of one map are all of one board.
+//! The key, in 24 bytes: the number of both sides' men, the board's size and the question. A contract sees the position and
+//! the question. The hash is fed the number and not the board's size, since the positions of one map are all of one board.
 ghost use Rattle.std.specs.Prelude.{◌≡◌};
 ghost use Rattle.position_key.specs.Keys.{same_key, hashed, alike_keys, same_key_equiv, same_key_partial};
 
-use board_bits::{MenWords, Position, Question, Size};
+use board_bits::{MenNumber, Position, Question, Size};
 use std::hash::{Hash, Hasher};
 use std::marker::Model;
 
 /// A position and what is asked of it. Two are equal where the positions are the same and the question is one.
 #[derive(Drop)]
 pub struct Key {
-    men: MenWords,
+    men: MenNumber,
     size: Size,
     question: Question,
 }
@@ -33,7 +33,7 @@ impl Key {
         ensures { result ≡ record { position = position.now; question = question } }
     {
         Key {
-            men: MenWords::of(position),
+            men: MenNumber::of(position),
             size: position.size(),
             question,
         }
@@ -60,9 +60,7 @@ impl Hash for Key {
     ghost respects_eq = { alike_keys };
 
     fn hash<H: Hasher>(&self, state: &mut H) {
-        let (white, black) = self.men.numbers();
-        state.write_u128(white);
-        state.write_u128(black);
+        state.write_u128(self.men.number());
         state.write_u8(match self.question {
             Question::WhiteWins => 0,
             Question::BlackWins => 1,

@@ -9,6 +9,7 @@ const MOST_DIGITS: usize = 10;
 
 /// The number from `low` to `high` that the bytes spell, and None exactly where they spell none of them. A number has one
 /// spelling: its decimal digits, with no sign and no leading zero.
+#[inline(always)]
 pub fn number_between(low: u32, high: u32, bytes: &[u8]) -> Option<u32>
     ensures { result ≡ number_between low high bytes.now }
 {

@@ -1,7 +1,7 @@
 use Rattle.std.proofs.Common.{◌≡◌, ◌<◌, ◌≤◌, length, Some, sym, ap, ◌∙◌, subst, arith}
 use Rattle.std.proofs.lemmas.List.Elements.{All-get_or}
 use Rattle.proof_text.specs.Right.{lemma_at}
-use Rattle.board_bits.specs.MenWords.{AreWords, position_in}
+use Rattle.board_bits.specs.MenNumber.{AreMen, position_read}
 use Rattle.cert_checker.specs.Shown.{AllShown}
 use Rattle.cert_checker.proofs.Shown.{found_at, none_at}
 use Rattle.cert_checker.proofs.known.Known.get.Goals as goal
@@ -10,20 +10,20 @@ pub returns-then-index-len-clause-found : goal.returns-then-index-len-clause-fou
 returns-then-index-len-clause-found c =
     let a = c.self.inside in let i = c.in_ok-index.field-0 in let told = c.in_ok-index.ensures in
     let within : i < length a.men.items = omega (arith, c.if-index-len.true, c.len.ensures) in
-    let words = c.index.result.now in let claim = c.index-then-index-len.result.now in
+    let men = c.index.result.now in let claim = c.index-then-index-len.result.now in
     let board : c.args.self.now.board ≡ a.size = ap (λ (s : AllShown). s.board) (sym c.self.view_is) in
-    ap (λ b. Some (position_in b words, claim)) board
-    ∙ found_at a.size a.men.items a.claims.items c.args.lemma i words claim told.0 told.1 c.self.invariant.same_length within c.index.ensures
+    ap (λ b. Some (position_read b men, claim)) board
+    ∙ found_at a.size a.men.items a.claims.items c.args.lemma i men claim told.0 told.1 c.self.invariant.same_length within c.index.ensures
     c.index-then-index-len.ensures
     ∙ ap (λ (s : AllShown). lemma_at s.shown c.args.lemma) c.self.view_is
 
-pub returns-then-index-len-clause-words : goal.returns-then-index-len-clause-words
-returns-then-index-len-clause-words c =
-    let a = c.self.inside in let i = c.in_ok-index.field-0 in let words = c.index.result.now in
+pub returns-then-index-len-clause-men : goal.returns-then-index-len-clause-men
+returns-then-index-len-clause-men c =
+    let a = c.self.inside in let i = c.in_ok-index.field-0 in let men = c.index.result.now in
     let within : i < length a.men.items = omega (arith, c.if-index-len.true, c.len.ensures) in
     let board : a.size ≡ c.args.self.now.board = ap (λ (s : AllShown). s.board) c.self.view_is in
-    subst (λ b. AreWords b words) board
-    (subst (AreWords a.size) (sym c.index.ensures) (All-get_or (AreWords a.size) a.men.items i words within c.self.invariant.are_words))
+    subst (λ b. AreMen b men) board
+    (subst (AreMen a.size) (sym c.index.ensures) (All-get_or (AreMen a.size) a.men.items i men within c.self.invariant.are_men))
 
 pub returns-else-index-len-clause-found : goal.returns-else-index-len-clause-found
 returns-else-index-len-clause-found c =
