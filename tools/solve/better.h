@@ -168,7 +168,7 @@ class Bettered : public Strategy<ROWS> {
     bool is_late() {
         if (++calls_ % 1024 == 0) {
             report();
-            late_ = progress.seconds() > double(options_.seconds);
+            late_ = progress.is_late(options_.seconds);
         }
         return late_;
     }

@@ -67,7 +67,7 @@ class Graph {
     }
 
     // The moves of the set.
-    std::vector<Moved> moves() const {
+    std::vector<Moved> moves() {
         std::vector<Moved> moves;
         for (size_t n = 0; n < used_ones_; ++n) {
             const One& one = ones_[n];
@@ -161,6 +161,43 @@ class Graph {
         uint64_t mixed = (random_ ^ random_ >> 30) * 0xbf58476d1ce4e5b9u;
         mixed = (mixed ^ mixed >> 27) * 0x94d049bb133111ebu;
         return (mixed ^ mixed >> 31) % below;
+    }
+
+    // The Ones of the set; where parts are named, only those that come from nowhere else, or only the others.
+    std::vector<uint32_t> part() {
+        std::vector<bool> others = options_.below.empty() ? std::vector<bool>() : ones_beside();
+        std::vector<uint32_t> ones;
+        for (size_t n = 0; n < used_ones_; ++n) {
+            if (ones_[n].refs && (others.empty() || others[n] == options_.beside)) ones.push_back(uint32_t(n));
+        }
+        return ones;
+    }
+
+    // Which Ones come from the root by a way that meets none of the positions that are named.
+    std::vector<bool> ones_beside() {
+        std::vector<Word> named;
+        for (const Game& game : options_.below) named.push_back(key_of(position_of(game, board_)));
+        auto is_named = [&](Word key) { return std::find(named.begin(), named.end(), key) != named.end(); };
+        std::vector<bool> ones(used_ones_ + 1), alls(used_alls_ + 1);
+        std::vector<uint32_t> open;  // Alls
+        auto note = [&](uint32_t place) {
+            if (ones[place] || is_named(ones_[place].key)) return;
+            ones[place] = true;
+            open.push_back(ones_[place].next[ones_[place].move]);
+        };
+        if (proves_) note(one_of(root_key_));
+        else open.push_back(all_of(root_key_));
+        while (!open.empty()) {
+            uint32_t place = open.back();
+            open.pop_back();
+            const All& all = alls_[place];
+            if (alls[place] || is_named(all.key)) continue;
+            alls[place] = true;
+            for (unsigned n = 0; n < all.count; ++n) {
+                if (!(all.next[n] & LEAF)) note(all.next[n]);
+            }
+        }
+        return ones;
     }
 
     int men_of(uint32_t one) const { return count_of(board_.position(ones_[one].key).men); }
@@ -571,18 +608,22 @@ class Graph {
         }
     }
 
-    // The moves at the leaves that need an end: those to an end to which the most lead.
-    void add_leaves(std::vector<Moved>& moves) const {
+    // The moves at the leaves: those to a position of the set; where there is none, to an end to which the most lead.
+    void add_leaves(std::vector<Moved>& moves) {
         static constexpr uint32_t CHOSEN = 1 << 30;
         std::unordered_map<Word, uint32_t> ends;
+        std::vector<Position> bare;
         for (size_t n = 0; n < used_leaves_; ++n) {
-            if (!leaves_[n].refs || leaves_[n].supports) continue;
             Position at = board_.position(leaves_[n].key);
+            if (!leaves_[n].refs || at.men == board_.full) continue;
+            if (Word square = supported(at)) {
+                moves.push_back({leaves_[n].key, column_of(square)});
+                continue;
+            }
+            bare.push_back(at);
             for (Word rest = winning(at); rest; rest &= rest - 1) ++ends[key_of(board_.after(at, rest & -rest))];
         }
-        for (size_t n = 0; n < used_leaves_; ++n) {
-            if (!leaves_[n].refs || leaves_[n].supports) continue;
-            Position at = board_.position(leaves_[n].key);
+        for (Position at : bare) {
             Word best = 0;
             uint32_t most = 0;
             for (Word rest = winning(at); rest; rest &= rest - 1) {
@@ -592,7 +633,16 @@ class Graph {
                 best = rest & -rest;
             }
             ends[key_of(board_.after(at, best))] |= CHOSEN;
-            moves.push_back({leaves_[n].key, column_of(best)});
+            moves.push_back({board_.key(at), column_of(best)});
         }
+    }
+
+    // A move at a leaf to a position of the set, or 0.
+    Word supported(Position at) {
+        for (Word rest = board_.playable(at.men) & ~winning(at); rest; rest &= rest - 1) {
+            const Slot& slot = slot_of(key_of(board_.after(at, rest & -rest)));
+            if (slot.key && alls_[slot.place].refs) return rest & -rest;
+        }
+        return 0;
     }
 };

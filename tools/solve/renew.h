@@ -1,6 +1,7 @@
 // How a strategy is made smaller in its graph.
 #pragma once
 
+#include <cmath>
 #include <string>
 #include <vector>
 
@@ -13,14 +14,15 @@ class Renewed : public Graph<ROWS> {
 
     // Sweeps and renewals in turn, while they make the set smaller and there is time.
     void better() {
+        begin_ = progress.seconds();
         for (int idle = 0; idle < 3 && !is_late();) {
             int64_t before = live_;
-            sweep();
-            renew(100 * uint64_t(live_));
+            vary_all(part());
+            renew(30 * uint64_t(live_));
             if (is_full() && !shed()) return;
             progress.lemmas = uint64_t(live_);
             progress.line(search_.nodes);
-            idle = before - live_ > before / 50000 ? 0 : idle + 1;
+            idle = heat() > 0 || before - live_ > before / 50000 ? 0 : idle + 1;
         }
     }
 
@@ -44,21 +46,26 @@ class Renewed : public Graph<ROWS> {
     using Base::men_of;
     using Base::ones_;
     using Base::options_;
+    using Base::part;
     using Base::random;
     using Base::search_;
     using Base::shed;
     using Base::take_again;
     using Base::take_all;
-    using Base::used_ones_;
     using Base::work_;
 
     static constexpr int64_t SMALLEST = 20;  // part that is renewed
     static constexpr int64_t LARGE = 200;
     static constexpr int64_t LARGEST = 200'000;
-    static constexpr double KEPT = 0.998;  // of what was gained before
+    static constexpr double KNOWN = 3e7;      // work that is remembered of what is done in one way
 
-    double gains_[64] = {};  // by renewals, and the work that they took, by the number of men
-    double works_[64] = {};
+    // What was done in one way lately: the parts with one number of men are renewed, or other moves are taken there.
+    struct Way {
+        double draws = 0, gains = 0, work = 0;
+    };
+
+    Way ways_[128];
+    double begin_ = 0;  // when the bettering began
     uint64_t calls_ = 0;
     bool late_ = false;
     bool is_within_ = false;  // a part of what is being renewed is
@@ -69,7 +76,7 @@ class Renewed : public Graph<ROWS> {
         if (++calls_ % 1024 == 0) {
             progress.lemmas = uint64_t(live_);
             say_now(search_.nodes);
-            late_ = progress.seconds() > double(options_.seconds);
+            late_ = progress.is_late(options_.seconds);
         }
         return late_;
     }
@@ -78,43 +85,54 @@ class Renewed : public Graph<ROWS> {
         for (size_t n = ones.size(); n > 1; --n) std::swap(ones[n - 1], ones[random(n)]);
     }
 
-    // Takes other moves at all positions, in random order.
-    void sweep() {
-        std::vector<uint32_t> ones;
-        for (size_t n = 0; n < used_ones_; ++n) {
-            if (ones_[n].refs) ones.push_back(uint32_t(n));
-        }
-        vary_all(ones);
+    // How many positions more may stay of a change, on an average: less and less until the time is over.
+    double heat() const {
+        double seconds = std::max(double(options_.seconds) - begin_, 1.0);
+        return double(options_.heat) / 100 * std::max(1 - (progress.seconds() - begin_) / seconds, 0.0);
     }
 
-    // Renews parts, mostly with a number of men with which much was gained for the work. It ends when so many positions
-    // were taken in.
+    // So many more may stay of this one.
+    int64_t slack() {
+        if (!options_.heat) return 0;
+        return int64_t(-heat() * std::log(double(random(uint64_t(1) << 32) + 1) / double(uint64_t(1) << 32)));
+    }
+
+    // Renews parts, and takes other moves at positions; mostly with a number of men with which much was gained for the
+    // work. It ends when so many positions were taken in.
     void renew(uint64_t most) {
         std::vector<std::vector<uint32_t>> lists(64);
-        for (size_t n = 0; n < used_ones_; ++n) {
-            if (ones_[n].refs) lists[size_t(men_of(uint32_t(n)))].push_back(uint32_t(n));
-        }
+        for (uint32_t one : part()) lists[size_t(men_of(one))].push_back(one);
         for (uint64_t end = work_ + most; work_ < end && !is_late() && !is_full(); ++work_) {
-            size_t men = drawn(lists);
+            size_t place = drawn(lists);
+            const std::vector<uint32_t>& some = lists[place % 64];
+            if (some.empty()) return;
             int64_t size = live_;
-            uint64_t work = work_ + search_.nodes;
-            renew_part(lists[men][random(lists[men].size())]);
-            gains_[men] = gains_[men] * KEPT + double(size - live_);
-            works_[men] = works_[men] * KEPT + double(work_ + search_.nodes - work) + 10;
+            uint64_t before = work_ + search_.nodes;
+            if (place < 64) renew_part(some[random(some.size())]);
+            else for (int n = 0; n < 32; ++n) vary(some[random(some.size())]);
+            Way& way = ways_[place];
+            double work = double(work_ + search_.nodes - before) + 10;
+            double kept = std::exp(-work / KNOWN);
+            way.gains = way.gains * kept + double(size - live_);
+            way.work = way.work * kept + work;
+            way.draws = way.draws * kept + 1;
         }
     }
 
-    // A number of men that some position has.
+    // A way for which there are positions. What is drawn of a way is by the square of what it gains for the work, and
+    // in work, not in number.
     size_t drawn(const std::vector<std::vector<uint32_t>>& lists) {
-        double rates[64], sum = 0;
-        for (size_t n = 0; n < 64; ++n) {
-            rates[n] = lists[n].empty() ? 0 : (gains_[n] + 1) / (works_[n] + 1e5) + 1e-6;
+        double rates[128], sum = 0;
+        for (size_t n = 0; n < 128; ++n) {
+            const Way& way = ways_[n];
+            double gain = (std::max(way.gains, 0.0) + 20) / (way.work + 2e5) + 2e-6;
+            rates[n] = lists[n % 64].empty() ? 0 : gain * gain * (way.draws + 1) / (way.work + 1e3);
             sum += rates[n];
         }
         double drawn = sum * double(random(uint64_t(1) << 32)) / double(uint64_t(1) << 32);
         size_t place = 0;
-        for (size_t n = 0; n < 64; ++n) {
-            if (lists[n].empty()) continue;
+        for (size_t n = 0; n < 128; ++n) {
+            if (rates[n] == 0) continue;
             place = n;
             if (drawn < rates[n]) break;
             drawn -= rates[n];
@@ -122,13 +140,15 @@ class Renewed : public Graph<ROWS> {
         return place;
     }
 
-    // Drops the part below a position, takes another in by chance and betters it. It stays where it isn't larger.
+    // Drops the part below a position, takes another in by chance and betters it. It stays where it isn't larger, or
+    // not by much.
     void renew_part(uint32_t place) {
         One& one = ones_[place];
         if (!one.refs || alls_[one.next[one.move]].refs > 1) return;
         std::vector<Note> notes;
         unsigned old = one.move, other = old;
         uint32_t there = one.next[old];
+        if (alls_[there].cost > scaled(2 * LARGEST)) return;
         int64_t size = live_;
         int64_t gone = drop_noted(there, notes);
         alls_[there].cost = scaled(gone);
@@ -142,13 +162,13 @@ class Renewed : public Graph<ROWS> {
     }
 
     // Takes a position in by chance, and betters what came with it. False, and nothing is taken in, where the set gets
-    // larger than this by it.
+    // much larger than this by it.
     bool take_bettered(uint32_t all, int64_t most, int64_t gone) {
         std::vector<uint32_t> ones;
         if (!take_by_chance(all, most + 2 * gone, ones)) return false;
         better_part(ones);
         for (int n = 0; n < 3 && is_near(most, gone); ++n) renew_within(ones);
-        if (live_ <= most) return true;
+        if (live_ <= most + slack()) return true;
         drop_all(all);
         return false;
     }
@@ -214,6 +234,7 @@ class Renewed : public Graph<ROWS> {
     // Looks for a move that adds less than the present one, which is dropped for that time.
     void improve(uint32_t place) {
         One& one = ones_[place];
+        ++work_;
         if (!one.refs || one.count < 2) return;
         unsigned old = one.move;
         All& there = alls_[one.next[old]];
@@ -253,7 +274,7 @@ class Renewed : public Graph<ROWS> {
         return best;
     }
 
-    // Takes other moves at these positions, in random order, where the set doesn't get larger by it.
+    // Takes other moves at these positions, in random order, where the set doesn't get larger by it, or not by much.
     void vary_all(std::vector<uint32_t> ones) {
         shuffle(ones);
         for (uint32_t one : ones) {
@@ -263,6 +284,7 @@ class Renewed : public Graph<ROWS> {
 
     void vary(uint32_t place) {
         One& one = ones_[place];
+        ++work_;
         if (!one.refs || one.count < 2) return;
         unsigned old = one.move;
         unsigned other = any_move(one, old, FEW_NODES);
@@ -270,7 +292,7 @@ class Renewed : public Graph<ROWS> {
         // Where what follows the old move stays for another position, a new one isn't worth it.
         uint32_t there = one.next[old];
         if (!alls_[one.next[other]].refs && alls_[there].refs > 1) return;
-        int64_t size = live_;
+        int64_t size = live_ + slack();
         drop_noted(there, notes_);
         if (!take_as_before(one.next[other], size)) {
             take_again(there, notes_);

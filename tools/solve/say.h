@@ -1,6 +1,7 @@
 // What the tool says on standard error while it works: a line every few seconds.
 #pragma once
 
+#include <csignal>
 #include <cstdint>
 #include <cstdio>
 #include <ctime>
@@ -11,6 +12,7 @@ struct Progress {
     uint64_t bytes = 0;
     bool is_quiet = false;
     time_t last = time(nullptr);
+    volatile sig_atomic_t is_stopped = 0;  // a signal has ended the bettering
 
     // Seconds of processor time.
     static double seconds() {
@@ -18,6 +20,9 @@ struct Progress {
         clock_gettime(CLOCK_PROCESS_CPUTIME_ID, &now);
         return double(now.tv_sec) + double(now.tv_nsec) / 1e9;
     }
+
+    // No choice is to be bettered any more.
+    bool is_late(uint64_t most) const { return is_stopped || seconds() >= double(most); }
 
     void line(uint64_t nodes) {
         if (is_quiet) return;
@@ -28,6 +33,15 @@ struct Progress {
 };
 
 inline Progress progress;
+
+// From here on the first SIGINT or SIGTERM ends the bettering, so that what there is gets written; another ends the
+// tool.
+inline void catch_signals() {
+    struct sigaction action = {};
+    action.sa_handler = [](int) { progress.is_stopped = 1; };
+    action.sa_flags = SA_RESETHAND | SA_RESTART;
+    for (int number : {SIGINT, SIGTERM}) sigaction(number, &action, nullptr);
+}
 
 inline void say_now(uint64_t nodes) {
     time_t now = time(nullptr);

@@ -16,7 +16,8 @@ static const char usage[] =
     "usage: solve [-o FILE] [--memory MIB] [--lemmas N] [--book FILE] [--mirror N] [--reach N] [--order N]\n"
     "             [--closure N] [--high N] [--probe N] [--part N] [--no-reuse] [--look N] [--rounds N] [--nodes N]\n"
     "             [--starts N] [--sweeps N] [--seed N] [--seconds N] [--format N] [--start FILE] [--also FILE]...\n"
-    "             [--below MOVES]... [--beside] [--changes FILE FILE]... [--graph MIB] [--quiet] [GAME]\n"
+    "             [--below MOVES]... [--beside] [--changes FILE FILE]... [--graph MIB] [--heat N] [--quiet]\n"
+    "             [GAME]\n"
     "Reads the text of a game from the file GAME or from standard input, and writes a proof of its value to FILE or\n"
     "to standard output. docs/SOLVED.md says more.\n";
 
@@ -197,7 +198,8 @@ class Prover {
 
     // Rounds, then sweeps and renewed parts in turn, while they make the strategy smaller.
     void better(Bettered<ROWS>& strategy, Search<ROWS>& search) {
-        auto is_late = [&] { return progress.seconds() >= double(options_.seconds); };
+        catch_signals();
+        auto is_late = [&] { return progress.is_late(options_.seconds); };
         for (int n = 0; n < options_.rounds && !is_late(); ++n) {
             progress.stage = "improving";
             strategy.round(n % 5 < 4 ? n % 5 : 3, n % 5 == 4);
@@ -235,6 +237,7 @@ static void run(int count, char** words) {
         if (word == "--memory") options.memory = number(1, 1 << 20) << 20;
         else if (word == "--lemmas") options.lemmas = number(1, 10'000'000);
         else if (word == "--graph") options.graph = number(0, 1 << 20) << 20;
+        else if (word == "--heat") options.heat = number(0, 10'000);
         else if (word == "--look") options.look = int(number(0, 63));
         else if (word == "--rounds") options.rounds = int(number(0, 1000));
         else if (word == "--nodes") options.nodes = number(0, 1'000'000'000);
