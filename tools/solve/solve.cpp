@@ -14,10 +14,10 @@
 
 static const char usage[] =
     "usage: solve [-o FILE] [--memory MIB] [--lemmas N] [--book FILE] [--mirror N] [--reach N] [--order N]\n"
-    "             [--closure N] [--high N] [--probe N] [--part N] [--no-reuse] [--look N] [--rounds N] [--nodes N]\n"
-    "             [--starts N] [--sweeps N] [--seed N] [--seconds N] [--format N] [--start FILE] [--also FILE]...\n"
-    "             [--below MOVES]... [--beside] [--changes FILE FILE]... [--graph MIB] [--heat N] [--quiet]\n"
-    "             [GAME]\n"
+    "             [--closure N] [--covers] [--high N] [--probe N] [--part N] [--no-reuse] [--look N] [--rounds N]\n"
+    "             [--nodes N] [--starts N] [--sweeps N] [--seed N] [--seconds N] [--format N] [--start FILE]\n"
+    "             [--also FILE]... [--below MOVES]... [--beside] [--changes FILE FILE]... [--graph MIB] [--heat N]\n"
+    "             [--quiet] [GAME]\n"
     "Reads the text of a game from the file GAME or from standard input, and writes a proof of its value to FILE or\n"
     "to standard output. docs/SOLVED.md says more.\n";
 
@@ -253,6 +253,7 @@ static void run(int count, char** words) {
         else if (word == "--mirror") options.mirror = int(number(0, 63));
         else if (word == "--reach") options.reach = unsigned(number(0, 1'000'000));
         else if (word == "--order") options.order = int(number(0, 4));
+        else if (word == "--covers") options.covers = true;
         else if (word == "--no-reuse") options.reuses = false;
         else if (word == "--quiet") progress.is_quiet = true;
         else if (word == "--book" && n + 1 < count && *words[n + 1]) options.book = words[++n];

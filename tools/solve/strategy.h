@@ -42,6 +42,7 @@ struct Options {
     uint64_t part = 1000;  // parts with so many of the prover's moves are bettered while the first strategy grows
     uint64_t seconds = 1'000'000'000;  // no position is bettered after so many
     int order = 4;        // which moves are tried first; 4 is the better of 1 and 2
+    bool covers = false;  // who mustn't lose moves on top of a man of the other side's, where orders 1 to 3 choose
     bool reuses = true;   // positions of the set are taken first
 };
 
@@ -460,10 +461,11 @@ class Strategy {
         int column = place / board_.HEIGHT;
         int side = std::min(column, board_.columns - 1 - column);
         bool follows = row & 1;
+        bool covers = options_.covers && !wins_ && row && (men & ~own) >> (place - 1) & 1;
         switch (mode_.order) {
             case 0: return count_of(wins) * 32 + side;
-            case 1: return follows * 10000 + count_of(wins) * 3 - new_replies(at, square) * 1000;
-            default: return follows * 100 + count_of(wins) * 3 - new_replies(at, square) * 1000;
+            case 1: return covers * 100000 + follows * 10000 + count_of(wins) * 3 - new_replies(at, square) * 1000;
+            default: return covers * 100000 + follows * 100 + count_of(wins) * 3 - new_replies(at, square) * 1000;
         }
     }
 

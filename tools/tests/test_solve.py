@@ -5,6 +5,7 @@ import random
 import re
 import resource
 import shutil
+import signal
 import stat
 import subprocess
 import tempfile
@@ -132,7 +133,8 @@ class SolveTest(ToolTest):
                               "--high", "0", "--sweeps", "0")[0]
         for words in (["--order", "1"], ["--order", "2"], ["--order", "2", "--closure", "0"], ["--part", "10"],
                       ["--high", "42", "--probe", "100"], ["--order", "3", "--sweeps", "0"], ["--starts", "16"],
-                      ["--seed", "7"], ["--seconds", "0"], ["--mirror", "42"], ["--reach", "1"], ["--graph", "40"], []):
+                      ["--seed", "7"], ["--seconds", "0"], ["--mirror", "42"], ["--reach", "1"], ["--graph", "40"],
+                      ["--graph", "40", "--heat", "50", "--seconds", "2"], []):
             proof = self.proof_of(text, *words)[0]
             self.assertLessEqual(proof.count("\n"), plain.count("\n"))
         self.assertLess(proof.count("\n") * 5, plain.count("\n"))
@@ -143,6 +145,13 @@ class SolveTest(ToolTest):
         with_images = self.proof_of(text, "--format", "2", "--sweeps", "0")[0]
         self.assertIn(" mirror ", with_images)
         self.assertLess(with_images.count("\n"), self.proof_of(text, "--sweeps", "0")[0].count("\n"))
+
+    def test_covers(self):
+        """Who mustn't lose answers on top of the other side's men: so few positions come with lines of five."""
+        text = game_text(4, 6, "", 5)
+        covers, plain = (self.proof_of(text, "--format", "2", "--order", "3", "--rounds", "1", "--sweeps", "0", *words)[0]
+                         for words in (["--covers"], []))
+        self.assertLess(covers.count("\n") * 2, plain.count("\n"))
 
     def test_bettered(self):
         """Sweeps and renewed parts make a strategy smaller, from nothing or from a proof of either format."""
@@ -167,6 +176,14 @@ class SolveTest(ToolTest):
                 bettered = self.proof_of(text, "--format", form, *start, "--graph", "60")[0]
                 self.assertLess(bettered.count("\n") * 10, again.count("\n") * 9)
         self.fails(text, "needs more memory than its graph has", *start, "--graph", "1")
+        # The moves that are written are those of the graph: a proof whose root isn't its own image has as many lemmas
+        # as the graph has positions, or fewer, where positions have an end in common.
+        path = os.path.join(self.folder, "graph")
+        status, _, err = self.solve(game_text(7, 6, "dddddebb"), "--format", "2", "--order", "1", "--part", "0",
+                                    "--rounds", "0", "--sweeps", "0", "--graph", "100", "--seconds", "10", "-o", path)
+        self.assertEqual(status, 0, err)
+        sizes = [int(size) for size in re.findall(r"renewing, .* (\d+) lemmas", err)]
+        self.assertLess(int(re.search(r"value win (\d+)", err)[1]), sizes[-1] * 1.02)
         # With little memory, what isn't of the strategy is dropped again and again.
         self.proof_of(game_text(5, 4, ""), "--graph", "1")
 
@@ -180,7 +197,25 @@ class SolveTest(ToolTest):
         both = self.proof_of(text, *start, self.file("below", below), "--sweeps", "0", "--changes", rough,
                              self.file("beside", beside))[0]
         self.assertLessEqual(both.count("\n"), min(below.count("\n"), beside.count("\n")))
+        for words in ([], ["--beside"]):
+            self.proof_of(text, *start, rough, "--sweeps", "0", "--graph", "60", "--below", "c", *words)
         self.fails(text, "--below takes moves", "--below", "cg")
+
+    def test_signals(self):
+        """A signal ends the bettering, and the proof that there is gets written; before that one ends the tool."""
+        path = os.path.join(self.folder, "ended")
+        for number in (signal.SIGTERM, signal.SIGINT):
+            words = ["--format", "2", "--memory", "300", "--graph", "60", "--heat", "50", "-o", path]
+            with subprocess.Popen([self.solver, *words], stdin=subprocess.PIPE, stdout=subprocess.PIPE,
+                                  stderr=subprocess.PIPE, encoding="utf-8") as run:
+                run.stdin.write(game_text(5, 4, ""))
+                run.stdin.close()
+                line = next(line for line in run.stderr if "renewing" in line)
+                run.send_signal(number)
+                said = run.stderr.read()
+                self.assertEqual(run.wait(timeout=100), 0, line + said)
+            self.assertIn("value draw", said)
+            self.assertEqual(mutants.answer_of([program(), "check"], read(path).encode())[0], 0)
 
     def test_bad_proofs(self):
         """Nothing of a proof that is named is trusted."""
