@@ -537,7 +537,8 @@ def lines_behind(text: Text, lines: str) -> Iterator[BinaryIO]:
 
 
 def answer(name: str, words: list[str], text: Text, good: Iterable[int] = (0,), **limits) -> tuple[int, str]:
-    """Runs a program on a text, and gives its status and what it wrote."""
+    """Runs a program on a text, and gives its status and what it wrote. So a command can be called for which there is no
+    function here: answer("victor NAME", [find_program(), "NAME"], text)."""
     with file_of(text) as source:
         return answer_from(name, words, source, good, **limits)
 
