@@ -14,8 +14,8 @@ use Rattle.game_rules.proofs.Lists.{any_gives, any_from, Among-below}
 use Rattle.game_rules.proofs.Moves.{room_from}
 use Rattle.game_rules.proofs.Squares.{agree}
 use Rattle.game_rules.proofs.Values.{empty_count_room}
-use Rattle.board_bits.specs.Words.{has_bit}
-use Rattle.board_bits.proofs.Words.{column, word_ones, own_column}
+use Rattle.board_squares.specs.Words.{has_bit}
+use Rattle.board_squares.proofs.Words.{column, word_ones, own_column}
 use Rattle.board_bits.proofs.Positions.{all_men, men_word, column_bits, ones_in}
 
 sum_none : (g : ℕ → ℕ) (m a : ℕ) → ((i : ℕ) → i < m → g (a + i) ≡ 0) → sum_by g (range_with_len a m) ≡ 0

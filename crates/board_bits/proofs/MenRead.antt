@@ -1,5 +1,5 @@
 -- The number of a position's men gives the position back.
-use Rattle.std.proofs.Common.{◌≡◌, ℕ, zero, suc, ◌+◌, ◌*◌, ◌/◌, ◌%◌, ◌^◌, ◌<◌, ◌≤◌, true, cond, ◌==◌, List, [], ◌∷◌, length, map, get_or}
+use Rattle.std.proofs.Common.{◌≡◌, ℕ, zero, suc, ◌+◌, ◌*◌, ◌/◌, ◌%◌, ◌^◌, ◌<◌, ◌≤◌, true, cond, ◌==◌, List, [], ◌∷◌, length, map}
 use Rattle.std.proofs.Common.{Option, Some, None, refl, sym, ap, ◌∙◌, arith, add-one, slice_get}
 use Rattle.std.proofs.Math.Nat.{add-mul, mul_assoc}
 use Rattle.std.proofs.lemmas.Bool.{eqb-true, eq-eqb}
@@ -14,9 +14,9 @@ use Rattle.game_rules.proofs.Moves.{same_position_Decides}
 use Rattle.game_rules.proofs.Squares.{agree}
 use Rattle.board_bits.specs.MenWords.{side_word}
 use Rattle.board_bits.specs.MenNumber.{men_number, men_read, column_read, position_read, AreMen}
-use Rattle.board_bits.proofs.Digits.{number, number_same, digit}
+use Rattle.board_squares.proofs.Digits.{number, number_same, digit}
 use Rattle.board_bits.proofs.Positions.{height_most}
-use Rattle.board_bits.proofs.Words.{column, row_bit, word_number}
+use Rattle.board_squares.proofs.Words.{column, row_bit, word_number}
 
 -- what a man counts at its square
 abbrev counts : Option Side → ℕ

@@ -11,12 +11,12 @@ use Rattle.game_rules.specs.declared.Side.TheVariants.{White, Black}
 use Rattle.game_rules.proofs.Ends.{cases_square, on_board_from, other_kept, empty_no_man}
 use Rattle.game_rules.proofs.Moves.{room_column, room_height, placed, unchanged, board_moved, stacked_moved}
 use Rattle.game_rules.proofs.Squares.{same_square_refl, same_square_is, where_same}
-use Rattle.board_bits.specs.Words.{has_bit, word_of}
+use Rattle.board_squares.specs.Words.{has_bit, word_of}
 use Rattle.board_bits.specs.MenWords.{side_word}
 use Rattle.board_bits.specs.PositionFields.{men_of, fields_of, IsSound}
 use Rattle.board_bits.specs.declared.position.Position.TheInside.{Inside}
-use Rattle.board_bits.proofs.Words.{word_is_word, word_back, word_has}
-use Rattle.board_bits.proofs.Masks.{zero_word, no_bit, more, more_word, more_bit}
+use Rattle.board_squares.proofs.Words.{word_is_word, word_back, word_has}
+use Rattle.board_squares.proofs.Masks.{zero_word, no_bit, more, more_word, more_bit}
 use Rattle.board_bits.proofs.Positions.{on_widest, kept_sound, kept_men}
 
 module _ (p : Position) (board : is_board (board_of p) ≡ true) (stacked : IsStacked p) (c : ℕ) (room : has_room p c ≡ true) where

@@ -14,21 +14,19 @@ use Rattle.game_rules.specs.Position.{Position, board_of, height, men_in, man_at
 use Rattle.game_rules.specs.Squares.{widest, is_empty, IsSetOf}
 use Rattle.game_rules.specs.declared.Side.{Side}
 use Rattle.game_rules.specs.declared.Side.TheVariants.{White, Black}
-use Rattle.game_rules.specs.declared.Length.{Length}
-use Rattle.game_rules.specs.declared.Length.TheVariants.{Four, Five}
 use Rattle.game_rules.proofs.Ends.{on_board_parts, on_board_from, has_line_gives, has_line_from}
 use Rattle.game_rules.proofs.Groups.{board_most}
 use Rattle.game_rules.proofs.Moves.{man_past, man_within}
 use Rattle.game_rules.proofs.Squares.{agree, man_on_board}
-use Rattle.board_bits.specs.Words.{has_bit, squares_of, board_word}
+use Rattle.board_squares.specs.Words.{has_bit, squares_of, board_word}
 use Rattle.board_bits.specs.MenWords.{height_in, side_in, column_in, side_word}
 use Rattle.board_bits.specs.PositionFields.{men_of, fields_of, IsSound}
 use Rattle.board_bits.specs.declared.position.Position.TheInside.{Inside}
-use Rattle.board_bits.proofs.Digits.{ones_of_zero}
-use Rattle.board_bits.proofs.Words.{IsWord, word_is_word, word_bit, word_has, column_of}
-use Rattle.board_bits.proofs.Masks.{union_word, union_bit, common_word, common_bit, not_bit, word_set}
-use Rattle.board_bits.proofs.Runs.{Shows, run_gives, run_from}
-use Rattle.board_bits.specs.Runs.{IsLength, word_runs}
+use Rattle.board_squares.proofs.Digits.{ones_of_zero}
+use Rattle.board_squares.proofs.Words.{IsWord, word_is_word, word_bit, word_has, column_of}
+use Rattle.board_squares.proofs.Masks.{union_word, union_bit, common_word, common_bit, not_bit, word_set}
+use Rattle.board_squares.proofs.Runs.{Shows, run_gives, run_from, a_length}
+use Rattle.board_squares.specs.Runs.{word_runs}
 
 one_ones : count_ones 1 ≡ 1
 unfolding count_ones
@@ -42,10 +40,6 @@ ones_in (suc h) =
     ap count_ones (let e : 2 ^ suc h - 1 ≡ (2 ^ h - 1) * 2 ^ 1 + 1 = omega (arith, some) in e)
     ∙ ones_cat 1 (2 ^ h - 1) 1 (omega arith)
     ∙ (let first = ones_in h in let last = one_ones in omega (arith, first, last))
-
-pub a_length : (len : Length) → IsLength (line_length len)
-a_length Four = inl refl
-a_length Five = inr refl
 
 module _ (p : Position) (board : is_board (board_of p) ≡ true) (stacked : IsStacked p) where
   cols_most : length p.columns ≤ 10

@@ -18,8 +18,8 @@ use Rattle.board_bits.specs.MenWords.{side_word}
 use Rattle.board_bits.specs.PositionFields.{men_of, fields_of, IsSound}
 use Rattle.board_bits.specs.Turned.{turned, image_word}
 use Rattle.board_bits.specs.declared.position.Position.TheInside.{Inside}
-use Rattle.board_bits.proofs.Digits.{number, number_none, number_more, number_same, number_below, digit}
-use Rattle.board_bits.proofs.Words.{word_is_word, word_bit, column_of}
+use Rattle.board_squares.proofs.Digits.{number, number_none, number_more, number_same, number_below, digit}
+use Rattle.board_squares.proofs.Words.{word_is_word, word_bit, column_of}
 use Rattle.board_bits.proofs.Positions.{kept_sound, kept_men}
 
 -- ---- numbers

@@ -1,4 +1,3 @@
-pub mod Size
 pub mod Order
 pub mod Halves
 pub mod MenWords
@@ -7,7 +6,4 @@ pub mod PositionFields
 pub mod Move
 pub mod Played
 pub mod Reading
-pub mod Words
-pub mod Runs
-pub mod WholeColumns
 pub mod Turned

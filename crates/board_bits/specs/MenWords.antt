@@ -8,7 +8,7 @@ use Rattle.game_rules.specs.Position.{Position, has_man}
 use Rattle.game_rules.specs.Squares.{squares_where}
 use Rattle.game_rules.specs.declared.Side.{Side}
 use Rattle.game_rules.specs.declared.Side.TheVariants.{White, Black}
-use Rattle.board_bits.specs.Words.{word_of}
+use Rattle.board_squares.specs.Words.{word_of}
 
 -- White's word and Black's
 abbrev pub Words : Type 0

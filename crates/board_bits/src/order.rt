@@ -3,8 +3,7 @@ ghost use Rattle.std.specs.Prelude.{◌≡◌, ◌+◌, ◌<◌, ◌≤◌};
 ghost use Rattle.game_rules.specs.Cost.{centre_out};
 ghost use Rattle.board_bits.specs.Order.{column_at};
 
-use crate::size::MOST_COLS;
-use crate::{Column, Size};
+use crate::{Column, MOST_COLS, Size};
 use arrayvec::ArrayVec;
 
 /// The columns by their distance from the middle, and of two equally far ones the left one first: four columns give

@@ -10,11 +10,10 @@ ghost use Rattle.game_rules.specs.declared.Side.TheVariants as sides;
 ghost use Rattle.board_bits.specs.Move.{moved_into};
 ghost use Rattle.board_bits.specs.MenWords.{side_word};
 
-use crate::mask::{board_word, place_of};
-use crate::run::has_run;
 use crate::turned::turned;
 use crate::{Column, End, MOST_COLS, Mask, Side, Size, Square};
 use arrayvec::ArrayVec;
+use board_squares::{board_word, has_run, place_of};
 use std::hash::Hash;
 use std::marker::Model;
 

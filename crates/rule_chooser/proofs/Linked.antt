@@ -14,7 +14,7 @@ use Rattle.game_rules.proofs.Squares.{same_square_is, has_gives}
 use Rattle.plan_rules.specs.Rules.{RuleInstance, zone_of, fits}
 use Rattle.plan_rules.specs.Listing.{squares_at}
 use Rattle.plan_rules.proofs.Grounds.{fits_on_board}
-use Rattle.board_bits.specs.Words.{place_of}
+use Rattle.board_squares.specs.Words.{place_of}
 use Rattle.rule_compat.specs.declared.instance.Instance.{Instance}
 use Rattle.rule_compat.specs.Written.{written, written_list}
 use Rattle.rule_compat.proofs.Checked.{find_filtered}

@@ -10,7 +10,7 @@ use Rattle.game_rules.specs.Position.{Position, board_of}
 use Rattle.game_rules.specs.Squares.{has_square, IsSetOf}
 use Rattle.game_rules.proofs.Lists.{Among}
 use Rattle.plan_rules.specs.Rules.{RuleInstance, zone_of, together}
-use Rattle.board_bits.specs.Words.{place_of}
+use Rattle.board_squares.specs.Words.{place_of}
 use Rattle.rule_compat.specs.declared.instance.Instance.{Instance}
 use Rattle.rule_compat.specs.Written.{written, written_list}
 use Rattle.walk_rules.specs.Walk.{fitting_zones, may_follow, walk_from, choice_among}

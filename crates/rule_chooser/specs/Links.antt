@@ -3,7 +3,7 @@ use Rattle.std.specs.Prelude.{◌≡◌, ℕ, ◌+◌, ◌<◌, ◌==◌, if◌t
 use Rattle.std.specs.Option.{option_map_or}
 use Rattle.game_rules.specs.Squares.{has_square, squares_where}
 use Rattle.plan_rules.specs.Rules.{zone_of}
-use Rattle.board_bits.specs.Words.{place_of}
+use Rattle.board_squares.specs.Words.{place_of}
 use Rattle.rule_compat.specs.declared.instance.Instance.{Instance}
 use Rattle.rule_chooser.specs.declared.zones.TheConstants.{PLACES}
 use Rattle.rule_compat.specs.Written.{written}

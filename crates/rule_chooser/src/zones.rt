@@ -1,7 +1,7 @@
 //! The zones that fit at a position, each with the set of its squares and that of its columns, so that a search compares
 //! two zones without computing them again.
 ghost use Rattle.std.specs.Prelude.{◌≡◌, ◌+◌, ◌<◌, ◌≤◌, ℕ, length, drop, Some, slice_get, slice_index_or, slice_set};
-ghost use Rattle.board_bits.specs.Words.{place_of};
+ghost use Rattle.board_squares.specs.Words.{place_of};
 ghost use Rattle.rule_compat.specs.declared.instance.Instance.{Instance as Listed};
 ghost use Rattle.rule_compat.specs.Written.{written_list};
 ghost use Rattle.walk_rules.specs.Walk.{fitting_zones};

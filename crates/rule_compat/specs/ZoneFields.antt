@@ -5,7 +5,7 @@ use Rattle.game_rules.specs.Squares.{has_square, squares_where, IsSetOf}
 use Rattle.plan_rules.specs.Rules.{zone_of}
 use Rattle.rule_compat.specs.declared.instance.Instance.{Instance}
 use Rattle.rule_compat.specs.Written.{written}
-use Rattle.board_bits.specs.WholeColumns.{in_columns_of}
+use Rattle.board_squares.specs.WholeColumns.{in_columns_of}
 use Rattle.rule_compat.specs.declared.zone.Zone.TheInside.{Inside}
 
 pub record IsSound (a : Inside) : Type 0 where

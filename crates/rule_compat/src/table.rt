@@ -5,7 +5,7 @@ ghost use Rattle.game_rules.specs.Squares.{same_square, has_square, IsSetOf};
 ghost use Rattle.plan_rules.specs.Squares.{above};
 ghost use Rattle.plan_rules.specs.Rules.{zone_of, rests_on, stands_over, together};
 ghost use Rattle.rule_compat.specs.Written.{written};
-ghost use Rattle.board_bits.specs.WholeColumns.{in_columns_of};
+ghost use Rattle.board_squares.specs.WholeColumns.{in_columns_of};
 
 use crate::Instance;
 use board_bits::{Mask, Square};

@@ -4,7 +4,7 @@ use Rattle.game_rules.specs.declared.Side.TheVariants.{White, Black}
 use Rattle.board_bits.specs.MenWords.{side_word}
 use Rattle.board_bits.specs.MenNumber.{men_number, position_read, AreMen}
 use Rattle.board_bits.proofs.MenRead.{position_back, are_men}
-use Rattle.board_bits.proofs.Words.{word_is_word}
+use Rattle.board_squares.proofs.Words.{word_is_word}
 use Rattle.board_bits.proofs.men_number.MenNumber.of.Goals as goal
 use Rattle.board_bits.proofs.men_number.MenNumber.of.Goals.{After-of}
 

@@ -2,8 +2,8 @@ use Rattle.std.proofs.Common.{◌≡◌, sym, subst, ap, ◌∙◌, bit_and}
 use Rattle.std.specs.Int.{bit_not, w128}
 use Rattle.game_rules.specs.Position.{board_of}
 use Rattle.game_rules.specs.Squares.{IsSetOf, is_empty}
-use Rattle.board_bits.specs.Words.{squares_of, board_word}
-use Rattle.board_bits.proofs.Words.{word_back}
+use Rattle.board_squares.specs.Words.{squares_of, board_word}
+use Rattle.board_squares.proofs.Words.{word_back}
 use Rattle.board_bits.proofs.Positions.{empty_word, empty_is_word, empty_set}
 use Rattle.board_bits.proofs.position.Position.empties.Goals as goal
 use Rattle.board_bits.proofs.position.Position.empties.Goals.{After-all_men}

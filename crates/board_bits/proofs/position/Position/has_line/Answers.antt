@@ -1,7 +1,7 @@
 use Rattle.std.proofs.Common.{ap, ◌∙◌}
 use Rattle.game_rules.specs.Board.{Board, line_length}
 use Rattle.board_bits.specs.MenWords.{side_word}
-use Rattle.board_bits.specs.Runs.{word_runs}
+use Rattle.board_squares.specs.Runs.{word_runs}
 use Rattle.board_bits.proofs.Positions.{side_line}
 use Rattle.board_bits.proofs.position.Position.has_line.Goals as goal
 

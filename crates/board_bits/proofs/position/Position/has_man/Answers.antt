@@ -1,5 +1,5 @@
 use Rattle.std.proofs.Common.{◌/◌, ◌^◌, ◌==◌, ap, ◌∙◌, bit_and}
-use Rattle.board_bits.proofs.Masks.{shift_has}
+use Rattle.board_squares.proofs.Masks.{shift_has}
 use Rattle.board_bits.proofs.Positions.{has_side}
 use Rattle.board_bits.proofs.position.Position.has_man.Goals as goal
 

@@ -1,8 +1,8 @@
 use Rattle.std.proofs.Common.{◌/◌, ◌^◌, ◌==◌, ◌&&◌, not, sym, ap, ◌∙◌, bit_and, is_none}
 use Rattle.game_rules.specs.Board.{on_board}
 use Rattle.game_rules.specs.Position.{man_at}
-use Rattle.board_bits.specs.Words.{has_bit}
-use Rattle.board_bits.proofs.Masks.{shift_lacks}
+use Rattle.board_squares.specs.Words.{has_bit}
+use Rattle.board_squares.proofs.Masks.{shift_lacks}
 use Rattle.board_bits.proofs.Positions.{has_none}
 use Rattle.board_bits.proofs.position.Position.is_empty.Goals as goal
 

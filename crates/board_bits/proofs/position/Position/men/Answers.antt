@@ -1,8 +1,8 @@
 use Rattle.std.proofs.Common.{sym, subst, ap, ◌∙◌}
 use Rattle.game_rules.specs.Position.{has_man}
 use Rattle.game_rules.specs.Squares.{IsSetOf}
-use Rattle.board_bits.specs.Words.{squares_of}
-use Rattle.board_bits.proofs.Words.{word_is_word, word_back}
+use Rattle.board_squares.specs.Words.{squares_of}
+use Rattle.board_squares.proofs.Words.{word_is_word, word_back}
 use Rattle.board_bits.proofs.Positions.{side_set}
 use Rattle.board_bits.proofs.position.Position.men.Goals as goal
 

@@ -1,7 +1,7 @@
 use Rattle.std.proofs.Common.{◌≡◌, ◌<◌, ◌++◌, ◌∷◌, [], filter, length, sym, ap, ◌∙◌, arith}
 use Rattle.game_rules.specs.Position.{board_of, lowest_empty}
 use Rattle.game_rules.specs.Squares.{is_playable}
-use Rattle.board_bits.proofs.Columns.{playables_some, playables_none, columns_all}
+use Rattle.board_squares.proofs.Columns.{playables_some, playables_none, columns_all}
 use Rattle.board_bits.proofs.position.Position.playables.Goals as goal
 use Rattle.board_bits.proofs.position.Position.playables.Goals.{in-Some, in_default}
 

@@ -1,4 +1,4 @@
-use Rattle.board_bits.proofs.WholeColumns.{no_columns}
+use Rattle.board_squares.proofs.WholeColumns.{no_columns}
 use Rattle.rule_compat.proofs.zone.ZoneDefault.default.Goals as goal
 
 pub invariant_of-result : goal.invariant_of-result

@@ -1,5 +1,0 @@
-use Rattle.board_bits.proofs.Masks.{word_from}
-use Rattle.board_bits.proofs.mask.Mask.bits.Goals as goal
-
-pub returns-clause-within : goal.returns-clause-within
-returns-clause-within c = (word_from c.self.inside.word c.self.invariant).low

@@ -1,9 +1,0 @@
-use Rattle.board_bits.proofs.Words.{word_back}
-use Rattle.board_bits.proofs.Rows.{odd_word, odd_set}
-use Rattle.board_bits.proofs.mask.Mask.odd_rows.Goals as goal
-
-pub invariant_of-result : goal.invariant_of-result
-invariant_of-result c = word_back _ odd_word
-
-pub returns : goal.returns
-returns c = odd_set

@@ -1,0 +1,10 @@
+pub mod Masks
+pub mod Runs
+pub mod BoardWord
+pub mod Columns
+pub mod Searches
+pub mod Digits
+pub mod Words
+pub mod Rows
+pub mod Takes
+pub mod WholeColumns

@@ -1,0 +1,4 @@
+pub mod Size
+pub mod Words
+pub mod Runs
+pub mod WholeColumns

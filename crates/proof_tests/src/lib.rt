@@ -1,0 +1,10 @@
+//! Tests of the lines of proofs and of plans, and of the check of lines: mostly texts in, and what comes of them. A crate
+//! of their own has them, as `rule_tests` says.
+#![tactic(auto)]
+
+#[cfg(test)]
+mod checked_lines;
+#[cfg(test)]
+mod plan_lines;
+#[cfg(test)]
+mod proof_lines;
