@@ -58,7 +58,8 @@ no_space bytes at none past = space_nowhere bytes (position_or_len_is is_space b
     (λ k below. none k (omega (arith, below, past))) (λ beyond. absurd (omega (arith, beyond))))
 
 -- letters are no spaces
-pub no_letter_is_a_space : (cols known : ℕ) (bytes : List ℕ) → known ≤ length bytes → list_all (is_letter cols) (take known bytes) ≡ true → AreNoSpaces bytes known
+pub no_letter_is_a_space : (cols known : ℕ) (bytes : List ℕ) → known ≤ length bytes
+    → list_all (is_letter cols) (take known bytes) ≡ true → AreNoSpaces bytes known
 no_letter_is_a_space cols known bytes within letters k below = elim (cases_Bool (is_space (get_or bytes k 0))) [
   | inl space ↦ absurd (true≢false (sym letters ∙ list_all_at (is_letter cols) (take known bytes) k 0 (omega (arith, length-take-le known bytes within))
       (ap (is_letter cols) (get_or-take known bytes k 0 below ∙ eqb-true (get_or bytes k 0) 32 space))))

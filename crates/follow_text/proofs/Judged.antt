@@ -1,7 +1,8 @@
 -- A proof is judged line by line up to its verdict: what comes of the lines is what comes of those behind the first, or the
 -- first is refused.
 use Rattle.std.proofs.lemmas.Slice.Eq.{bytes_eq-Decides}
-use Rattle.std.proofs.Common.{◌≡◌, ℕ, suc, ◌+◌, ◌-◌, Bool, true, false, cond, List, [], ◌∷◌, ◌++◌, take, drop, Option, Some, None, refl, sym, ap, ◌∙◌, arith, append_assoc}
+use Rattle.std.proofs.Common.{◌≡◌, ℕ, suc, ◌+◌, ◌-◌, Bool, true, false, cond, List, [], ◌∷◌, ◌++◌, take, drop, Option, Some, None, refl, sym, ap, ◌∙◌, arith}
+use Rattle.std.proofs.Common.{append_assoc}
 use Rattle.game_rules.specs.Board.{Board}
 use Rattle.game_rules.specs.Position.{Position, board_of}
 use Rattle.game_rules.specs.Text.{game_at}
@@ -9,7 +10,8 @@ use Rattle.game_rules.specs.declared.Side.{Side}
 use Rattle.proof_text.specs.Lemma.{Lemma, Line, ALemma, ARemark, AVerdict}
 use Rattle.proof_text.specs.Checked.{Why, CheckerState}
 use Rattle.proof_text.specs.Reading.{read_line}
-use Rattle.proof_text.specs.Texts.{pieces, game_of, behind_game, first_line, version_of, named_by, bytes_refusal, line_answer, with_said, with_bytes, check_from, lemmas_said, start, first_number}
+use Rattle.proof_text.specs.Texts.{pieces, game_of, behind_game, first_line, version_of, named_by, bytes_refusal, line_answer, with_said, with_bytes}
+use Rattle.proof_text.specs.Texts.{check_from, lemmas_said, start, first_number}
 use Rattle.proof_text.specs.declared.Verdict.{Verdict}
 use Rattle.proof_text.specs.declared.Version.{Version}
 use Rattle.proof_text.specs.declared.Version.TheVariants.{One, Two}
@@ -19,11 +21,13 @@ use Rattle.proof_text.proofs.First.{unread}
 use Rattle.proof_text.proofs.Fold.{answer_by_lines}
 use Rattle.play_text.specs.Play as ends
 use Rattle.play_text.specs.Play.{Played, ended}
-use Rattle.follow_text.specs.Follow.{is_verdict, lines_to_verdict, follow_answer, judged_cut, judged_behind, judged_from, follow_cut, follow_game, follow_pieces, follow_of}
+use Rattle.follow_text.specs.Follow.{is_verdict, lines_to_verdict, follow_answer, judged_cut, judged_behind, judged_from, follow_cut, follow_game}
+use Rattle.follow_text.specs.Follow.{follow_pieces, follow_of}
 
 module _ (holder : Side) (version : Version) where
   -- where lines end without a verdict
-  pub judged_ended : (s : CheckerState) (ls : List Lemma) (at : ℕ) → s.verdict ≡ None → judged_from holder version s ls at [] ≡ ended (ends.Refused at EndedEarly)
+  pub judged_ended : (s : CheckerState) (ls : List Lemma) (at : ℕ) → s.verdict ≡ None
+      → judged_from holder version s ls at [] ≡ ended (ends.Refused at EndedEarly)
   judged_ended s ls at free = rw free refl
 
   -- so many lines are the proof's, the first of which isn't refused

@@ -1,5 +1,6 @@
 -- An input whose proof is accepted and names a lemma for the holder, with legal moves behind it, is played to its end.
-use Rattle.std.proofs.Common.{◌≡◌, ℕ, suc, ◌+◌, ◌-◌, true, false, List, [], ◌∷◌, ◌++◌, map, length, drop, Option, Some, None, Ok, refl, sym, ap, ◌∙◌, subst, append_assoc}
+use Rattle.std.proofs.Common.{◌≡◌, ℕ, suc, ◌+◌, ◌-◌, true, false, List, [], ◌∷◌, ◌++◌, map, length, drop, Option, Some, None, Ok, refl, sym, ap, ◌∙◌, subst}
+use Rattle.std.proofs.Common.{append_assoc}
 use Rattle.std.specs.List.{AllByRecursion}
 use Rattle.std.proofs.lemmas.Bool.{and_parts}
 use Rattle.std.proofs.lemmas.Option.{same_Some}
@@ -13,7 +14,8 @@ use Rattle.plan_rules.specs.Plan.{is_nil}
 use Rattle.proof_text.specs.Lemma.{Lemma, ALemma, ARemark, AVerdict}
 use Rattle.proof_text.specs.Right.{Shown, Shows, AreRight}
 use Rattle.proof_text.specs.Spelling.{lemma_text, verdict_text, VerdictFits}
-use Rattle.proof_text.specs.Texts.{pieces, game_of, behind_game, first_number, first_line, lemmas_said, answer_of, Accepted, Entry, LemmaEntry, RemarkEntry, entry_text, EntryFits}
+use Rattle.proof_text.specs.Texts.{pieces, game_of, behind_game, first_number, first_line, lemmas_said, answer_of, Accepted, Entry, LemmaEntry, RemarkEntry}
+use Rattle.proof_text.specs.Texts.{entry_text, EntryFits}
 use Rattle.proof_text.specs.declared.Claim.{Claim}
 use Rattle.proof_text.specs.declared.Verdict.{Verdict}
 use Rattle.proof_text.specs.declared.Version.{Version}
@@ -23,7 +25,8 @@ use Rattle.proof_text.proofs.Spelled.{line_spelled}
 use Rattle.play_text.specs.Play.{AllPlayed, move_line, turns_from}
 use Rattle.play_text.proofs.Turned.{legal_line, legal_unrefused}
 use Rattle.follow_text.specs.Following.{Following, at_lemma, own_move_at, answer_to, are_legal, is_game_by}
-use Rattle.follow_text.specs.Follow.{answered_with, follow_turn, follow_at, named_for, follow_named, follow_answer, lines_to_verdict, follow_cut, follow_game, follow_of}
+use Rattle.follow_text.specs.Follow.{answered_with, follow_turn, follow_at, named_for, follow_named, follow_answer, lines_to_verdict, follow_cut, follow_game}
+use Rattle.follow_text.specs.Follow.{follow_of}
 use Rattle.follow_text.proofs.Games.{names_move, names_none, turn_passed}
 use Rattle.follow_text.proofs.Judged.{headed}
 use Rattle.follow_text.proofs.Moves.{own_answer}

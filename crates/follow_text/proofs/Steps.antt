@@ -78,7 +78,8 @@ module _ (root : Position) (ls : List Lemma) (after : List Shown) (claim : Claim
 
 -- the claim that a side wins serves this side alone
 win_serves : (root : Position) (after : List Shown) (holder side : Side) (m n : ℕ) (own : Bool) → same_side holder side ≡ own
-    → Shows after m root (claim_for side true) → cond own (Some m) None ≡ Some n → (claim : Claim) × Shows after n root claim × (served_by claim ≡ holder) × (claims_win claim ≡ true)
+    → Shows after m root (claim_for side true) → cond own (Some m) None ≡ Some n
+    → (claim : Claim) × Shows after n root claim × (served_by claim ≡ holder) × (claims_win claim ≡ true)
 win_serves root after holder side m n false e shows named = absurd (cc named)
 win_serves root after holder side m n true e shows named = (
   claim_for side true,

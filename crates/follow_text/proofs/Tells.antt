@@ -1,5 +1,6 @@
 -- What a whole input gives tells a game in which the holder is served.
-use Rattle.std.proofs.Common.{◌≡◌, ℕ, ◌+◌, ◌-◌, Bool, true, false, List, [], ◌∷◌, take, drop, ◌++◌, length, Option, Some, None, Result, Ok, Err, refl, sym, ap, ◌∙◌, subst}
+use Rattle.std.proofs.Common.{◌≡◌, ℕ, ◌+◌, ◌-◌, Bool, true, false, List, [], ◌∷◌, take, drop, ◌++◌, length, Option, Some, None, Result, Ok, Err, refl, sym, ap}
+use Rattle.std.proofs.Common.{◌∙◌, subst}
 use Rattle.std.specs.Str.{bytes_eq}
 use Rattle.std.proofs.lemmas.List.{take-append-drop}
 use Rattle.std.proofs.lemmas.Option.{same_Some}
@@ -25,7 +26,8 @@ use Rattle.play_text.specs.Play.{Played}
 use Rattle.play_text.proofs.Steps.{told_so}
 use Rattle.play_text.proofs.Turned.{AreTurns, GoesInTurns, played_in_turns}
 use Rattle.follow_text.specs.Following.{served_by, Following, at_lemma, own_move_at, answer_to, are_legal, is_game_by, HasMove}
-use Rattle.follow_text.specs.Follow.{first_text, over_text, answered_with, follow_turn, follow_from, begin_by, follow_at, named_for, follow_named, follow_answer, lines_to_verdict, follow_cut, follow_game, follow_pieces, follow_of, is_won}
+use Rattle.follow_text.specs.Follow.{first_text, over_text, answered_with, follow_turn, follow_from, begin_by, follow_at, named_for, follow_named}
+use Rattle.follow_text.specs.Follow.{follow_answer, lines_to_verdict, follow_cut, follow_game, follow_pieces, follow_of, is_won}
 use Rattle.follow_text.specs.Told.{TellsTurns, TellsFrom, TellsFollow, IsTold}
 use Rattle.follow_text.proofs.Games.{names_move, names_none, turn_passed, game_served}
 use Rattle.follow_text.proofs.Moves.{own_answer}

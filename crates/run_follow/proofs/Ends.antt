@@ -16,7 +16,8 @@ use Rattle.run_turns.specs.declared.game_end.GameStop.TheVariants as stops
 use Rattle.run_turns.specs.declared.game_end.GameEnding.{GameEnding}
 use Rattle.run_turns.specs.declared.game_end.GameEnding.TheVariants.{Done, Stopped}
 use Rattle.run_turns.proofs.Ends.{HasLaws, game_plays, game_held, ends_as, all_done}
-use Rattle.run_follow.specs.Follows.{head_status, head_end, head_until, follow_form, most_follow_lines, stop_status_of, follow_status, IsKept, IsWithin, FollowsInput}
+use Rattle.run_follow.specs.Follows.{head_status, head_end, head_until, follow_form, most_follow_lines, stop_status_of, follow_status, IsKept, IsWithin}
+use Rattle.run_follow.specs.Follows.{FollowsInput}
 use Rattle.run_follow.specs.Follows.{HeadKept, Follows, FollowCompletes}
 use Rattle.run_follow.specs.declared.not_followed.NotFollowed.{NotFollowed}
 use Rattle.run_follow.specs.declared.not_followed.NotFollowed.TheVariants.{Proof, NoClaim}
@@ -39,7 +40,8 @@ module _ (holder : Side) (s : Streams) where
     few = input.few;
     one = input.one;
     plays = game_plays (follow_form holder input.head input.opening) (IsTold holder) most_follow_lines
-        (follow_laws holder input.head input.opening input.from input.few) s result input.plays (λ h is. within h (subst (λ result. IfErr result IsWithin) is input.within));
+        (follow_laws holder input.head input.opening input.from input.few) s result input.plays
+        (λ h is. within h (subst (λ result. IfErr result IsWithin) is input.within));
     kept = of_result result input.kept;
   }
     where

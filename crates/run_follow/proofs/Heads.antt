@@ -1,5 +1,6 @@
 -- A proof up to its verdict, one step after another: what comes of the bytes is play behind the verdict, or what stopped the reading.
-use Rattle.std.proofs.Common.{◌≡◌, ℕ, ◌+◌, ◌-◌, ◌≤◌, Bool, true, false, cond, List, [], ◌∷◌, Some, None, Result, Ok, Err, refl, sym, ap, ◌∙◌, subst, inl, inr, arith}
+use Rattle.std.proofs.Common.{◌≡◌, ℕ, ◌+◌, ◌-◌, ◌≤◌, Bool, true, false, cond, List, [], ◌∷◌, Some, None, Result, Ok, Err, refl, sym, ap, ◌∙◌, subst, inl, inr}
+use Rattle.std.proofs.Common.{arith}
 use Rattle.std.specs.Str.{bytes_eq}
 use Rattle.device_rules.proofs.DeviceLaws.{Rose_before}
 use Rattle.game_rules.specs.Position.{Position, side_to_move}
@@ -12,7 +13,8 @@ use Rattle.proof_text.specs.Checked.{Why, CheckerState}
 use Rattle.proof_text.specs.Lemma.{Lemma}
 use Rattle.proof_text.specs.Right.{AreRight, IsVerdict}
 use Rattle.proof_text.specs.Texts as answers
-use Rattle.proof_text.specs.Texts.{pieces, lines_in, game_of, behind_game, first_number, first_line, version_of, start, check_of, check_in, game_answer, answer_of, pieces_answer}
+use Rattle.proof_text.specs.Texts.{pieces, lines_in, game_of, behind_game, first_number, first_line, version_of, start, check_of, check_in, game_answer}
+use Rattle.proof_text.specs.Texts.{answer_of, pieces_answer}
 use Rattle.proof_text.specs.declared.Verdict.{Verdict}
 use Rattle.proof_text.specs.declared.Version.{Version}
 use Rattle.proof_text.specs.declared.Why.TheVariants.{BadLine}

@@ -1,5 +1,6 @@
 -- What each step of the reading up to the verdict says of the bytes: what comes of them goes on, or how it ends.
-use Rattle.std.proofs.Common.{◌≡◌, ℕ, ◌+◌, ◌≤◌, Bool, List, [], ◌∷◌, ◌++◌, Some, None, Result, Ok, Err, MatchResult, IfErr, OnOk, refl, sym, ap, ◌∙◌, subst, inr, arith}
+use Rattle.std.proofs.Common.{◌≡◌, ℕ, ◌+◌, ◌≤◌, Bool, List, [], ◌∷◌, ◌++◌, Some, None, Result, Ok, Err, MatchResult, IfErr, OnOk, refl, sym, ap, ◌∙◌, subst}
+use Rattle.std.proofs.Common.{inr, arith}
 use Rattle.device_rules.specs.Devices.{Rose}
 use Rattle.game_rules.specs.Position.{board_of}
 use Rattle.io_ports.specs.Lines.{Gives}

@@ -161,7 +161,8 @@ module _ (version : Version) (s : CheckerState) (at : ℕ) (bytes : List ℕ) (s
 -- ---- what is got of the lines
 
 -- the line that is lent was accepted
-pub got_line : {a b : Pending} {version : Version} {s t : CheckerState} {at : ℕ} {got : Option LineView} (IfNone : Type 0) (line same : LineView) → got ≡ Some line
+pub got_line : {a b : Pending} {version : Version} {s t : CheckerState} {at : ℕ} {got : Option LineView} (IfNone : Type 0)
+    (line same : LineView) → got ≡ Some line
     → line ≡ same → MatchOption got IfNone (λ line. AcceptsNext a b version s t at (viewed line)) → AcceptsNext a b version s t at (viewed same)
 got_line {a} {b} {version} {s} {t} {at} IfNone line same is kind next =
     subst (λ line. AcceptsNext a b version s t at (viewed line)) kind (MatchOption-at_some _ _ line is next)

@@ -83,7 +83,8 @@ module _ (s : CheckerState) (at : ℕ) (bytes : List ℕ) (l : Lemma) (few : at 
     lemma_written t after count counted old new (Err (Proof (stops.Input why))) next many never more = absurd never
 
 -- a lemma that was got and accepted
-module _ (a b : Pending) (s t : CheckerState) (at : ℕ) (l : Lemma) (is : AcceptsNext a b One s t at (ALemma l)) (count : ℕ) (many : count ≡ length s.known) where
+module _ (a b : Pending) (s t : CheckerState) (at : ℕ) (l : Lemma) (is : AcceptsNext a b One s t at (ALemma l)) (count : ℕ)
+    (many : count ≡ length s.known) where
   pub put_next : l.number ≡ count + 1
   put_next = (lemma_right s at is.text l is.accepted.few is.accepted.said is.accepted.stands).1.next ∙ ap (λ n. n + 1) (sym many)
 

@@ -20,7 +20,8 @@ returns-in-Ok-Some-clause-answer g c =
     let next = MatchOption-at_some _ _ c.in-Ok-Some.line c.in-Ok-Some.field-0-is c.in-Ok-Some.ensures.answer in
     next_read _ _ next.text next.fed c.args.version s c.args.book.now c.args.at c.requires.open c.accept_next.new.checker.stands c.hand_on.new.taker
     _ _ c.hand_on.result next.gives
-    (next_kept _ _ c.args.version s c.accept_next.new.checker.stands c.args.book.now c.hand_on.new.taker c.args.at (viewed c.in-Ok-Some.line) c.requires.kept next
+    (next_kept _ _ c.args.version s c.accept_next.new.checker.stands c.args.book.now c.hand_on.new.taker c.args.at
+    (viewed c.in-Ok-Some.line) c.requires.kept next
     c.hand_on.result c.hand_on.ensures)
 
 pub returns-in-Ok-Some-clause-kept : goal.returns-in-Ok-Some-clause-kept
@@ -28,7 +29,8 @@ returns-in-Ok-Some-clause-kept g c =
     let s = c.args.checker.now.stands in
     let next = MatchOption-at_some _ _ c.in-Ok-Some.line c.in-Ok-Some.field-0-is c.in-Ok-Some.ensures.answer in
     read_kept c.args.version s c.accept_next.new.checker.stands c.args.book.now c.hand_on.new.taker c.args.at next.text c.hand_on.result
-    (next_kept _ _ c.args.version s c.accept_next.new.checker.stands c.args.book.now c.hand_on.new.taker c.args.at (viewed c.in-Ok-Some.line) c.requires.kept next
+    (next_kept _ _ c.args.version s c.accept_next.new.checker.stands c.args.book.now c.hand_on.new.taker c.args.at
+    (viewed c.in-Ok-Some.line) c.requires.kept next
     c.hand_on.result c.hand_on.ensures)
 
 pub returns-in-Ok-None-clause-answer : goal.returns-in-Ok-None-clause-answer

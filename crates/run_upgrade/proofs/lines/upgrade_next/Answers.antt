@@ -44,7 +44,8 @@ returns-in_ok-put-in-Some-clause-written g c =
     ∙ ap (λ t. played t.root c.as_slice.result.now) next.accepted.next ∙ ap (played c.args.checker.now.stands.root) c.as_slice.ensures.value) in
     let written = put_written _ _ _ _ _ (lemma_viewed here.lemma) next _ c.requires.in_step.1
     c.position_after.new.self.stands (ap (λ checker. checker.stands) c.position_after.ensures.same) c.in-Some.position along c.args.writer.now.index
-    c.put.new.self.index c.requires.in_step.0 c.put.new.self.lemmas (g.O.Sink.written c.args.out.now) (g.O.Sink.written c.put.new.out) (Ok c.in_ok-put-in-Some.field-0)
+    c.put.new.self.index c.requires.in_step.0 c.put.new.self.lemmas (g.O.Sink.written c.args.out.now)
+    (g.O.Sink.written c.put.new.out) (Ok c.in_ok-put-in-Some.field-0)
     c.in_ok-put-in-Some.ensures.written c.in_ok-put-in-Some.ensures.counted in
     next_added _ _ next.text next.fed _ _ true c.position_after.new.self.stands _ _ next.gives written.0.0 written.0.1
 
@@ -56,7 +57,8 @@ returns-in_ok-put-in-Some-clause-in_step g c =
     ∙ ap (λ t. played t.root c.as_slice.result.now) next.accepted.next ∙ ap (played c.args.checker.now.stands.root) c.as_slice.ensures.value) in
     let written = put_written _ _ _ _ _ (lemma_viewed here.lemma) next _ c.requires.in_step.1
     c.position_after.new.self.stands (ap (λ checker. checker.stands) c.position_after.ensures.same) c.in-Some.position along c.args.writer.now.index
-    c.put.new.self.index c.requires.in_step.0 c.put.new.self.lemmas (g.O.Sink.written c.args.out.now) (g.O.Sink.written c.put.new.out) (Ok c.in_ok-put-in-Some.field-0)
+    c.put.new.self.index c.requires.in_step.0 c.put.new.self.lemmas (g.O.Sink.written c.args.out.now)
+    (g.O.Sink.written c.put.new.out) (Ok c.in_ok-put-in-Some.field-0)
     c.in_ok-put-in-Some.ensures.written c.in_ok-put-in-Some.ensures.counted in
     written.1
 

@@ -17,10 +17,13 @@ overflow_add-word c =
     omega (arith, white, black, c.word.ensures.value, c.word-2.ensures.value)
 
 number_is : (c : After-of) → c.of.result ≡ men_number c.args.position.now
-number_is c = c.of.ensures ∙ ap (λ n. n + 2 * c.word-2.result) c.word.ensures.value ∙ ap (λ n. side_word c.args.position.now White + 2 * n) c.word-2.ensures.value
+number_is c = c.of.ensures ∙ ap (λ n. n + 2 * c.word-2.result) c.word.ensures.value
+    ∙ ap (λ n. side_word c.args.position.now White + 2 * n) c.word-2.ensures.value
 
 pub returns-clause-men : goal.returns-clause-men
-returns-clause-men c = subst (AreMen (board_of c.args.position.now)) (sym (number_is c)) (are_men c.args.position.now c.word.ensures.board c.word.ensures.stacked)
+returns-clause-men c = subst (AreMen (board_of c.args.position.now)) (sym (number_is c))
+    (are_men c.args.position.now c.word.ensures.board c.word.ensures.stacked)
 
 pub returns-clause-back : goal.returns-clause-back
-returns-clause-back c = ap (position_read (board_of c.args.position.now)) (number_is c) ∙ position_back c.args.position.now c.word.ensures.board c.word.ensures.stacked
+returns-clause-back c = ap (position_read (board_of c.args.position.now)) (number_is c)
+    ∙ position_back c.args.position.now c.word.ensures.board c.word.ensures.stacked
