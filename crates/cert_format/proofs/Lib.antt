@@ -1,5 +1,3 @@
-pub mod Members
-pub mod Rows
 pub mod Names
 pub mod Spaced
 pub mod Words

@@ -6,7 +6,7 @@ use Rattle.proof_text.specs.Lemma.{Lemma}
 use Rattle.proof_text.specs.Spelling.{spaced, claim_word, cite_word, reason_words, lemma_line}
 use Rattle.plan_rules.specs.Rules.{RuleInstance}
 use Rattle.plan_text.specs.Items.{instance_text}
-use Rattle.cert_format.specs.Items.{members_text}
+use Rattle.plan_lines.specs.Items.{members_text}
 use Rattle.cert_format.specs.Shape.{cite_of, behind_spaces}
 use Rattle.cert_format.specs.declared.lines.Cite.{Cite}
 

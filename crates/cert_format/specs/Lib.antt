@@ -1,4 +1,3 @@
-pub mod Items
 pub mod Names
 pub mod Shape
 pub mod Rooms

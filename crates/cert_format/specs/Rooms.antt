@@ -5,7 +5,7 @@ use Rattle.proof_text.specs.declared.Claim.TheVariants.{WhiteWins}
 use Rattle.rule_compat.specs.Written.{written_list}
 use Rattle.cert_format.specs.Shape.{cite_of, reason_by, viewed}
 use Rattle.cert_format.specs.declared.lines.LineView.{LineView}
-use Rattle.cert_format.specs.declared.lines.LineFault.{LineFault}
+use Rattle.plan_lines.specs.declared.plan_line.LineFault.{LineFault}
 use Rattle.cert_format.specs.declared.room.Kind.{Kind}
 use Rattle.cert_format.specs.declared.room.Kind.TheVariants as kinds
 use Rattle.cert_format.specs.declared.room.ReasonRoom.{ReasonRoom}

@@ -5,7 +5,7 @@ use Rattle.arrayvec.specs.ArrayVec.{ArrayVec}
 use Rattle.plan_rules.specs.Rules.{RuleInstance}
 use Rattle.proof_text.specs.Lemma.{Cite as PlainCite, Reason as PlainReason, ByEnd, ByOne, ByAll, ByPlan, ByMirror, Lemma as PlainLemma, Line as PlainLine, ALemma, ARemark, AVerdict}
 use Rattle.proof_text.specs.Spelling.{cite_word, lemma_line, verdict_line}
-use Rattle.cert_format.specs.Items.{members_text}
+use Rattle.plan_lines.specs.Items.{members_text}
 use Rattle.cert_format.specs.declared.lines.Cite.{Cite}
 use Rattle.cert_format.specs.declared.lines.Reason.{Reason}
 use Rattle.cert_format.specs.declared.lines.Reason.TheVariants as reasons
@@ -17,7 +17,7 @@ use Rattle.cert_format.specs.declared.lines.Line.{Line}
 use Rattle.cert_format.specs.declared.lines.Line.TheVariants as lines
 use Rattle.cert_format.specs.declared.lines.LineView.{LineView}
 use Rattle.cert_format.specs.declared.lines.LineView.TheVariants as views
-use Rattle.cert_format.specs.declared.lines.LineFault.{LineFault}
+use Rattle.plan_lines.specs.declared.plan_line.LineFault.{LineFault}
 
 abbrev pub cite_of : Cite → PlainCite
 cite_of cite = record { column = cite.column; lemma = cite.lemma }

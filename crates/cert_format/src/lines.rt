@@ -148,7 +148,3 @@ pub enum LineView<'a> {
     /// The verdict, with which a proof ends.
     Verdict(Verdict),
 }
-
-/// The bytes are no line of a proof.
-#[derive(Clone, Copy, Debug, PartialEq, Eq)]
-pub struct LineFault;

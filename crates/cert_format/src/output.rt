@@ -7,10 +7,10 @@ ghost use Rattle.cert_format.specs.Shape.{reason_of, reason_viewed, line_of, pri
 
 use crate::back_line::BackLine;
 use crate::lines::{Line, Reason, ReasonView};
-use crate::plan_line::put_plan_end;
 use crate::verdict_line::verdict_line;
 use board_bits::Column;
 use io_ports::{Failed, Sink, put_all};
+use plan_lines::put_plan_end;
 use proof_text::Claim;
 use std::marker::Model;
 

@@ -1,6 +1,6 @@
 //! The reading of a line, word by word. Each reader gives what the definition of the same name gives of its words. A word
 //! that only a few can be is compared where it stands, with the space behind it; of any other the end is looked for.
-ghost use Rattle.std.specs.Prelude.{◌≡◌, ◌≢◌, ℕ, ◌<◌, ◌≤◌, List, ◌∷◌, ◌++◌, [], true, Some, None, IfSome, MatchOption, length, map, option_map, position, take, ◌==◌};
+ghost use Rattle.std.specs.Prelude.{◌≡◌, ◌≢◌, ℕ, ◌<◌, ◌≤◌, List, ◌∷◌, ◌++◌, [], true, Some, None, MatchOption, length, map, option_map, take, ◌==◌};
 ghost use Rattle.std.specs.Str.{bytes_eq};
 ghost use Rattle.std.specs.List.{list_all};
 ghost use Rattle.proof_text.specs.Lemma.{ByOne, ByAll, allows};
@@ -10,18 +10,17 @@ ghost use Rattle.proof_text.specs.Reading.{words_of, number_of, path_of, letter_
 ghost use Rattle.cert_format.specs.Shape as shape;
 ghost use Rattle.cert_format.specs.Shape.{Reads};
 ghost use Rattle.cert_format.specs.Rooms.{reason_in, lemma_in, kept_in, ReadsInto};
-ghost use Rattle.cert_format.specs.Words.{HasNoClaim, AreNoSpaces};
+ghost use Rattle.cert_format.specs.Words.{HasNoClaim};
 ghost use Rattle.cert_format.specs.Names.{AreNamed};
-ghost use Rattle.game_rules.specs.Letters.{is_letter};
 
-use crate::lines::{Cite, LONGEST_LINE, LONGEST_PATH, Line, LineFault, MOST_CITES, Reason};
+use crate::lines::{Cite, LONGEST_LINE, LONGEST_PATH, Line, MOST_CITES, Reason};
 use crate::named_moves::named_moves;
-use crate::plan_line::members_of;
 use crate::room::{Kind, LemmaRoom, ReasonRoom};
 use arrayvec::ArrayVec;
 use board_bits::{Column, Size};
+use plan_lines::{LineFault, members_of};
 use proof_text::{Claim, Verdict, Version};
-use text_words::number_between;
+use text_words::{number_between, split_path, split_word};
 
 /// No number of a proof is greater.
 const GREATEST_NUMBER: u32 = 10_000_000;
@@ -306,58 +305,6 @@ fn number_of(word: &[u8]) -> Option<u32>
     ensures { result ≡ number_of word.now }
 {
     number_between(1, GREATEST_NUMBER, word)
-}
-
-/// The first word, and what stands behind the space after it, if there is one. It is gone through byte by byte, since most
-/// words are short.
-#[inline(always)]
-pub(crate) fn split_word(bytes: &[u8]) -> (&[u8], Option<&[u8]>)
-    ensures words { MatchOption result.1 (words_of bytes.now ≡ result.0.now ∷ []) (λ rest. words_of bytes.now ≡ result.0.now ∷ words_of rest.now) }
-    ensures shorter { IfSome result.1 (λ rest. length rest.now < length bytes.now) }
-{
-    split_at(bytes, first_space(bytes, 0))
-}
-
-/// The same, where so many letters of the first word are known.
-#[inline(always)]
-fn split_path(bytes: &[u8], known: usize, size: Size) -> (&[u8], Option<&[u8]>)
-    requires within { known ≤ length bytes.now }
-    requires letters { list_all (is_letter size.cols) (take known bytes.now) ≡ true }
-    ensures words { MatchOption result.1 (words_of bytes.now ≡ result.0.now ∷ []) (λ rest. words_of bytes.now ≡ result.0.now ∷ words_of rest.now) }
-    ensures letters { known ≤ length result.0.now }
-    ensures known { take known result.0.now ≡ take known bytes.now }
-{
-    split_at(bytes, first_space(bytes, known))
-}
-
-/// What stands before the first space, which is at this place, and what behind it; where there is none, all.
-#[inline(always)]
-fn split_at(bytes: &[u8], space: Option<usize>) -> (&[u8], Option<&[u8]>)
-    requires { space ≡ position (λ byte. byte == 32) bytes.now }
-    ensures word { MatchOption space (result.0.now ≡ bytes.now) (λ end. result.0.now ≡ take end bytes.now) }
-    ensures words { MatchOption result.1 (words_of bytes.now ≡ result.0.now ∷ []) (λ rest. words_of bytes.now ≡ result.0.now ∷ words_of rest.now) }
-    ensures shorter { IfSome result.1 (λ rest. length rest.now < length bytes.now) }
-{
-    match space {
-        Some(end) => (&bytes[..end], Some(&bytes[end + 1..])),
-        None => (bytes, None),
-    }
-}
-
-/// Where the first space stands, which is none of the first so many bytes. It is gone to byte by byte.
-#[inline(always)]
-fn first_space(bytes: &[u8], known: usize) -> Option<usize>
-    requires within { known ≤ length bytes.now }
-    requires none { AreNoSpaces bytes.now known }
-    ensures first { result ≡ position (λ byte. byte == 32) bytes.now }
-    ensures past { IfSome result (λ at. (known ≤ at) × (at < length bytes.now)) }
-{
-    for at in known..bytes.len() {
-        if bytes[at] == b' ' {
-            return Some(at);
-        }
-    }
-    None
 }
 
 #[inline(always)]

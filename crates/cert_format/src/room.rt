@@ -7,12 +7,12 @@ ghost use Rattle.cert_format.specs.Shape.{reason_of, reason_viewed, lemma_of, le
 ghost use Rattle.cert_format.specs.Rooms.{reason_in, lemma_in, unread_lemma, Views};
 
 use crate::lines::{
-    Cite, LONGEST_PATH, Lemma, LemmaView, LineFault, LineView, MOST_CITES, Reason, ReasonKind,
-    ReasonView,
+    Cite, LONGEST_PATH, Lemma, LemmaView, LineView, MOST_CITES, Reason, ReasonKind, ReasonView,
 };
 use crate::reading::read_into;
 use arrayvec::ArrayVec;
 use board_bits::{Column, Size};
+use plan_lines::LineFault;
 use plan_rules::MOST_MEMBERS;
 use proof_text::{Claim, Verdict, Version};
 use rule_compat::Instance;

@@ -5,6 +5,6 @@
 #[cfg(test)]
 mod checked_lines;
 #[cfg(test)]
-mod plan_lines;
+mod lines_of_plans;
 #[cfg(test)]
 mod proof_lines;

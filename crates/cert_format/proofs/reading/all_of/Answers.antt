@@ -3,7 +3,8 @@ use Rattle.std.proofs.lemmas.Bool.{eqb-true}
 use Rattle.std.proofs.lemmas.List.{append-nil}
 use Rattle.proof_text.specs.Reading.{◌>>=◌, words_of, cites_of}
 use Rattle.cert_format.specs.Shape.{cite_of}
-use Rattle.cert_format.proofs.Words.{words_left, all_too_many, all_read, words_some}
+use Rattle.cert_format.proofs.Words.{all_too_many, all_read}
+use Rattle.text_words.proofs.Words.{words_left, words_some}
 use Rattle.cert_format.proofs.reading.all_of.Goals as goal
 
 pub returns-then-is_full : goal.returns-then-is_full

@@ -1,7 +1,7 @@
 use Rattle.std.proofs.Common.{◌∷◌, arith}
 use Rattle.std.proofs.lemmas.Result.{err_from_is_err_and}
 use Rattle.plan_text.specs.Items.{square_text}
-use Rattle.cert_format.proofs.Members.{pieces_cut}
+use Rattle.plan_lines.proofs.Members.{pieces_cut}
 use Rattle.run_explain.proofs.writing.write_each_square.Goals as goal
 
 pub returns-in_err-write_square-clause-written : goal.returns-in_err-write_square-clause-written

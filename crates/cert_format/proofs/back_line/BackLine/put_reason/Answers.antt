@@ -1,7 +1,7 @@
 use Rattle.std.proofs.Common.{[], ◌∷◌, ◌++◌, codes, sym, ap, ◌∙◌, append-nil}
 use Rattle.proof_text.specs.Spelling.{reason_words}
 use Rattle.rule_compat.specs.Written.{written_list}
-use Rattle.cert_format.specs.Items.{members_text}
+use Rattle.plan_lines.specs.Items.{members_text}
 use Rattle.cert_format.specs.Shape.{reason_viewed, behind_spaces, behind_word, cite_words}
 use Rattle.cert_format.proofs.Spaced.{cites_behind, members_behind}
 use Rattle.cert_format.proofs.back_line.BackLine.put_reason.Goals as goal

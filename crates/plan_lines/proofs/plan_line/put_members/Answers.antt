@@ -1,0 +1,19 @@
+use Rattle.std.proofs.Common.{◌∷◌, subst, arith, take, flat_map}
+use Rattle.std.specs.Io.KnownBytes.{Appends}
+use Rattle.std.proofs.lemmas.Result.{err_from_is_err_and}
+use Rattle.plan_text.specs.Items.{instance_text}
+use Rattle.rule_compat.specs.Written.{written}
+use Rattle.plan_lines.proofs.Members.{pieces_cut, flat_map_made}
+use Rattle.plan_lines.proofs.plan_line.put_members.Goals as goal
+
+pub returns-in_err-put_member-clause-written : goal.returns-in_err-put_member-clause-written
+returns-in_err-put_member-clause-written g c =
+    let same = err_from_is_err_and c.from_residual.result c.from_residual.ensures.1 in
+    let list = c.args.list.now in
+    let i = c.loop-instance.instance-index in
+    let made = flat_map_made (λ w. 32 ∷ instance_text w) written in
+    let before : Appends (g.O.Sink.written c.args.out.now) (g.O.Sink.written c.loop-instance.out)
+    (flat_map (λ x. 32 ∷ instance_text (written x)) (take i list)) =
+    subst (Appends _ _) (made (take i list)) c.loop-instance.invariant.bytes in
+    rw (same.1, made list) (pieces_cut (λ x. 32 ∷ instance_text (written x)) _ _ _ list i c.instance-item.result (omega arith) c.instance-item.is before
+    c.in_err-put_member.ensures.written)
