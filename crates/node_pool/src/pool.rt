@@ -1,6 +1,8 @@
-//! The pool. The numbers of the slots that aren't live stand in front of a list as long as the pool, which is filled when
-//! the pool is made; placing takes the last of them and giving back adds one behind. So each call is a few reads and
-//! writes, no chain of slots has to be followed, and no list ever grows.
+//! The pool. The values stand in a list in the order of their slots, as far as slots were ever used, and the numbers of
+//! those that were given back in another, which both have room for all slots from the start. Placing takes the number that
+//! was given back last, and where there is none the first slot that was never used. So each call is a few reads and writes,
+//! nothing has to be filled when the pool is made, and no list ever takes memory again. Whether a slot is live isn't kept
+//! beside its value, since no call has to ask.
 ghost use Rattle.std.specs.Prelude.{◌≡◌, ◌+◌, ◌-◌, ◌<◌, ◌≤◌, ◌↔◌, Some, None, length, replicate, slice_set, IfSome, IfNone, IfOk};
 ghost use Rattle.node_pool.specs.declared.pool.TheConstants.{MOST_SLOTS};
 ghost use Rattle.node_pool.specs.Slots.{held, IsLive, live_slots, free_slots};
@@ -16,20 +18,20 @@ pub const MOST_SLOTS: u32 = 1_000_000;
 /// `give_back` that takes it.
 #[derive(Drop)]
 pub struct Pool<T: Copy> {
-    slots: Vec<Option<T>>,
+    values: Vec<T>,
     free: Vec<u32>,
-    room: usize,
+    slots: usize,
 }
 
 impl<T: Copy> Model for Pool<T> {
-    ghost use Rattle.std.specs.Prelude.{List, Option};
-    ghost use Rattle.node_pool.specs.Free.{KeepsFree};
+    ghost use Rattle.std.specs.Prelude.{List, Option, vec_capacity};
+    ghost use Rattle.node_pool.specs.Free.{KeepsFree, slots_of};
 
     ghost Value = { List (Option T) };
 
-    ghost view = { λ pool. pool.slots.items };
+    ghost view = { λ pool. slots_of pool.values.items pool.free.items pool.slots };
 
-    ghost invariant = { λ pool. KeepsFree pool.slots.items pool.free.items pool.room };
+    ghost invariant = { λ pool. KeepsFree pool.values.items pool.free.items pool.slots (vec_capacity pool.values) (vec_capacity pool.free) };
 }
 
 impl<T: Copy> Pool<T> {
@@ -42,15 +44,10 @@ impl<T: Copy> Pool<T> {
         ensures none { IfOk result (λ pool. live_slots pool ≡ 0) }
     {
         let room = slots as usize;
-        let values = vec![in alloc; None; room]?;
-        let mut free = vec![in alloc; 0; room]?;
-        for number in 0..slots {
-            free[number as usize] = number;
-        }
         Ok(Pool {
-            slots: values,
-            free,
-            room,
+            values: Vec::with_capacity(alloc, room)?,
+            free: Vec::with_capacity(alloc, room)?,
+            slots: room,
         })
     }
 
@@ -64,13 +61,16 @@ impl<T: Copy> Pool<T> {
         ensures placed { IfSome result (λ at. self.new ≡ slice_set self.old at (Some value)) }
         ensures count { IfSome result (λ at. live_slots self.new ≡ live_slots self.old + 1) }
     {
-        if self.room == 0 {
+        if let Some(number) = self.free.pop() {
+            self.values[number as usize] = value;
+            return Some(Slot::new(number));
+        }
+        let used = self.values.len();
+        if used == self.slots {
             return None;
         }
-        self.room -= 1;
-        let number = self.free[self.room];
-        self.slots[number as usize] = Some(value);
-        Some(Slot::new(number))
+        self.values.push_reserved(value);
+        Some(Slot::new(used as u32))
     }
 
     /// The value in a live slot.
@@ -78,7 +78,7 @@ impl<T: Copy> Pool<T> {
         requires { IsLive self.now at }
         ensures { held self.now at ≡ Some result.now }
     {
-        self.slots[at.index()].as_ref().unwrap()
+        &self.values[at.index()]
     }
 
     /// Puts the value into a live slot, in place of the one that was there.
@@ -87,7 +87,7 @@ impl<T: Copy> Pool<T> {
         ensures set { self.new ≡ slice_set self.old at (Some value) }
         ensures count { live_slots self.new ≡ live_slots self.old }
     {
-        self.slots[at.index()] = Some(value);
+        self.values[at.index()] = value;
     }
 
     /// Takes the value out of a live slot, which can then be had again by `place`. Every other slot is as it was.
@@ -96,9 +96,7 @@ impl<T: Copy> Pool<T> {
         ensures taken { self.new ≡ slice_set self.old at None }
         ensures count { live_slots self.new + 1 ≡ live_slots self.old }
     {
-        self.slots[at.index()] = None;
-        self.free[self.room] = at.number();
-        self.room += 1;
+        self.free.push_reserved(at.number());
     }
 
     /// How many slots are live.
@@ -107,7 +105,7 @@ impl<T: Copy> Pool<T> {
         ensures within { result ≤ length self.now }
         ensures most { length self.now ≤ MOST_SLOTS }
     {
-        (self.slots.len() - self.room) as u32
+        (self.values.len() - self.free.len()) as u32
     }
 
     /// How many slots aren't live: all but the live ones.
@@ -116,6 +114,6 @@ impl<T: Copy> Pool<T> {
         ensures both { result + live_slots self.now ≡ length self.now }
         ensures most { length self.now ≤ MOST_SLOTS }
     {
-        self.room as u32
+        (self.slots - self.values.len() + self.free.len()) as u32
     }
 }

@@ -1,8 +1,16 @@
-use Rattle.std.proofs.Common.{rules, ◌≡◌, replicate, None, arith}
-use Rattle.node_pool.proofs.Kept.{all_free}
+use Rattle.node_pool.proofs.Kept.{new_slots, none_live, new_kept}
 use Rattle.node_pool.proofs.pool.Pool.new.Goals as goal
 
 pub invariant_of-result : goal.invariant_of-result
 invariant_of-result g c =
-    let is : c.in_ok-values.values.items ≡ replicate c.args.slots None = search rules in
-    rw is (all_free c.args.slots c.loop-number.free.items c.requires.few c.loop-number.invariant.0 (λ k below. c.loop-number.invariant.1 k (omega arith)))
+    rw (c.in_ok-with_capacity.ensures.items, c.in_ok-with_capacity-2.ensures.items)
+    (new_kept g.row.T.Denot c.args.slots _ _ c.requires.few c.in_ok-with_capacity.ensures.capacity c.in_ok-with_capacity-2.ensures.capacity)
+
+pub returns-clause-empty : goal.returns-clause-empty
+returns-clause-empty g c =
+    rw (c.in_ok-with_capacity.ensures.items, c.in_ok-with_capacity-2.ensures.items) (new_slots g.row.T.Denot c.args.slots)
+
+pub returns-clause-none : goal.returns-clause-none
+returns-clause-none g c =
+    rw (c.in_ok-with_capacity.ensures.items, c.in_ok-with_capacity-2.ensures.items, new_slots g.row.T.Denot c.args.slots)
+    (none_live g.row.T.Denot c.args.slots)
