@@ -16,7 +16,7 @@ class Bettered : public Strategy<ROWS> {
     void build(Position root) {
         root_ = standing(root);
         grow(options_.order < 4 ? options_.order : 2, NO_LIMIT);
-        if (options_.order == 4) {
+        if (options_.order == 4 && !progress.is_late(options_.seconds)) {
             std::vector<Moved> moves;
             uint64_t size = drop_noted(root_, moves);
             bool is_smaller = grow(1, size);
@@ -27,6 +27,7 @@ class Bettered : public Strategy<ROWS> {
 
     // Moves that are taken when a position comes again.
     void keep(const std::vector<Moved>& moves) {
+        reserve(moves);
         for (const Moved& moved : moves) {
             auto [node, column] = given(moved);
             node->kept = column;
@@ -40,6 +41,7 @@ class Bettered : public Strategy<ROWS> {
             auto [node, column] = given(moved);
             before[node->key] = column;
         }
+        reserve(moves);
         for (const Moved& moved : moves) {
             auto [node, column] = given(moved);
             auto known = before.find(node->key);
@@ -131,6 +133,7 @@ class Bettered : public Strategy<ROWS> {
     using Base::folds_;
     using Base::free_move;
     using Base::is_live;
+    using Base::keep_noted;
     using Base::live_;
     using Base::mode_;
     using Base::move_holds;
@@ -139,6 +142,7 @@ class Bettered : public Strategy<ROWS> {
     using Base::proves;
     using Base::random;
     using Base::report;
+    using Base::reserve;
     using Base::search_;
     using Base::square_in;
     using Base::standing;
@@ -150,6 +154,7 @@ class Bettered : public Strategy<ROWS> {
     using Base::wins_;
     using Base::work_;
 
+    static constexpr uint64_t MANY = 1'000'000;    // positions that another first strategy may have in any case
     static constexpr size_t MOST_EMPTY = 32;       // squares above a part that is renewed
     static constexpr uint64_t SMALLEST = 20;       // part that is renewed
     static constexpr uint64_t LARGE = 200;
@@ -162,15 +167,17 @@ class Bettered : public Strategy<ROWS> {
     double works_[64] = {};
     uint64_t calls_ = 0;
     bool late_ = false;
+    bool is_growing_ = false;  // the first strategy is being taken in
     bool is_within_ = false;  // a part of what is being renewed is
 
-    // The time for better choices is over. The clock is looked at now and then.
+    // The time for better choices is over. It doesn't end while the first strategy grows, which would get much larger
+    // without them, but where another one is there already. The clock is looked at now and then.
     bool is_late() {
         if (++calls_ % 1024 == 0) {
             report();
             late_ = progress.is_late(options_.seconds);
         }
-        return late_;
+        return late_ && (!is_growing_ || mode_.most != NO_LIMIT);
     }
 
     // The entry of a position, and the column of its move there.
@@ -191,19 +198,24 @@ class Bettered : public Strategy<ROWS> {
         mode_.probes = options_.high;
         mode_.taken = mode_.grows ? &keys : nullptr;
         part_ = 0;
+        Restored is_growing(is_growing_);
+        is_growing_ = true;
         return take(root_);
     }
 
-    // Betters a part of the first strategy where it has four times the moves of what was bettered in it.
-    void better_grown(size_t start) override {
+    // Betters a part of the first strategy where it has four times the moves of what was bettered in it. False where
+    // another one is there already and the time is over.
+    bool better_grown(size_t start) override {
+        if (is_late()) return false;
         std::vector<Word>& taken = *mode_.taken;
         size_t size = taken.size() - start;
-        if (size < options_.part || size < part_ * 4) return;
+        if (size < options_.part || size < part_ * 4) return true;
         std::vector<Word> keys(taken.begin() + long(start), taken.end());
         better_part(keys);
         taken.resize(start);
         taken.insert(taken.end(), keys.begin(), keys.end());
         part_ = keys.size();
+        return true;
     }
 
     struct Start {
@@ -218,6 +230,10 @@ class Bettered : public Strategy<ROWS> {
         Word best_square = 0;
         uint64_t least = NO_LIMIT;
         for (const Start& start : STARTS) {
+            if (best_square && progress.is_late(options_.seconds)) break;
+            Restored before(mode_);
+            // One that gets much larger than the best hardly gets smaller than that when it is bettered.
+            if (best_square) mode_.most = std::min(mode_.most, live_ + 4 * least + MANY);
             if (!take_start(at, start, keys)) continue;
             Word square = square_in(at, find(at)->move);
             uint64_t added = drop_noted(after(at, square), moves);
@@ -323,39 +339,35 @@ class Bettered : public Strategy<ROWS> {
         Word old = square_in(at, node->move);
         Position there = after(at, old);
         if (find(there)->refs > 1) return;
-        uint64_t size = live_;
-        drop(there);
-        uint64_t least = size - live_;
+        std::vector<Moved> moves;
+        uint64_t least = drop_noted(there, moves);
         Word best = free_move(at);
-        if (!best && least > 1) best = better(at, old, least);
+        if (!best) best = least > 1 ? better(at, old, least, moves) : old;
+        keep_noted(moves);
         Restored before(mode_);
-        if (!best) {
-            best = old;
-            mode_.keeps = true;
-        }
-        take(after(at, best));
+        mode_.keeps = true;
+        mode_.most = NO_LIMIT;
+        if (!take(after(at, best))) throw Fault("what was dropped can't be taken in again");
         table_.find(key)->move = column_of(best);
     }
 
-    // A move that adds less than this, or 0. The old move is among them where what follows may be another.
-    Word better(Position at, Word old, uint64_t least) {
-        if (winning(at)) return 0;
+    // A move that adds less than this, whose moves are noted; or the old one. That is among them where what follows may
+    // be another.
+    Word better(Position at, Word old, uint64_t least, std::vector<Moved>& best_moves) {
+        if (winning(at)) return old;
         Word moves = board_.safe_moves(at);
         if (mode_.keeps) moves &= ~old;
         Restored before(mode_);
         mode_.stays = false;
-        Word best = 0;
+        mode_.taken = nullptr;
+        Word best = old;
         for (Word rest = moves; rest; rest &= rest - 1) {
             Word square = rest & -rest;
-            Position next = after(at, square);
             if (square != old && !move_holds(at, square, options_.nodes)) continue;
-            uint64_t size = live_;
-            mode_.most = size + least - !mode_.keeps;
-            if (take(next)) {
-                best = square;
-                least = live_ - size;
-                drop(next);
-            }
+            mode_.most = live_ + least - !mode_.keeps;
+            if (!take(after(at, square))) continue;
+            best = square;
+            least = drop_noted(after(at, square), best_moves);
         }
         return best;
     }

@@ -52,9 +52,15 @@ class NodeTable {
 
     Node& add(Word key) {
         if (Node* node = find(key)) return *node;
-        if ((used_ + 1) * 4 > slots_.size() * 3) make_room();
+        reserve(1);
         ++used_;
         return put(key);
+    }
+
+    // Makes room for so many more now, as far as there is memory for them. Where room has to be made later, those of
+    // them that are there by then go, but for what is in the set.
+    void reserve(uint64_t count) {
+        while ((used_ + count) * 4 > slots_.size() * 3 && make_room()) {}
     }
 
     uint64_t bytes() const { return slots_.size() * sizeof(Node); }
@@ -76,8 +82,8 @@ class NodeTable {
         return slots_[at];
     }
 
-    // More slots, while there is memory for them; else what isn't in the set goes.
-    void make_room() {
+    // More slots, while there is memory for them; else what isn't in the set goes, and it is false.
+    bool make_room() {
         bool can_grow = bytes() * 4 <= most_;
         std::vector<Node> kept;
         for (const Node& node : slots_) {
@@ -93,5 +99,6 @@ class NodeTable {
             Node& slot = put(node.key - 1);
             slot = node;
         }
+        return can_grow;
     }
 };

@@ -33,7 +33,8 @@ struct Options {
     uint64_t heat = 0;        // there a part may get larger by so many hundredths of a position, on an average at first
     std::vector<std::string> changes;  // pairs of proofs: where the second has another move, it is taken over
     std::vector<std::string> also;  // proofs whose moves are tried as well
-    int starts = 0;       // parts below so many men are taken in by several orders, and the smallest stays; 0 for none
+    int starts = 1;       // parts below so many men are taken in by several orders, and the smallest stays; 1 for the
+                          // whole of an empty board, 0 for none
     int mirror = 0;       // with at most so many men, the image of a move of the set is taken
     int high = 16;        // with at most so many men, each winning move is taken in for a trial
     uint64_t probe = 300'000;  // a trial ends where it has so many positions
@@ -125,8 +126,8 @@ class Strategy {
     size_t part_ = 0;  // how many moves the largest bettered part of what was just taken in has
 
     // Is called behind each move that is taken in while the first strategy grows. `start` is where in what was noted
-    // the part that came with it begins.
-    virtual void better_grown(size_t start) = 0;
+    // the part that came with it begins. False where the strategy is given up.
+    virtual bool better_grown(size_t start) = 0;
 
     // Takes in what follows a position of the prover's, as small as several starts make it.
     virtual bool take_best(Position at) = 0;
@@ -223,7 +224,7 @@ class Strategy {
         ++lives_near(board_.key(at));
         if ((++live_ & 0xffff) == 0) report();
         if (is_ended || closes(at)) return true;
-        bool is_start = mode_.grows && count_of(at.men) / 2 == options_.starts / 2;
+        bool is_start = mode_.grows && options_.starts && count_of(at.men) / 2 == options_.starts / 2;
         if (proves(at) ? is_start ? take_best(at) : take_one(at) : take_all(at)) return true;
         find(at)->refs = 0;
         --lives_near(board_.key(at));
@@ -240,8 +241,9 @@ class Strategy {
         if (!square || !take(after(at, square))) return false;
         find(at)->move = column_of(square);
         if (mode_.taken && !image) mode_.taken->push_back(board_.key(at));
-        if (mode_.grows) better_grown(start);
-        return true;
+        if (!mode_.grows || better_grown(start)) return true;
+        drop(after(at, square));
+        return false;
     }
 
     bool take_all(Position at) {
@@ -288,11 +290,22 @@ class Strategy {
 
     // Takes in what was dropped, with the moves that were noted.
     void take_again(Position at, const std::vector<Moved>& moves) {
-        for (const Moved& moved : moves) table_.add(moved.key).kept = moved.column;
+        keep_noted(moves);
         Restored before(mode_);
         mode_ = Mode();
         mode_.restores = true;
         if (!take(at)) throw Fault("what was dropped can't be taken in again");
+    }
+
+    // Room for the positions of these moves and what they lead to: of the other side's there are no more than of the
+    // prover's, or one, and of full boards no more than of these.
+    void reserve(const std::vector<Moved>& moves) { table_.reserve(3 * moves.size() + 3); }
+
+    // The moves by which what was dropped is taken in again. They are noted apart, since the table may lose what isn't
+    // of the set.
+    void keep_noted(const std::vector<Moved>& moves) {
+        reserve(moves);
+        for (const Moved& moved : moves) table_.add(moved.key).kept = moved.column;
     }
 
     // Of the moves that are seen to win the one that adds least, each taken in by the order alone. 0 where none is seen

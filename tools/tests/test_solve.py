@@ -166,6 +166,31 @@ class SolveTest(ToolTest):
         for also in (rough, swept):
             self.proof_of(text, "--start", start, "--also", self.file("also", also), "--rounds", "1", "--sweeps", "0")
 
+    def test_little_memory(self):
+        """Where the table has lost what was dropped for a trial, that comes back as it was."""
+        text = game_text(7, 6, "dddddebb")
+        much, little = (self.proof_of(text, "--format", "2", "--order", "2", "--sweeps", "0", "--memory", memory)[0]
+                        for memory in ("300", "12"))
+        self.assertLess(little.count("\n") * 10, much.count("\n") * 11)
+
+    def test_seconds(self):
+        """The first strategy is the same however many seconds there are; what is bettered behind it isn't."""
+        text = game_text(6, 4, "")
+        words = ["--format", "2", "--starts", "0"]
+        first = self.proof_of(text, *words, "--order", "2", "--rounds", "0", "--sweeps", "0")[0]
+        for order in ("2", "4"):
+            self.assertEqual(self.proof_of(text, *words, "--order", order, "--seconds", "0")[0], first)
+
+    def test_starts(self):
+        """An empty board is taken in by five orders, of which the smallest stays; without --starts by one."""
+        text = game_text(5, 4, "")
+        words = ["--format", "2", "--rounds", "0", "--sweeps", "0", "--order"]
+        sizes = [self.proof_of(text, *words, order, "--starts", "0")[0].count("\n") for order in "0123"]
+        self.assertEqual(len(set(sizes)), 4)
+        five = {self.proof_of(text, *words, order)[0] for order in "03"}
+        self.assertEqual(len(five), 1)
+        self.assertLess(five.pop().count("\n"), max(sizes))
+
     def test_graph(self):
         """The same in a graph: of a draw, of which one half has plans, of a late game, and with lines of five."""
         for text in (game_text(5, 4, ""), game_text(4, 4, "", 5), game_text(6, 4, "cc")):
