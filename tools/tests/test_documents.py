@@ -22,7 +22,7 @@ LEFT_OUT = {
     "make": "it builds, installs, or takes 40 minutes; .ci/launcher and test_solve.py try the short ones",
     ".ci/run": "this is a part of it",
     "apt-get": "it installs",
-    "./victor check < tools/solve/usual.txt": "it needs the proof that takes the better part of an hour",
+    "./victor check < tools/solve/usual.txt": "it needs the proof that takes half an hour",
     "xz ": "it unpacks a large proof, which .ci/proofs does",
     "./victor check < usual-board.txt": "it needs that proof",
     "tools/check.py usual-board.txt": "the same, and takes a minute",
