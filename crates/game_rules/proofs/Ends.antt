@@ -206,6 +206,11 @@ none_for_other p column h =
     of_side White white black = black
     of_side Black white black = white
 
+-- the same of a position that is the one after the move, and of a side that is the one that made it
+pub none_behind : (p : Position) (column : ℕ) {q : Position} {side : Side} → q ≡ after_move p column → side ≡ side_to_move p → is_legal p column ≡ true
+    → has_line q (other side) ≡ false
+none_behind p column after mover legal = rw (after, mover) (none_for_other p column legal)
+
 -- A property of the empty position that legal moves keep holds along each list of legal moves.
 module _ (P : Position → Type 0) (keeps : (p : Position) (column : ℕ) → P p → is_legal p column ≡ true → P (after_move p column)) where
   pub kept_along : (columns : List ℕ) (p q : Position) → P p → played p columns ≡ Some q → P q

@@ -168,6 +168,10 @@ module _ {T : Type 0} where
 
     -- ---- a live slot
 
+    -- a slot that is live in the pool is so by its lists
+    pub live_here : {pool : List (Option T)} → slots_of values free slots ≡ pool → (at : ℕ) → IsLive pool at → IsLive (slots_of values free slots) at
+    live_here is at live = rw is live
+
     not_given_back : (at : ℕ) → IsLive (slots_of values free slots) at → is_free free at ≡ false
     not_given_back at live =
         elim (cases_Bool (is_free free at)) [

@@ -25,13 +25,13 @@ module _ {slots : List (Option Node)} {at : ℕ} (leaf : IsGoingLeaf slots at) (
   read_is : (node : Node) (others : List (Cell Node)) → Owns slots ((at, node) ∷ others) → read ≡ node
   read_is node others owns = same_some (sym here ∙ mine at node others owns)
 
-  going : end_of read.position ≡ None
-  going = ap (λ n. end_of n.position) (read_is leaf.node leaf.others leaf.owns) ∙ leaf.going
+  pub goes_on : end_of read.position ≡ None
+  goes_on = ap (λ n. end_of n.position) (read_is leaf.node leaf.others leaf.owns) ∙ leaf.going
 
   module _ (order : List ℕ) (centre : order ≡ centre_out (length read.position.columns)) where
     -- the moves of the position that was read are the columns with room
     moves_are : map (after_move read.position) (filter (has_room read.position) order) ≡ moves_out read.position
-    moves_are = ap (λ cs. map (after_move read.position) (filter (has_room read.position) cs)) centre ∙ going_moves read.position going
+    moves_are = ap (λ cs. map (after_move read.position) (filter (has_room read.position) cs)) centre ∙ going_moves read.position goes_on
 
     pub move_count : length (filter (has_room read.position) order) ≡ length (moves_out read.position)
     move_count = sym (length-map (filter (has_room read.position) order) (after_move read.position)) ∙ ap length moves_are

@@ -68,7 +68,9 @@ impl Front {
             reach,
         };
         let mut pool = Pool::new(alloc, slots)?;
-        let root = pool.place(asked.leaf(root, None, chooser)).unwrap();
+        let root = pool
+            .place(asked.leaf(root, root.ended(), None, chooser))
+            .unwrap();
         Ok(Front { asked, root, pool })
     }
 
@@ -80,7 +82,7 @@ impl Front {
         self.asked.side = question.side();
         self.root = self
             .pool
-            .place(self.asked.leaf(root, None, chooser))
+            .place(self.asked.leaf(root, root.ended(), None, chooser))
             .unwrap();
     }
 

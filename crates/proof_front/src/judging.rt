@@ -1,10 +1,11 @@
 //! How a position stands that no move was looked at from.
 ghost use Rattle.std.specs.Prelude.{◌≡◌};
+ghost use Rattle.game_rules.specs.Position.{end_of};
 ghost use Rattle.front_rules.specs.Front.{verdict_at, planned};
 ghost use Rattle.proof_front.specs.Numbers.{leaf_numbers};
 
 use crate::node::{Node, Numbers};
-use board_bits::{Position, Side};
+use board_bits::{End, Position, Side};
 use front_rules::LeafVerdict;
 use node_pool::Slot;
 use rule_chooser::Chooser;
@@ -17,22 +18,30 @@ pub(crate) struct Asked {
 }
 
 impl Asked {
-    /// A leaf for the position, with the node beside it. The chooser is asked once.
-    pub fn leaf(&self, position: &Position, next: Option<Slot>, chooser: &mut Chooser) -> Node
+    /// A leaf for the position, at which the game has ended so, with the node beside it. The chooser is asked once.
+    pub fn leaf(
+        &self,
+        position: &Position,
+        ended: Option<End>,
+        next: Option<Slot>,
+        chooser: &mut Chooser,
+    ) -> Node
+        requires { ended ≡ end_of position.now }
         ensures { result ≡ record { position = position.now; first = None; next = next; numbers = leaf_numbers (verdict_at self.now.side (planned self.now.reach) position.now) } }
     {
         Node {
             position: *position,
             first: None,
             next,
-            numbers: Numbers::of_leaf(self.verdict(position, chooser)),
+            numbers: Numbers::of_leaf(self.verdict(position, ended, chooser)),
         }
     }
 
-    fn verdict(&self, position: &Position, chooser: &mut Chooser) -> LeafVerdict
+    fn verdict(&self, position: &Position, ended: Option<End>, chooser: &mut Chooser) -> LeafVerdict
+        requires { ended ≡ end_of position.now }
         ensures { result ≡ verdict_at self.now.side (planned self.now.reach) position.now }
     {
-        match position.ended() {
+        match ended {
             Some(end) if end == self.side.win() => LeafVerdict::Yes,
             Some(_) => LeafVerdict::No,
             None if self.is_planned(position, chooser) => LeafVerdict::No,

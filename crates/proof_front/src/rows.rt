@@ -1,6 +1,6 @@
 //! Rows of nodes in a pool: their numbers, the leaves of a position's moves, and a row that isn't wanted any more.
-ghost use Rattle.std.specs.Prelude.{◌≡◌, ◌+◌, ◌<◌, ◌^◌, ◌≤◌, List, length, filter};
-ghost use Rattle.game_rules.specs.Position.{has_room};
+ghost use Rattle.std.specs.Prelude.{◌≡◌, ◌+◌, ◌<◌, ◌^◌, ◌≤◌, List, None, length, filter};
+ghost use Rattle.game_rules.specs.Position.{end_of, has_room};
 ghost use Rattle.game_rules.specs.declared.Side.{Side};
 ghost use Rattle.front_rules.specs.Counts.{finite_part};
 ghost use Rattle.front_rules.specs.Front.{joined, of_none, planned};
@@ -79,7 +79,8 @@ pub(crate) fn free_row(pool: &mut Pool<Node>, at: Option<Slot>)
     pool.give_back(slot);
 }
 
-/// Places a leaf for each of these columns that has room, side by side, and answers with the first one's slot.
+/// Places a leaf for each of these columns that has room, side by side, and answers with the first one's slot. The game goes
+/// on at the position, so after a move the other side has no line.
 pub(crate) fn place_leaves(
     pool: &mut Pool<Node>,
     asked: &Asked,
@@ -88,6 +89,7 @@ pub(crate) fn place_leaves(
     order: &[Column],
 ) -> Option<Slot>
     requires room { live_slots pool.old + length (filter (has_room position.now) order.now) ≤ length pool.old }
+    requires going { end_of position.now ≡ None }
     ensures placed { (others : List (Cell Held)) → Owns pool.old others → LeavesLie position.now asked.now.side (planned asked.now.reach) pool.new order.now result others }
     ensures live { live_slots pool.new ≡ live_slots pool.old + length (filter (has_room position.now) order.now) }
     ensures same { length pool.new ≡ length pool.old }
@@ -99,5 +101,7 @@ pub(crate) fn place_leaves(
     if !position.has_room(*column) {
         return beside;
     }
-    pool.place(asked.leaf(&position.after(*column), beside, chooser))
+    let next = position.after(*column);
+    let ended = next.ended_by(position.to_move());
+    pool.place(asked.leaf(&next, ended, beside, chooser))
 }

@@ -91,9 +91,11 @@ module _ (a b : Pending) (s t : CheckerState) (at : ℕ) (l : Lemma) (is : Accep
   pub put_room : count < greatest_number
   put_room = omega (arith, put_next, (lemma_fits s at is.text l is.accepted.few is.accepted.said is.accepted.stands).number.1)
 
-  pub put_written : {X : Type 0} (u : CheckerState) → u ≡ t → (p : Position) → played s.root l.path ≡ Some p → (before after : Numbers)
-      → Follows s.known before → (counted : ℕ) (old new : Option (List ℕ)) (result : Result X UpgradeStop) → WritesLemma p l before after old new result
-      → OnOk result (counted ≡ count + 1) → WritesLine s u at is.text old new result × OnOk result (InStep u.known after counted)
-  put_written u same p along before after follows counted old new result put more =
+  pub put_written : {X : Type 0} (u : CheckerState) → u ≡ t → (p : Position) (path : List ℕ) → Some p ≡ played t.root path → path ≡ l.path
+      → (before after : Numbers) → Follows s.known before → (counted : ℕ) (old new : Option (List ℕ)) (result : Result X UpgradeStop)
+      → WritesLemma p l before after old new result → OnOk result (counted ≡ count + 1)
+      → WritesLine s u at is.text old new result × OnOk result (InStep u.known after counted)
+  put_written u same p path there viewed before after follows counted old new result put more =
+      let along : played s.root l.path ≡ Some p = sym (there ∙ ap (λ t. played t.root path) is.accepted.next ∙ ap (played s.root) viewed) in
       lemma_written s at is.text l is.accepted.few is.accepted.said is.accepted.stands p along before follows u after count counted old new result
       (same ∙ is.accepted.next) many put more

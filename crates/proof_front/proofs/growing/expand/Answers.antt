@@ -1,6 +1,6 @@
 use Rattle.std.proofs.Common.{◌∷◌, ap, ◌∙◌}
 use Rattle.game_rules.specs.Cost.{centre_out}
-use Rattle.proof_front.proofs.Expanding.{too_short, leaves_below, expanded}
+use Rattle.proof_front.proofs.Expanding.{goes_on, too_short, leaves_below, expanded}
 use Rattle.proof_front.proofs.growing.expand.Goals as goal
 
 pub returns-then-is_short-clause-leaf : goal.returns-then-is_short-clause-leaf
@@ -8,6 +8,9 @@ returns-then-is_short-clause-leaf c node others owns =
     let centre = c.as_slice-columns.ensures.value ∙ (c.centre_out-order.ensures ∙ ap (λ b. centre_out b.cols) c.size.ensures.value) in
     too_short c.requires.leaf c.get.result.now c.get.ensures c.as_slice-columns.result.now centre node others owns c.args.asked.now.side c.args.asked.now.reach
     c.is_short.ensures c.if-is_short.true
+
+pub place_leaves-first-requires-clause-going : goal.place_leaves-first-requires-clause-going
+place_leaves-first-requires-clause-going c = goes_on c.requires.leaf c.get.result.now c.get.ensures
 
 pub renew-requires-clause-below : goal.renew-requires-clause-below
 renew-requires-clause-below c =

@@ -1,9 +1,16 @@
-use Rattle.std.proofs.Common.{◌<◌, length, None, arith, sym, ap, ◌∙◌}
+use Rattle.std.proofs.Common.{◌<◌, length, None, is_none, arith, sym, ap, ◌∙◌}
+use Rattle.std.proofs.lemmas.Bool.{and_from}
+use Rattle.game_rules.proofs.Ends.{none_behind}
 use Rattle.front_rules.specs.Front.{planned, verdict_at}
 use Rattle.node_pool.specs.Slots.{live_slots}
 use Rattle.proof_front.specs.Numbers.{leaf_numbers}
 use Rattle.proof_front.proofs.Leaves.{first_and_rest, more_open, leaf_before}
 use Rattle.proof_front.proofs.rows.+place_leaves.Goals as goal
+
+pub ended_by-ended-requires : goal.ended_by-ended-requires
+ended_by-ended-requires t c =
+    let room = sym c.has_room.ensures ∙ c.if-not-has_room.false in
+    none_behind c.args.position.now c.column-item.result c.after-next.ensures c.to_move.ensures (and_from _ _ (ap is_none c.requires.going) room)
 
 pub returns-clause-placed : goal.returns-clause-placed
 returns-clause-placed t c others owns =
@@ -27,6 +34,6 @@ returns-clause-placed t c others owns =
       next = c.place_leaves-beside.result;
       numbers =
           leaf_numbers (verdict_at c.args.asked.now.side (planned c.args.asked.now.reach) q);
-    }) c.after.ensures)
+    }) c.after-next.ensures)
     c.place.ensures.full.0 free c.place.ensures.within c.place.ensures.free c.place.ensures.placed c.place.ensures.count
     (c.place_leaves-beside.ensures.placed others owns)

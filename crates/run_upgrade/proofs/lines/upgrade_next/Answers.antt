@@ -1,7 +1,6 @@
-use Rattle.std.proofs.Common.{◌≡◌, ℕ, Some, Result, Ok, Err, true, refl, sym, ap, ◌∙◌}
+use Rattle.std.proofs.Common.{ℕ, Result, Ok, Err, true, refl, ap}
 use Rattle.std.proofs.lemmas.Option.{MatchOption-at_none}
 use Rattle.std.proofs.lemmas.Result.{err_from_is_err_and}
-use Rattle.game_rules.specs.Position.{played}
 use Rattle.cert_format.specs.Shape.{lemma_viewed}
 use Rattle.run_proof.proofs.Known.{got_line}
 use Rattle.run_upgrade.specs.declared.upgraded.UpgradeStop.{UpgradeStop}
@@ -25,12 +24,11 @@ pub returns-in_err-put-in-Some-clause-written : goal.returns-in_err-put-in-Some-
 returns-in_err-put-in-Some-clause-written g c =
     let here = c.in-Ok-Some-Lemma in
     let next = got_line _ here.field-0-0 _ here.field-0-is here.field-0-0-is here.ensures.answer in
-    let along : played c.args.checker.now.stands.root (lemma_viewed here.lemma).path ≡ Some c.in-Some.position = sym (c.in-Some.ensures.position
-    ∙ ap (λ t. played t.root c.as_slice.result.now) next.accepted.next ∙ ap (played c.args.checker.now.stands.root) c.as_slice.ensures.value) in
     let stop : Result ℕ UpgradeStop = Err c.in_err-put-in-Some.field-0.0 in
     let written = put_written _ _ _ _ _ (lemma_viewed here.lemma) next _ c.requires.in_step.1
-    c.position_after.new.self.stands (ap (λ checker. checker.stands) c.position_after.ensures.same) c.in-Some.position along c.args.writer.now.index
-    c.put.new.self.index c.requires.in_step.0 c.put.new.self.lemmas (g.O.Sink.written c.args.out.now) (g.O.Sink.written c.put.new.out) stop
+    _ (ap (λ checker. checker.stands) c.position_after.ensures.same) _ _ c.in-Some.ensures.position c.as_slice.ensures.value
+    c.args.writer.now.index c.put.new.self.index c.requires.in_step.0 c.put.new.self.lemmas
+    (g.O.Sink.written c.args.out.now) (g.O.Sink.written c.put.new.out) stop
     c.in_err-put-in-Some.ensures.written c.in_err-put-in-Some.ensures.counted in
     let same = err_from_is_err_and c.from_residual.result c.from_residual.ensures.1 in
     rw (same.1, same.2) (next_stopped _ _ next.text next.fed _ _ ℕ c.position_after.new.self.stands _ _ _ _ c.in_err-put-in-Some.field-0.0
@@ -40,12 +38,10 @@ pub returns-in_ok-put-in-Some-clause-written : goal.returns-in_ok-put-in-Some-cl
 returns-in_ok-put-in-Some-clause-written g c =
     let here = c.in-Ok-Some-Lemma in
     let next = got_line _ here.field-0-0 _ here.field-0-is here.field-0-0-is here.ensures.answer in
-    let along : played c.args.checker.now.stands.root (lemma_viewed here.lemma).path ≡ Some c.in-Some.position = sym (c.in-Some.ensures.position
-    ∙ ap (λ t. played t.root c.as_slice.result.now) next.accepted.next ∙ ap (played c.args.checker.now.stands.root) c.as_slice.ensures.value) in
     let written = put_written _ _ _ _ _ (lemma_viewed here.lemma) next _ c.requires.in_step.1
-    c.position_after.new.self.stands (ap (λ checker. checker.stands) c.position_after.ensures.same) c.in-Some.position along c.args.writer.now.index
-    c.put.new.self.index c.requires.in_step.0 c.put.new.self.lemmas (g.O.Sink.written c.args.out.now)
-    (g.O.Sink.written c.put.new.out) (Ok c.in_ok-put-in-Some.field-0)
+    _ (ap (λ checker. checker.stands) c.position_after.ensures.same) _ _ c.in-Some.ensures.position c.as_slice.ensures.value
+    c.args.writer.now.index c.put.new.self.index c.requires.in_step.0 c.put.new.self.lemmas
+    (g.O.Sink.written c.args.out.now) (g.O.Sink.written c.put.new.out) (Ok c.in_ok-put-in-Some.field-0)
     c.in_ok-put-in-Some.ensures.written c.in_ok-put-in-Some.ensures.counted in
     next_added _ _ next.text next.fed _ _ true c.position_after.new.self.stands _ _ next.gives written.0.0 written.0.1
 
@@ -53,12 +49,10 @@ pub returns-in_ok-put-in-Some-clause-in_step : goal.returns-in_ok-put-in-Some-cl
 returns-in_ok-put-in-Some-clause-in_step g c =
     let here = c.in-Ok-Some-Lemma in
     let next = got_line _ here.field-0-0 _ here.field-0-is here.field-0-0-is here.ensures.answer in
-    let along : played c.args.checker.now.stands.root (lemma_viewed here.lemma).path ≡ Some c.in-Some.position = sym (c.in-Some.ensures.position
-    ∙ ap (λ t. played t.root c.as_slice.result.now) next.accepted.next ∙ ap (played c.args.checker.now.stands.root) c.as_slice.ensures.value) in
     let written = put_written _ _ _ _ _ (lemma_viewed here.lemma) next _ c.requires.in_step.1
-    c.position_after.new.self.stands (ap (λ checker. checker.stands) c.position_after.ensures.same) c.in-Some.position along c.args.writer.now.index
-    c.put.new.self.index c.requires.in_step.0 c.put.new.self.lemmas (g.O.Sink.written c.args.out.now)
-    (g.O.Sink.written c.put.new.out) (Ok c.in_ok-put-in-Some.field-0)
+    _ (ap (λ checker. checker.stands) c.position_after.ensures.same) _ _ c.in-Some.ensures.position c.as_slice.ensures.value
+    c.args.writer.now.index c.put.new.self.index c.requires.in_step.0 c.put.new.self.lemmas
+    (g.O.Sink.written c.args.out.now) (g.O.Sink.written c.put.new.out) (Ok c.in_ok-put-in-Some.field-0)
     c.in_ok-put-in-Some.ensures.written c.in_ok-put-in-Some.ensures.counted in
     written.1
 
