@@ -18,7 +18,8 @@ pub(crate) struct Asked {
 }
 
 impl Asked {
-    /// A leaf for the position, at which the game has ended so, with the node beside it. The chooser is asked once.
+    /// A leaf for the position, with the node beside it. `ended` is how the game has ended there, None where it goes on.
+    /// The chooser is asked at most once, and not where the game has ended.
     pub fn leaf(
         &self,
         position: &Position,
