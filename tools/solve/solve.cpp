@@ -196,6 +196,10 @@ class Prover {
         return Writer(board_, strategy, claim, options_.format == 2, out, written_).write(root_);
     }
 
+    // Positions that renewals take in between two sweeps. By a small strategy's hundredfold alone the last of three
+    // sweeps that brought nothing came before most parts were tried.
+    static uint64_t work_for(uint64_t size) { return std::max(100 * size, std::min(uint64_t(2'000'000), 4000 * size)); }
+
     // Rounds, then sweeps and renewed parts in turn, while they make the strategy smaller.
     void better(Bettered<ROWS>& strategy, Search<ROWS>& search) {
         catch_signals();
@@ -216,7 +220,7 @@ class Prover {
             progress.stage = "sweeping";
             strategy.sweep();
             progress.stage = "renewing";
-            strategy.renew(100 * before);
+            strategy.renew(work_for(before));
             progress.lemmas = strategy.size();
             progress.line(search.nodes);
             idle = before - strategy.size() > before / 50000 ? 0 : idle + 1;

@@ -135,7 +135,7 @@ class SolveTest(ToolTest):
                       ["--high", "42", "--probe", "100"], ["--order", "3", "--sweeps", "0"], ["--starts", "16"],
                       ["--seed", "7"], ["--seconds", "0"], ["--mirror", "42"], ["--reach", "1"], ["--graph", "40"],
                       ["--graph", "40", "--heat", "50", "--seconds", "2"], []):
-            proof = self.proof_of(text, *words)[0]
+            proof = self.proof_of(text, "--sweeps", "2", *words)[0]
             self.assertLessEqual(proof.count("\n"), plain.count("\n"))
         self.assertLess(proof.count("\n") * 5, plain.count("\n"))
 
