@@ -7,8 +7,7 @@ ghost use Rattle.plan_rules.specs.Listing.{listed};
 ghost use Rattle.plan_rules.specs.declared.Kind.TheVariants as kinds;
 
 use arrayvec::ArrayVec;
-use board_bits::{Mask, Position, Size, Square, Way};
-use rule_law::{Kept, Kind, Listed, Rule, Taker, list_triples};
+use rule_law::{Kept, Kind, Listed, Mask, Position, Rule, Size, Square, Taker, Way, list_triples};
 use std::marker::Model;
 
 /// No board has more triples of columns.

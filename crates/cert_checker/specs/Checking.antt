@@ -4,8 +4,8 @@ use Rattle.proof_text.specs.Lemma.{Line, ALemma, ARemark, AVerdict}
 use Rattle.proof_text.specs.Checked.{CheckerState, Why}
 use Rattle.proof_text.specs.declared.Why.{Why as WhyOf}
 use Rattle.proof_text.specs.declared.Why.TheVariants as whys
-use Rattle.rule_compat.specs.Faults.{fault_of}
-use Rattle.rule_compat.specs.declared.fault.PlanFault.{PlanFault}
+use Rattle.cert_format.specs.Faults.{fault_of}
+use Rattle.cert_format.specs.PlanFault.{PlanFault}
 use Rattle.cert_format.specs.Shape.{cite_of}
 use Rattle.cert_format.specs.declared.lines.Cite.{Cite}
 use Rattle.cert_checker.specs.declared.stops.AddStop.{AddStop}

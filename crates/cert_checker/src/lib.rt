@@ -12,9 +12,8 @@ mod reasons;
 mod stops;
 mod trail;
 
-pub use cert_format::{Line, LineView, Verdict};
+pub use cert_format::{Line, LineView, PlanFault, Verdict};
 pub use checker::Checker;
 pub use index::MirrorIndex;
 pub use known::MOST_LEMMAS;
-pub use rule_compat::PlanFault;
 pub use stops::{Accepted, AddStop, Refusal, Why};

@@ -1,6 +1,6 @@
 //! The answers of a checker.
+use cert_format::PlanFault;
 use proof_text::Verdict;
-use rule_compat::PlanFault;
 use std::alloc::AllocError;
 
 /// Why a line is refused; where its list of instances is no plan, with the first reason for that.

@@ -4,8 +4,8 @@ use Rattle.std.proofs.lemmas.List.{append-nil}
 use Rattle.game_rules.specs.Grammar.{move_list}
 use Rattle.proof_text.specs.Lemma.{Lemma}
 use Rattle.proof_text.specs.Spelling.{spaced, claim_word, cite_word, reason_words, lemma_line}
-use Rattle.plan_rules.specs.Rules.{RuleInstance}
-use Rattle.plan_text.specs.Items.{instance_text}
+use Rattle.plan_lines.specs.Rules.{RuleInstance}
+use Rattle.proof_text.specs.Items.{instance_text}
 use Rattle.plan_lines.specs.Items.{members_text}
 use Rattle.cert_format.specs.Shape.{cite_of, behind_spaces}
 use Rattle.cert_format.specs.declared.lines.Cite.{Cite}

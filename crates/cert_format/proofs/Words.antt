@@ -18,7 +18,7 @@ use Rattle.cert_format.specs.Words.{HasNoClaim}
 use Rattle.text_words.proofs.Words.{words_some}
 use Rattle.proof_text.proofs.Words.{number_read}
 use Rattle.proof_text.proofs.Spelled.{plain_decimal}
-use Rattle.plan_text.proofs.Spaced.{words_of_spaced}
+use Rattle.proof_text.proofs.Spaced.{words_of_spaced}
 use Rattle.game_rules.specs.Board.{Board}
 
 -- ---- the last word

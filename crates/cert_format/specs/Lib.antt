@@ -2,3 +2,8 @@ pub mod Names
 pub mod Shape
 pub mod Rooms
 pub mod Words
+pub use Rattle.plan_lines.specs.Faults
+pub use Rattle.plan_lines.specs.Planned
+pub use Rattle.plan_lines.specs.Written
+pub use Rattle.plan_lines.specs.PlanFault
+pub use Rattle.plan_lines.specs.Instance

@@ -2,7 +2,7 @@
 use Rattle.std.specs.Prelude.{◌≡◌, [], map, Option, Some, None, Result, Ok, Err}
 use Rattle.proof_text.specs.Lemma.{Reason as PlainReason, Lemma as PlainLemma, Line as PlainLine, ByEnd, ALemma, ARemark, AVerdict}
 use Rattle.proof_text.specs.declared.Claim.TheVariants.{WhiteWins}
-use Rattle.rule_compat.specs.Written.{written_list}
+use Rattle.plan_lines.specs.Written.{written_list}
 use Rattle.cert_format.specs.Shape.{cite_of, reason_by, viewed}
 use Rattle.cert_format.specs.declared.lines.LineView.{LineView}
 use Rattle.plan_lines.specs.declared.plan_line.LineFault.{LineFault}

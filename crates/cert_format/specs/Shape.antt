@@ -2,7 +2,7 @@
 use Rattle.std.specs.Prelude.{◌≡◌, ℕ, List, [], ◌∷◌, ◌++◌, map, flat_map, Option, Some, None, Result, Ok, Err}
 use Rattle.std.specs.Borrow.{Bor}
 use Rattle.arrayvec.specs.ArrayVec.{ArrayVec}
-use Rattle.plan_rules.specs.Rules.{RuleInstance}
+use Rattle.plan_lines.specs.Rules.{RuleInstance}
 use Rattle.proof_text.specs.Lemma.{Cite as PlainCite, Reason as PlainReason, ByEnd, ByOne, ByAll, ByPlan, ByMirror, Lemma as PlainLemma, Line as PlainLine, ALemma, ARemark, AVerdict}
 use Rattle.proof_text.specs.Spelling.{cite_word, lemma_line, verdict_line}
 use Rattle.plan_lines.specs.Items.{members_text}
@@ -10,8 +10,8 @@ use Rattle.cert_format.specs.declared.lines.Cite.{Cite}
 use Rattle.cert_format.specs.declared.lines.Reason.{Reason}
 use Rattle.cert_format.specs.declared.lines.Reason.TheVariants as reasons
 use Rattle.cert_format.specs.declared.lines.LemmaView.{LemmaView}
-use Rattle.rule_compat.specs.Written.{written_list}
-use Rattle.rule_compat.specs.declared.instance.Instance.{Instance}
+use Rattle.plan_lines.specs.Written.{written_list}
+use Rattle.plan_lines.specs.Instance.{Instance}
 use Rattle.cert_format.specs.declared.lines.Lemma.{Lemma}
 use Rattle.cert_format.specs.declared.lines.Line.{Line}
 use Rattle.cert_format.specs.declared.lines.Line.TheVariants as lines

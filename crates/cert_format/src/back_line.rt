@@ -8,11 +8,10 @@ ghost use Rattle.text_words.specs.Lines.{line_room};
 
 use crate::lines::{Cite, Reason, ReasonView};
 use crate::verdict_line::claim_word;
-use board_bits::Column;
 use itoa::Buffer;
 use proof_text::Claim;
 use std::marker::Model;
-use text_words::{LINE_ROOM, letter_of};
+use text_words::{Column, LINE_ROOM, letter_of};
 
 /// The bytes of a line, at the end of a buffer.
 #[derive(Drop)]

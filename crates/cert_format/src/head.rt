@@ -4,9 +4,8 @@ ghost use Rattle.game_rules.specs.Game.{board_played};
 ghost use Rattle.proof_text.specs.Texts.{head_of};
 
 use crate::lines::first_line;
-use board_bits::Game;
 use proof_text::Version;
-use text_words::{LineText, push_game, push_text};
+use text_words::{Game, LineText, push_game, push_text};
 
 /// The head of a proof of this version: the line that names it, and the two lines of the game.
 pub fn head_of(version: Version, game: &Game) -> LineText

@@ -18,7 +18,8 @@ pub use lines::{Cite, Lemma, LemmaView, Line, LineView, Reason, ReasonView, firs
 pub use output::{LemmaOut, print_line};
 pub use paths::shared_moves;
 pub use plan_lines::{
-    Item, LineFault, print_item, print_plan, push_group, push_plan_fault, push_square, read_plan,
+    Instance, Item, LineFault, Plan, PlanFault, print_item, print_plan, push_group,
+    push_plan_fault, push_square, read_plan,
 };
 pub use proof_text::{Claim, Verdict, Version};
 pub use reading::read_line;

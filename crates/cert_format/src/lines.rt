@@ -1,16 +1,15 @@
 //! What a line of a proof says. A lemma stands at the position that its path leads to from the root of the proof, and
 //! names the earlier lemmas that its claim rests on.
 ghost use Rattle.std.specs.Prelude.{◌≡◌, List};
-ghost use Rattle.plan_rules.specs.Rules.{RuleInstance};
+ghost use Rattle.plan_lines.specs.Rules.{RuleInstance};
 ghost use Rattle.proof_text.specs.Lemma.{Cite as PlainCite};
 ghost use Rattle.proof_text.specs.Texts.{first_line};
 ghost use Rattle.cert_format.specs.Shape.{reason_by, reason_of, reason_viewed, lemma_of, lemma_viewed};
 
 use arrayvec::ArrayVec;
-use board_bits::Column;
-use plan_rules::MOST_MEMBERS;
+use plan_lines::{Instance, MOST_MEMBERS};
 use proof_text::{Claim, Verdict, Version};
-use rule_compat::Instance;
+use text_words::Column;
 
 /// No line has more bytes, without its line feed.
 pub(crate) const LONGEST_LINE: usize = 8192;

@@ -3,8 +3,7 @@
 ghost use Rattle.std.specs.Prelude.{◌≡◌, ◌≤◌, true, length, take};
 ghost use Rattle.cert_format.specs.Names.{AreNamed};
 
-use board_bits::Column;
-use text_words::letter_of;
+use text_words::{Column, letter_of};
 
 /// How many of the first letters name the first moves, on a board with so many columns.
 #[inline(always)]

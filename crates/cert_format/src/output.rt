@@ -8,11 +8,11 @@ ghost use Rattle.cert_format.specs.Shape.{reason_of, reason_viewed, line_of, pri
 use crate::back_line::BackLine;
 use crate::lines::{Line, Reason, ReasonView};
 use crate::verdict_line::verdict_line;
-use board_bits::Column;
 use io_ports::{Failed, Sink, put_all};
 use plan_lines::put_plan_end;
 use proof_text::Claim;
 use std::marker::Model;
+use text_words::Column;
 
 /// Writes the spelling of a lemma or a verdict, and a line feed. A remark can't be written, since what it says isn't
 /// kept. The line is one of a proof, and read again as it was, where its numbers are from 1 to 10,000,000, `All` has at

@@ -17,10 +17,9 @@ use crate::lines::{Cite, LONGEST_LINE, LONGEST_PATH, Line, MOST_CITES, Reason};
 use crate::named_moves::named_moves;
 use crate::room::{Kind, LemmaRoom, ReasonRoom};
 use arrayvec::ArrayVec;
-use board_bits::{Column, Size};
 use plan_lines::{LineFault, members_of};
 use proof_text::{Claim, Verdict, Version};
-use text_words::{number_between, split_path, split_word};
+use text_words::{Column, Size, number_between, split_path, split_word};
 
 /// No number of a proof is greater.
 const GREATEST_NUMBER: u32 = 10_000_000;

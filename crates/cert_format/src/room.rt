@@ -11,11 +11,9 @@ use crate::lines::{
 };
 use crate::reading::read_into;
 use arrayvec::ArrayVec;
-use board_bits::{Column, Size};
-use plan_lines::LineFault;
-use plan_rules::MOST_MEMBERS;
+use plan_lines::{Instance, LineFault, MOST_MEMBERS};
 use proof_text::{Claim, Verdict, Version};
-use rule_compat::Instance;
+use text_words::{Column, Size};
 
 /// Room for one line.
 #[derive(Drop)]

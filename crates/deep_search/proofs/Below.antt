@@ -1,7 +1,7 @@
 -- Where the lemmas of a search stand: at positions with fewer empty squares than a limit.
 use Rattle.std.proofs.Common.{◌≡◌, ℕ, zero, suc, ◌+◌, ◌<◌, ◌≤◌, List, [], ◌∷◌, ◌++◌, Some, Result, Ok, Err, ap, arith}
 use Rattle.game_rules.specs.Position.{Position, empty_count}
-use Rattle.plan_text.proofs.Spaced.{all_append, all_each}
+use Rattle.proof_text.proofs.Spaced.{all_append, all_each}
 use Rattle.proof_text.specs.declared.Claim.{Claim}
 use Rattle.proof_text.specs.Right.{Shown, Shows}
 use Rattle.deep_search.specs.Search.{AreBelow, limit_of}

@@ -3,7 +3,7 @@ use Rattle.std.proofs.Common.{◌≡◌, Bool, true, List, [], ◌∷◌, ◌++�
 use Rattle.std.specs.List.{AllByRecursion}
 use Rattle.game_rules.specs.Position.{Position}
 use Rattle.game_rules.specs.declared.Question.{Question}
-use Rattle.plan_text.proofs.Spaced.{all_append, all_each}
+use Rattle.proof_text.proofs.Spaced.{all_append, all_each}
 use Rattle.position_table.specs.Table.{Entries}
 use Rattle.proof_text.specs.Right.{Shown}
 use Rattle.deep_search.specs.Tables.{held, StaysWhole}

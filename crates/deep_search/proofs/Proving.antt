@@ -24,7 +24,7 @@ use Rattle.proof_text.specs.declared.Claim.{Claim}
 use Rattle.proof_text.specs.Lemma.{claim_side, claim_for, claim_of_end, agrees, Reason, ByEnd, ByOne, ByAll, Lemma, has_reason}
 use Rattle.proof_text.specs.Right.{Shown, Shows, IsCited, goes_by_one, HasReason, AreRight}
 use Rattle.proof_text.specs.Spelling.{lemma_line, members_in, IsShort}
-use Rattle.plan_text.proofs.Spaced.{all_append}
+use Rattle.proof_text.proofs.Spaced.{all_append}
 use Rattle.proof_text.proofs.Append.{Shows_more, Shows_last, AreRight_append}
 use Rattle.deep_search.specs.Planned.{plan_in, plan_for, IsPlanned}
 use Rattle.position_table.specs.Table.{Entries}

@@ -11,7 +11,7 @@ ghost use Rattle.proof_text.specs.Lemma.{claim_for, has_reason};
 ghost use Rattle.proof_text.specs.Spelling.{greatest_number, longest_path, members_in};
 ghost use Rattle.proof_text.specs.Right.{Shown, HasReason};
 ghost use Rattle.cert_format.specs.Shape.{cite_of, reason_viewed};
-ghost use Rattle.rule_compat.specs.Written.{written_list};
+ghost use Rattle.rule_chooser.specs.Written.{written_list};
 ghost use Rattle.deep_search.specs.Planned.{solved_within, plan_for, plan_in};
 ghost use Rattle.proof_text.specs.Texts.{Entry};
 ghost use Rattle.deep_search.specs.Lists.{EndsIn, FitsMoment, Continues};

@@ -6,10 +6,9 @@ ghost use Rattle.plan_rules.specs.declared.Kind.TheVariants as kinds;
 
 use crate::line::{has_some_above_each, is_chosen_within, is_open_line, is_open_where_free};
 use arrayvec::ArrayVec;
-use board_bits::{Mask, Position, Side, Square};
 use game_rules::MOST_GROUPS;
 use open_groups::{GroupId, free_for, group_mask};
-use rule_law::{Kept, Kind, Listed, Rule, Taker, list_fitting};
+use rule_law::{Kept, Kind, Listed, Mask, Position, Rule, Side, Square, Taker, list_fitting};
 use std::marker::Model;
 
 /// A line of Black's whose empty squares are all upper squares of Claimevens. The rule is a part of this project's own

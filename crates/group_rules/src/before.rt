@@ -6,10 +6,9 @@ ghost use Rattle.plan_rules.specs.declared.Kind.TheVariants as kinds;
 
 use crate::line::{has_each_above, is_chosen_within, is_low_line, is_low_where_free};
 use arrayvec::ArrayVec;
-use board_bits::{Mask, Position, Side, Square};
 use game_rules::MOST_GROUPS;
 use open_groups::{GroupId, free_for, group_mask};
-use rule_law::{Kept, Kind, Listed, Rule, Taker, list_fitting};
+use rule_law::{Kept, Kind, Listed, Mask, Position, Rule, Side, Square, Taker, list_fitting};
 use std::marker::Model;
 
 /// A line of Black's whose empty squares lie below the top row, and are upper squares of Claimevens or such that White

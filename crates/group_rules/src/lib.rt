@@ -12,3 +12,5 @@ pub use crate::aftereven::{Aftereven, list_aftereven, push_afterevens};
 pub use crate::before::{Before, list_before, push_befores};
 pub use crate::line::squares_below;
 pub use crate::specialbefore::{Specialbefore, list_specialbefore, push_specialbefores};
+pub use open_groups::{GroupId, free_for, group_mask};
+pub use rule_law::{Kept, Kind, Mask, Position, Rule, Side, Square};

@@ -8,8 +8,8 @@ ghost use Rattle.game_rules.specs.Groups.{squares_of, lies_on, is_free_for};
 ghost use Rattle.plan_rules.specs.Squares.{above, each_of};
 ghost use Rattle.plan_rules.specs.Rules.{is_open_line, is_low_line, some_above};
 
-use board_bits::{Mask, Position};
 use open_groups::{GroupId, group_anchor, group_mask};
+use rule_law::{Mask, Position};
 
 /// No board has more rows.
 const MOST_ROWS: u8 = 10;

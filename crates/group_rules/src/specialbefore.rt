@@ -10,9 +10,10 @@ ghost use Rattle.plan_rules.specs.declared.Kind.TheVariants as kinds;
 
 use crate::line::{has_each_above, is_chosen_within, is_low_line, is_low_where_free};
 use arrayvec::ArrayVec;
-use board_bits::{Mask, Position, Side, Size, Square, Way};
 use open_groups::{GroupId, free_for, group_mask};
-use rule_law::{Kept, Kind, Listed, Rule, Taker, list_pairs_beside};
+use rule_law::{
+    Kept, Kind, Listed, Mask, Position, Rule, Side, Size, Square, Taker, Way, list_pairs_beside,
+};
 use std::marker::Model;
 
 /// No board has more: each of ten playable squares lies in at most twenty groups, and nine stand in other columns.

@@ -6,7 +6,7 @@ ghost use Rattle.plan_rules.specs.Rules.{is_grounded};
 ghost use Rattle.plan_rules.specs.Listing.{squares_at, is_bottom};
 
 use arrayvec::ArrayVec;
-use board_bits::{MOST_COLS, Position, Square, Way};
+use rule_law::{MOST_COLS, Position, Square, Way};
 
 /// Whether both bottoms could be played, or both squares just below the bottoms.
 pub(crate) fn is_grounded(p: &Position, x: Square, y: Square) -> bool

@@ -9,8 +9,7 @@ ghost use Rattle.plan_rules.specs.declared.Kind.TheVariants as kinds;
 
 use crate::ground::{bottoms, is_common_ground, is_grounded};
 use arrayvec::ArrayVec;
-use board_bits::{Mask, Position, Size, Square, Way};
-use rule_law::{Kept, Kind, Listed, Rule, Taker, list_pairs};
+use rule_law::{Kept, Kind, Listed, Mask, Position, Rule, Size, Square, Taker, Way, list_pairs};
 use std::marker::Model;
 
 /// No board has more pairs of columns.

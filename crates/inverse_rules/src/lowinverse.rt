@@ -10,8 +10,9 @@ ghost use Rattle.plan_rules.specs.declared.Kind.TheVariants as kinds;
 
 use crate::ground::{bottoms, is_common_ground, is_grounded};
 use arrayvec::ArrayVec;
-use board_bits::{MOST_COLS, Mask, Position, Size, Square, Way};
-use rule_law::{Kept, Kind, Listed, Rule, Taker, list_pairs};
+use rule_law::{
+    Kept, Kind, Listed, MOST_COLS, Mask, Position, Rule, Size, Square, Taker, Way, list_pairs,
+};
 use std::marker::Model;
 
 /// No column has more tops over one bottom.

@@ -7,15 +7,12 @@ ghost use Rattle.rule_compat.specs.Written.{written};
 
 use crate::items::{group_of, push_group, push_square, square_of};
 use arrayvec::ArrayVec;
-use base_rules::{Baseclaim, Baseinverse};
-use board_bits::{Size, Square};
-use claimeven::Claimeven;
-use group_rules::{Aftereven, Before, Specialbefore};
-use inverse_rules::{Highinverse, Lowinverse, Vertical};
 use open_groups::GroupId;
-use rule_compat::Instance;
-use rule_law::{Kind, Rule};
-use text_words::{push_text, split_once};
+use rule_compat::{
+    Aftereven, Baseclaim, Baseinverse, Before, Claimeven, Highinverse, Instance, Kind, Lowinverse,
+    Rule, Specialbefore, Vertical,
+};
+use text_words::{Size, Square, push_text, split_once};
 
 /// Puts the text of an instance behind what is there.
 pub(crate) fn push_instance<const N: usize>(to: &mut ArrayVec<u8, N>, instance: &Instance)

@@ -11,13 +11,12 @@ ghost use Rattle.text_words.specs.Lines.{line_room};
 
 use crate::instance_text::push_instance;
 use arrayvec::ArrayVec;
-use board_bits::{Size, Square};
 use game_rules::Way;
 use io_ports::{Failed, Sink, put_all};
 use itoa::Buffer;
 use open_groups::{GroupId, group_anchor, group_at, group_way};
 use rule_compat::{Instance, PlanFault};
-use text_words::{LineText, letter_of, number_between, push_number, push_text};
+use text_words::{LineText, Size, Square, letter_of, number_between, push_number, push_text};
 
 /// What a report names: a square, a group, or an instance of a rule.
 #[derive(Clone, Copy)]

@@ -13,11 +13,10 @@ ghost use Rattle.plan_rules.specs.declared.TheConstants.{MOST_MEMBERS};
 
 use crate::instance_text::{instance_of, push_instance};
 use arrayvec::ArrayVec;
-use board_bits::Size;
 use io_ports::{Failed, Sink, put_all};
 use plan_rules::MOST_MEMBERS;
 use rule_compat::Instance;
-use text_words::split_word;
+use text_words::{Size, split_word};
 
 /// The bytes are no line of a plan, or of a proof.
 #[derive(Clone, Copy, Debug, PartialEq, Eq)]

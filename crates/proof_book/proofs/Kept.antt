@@ -8,8 +8,8 @@ use Rattle.std.proofs.lemmas.Option.{slice_get-get_or, same_Some}
 use Rattle.plan_rules.specs.declared.TheConstants.{MOST_MEMBERS}
 use Rattle.proof_text.specs.Lemma.{Reason as PlainReason, Lemma, ByAll, ByPlan}
 use Rattle.proof_text.specs.Spelling.{longest_path}
-use Rattle.rule_compat.specs.Written.{written_list}
-use Rattle.rule_compat.specs.declared.instance.Instance.{Instance}
+use Rattle.cert_format.specs.Written.{written_list}
+use Rattle.cert_format.specs.Instance.{Instance}
 use Rattle.cert_format.specs.Shape.{cite_of}
 use Rattle.proof_book.specs.BookFields.{all_kept, IsBook}
 use Rattle.proof_book.specs.Entries.{part, IsReasonWithin, reason_kept, KeepsReason, IsEntry, lemma_in_entry, lemmas_from}

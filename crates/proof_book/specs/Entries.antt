@@ -4,8 +4,8 @@ use Rattle.std.specs.Borrow.{Bor}
 use Rattle.plan_rules.specs.declared.TheConstants.{MOST_MEMBERS}
 use Rattle.proof_text.specs.Lemma.{Reason as PlainReason, Lemma as PlainLemma}
 use Rattle.proof_text.specs.Spelling.{longest_path, most_cites}
-use Rattle.rule_compat.specs.Written.{written_list}
-use Rattle.rule_compat.specs.declared.instance.Instance.{Instance}
+use Rattle.cert_format.specs.Written.{written_list}
+use Rattle.cert_format.specs.Instance.{Instance}
 use Rattle.cert_format.specs.Shape.{cite_of, reason_by}
 use Rattle.cert_format.specs.declared.lines.Cite.{Cite}
 use Rattle.cert_format.specs.declared.lines.Reason.{Reason}

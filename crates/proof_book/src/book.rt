@@ -8,9 +8,8 @@ ghost use Rattle.cert_format.specs.Shape.{lemma_of, lemma_viewed, reason_viewed}
 ghost use Rattle.proof_book.specs.Entries.{part, reason_kept, reason_held, HeldFits, IsReasonWithin, KeepsReason};
 
 use board_bits::Column;
-use cert_format::{Cite, Lemma, LemmaView, Reason, ReasonView, shared_moves};
+use cert_format::{Cite, Instance, Lemma, LemmaView, Reason, ReasonView, shared_moves};
 use proof_text::Claim;
-use rule_compat::Instance;
 use std::alloc::{AllocError, Global};
 use std::marker::Model;
 

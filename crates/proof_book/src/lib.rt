@@ -4,3 +4,7 @@
 mod book;
 
 pub use book::{Book, Held};
+pub use cert_format::{
+    Cite, Instance, LemmaOut, LemmaView, Line, LineBuffer, LineView, Reason, Verdict, Version,
+    first_line, head_of, print_line, push_plan_fault, push_square,
+};

@@ -15,3 +15,4 @@ mod rows;
 
 pub use front::{Front, Grown};
 pub use front_rules::Count;
+pub use rule_chooser::Chooser;

@@ -30,8 +30,8 @@ use Rattle.proof_text.specs.Lemma.{claim_of_end, Cite, Reason, ByAll, Lemma}
 use Rattle.proof_text.specs.Right.{Shown, Shows, HasReason}
 use Rattle.proof_text.specs.declared.Claim.{Claim}
 use Rattle.proof_text.specs.declared.Claim.TheVariants.{WhiteWins, WhiteFails, BlackWins, BlackFails}
-use Rattle.cert_format.specs.Shape.{cite_of}
-use Rattle.cert_format.specs.declared.lines.Cite.{Cite as CodeCite}
+use Rattle.proof_book.specs.Shape.{cite_of}
+use Rattle.proof_book.specs.Cite.{Cite as CodeCite}
 use Rattle.follow_text.specs.Following.{served_by, seen, seen_column, Following, at_lemma, in_plan, behind_mirrors, own_move_at, plan_move}
 use Rattle.follow_text.specs.Following.{cite_for, move_at_cite, answer_by, answer_to, Follows, IsHeld}
 use Rattle.follow_text.proofs.Seen.{seen_cols, seen_legal, seen_after, seen_move, column_within}

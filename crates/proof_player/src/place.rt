@@ -2,7 +2,7 @@
 ghost use Rattle.std.specs.Prelude.{◌≡◌, map, Some, option_map, IfSome};
 ghost use Rattle.game_rules.specs.Position.{after_move};
 ghost use Rattle.proof_text.specs.Lemma.{ByAll};
-ghost use Rattle.cert_format.specs.Shape.{cite_of};
+ghost use Rattle.proof_book.specs.Shape.{cite_of};
 ghost use Rattle.follow_text.specs.Following.{seen, at_lemma, answer_by, answer_to};
 ghost use Rattle.proof_player.specs.Playing.{CitesAll};
 ghost use Rattle.proof_player.specs.Places.{following, next_of, IsSession, CanAnswer, CanAnswerAt};
@@ -11,8 +11,7 @@ use crate::plans::{answer_by_plan, answer_in_plan};
 use crate::reasons::{cite_for, own_move, settled};
 use crate::seen::seen_column;
 use board_bits::{Column, Position};
-use cert_format::{Cite, Reason};
-use proof_book::Book;
+use proof_book::{Book, Cite, Reason};
 use reply_player::Session;
 
 /// Where play stands: at a lemma of the book, or within the play by a plan.

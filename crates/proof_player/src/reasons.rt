@@ -3,13 +3,12 @@ ghost use Rattle.std.specs.Prelude.{◌≡◌, ◌==◌, length, Some, option_ma
 ghost use Rattle.std.specs.List.{find};
 ghost use Rattle.follow_text.specs.Following.{behind_mirrors, own_move_at};
 ghost use Rattle.proof_book.specs.Entries.{reason_held, HeldFits};
-ghost use Rattle.cert_format.specs.declared.lines.Cite.{Cite as CodeCite};
+ghost use Rattle.proof_book.specs.Cite.{Cite as CodeCite};
 ghost use Rattle.proof_player.specs.Playing.{IsLemmaOf, StandsAt, step_of};
 
 use crate::seen::seen_column;
 use board_bits::{Column, Position};
-use cert_format::{Cite, Reason};
-use proof_book::{Book, Held};
+use proof_book::{Book, Cite, Held, Reason};
 
 /// The reason at which play stands at a lemma, which is its own or the one behind the mirror images that it names, and
 /// whether the board is turned there.

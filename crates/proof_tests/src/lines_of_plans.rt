@@ -3,11 +3,10 @@
 //! spelled.
 use board_bits::{Size, Square};
 use cert_format::{
-    Item, print_item, print_plan, push_group, push_plan_fault, push_square, read_plan,
+    Item, PlanFault, print_item, print_plan, push_group, push_plan_fault, push_square, read_plan,
 };
 use io_ports::MemSink;
 use open_groups::{GroupId, Way, group_at};
-use rule_compat::PlanFault;
 use std::alloc::{AllocError, Global};
 use std::test::Fail;
 use text_words::LineText;

@@ -13,3 +13,4 @@ pub mod Written
 pub mod Upgraded
 pub mod First
 pub mod Checking
+pub use Rattle.plan_text.proofs.Spaced

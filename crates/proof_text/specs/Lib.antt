@@ -7,3 +7,4 @@ pub mod Texts
 pub mod Written
 pub mod Upgrade
 pub mod Words
+pub use Rattle.plan_text.specs.Items

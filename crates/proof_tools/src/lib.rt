@@ -8,5 +8,6 @@ mod reach;
 
 pub use marks::{Valuer, annotate, position_after};
 pub use printed::print_trimmed;
+pub use proof_book::{Verdict, Version, head_of, push_square};
 pub use reach::{Reach, reached};
 pub use tool_text::Mark;

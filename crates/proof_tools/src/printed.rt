@@ -5,7 +5,7 @@ ghost use Rattle.device_rules.specs.Devices.{HasCause, AppendsPrefix};
 ghost use Rattle.proof_text.specs.Lemma.{Lemma, ByAll};
 ghost use Rattle.proof_text.specs.Spelling.{lines_of, most_cites, greatest_number};
 ghost use Rattle.plan_rules.specs.declared.TheConstants.{MOST_MEMBERS};
-ghost use Rattle.cert_format.specs.Shape.{cite_of, reason_of};
+ghost use Rattle.proof_book.specs.Shape.{cite_of, reason_of};
 ghost use Rattle.proof_book.specs.Entries.{reason_held, HeldFits};
 ghost use Rattle.tool_text.specs.Trim.{numbers_named, numbers_cited, CitesEarlier, rank, renumbered_cite, renumbered_reason, renumbered_verdict, kept_lemmas, trimmed_lines};
 ghost use Rattle.proof_tools.specs.Reach.{mark_at, reach_of, AreWithin};
@@ -14,11 +14,9 @@ ghost use Rattle.proof_tools.specs.Printed.{AreMarked, IsClosedReach, lines_at};
 use crate::reach::Reach;
 use arrayvec::ArrayVec;
 use board_bits::MOST_COLS;
-use cert_format::{Cite, LemmaOut, Line, Reason, Verdict, print_line};
 use io_ports::{Failed, Sink};
 use plan_rules::MOST_MEMBERS;
-use proof_book::{Book, Held};
-use rule_compat::Instance;
+use proof_book::{Book, Cite, Held, Instance, LemmaOut, Line, Reason, Verdict, print_line};
 
 /// Writes the lemmas of a book that are reached, in their order, numbered from 1, with their cites numbered so too, and
 /// behind them the line of the verdict. The `Reach` is the one that was made for this book and this verdict. On `Failed`,

@@ -5,10 +5,9 @@ ghost use Rattle.tool_text.specs.Trim.{numbers_named, numbers_cited, CitesEarlie
 ghost use Rattle.proof_tools.specs.Reach.{mark_at, new_number, reach_of, with_mark, marked, numbers_from, AreWithin, all_passed};
 ghost use Rattle.proof_text.specs.Lemma.{ByAll};
 ghost use Rattle.proof_book.specs.Entries.{reason_held};
-ghost use Rattle.cert_format.specs.Shape.{cite_of};
+ghost use Rattle.proof_book.specs.Shape.{cite_of};
 
-use cert_format::{Cite, Reason, Verdict};
-use proof_book::{Book, Held};
+use proof_book::{Book, Cite, Held, Reason, Verdict};
 use std::alloc::{AllocError, Global};
 use std::marker::Model;
 

@@ -4,3 +4,4 @@ pub mod Ground
 pub mod Standing
 pub mod Walked
 pub mod Links
+pub use Rattle.rule_compat.specs.Written

@@ -14,8 +14,8 @@ ghost use Rattle.rule_chooser.specs.Standing.{does_answer, first_of, first_speci
 use crate::ground::Ground;
 use crate::groups::OpenGroup;
 use board_bits::{Mask, Position, Square};
-use group_rules::Specialbefore;
 use open_groups::GroupId;
+use rule_compat::Specialbefore;
 use rule_law::{Kept, Rule};
 
 /// The first Specialbefore, by its group, then by `f` and then by `e0`, that fits at the position, is supported and bars

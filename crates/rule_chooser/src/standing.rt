@@ -17,10 +17,8 @@ use crate::ground::Ground;
 use crate::groups::OpenGroup;
 use crate::special::first_specialbefore;
 use board_bits::{Mask, Position};
-use group_rules::{Aftereven, Before, squares_below};
-use inverse_rules::Vertical;
 use open_groups::GroupId;
-use rule_compat::Instance;
+use rule_compat::{Aftereven, Before, Instance, Vertical, squares_below};
 use rule_law::Kept;
 
 /// The first standing instance that fits at the position, is supported by what a set of zones keeps, and bars the empty

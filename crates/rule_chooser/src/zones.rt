@@ -9,11 +9,11 @@ ghost use Rattle.rule_chooser.specs.declared.zones.TheConstants.{MOST_FITTING, P
 ghost use Rattle.rule_chooser.specs.Links.{least_place, next_at, IsLinked};
 
 use arrayvec::ArrayVec;
-use base_rules::{Baseclaim, Baseinverse, push_baseclaims, push_baseinverses};
 use board_bits::{Position, Square, place_of};
-use claimeven::{Claimeven, push_claimevens};
-use inverse_rules::{Highinverse, Lowinverse, push_highinverses, push_lowinverses};
-use rule_compat::{Instance, Zone};
+use rule_compat::{
+    Baseclaim, Baseinverse, Claimeven, Highinverse, Instance, Lowinverse, Zone, push_baseclaims,
+    push_baseinverses, push_claimevens, push_highinverses, push_lowinverses,
+};
 use rule_law::{Rule, Taker};
 
 /// No board has more zones that fit at one position: those of five kinds, each at its most.

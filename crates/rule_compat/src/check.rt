@@ -7,7 +7,7 @@ ghost use Rattle.game_rules.specs.Squares.{has_square, is_empty, squares_of_boar
 ghost use Rattle.plan_rules.specs.Rules.{zone_of, facts_of, is_supported};
 ghost use Rattle.plan_rules.specs.Zones.{owns_zone, zones_from};
 ghost use Rattle.plan_rules.specs.Refusal.{members_refusal, cover_refusal, plan_refusal, StandTogether};
-ghost use Rattle.rule_law.specs.KeptFacts.{facts_in};
+ghost use Rattle.group_rules.specs.KeptFacts.{facts_in};
 ghost use Rattle.rule_compat.specs.Written.{written, written_list};
 ghost use Rattle.rule_compat.specs.Faults.{position_refusal, refusal_of};
 ghost use Rattle.plan_rules.specs.declared.TheConstants.{MOST_MEMBERS};
@@ -18,8 +18,7 @@ use crate::members::{MOST_ZONES, first_misfit, gather};
 use crate::placed::PlacedZone;
 use crate::{Instance, Plan, PlanFault};
 use arrayvec::ArrayVec;
-use board_bits::{Mask, Position, Side, Square};
-use rule_law::{Kept, Rule};
+use group_rules::{Kept, Mask, Position, Rule, Side, Square};
 
 impl Plan {
     /// The plan of the list at the position, where it is one. Otherwise it is refused for the first of seven reasons that

@@ -4,13 +4,12 @@ ghost use Rattle.std.specs.List.{flat_map};
 ghost use Rattle.game_rules.specs.Squares.{has_square, IsSetOf};
 ghost use Rattle.plan_rules.specs.Rules.{upper_of, pair_of, facts_of};
 ghost use Rattle.plan_rules.specs.Refusal.{StandTogether};
-ghost use Rattle.rule_law.specs.KeptFacts.{facts_in};
+ghost use Rattle.group_rules.specs.KeptFacts.{facts_in};
 ghost use Rattle.rule_compat.specs.Written.{written_list};
 
 use crate::Instance;
 use arrayvec::ArrayVec;
-use board_bits::{Mask, Position, Square};
-use rule_law::{Kept, Rule};
+use group_rules::{Kept, Mask, Position, Rule, Square};
 
 /// How many pairs of twins there is room for in what is kept.
 const MOST_TWINS: usize = 5;

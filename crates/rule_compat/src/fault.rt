@@ -1,6 +1,5 @@
 //! Why a list of instances is no plan.
-use board_bits::Square;
-use open_groups::GroupId;
+use group_rules::{GroupId, Square};
 
 /// The first reason for which a list of instances is no plan at a position. Members are counted from 1. The order of the
 /// reasons is this project's own choice.

@@ -1,11 +1,9 @@
 //! An instance of any of the nine rules. Each call of a rule is passed on to the type of the rule, so that the laws hold
 //! of all of them alike.
 use base_rules::{Baseclaim, Baseinverse};
-use board_bits::{Mask, Position, Square};
 use claimeven::Claimeven;
-use group_rules::{Aftereven, Before, Specialbefore};
+use group_rules::{Aftereven, Before, Kept, Kind, Mask, Position, Rule, Specialbefore, Square};
 use inverse_rules::{Highinverse, Lowinverse, Vertical};
-use rule_law::{Kept, Kind, Rule};
 
 /// An instance of one of the nine rules. The first five kinds own squares; the last four own none and rest on the others
 /// of the same plan.

@@ -20,3 +20,7 @@ pub use crate::plan::Plan;
 pub use crate::strategy::a_plan_keeps_white_from_a_line;
 pub use crate::table::may_stand;
 pub use crate::zone::Zone;
+pub use base_rules::{Baseclaim, Baseinverse, push_baseclaims, push_baseinverses};
+pub use claimeven::{Claimeven, push_claimevens};
+pub use group_rules::{Aftereven, Before, Kind, Rule, Specialbefore, squares_below};
+pub use inverse_rules::{Highinverse, Lowinverse, Vertical, push_highinverses, push_lowinverses};

@@ -5,14 +5,12 @@ ghost use Rattle.game_rules.specs.Position.{board_of};
 ghost use Rattle.game_rules.specs.Groups.{groups_of};
 ghost use Rattle.plan_rules.specs.Rules.{facts_of};
 ghost use Rattle.plan_rules.specs.Refusal.{first_barring, is_unanswered};
-ghost use Rattle.rule_law.specs.KeptFacts.{facts_in};
+ghost use Rattle.group_rules.specs.KeptFacts.{facts_in};
 ghost use Rattle.rule_compat.specs.Written.{written_list};
 ghost use Rattle.plan_rules.specs.declared.TheConstants.{MOST_MEMBERS};
 
 use crate::Instance;
-use board_bits::{Position, Side};
-use open_groups::{GroupId, free_for, group_mask};
-use rule_law::{Kept, Rule};
+use group_rules::{GroupId, Kept, Position, Rule, Side, free_for, group_mask};
 
 /// The first group, in group order, without a man of Black's that no member bars.
 pub(crate) fn first_unanswered(p: &Position, list: &[Instance], kept: &Kept) -> Option<GroupId>

@@ -11,8 +11,7 @@ ghost use Rattle.plan_rules.specs.declared.TheConstants.{MOST_MEMBERS};
 use crate::Instance;
 use crate::placed::{PlacedZone, first_clash};
 use arrayvec::ArrayVec;
-use board_bits::Position;
-use rule_law::Rule;
+use group_rules::{Position, Rule};
 
 /// No list whose members fit, and each two of which may stand together, has more zones.
 pub(crate) const MOST_ZONES: usize = 50;

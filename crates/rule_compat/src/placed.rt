@@ -7,8 +7,7 @@ ghost use Rattle.plan_rules.specs.Rules.{zone_of, reply_to, together};
 ghost use Rattle.rule_compat.specs.Written.{written};
 
 use crate::{Instance, Zone};
-use board_bits::{Mask, Position, Square};
-use rule_law::Rule;
+use group_rules::{Mask, Position, Rule, Square};
 use std::marker::Model;
 
 /// The zone of a member, which is counted from 1.

@@ -11,7 +11,7 @@ ghost use Rattle.plan_rules.specs.Rules.{zone_of, reply_to, facts_of};
 ghost use Rattle.plan_rules.specs.Plan.{is_plan, plan_reply};
 ghost use Rattle.plan_rules.specs.Zones.{owns_zone, zones_from};
 ghost use Rattle.plan_rules.specs.Refusal.{answering};
-ghost use Rattle.rule_law.specs.KeptFacts.{facts_in};
+ghost use Rattle.group_rules.specs.KeptFacts.{facts_in};
 ghost use Rattle.rule_compat.specs.Written.{written, written_list};
 ghost use Rattle.rule_compat.specs.Planned.{members, IsReached, HasMoved};
 ghost use Rattle.plan_rules.specs.declared.TheConstants.{MOST_MEMBERS};
@@ -21,10 +21,8 @@ use crate::lines::first_barring;
 use crate::members::MOST_ZONES;
 use crate::placed::PlacedZone;
 use arrayvec::ArrayVec;
-use board_bits::{Position, Square};
-use open_groups::{GroupId, group_mask};
+use group_rules::{GroupId, Kept, Position, Square, group_mask};
 use plan_rules::MOST_MEMBERS;
-use rule_law::Kept;
 use std::marker::Model;
 
 /// A plan of Black's at a position. Every value of the type is one: it is only made of a list that passed each test.
@@ -37,7 +35,7 @@ pub struct Plan {
 }
 
 impl Model for Plan {
-    ghost use Rattle.rule_law.specs.KeptFacts.{facts_in};
+    ghost use Rattle.group_rules.specs.KeptFacts.{facts_in};
     ghost use Rattle.rule_compat.specs.Planned.{Planned, IsKeptWith};
 
     ghost Value = { Planned };

@@ -8,8 +8,7 @@ ghost use Rattle.rule_compat.specs.Written.{written};
 ghost use Rattle.board_squares.specs.WholeColumns.{in_columns_of};
 
 use crate::Instance;
-use board_bits::{Mask, Square};
-use rule_law::Rule;
+use group_rules::{Mask, Rule, Square};
 
 /// Whether two instances may stand together in a plan; the same in both orders. A standing rule may stand with every
 /// instance. Two zones may not share a square; where they share a column, a Claimeven has to be above the other zone in

@@ -6,14 +6,13 @@ ghost use Rattle.game_rules.specs.Position.{Position as Men};
 ghost use Rattle.game_rules.specs.Squares.{has_square, IsSetOf};
 ghost use Rattle.plan_rules.specs.Rules.{zone_of, fits, barred, together};
 ghost use Rattle.plan_rules.specs.Zones.{owns_zone};
-ghost use Rattle.rule_law.specs.KeptFacts.{facts_in};
+ghost use Rattle.group_rules.specs.KeptFacts.{facts_in};
 ghost use Rattle.rule_compat.specs.Written.{written, written_list};
 
 use crate::Instance;
 use crate::table::zones_may_stand;
-use board_bits::Mask;
+use group_rules::{Kept, Mask, Rule};
 use inverse_rules::Vertical;
-use rule_law::{Kept, Rule};
 use std::marker::Model;
 
 /// An instance of a zone rule. A contract sees the instance.

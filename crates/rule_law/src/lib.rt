@@ -9,6 +9,7 @@ mod listing;
 mod rule;
 
 pub use answer::answer_at_start;
+pub use board_bits::{MOST_COLS, Mask, Position, Side, Size, Square, Way};
 pub use kept::Kept;
 pub use listing::{Listed, Taker, list_fitting, list_pairs, list_pairs_beside, list_triples};
 pub use plan_rules::Kind;

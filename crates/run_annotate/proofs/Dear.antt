@@ -9,7 +9,7 @@ use Rattle.game_rules.specs.Position.{Position, side_to_move, after_move, empty_
 use Rattle.proof_text.specs.Right.{IsTrueVerdict}
 use Rattle.proof_text.specs.declared.Verdict.{Verdict}
 use Rattle.proof_text.specs.declared.Verdict.TheVariants.{Win, Loss, Draw, Unknown}
-use Rattle.deep_search.specs.Planned.{solved_within}
+use Rattle.run_questions.specs.Planned.{solved_within}
 use Rattle.tool_text.proofs.Legal.{played_parts}
 use Rattle.tool_text.specs.Marks.{AreMarks, AreLastMarks}
 use Rattle.tool_text.specs.declared.Mark.{Mark}

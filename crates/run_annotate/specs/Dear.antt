@@ -8,7 +8,7 @@ use Rattle.game_rules.specs.declared.End.TheVariants as ends
 use Rattle.game_rules.specs.declared.Side.{Side}
 use Rattle.proof_text.specs.declared.Verdict.{Verdict}
 use Rattle.proof_text.specs.declared.Verdict.TheVariants.{Win, Loss, Draw, Unknown}
-use Rattle.deep_search.specs.Planned.{solved_within}
+use Rattle.run_questions.specs.Planned.{solved_within}
 
 -- whether so many nodes are below the cost of a position, with plans from the first so many sets of zones
 abbrev pub is_dear : (nodes reach : ℕ) → Position → Bool

@@ -4,11 +4,9 @@ ghost use Rattle.proof_text.specs.Spelling.{greatest_number};
 ghost use Rattle.run_annotate.specs.Dear.{told_end};
 
 use board_bits::{End, Position, Side};
-use cert_format::Verdict;
 use position_table::Table;
-use proof_tools::Valuer;
-use rule_chooser::Chooser;
-use run_questions::find_value;
+use proof_tools::{Valuer, Verdict};
+use run_questions::{Chooser, find_value};
 use std::alloc::{AllocError, Global};
 use std::marker::Model;
 

@@ -6,9 +6,8 @@ ghost use Rattle.tool_text.specs.Marks.{mark_word, mark_line, mark_lines};
 ghost use Rattle.run_annotate.specs.Lines.{moves_before, PutsLines};
 
 use board_bits::{Column, Game, Position};
-use cert_format::push_square;
 use io_ports::{Failed, Sink, put_all};
-use proof_tools::{Mark, position_after};
+use proof_tools::{Mark, position_after, push_square};
 use text_words::{LineText, push_number, push_text};
 
 /// Writes the lines of a game's last moves, with these marks.

@@ -7,7 +7,7 @@ use Rattle.run_frame.specs.declared.game_input.InputStop.TheVariants as stops
 use Rattle.run_frame.specs.declared.run_stop.MemoryStop.TheVariants.{Input, Memory}
 use Rattle.run_frame.specs.declared.run_stop.RunStop.TheVariants.{Own, Write}
 use Rattle.run_frame.specs.declared.run_stop.Sought.TheVariants.{Found, Missing}
-use Rattle.run_prove.specs.Proves.{Proved, proved_status, Proves, ProveRuns}
+use Rattle.victor_run.specs.Proves.{Proved, proved_status, Proves, ProveRuns}
 use Rattle.run_callers.specs.Held.{HoldsProof}
 
 -- a status that is neither of two

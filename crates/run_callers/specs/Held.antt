@@ -4,7 +4,7 @@ use Rattle.game_rules.specs.Position.{Position}
 use Rattle.game_rules.specs.Text.{game_at}
 use Rattle.proof_text.specs.declared.Verdict.{Verdict}
 use Rattle.proof_text.specs.declared.Version.{Version}
-use Rattle.run_prove.specs.Proof.{IsProofOf}
+use Rattle.victor_run.specs.Proof.{IsProofOf}
 
 -- what was there, and more behind it
 abbrev pub StillHolds : List ℕ → List ℕ → Type 0

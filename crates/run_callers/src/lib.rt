@@ -8,18 +8,19 @@ ghost use Rattle.device_rules.specs.Devices.{Rose};
 ghost use Rattle.game_rules.specs.Position.{Position};
 ghost use Rattle.game_rules.specs.Cost.{cost};
 ghost use Rattle.game_rules.specs.Text.{game_at};
-ghost use Rattle.deep_search.specs.Planned.{solved_within};
+ghost use Rattle.victor_run.specs.Planned.{solved_within};
 ghost use Rattle.victor_words.specs.Words.{IsWritten};
 ghost use Rattle.victor_words.specs.declared.form.Form.TheVariants as forms;
 ghost use Rattle.run_frame.specs.declared.run_stop.MemoryStop.TheVariants as memory;
 ghost use Rattle.run_frame.specs.declared.run_stop.RunStop.TheVariants as stops;
 ghost use Rattle.run_frame.specs.declared.run_stop.Sought.TheVariants as sought;
-ghost use Rattle.run_prove.specs.Proves.{Proved, proved_status};
+ghost use Rattle.victor_run.specs.Proves.{Proved, proved_status};
 ghost use Rattle.victor_run.specs.Outcome.{version_named};
 ghost use Rattle.run_callers.specs.Held.{StillHolds, HoldsProof};
 
 use io_ports::{MemSink, NullSink, Sink, Source};
 use std::alloc::Global;
+pub use victor_run::run;
 use victor_run::run;
 
 /// Runs the arguments over any source into a sink in memory. Whatever the source tells, what the sink held stands there

@@ -3,7 +3,7 @@ use Rattle.std.proofs.Common.{◌≡◌, ℕ, false, List, Option, None, Ok, Err
 use Rattle.std.specs.Io.KnownBytes.{Keeps, Appends}
 use Rattle.device_rules.specs.Devices.{AppendsPrefix}
 use Rattle.proof_text.specs.Lemma.{Lemma}
-use Rattle.cert_checker.specs.declared.stops.Accepted.{Accepted as Right}
+use Rattle.run_proof.specs.Accepted.{Accepted as Right}
 use Rattle.run_frame.specs.Streams.{Streams, StillHolds}
 use Rattle.run_frame.specs.declared.game_input.InputStop.TheVariants as inputs
 use Rattle.run_frame.specs.declared.run_stop.RunStop.TheVariants.{Own, Write}

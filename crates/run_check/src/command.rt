@@ -5,10 +5,9 @@ ghost use Rattle.run_check.specs.Checks.{accepted_line, CheckOwes};
 ghost use Rattle.run_frame.specs.Streams.{streams};
 
 use crate::checked::Checked;
-use cert_checker::Accepted;
 use io_ports::{Failed, Sink, Source};
 use run_frame::{RunStop, put_line};
-use run_proof::{KeepsNone, read_proof};
+use run_proof::{Accepted, KeepsNone, read_proof};
 use std::alloc::Global;
 use text_words::{LineText, push_number, push_text};
 

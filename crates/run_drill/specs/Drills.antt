@@ -6,7 +6,7 @@ use Rattle.device_rules.specs.Devices.{AppendsPrefix}
 use Rattle.game_rules.specs.Position.{Position}
 use Rattle.game_rules.specs.Cost.{cost}
 use Rattle.proof_text.specs.Spelling.{as_line}
-use Rattle.deep_search.specs.Planned.{solved_within}
+use Rattle.run_questions.specs.Planned.{solved_within}
 use Rattle.drill_games.specs.Games.{games_from}
 use Rattle.drill_games.specs.Summary.{IsSummary}
 use Rattle.drill_games.specs.declared.tally.Tally.{Tally}

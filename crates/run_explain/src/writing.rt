@@ -8,18 +8,17 @@ ghost use Rattle.plan_rules.specs.Plan.{is_plan};
 ghost use Rattle.plan_text.specs.Items.{square_text};
 ghost use Rattle.plan_text.specs.PlanLine.{plan_text};
 ghost use Rattle.proof_text.specs.Spelling.{as_line};
-ghost use Rattle.rule_compat.specs.Written.{written, written_list};
-ghost use Rattle.rule_compat.specs.Planned.{members};
+ghost use Rattle.cert_format.specs.Written.{written, written_list};
+ghost use Rattle.cert_format.specs.Planned.{members};
 ghost use Rattle.walk_rules.specs.Walk.{solved, is_given};
 ghost use Rattle.rule_chooser.specs.Shown.{shown, IsOf};
 ghost use Rattle.explain_text.specs.Explanation.{squares_text, owns_line, owns_lines, answer_lines, plan_explained, chosen_text, explanation};
 
 use board_bits::{Position, Square};
-use cert_format::{Item, print_item, print_plan};
+use cert_format::{Instance, Item, Plan, print_item, print_plan};
 use io_ports::{Failed, Sink, put_all};
 use open_groups::{GroupId, groups};
 use rule_chooser::{Choice, choose};
-use rule_compat::{Instance, Plan};
 use rule_law::Rule;
 use run_frame::put_line;
 

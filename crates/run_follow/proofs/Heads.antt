@@ -20,7 +20,7 @@ use Rattle.proof_text.specs.declared.Version.{Version}
 use Rattle.proof_text.specs.declared.Why.TheVariants.{BadLine}
 use Rattle.proof_text.proofs.First.{only_no_game, refused_first}
 use Rattle.proof_text.proofs.Pieces.{pieces_some}
-use Rattle.cert_checker.specs.Checking.{why_of}
+use Rattle.run_proof.specs.Checking.{why_of}
 use Rattle.play_text.specs.Play as ends
 use Rattle.play_text.specs.Play.{Played, ended}
 use Rattle.follow_text.specs.Follow.{named_for, follow_named, follow_game, follow_pieces, follow_of, judged_behind}

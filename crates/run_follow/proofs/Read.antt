@@ -18,7 +18,7 @@ use Rattle.proof_text.proofs.First.{out_of_bounds}
 use Rattle.proof_text.proofs.Refusals.{line_of_none, verdict_of_none}
 use Rattle.proof_text.proofs.Upgraded.{right_line}
 use Rattle.proof_text.proofs.Whole.{shown_count}
-use Rattle.cert_checker.specs.Checking.{why_of, IsLemma}
+use Rattle.run_proof.specs.Checking.{why_of, IsLemma}
 use Rattle.play_text.specs.Play as ends
 use Rattle.play_text.specs.Play.{Played, ended}
 use Rattle.follow_text.specs.Follow.{judged_from}

@@ -3,7 +3,7 @@ use Rattle.std.specs.Prelude.{◌≡◌, ◌⊎◌, ◌≤◌, ℕ, ◌+◌, Lis
 use Rattle.std.specs.Io.KnownBytes.{Keeps}
 use Rattle.game_rules.specs.declared.Side.{Side}
 use Rattle.proof_text.specs.Spelling.{as_line}
-use Rattle.cert_checker.specs.Checking.{why_of}
+use Rattle.run_proof.specs.Checking.{why_of}
 use Rattle.play_text.specs.Play as ends
 use Rattle.play_text.specs.Play.{PlayEnd}
 use Rattle.follow_text.specs.Follow.{follow_of}

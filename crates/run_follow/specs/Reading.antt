@@ -10,7 +10,7 @@ use Rattle.proof_text.specs.Right.{Shown, AreRight, IsVerdict}
 use Rattle.proof_text.specs.Texts.{pieces, lines_in, lemmas_said, bytes_refusal, with_bytes}
 use Rattle.proof_text.specs.declared.Verdict.{Verdict}
 use Rattle.proof_text.specs.declared.Version.{Version}
-use Rattle.cert_checker.specs.Checking.{why_of}
+use Rattle.run_proof.specs.Checking.{why_of}
 use Rattle.play_text.specs.Play as ends
 use Rattle.play_text.specs.Play.{Played, ended}
 use Rattle.follow_text.specs.Follow.{named_for, follow_named, follow_of, judged_from}

@@ -9,7 +9,7 @@ use crate::opening::begin;
 use crate::verdict::read_to_verdict;
 use board_bits::Side;
 use io_ports::{Lines, Sink, Source};
-use proof_book::Book;
+use run_proof::Book;
 use run_turns::{GameEnding, GameStop, play_turns};
 use std::alloc::Global;
 

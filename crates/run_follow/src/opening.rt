@@ -17,9 +17,9 @@ use crate::verdict::ToVerdict;
 use board_bits::Side;
 use cert_format::Verdict;
 use io_ports::{Failed, Sink};
-use proof_book::Book;
 use proof_player::Follow;
 use run_frame::put_line;
+use run_proof::Book;
 use run_turns::GameStop;
 
 /// The player who begins where the proof does, behind the holder's first move, whose line is written; or the verdict names

@@ -11,12 +11,12 @@ ghost use Rattle.proof_text.specs.declared.Why.TheVariants as whys;
 ghost use Rattle.run_follow.specs.Reading.{judged_by, AreKept, GoesTo, StopsReading, IsToVerdict, IsRightProof};
 
 use board_bits::{Position, Size};
-use cert_checker::{Checker, Refusal, Why};
 use cert_format::{LineBuffer, Verdict, Version};
 use io_ports::{Lines, Source};
-use proof_book::Book;
 use run_frame::read_game_lines;
-use run_proof::{FIRST_NUMBER, ProofStop, accept_next, hand_on, read_head};
+use run_proof::{
+    Book, Checker, FIRST_NUMBER, ProofStop, Refusal, Why, accept_next, hand_on, read_head,
+};
 use std::alloc::Global;
 
 /// A proof that is right up to its verdict: its game's position, the verdict, and the number of its line.

@@ -4,7 +4,7 @@ use Rattle.game_rules.specs.Position.{Position, height}
 use Rattle.plan_text.specs.Items.{square_text}
 use Rattle.proof_text.specs.Spelling.{as_line}
 use Rattle.proof_text.specs.Texts.{pieces, lines_in}
-use Rattle.rule_compat.specs.Planned.{members}
+use Rattle.cert_format.specs.Planned.{members}
 use Rattle.reply_player.specs.Playing.{Playing}
 use Rattle.reply_player.specs.declared.session.Reply.{Reply}
 use Rattle.reply_player.specs.declared.session.Reply.TheVariants.{BlackWon, Filled, Move}

@@ -2,8 +2,7 @@
 ghost use Rattle.std.specs.Prelude.{◌≡◌, ◌++◌};
 ghost use Rattle.run_play.specs.Plays.{no_plan_line_text, no_plan_text};
 
-use cert_format::push_plan_fault;
-use rule_compat::PlanFault;
+use cert_format::{PlanFault, push_plan_fault};
 use run_frame::Ending;
 use run_turns::{GameEnding, GameStop};
 use text_words::{LineText, push_text};

@@ -3,7 +3,7 @@ ghost use Rattle.std.specs.Prelude.{◌≡◌, ◌≤◌, ℕ, List, [], ◌∷�
 ghost use Rattle.io_ports.specs.Lines.{longest_line};
 ghost use Rattle.io_ports.specs.Reading.{pending, Reads, PassesLines};
 ghost use Rattle.game_rules.specs.Position.{empty_count};
-ghost use Rattle.rule_compat.specs.Planned.{members};
+ghost use Rattle.cert_format.specs.Planned.{members};
 ghost use Rattle.play_text.specs.Play.{play_from, play_lines, first_move};
 ghost use Rattle.run_turns.specs.Inputs.{EndsSo, StopsPlay, lines_besides, IsWaiting, StopsReading};
 ghost use Rattle.run_play.specs.Plays.{play_form, head_end};
@@ -11,9 +11,8 @@ ghost use Rattle.run_play.specs.Steps.{played_at, played_from};
 
 use crate::no_plan::{NoPlan, PlayStop};
 use board_bits::Position;
-use cert_format::read_plan;
+use cert_format::{Plan, read_plan};
 use io_ports::{LineGot, Lines, Source};
-use rule_compat::Plan;
 use run_frame::InputStop;
 use run_turns::GameStop;
 

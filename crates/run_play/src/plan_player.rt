@@ -3,8 +3,8 @@ ghost use Rattle.std.specs.Prelude.{◌≡◌};
 
 use crate::turn_text::turn_line;
 use board_bits::{Column, MoveFault, Size};
+use cert_format::Plan;
 use reply_player::Session;
-use rule_compat::Plan;
 use run_turns::Player;
 use text_words::LineText;
 

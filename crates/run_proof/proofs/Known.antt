@@ -21,8 +21,8 @@ use Rattle.proof_text.specs.declared.Why.TheVariants.{BadLine}
 use Rattle.proof_text.specs.Reading.{read_line}
 use Rattle.proof_text.specs.Lemma.{Lemma, Line as Said, ALemma, ARemark, AVerdict}
 use Rattle.cert_checker.specs.Checking.{why_of, IsLemma}
-use Rattle.cert_format.specs.Shape.{viewed}
-use Rattle.cert_format.specs.declared.lines.LineView.{LineView}
+use Rattle.proof_book.specs.Shape.{viewed}
+use Rattle.proof_book.specs.LineView.{LineView}
 use Rattle.run_proof.specs.Taken.{lemmas_said, lemmas_from_lines, Gains, InStep}
 use Rattle.run_proof.specs.Whole.{judged, version_named, IsRightInput, SaysTruth, most_lines_read}
 use Rattle.run_proof.specs.Steps.{lines_from, IsNamed, IsNextLemma, LinesReach, AtHead, AtGame, AtLine, GoesOn, Gets, StopsBy, StopsWith, StopsAtLine}

@@ -5,3 +5,4 @@ pub mod Taking
 pub mod Known
 pub mod Judging
 pub mod Named
+pub use Rattle.cert_checker.proofs.Follows

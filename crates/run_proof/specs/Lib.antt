@@ -3,3 +3,7 @@ pub mod Stops
 pub mod Taken
 pub mod Steps
 pub mod Heads
+pub use Rattle.cert_checker.specs.Checking
+pub use Rattle.cert_checker.specs.Index
+pub use Rattle.cert_checker.specs.declared.stops.Accepted
+pub use Rattle.cert_checker.specs.declared.stops.Refusal

@@ -7,6 +7,8 @@ mod reading;
 mod stop;
 mod taker;
 
+pub use cert_checker::{Accepted, Checker, MirrorIndex, Refusal, Why};
+pub use proof_book::Book;
 pub use reading::{
     FIRST_NUMBER, ProofRead, accept_next, hand_on, read_head, read_proof, read_whole_proof,
 };

@@ -3,7 +3,7 @@
 ghost use Rattle.std.specs.Prelude.{◌≡◌, ◌+◌, ◌-◌, ◌≤◌, true, false, [], ◌∷◌, length, Ok, MatchResult, MatchOption, IfOk, IfErr, OnOk};
 ghost use Rattle.game_rules.specs.Position.{board_of};
 ghost use Rattle.cert_checker.specs.Checking.{IsLemma};
-ghost use Rattle.cert_format.specs.Shape.{viewed};
+ghost use Rattle.proof_book.specs.Shape.{viewed};
 ghost use Rattle.proof_text.specs.Checked.{lemmas_in};
 ghost use Rattle.proof_text.specs.Texts.{first_number, verdict_answer};
 ghost use Rattle.run_proof.specs.Whole.{version_named, IsAsked, most_lines_read};
@@ -18,8 +18,8 @@ use crate::stop::ProofStop;
 use crate::taker::{LemmaTaker, NotTaken};
 use board_bits::{Game, Size};
 use cert_checker::{Accepted, AddStop, Checker, MOST_LEMMAS, Refusal, Why};
-use cert_format::{LineBuffer, LineView, Version, first_line};
 use io_ports::{LineGot, Lines, Source};
+use proof_book::{LineBuffer, LineView, Version, first_line};
 use run_frame::{InputStop, read_played_game};
 use std::alloc::Global;
 

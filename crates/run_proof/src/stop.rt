@@ -5,8 +5,8 @@ ghost use Rattle.run_proof.specs.Stops.{refusal_line};
 ghost use Rattle.run_proof.specs.declared.stop.ProofStop.TheVariants as stops;
 
 use cert_checker::{Refusal, Why};
-use cert_format::push_plan_fault;
 use itoa::Buffer;
+use proof_book::push_plan_fault;
 use run_frame::{Ending, InputStop, memory_text};
 use text_words::{LineText, push_text};
 

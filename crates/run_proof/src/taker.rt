@@ -2,11 +2,10 @@
 //! book or write them as they come.
 ghost use Rattle.std.specs.Prelude.{◌≡◌, [], ◌∷◌, List, Option, MatchResult};
 ghost use Rattle.proof_text.specs.Lemma.{Lemma};
-ghost use Rattle.cert_format.specs.Shape.{lemma_viewed};
+ghost use Rattle.proof_book.specs.Shape.{lemma_viewed};
 ghost use Rattle.run_proof.specs.Taken.{Gains, IsNext, IsSpelled};
 
-use cert_format::LemmaView;
-use proof_book::Book;
+use proof_book::{Book, LemmaView};
 use std::alloc::AllocError;
 
 /// The lemma was not taken: memory ran out, or what the taker hands its lemmas to failed, which the taker then tells.

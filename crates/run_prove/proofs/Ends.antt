@@ -8,7 +8,7 @@ use Rattle.game_rules.specs.Text.{game_at}
 use Rattle.proof_text.specs.declared.Verdict.{Verdict}
 use Rattle.proof_text.specs.declared.Verdict.TheVariants as verdicts
 use Rattle.proof_text.specs.declared.Version.{Version}
-use Rattle.deep_search.specs.Planned.{solved_within}
+use Rattle.run_questions.specs.Planned.{solved_within}
 use Rattle.io_ports.specs.declared.ports.Failed.{Failed}
 use Rattle.run_frame.specs.Streams.{Streams, StillHolds}
 use Rattle.run_frame.specs.declared.game_input.InputStop.TheVariants as stops

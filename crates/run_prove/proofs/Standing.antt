@@ -14,13 +14,13 @@ use Rattle.proof_text.specs.Written.{IsProof, remark_line}
 use Rattle.proof_text.proofs.Written.{both_written, lemmas_stand, head_stands, proof_stands, proof_accepted}
 use Rattle.proof_text.specs.declared.Verdict.{Verdict}
 use Rattle.proof_text.specs.declared.Verdict.TheVariants.{Win, Loss, Draw, Unknown}
-use Rattle.deep_search.specs.Planned.{solved_within}
+use Rattle.run_questions.specs.Planned.{solved_within}
 use Rattle.proof_text.specs.declared.Version.{Version}
 use Rattle.run_prove.specs.Proof.{IsProofOf, Writes}
 use Rattle.run_questions.specs.Questions.{HasBothRemarks, Asks}
 use Rattle.run_questions.proofs.Asking.{asked_truth, in_turn}
-use Rattle.deep_search.specs.declared.solving.SearchStop.{SearchStop}
-use Rattle.deep_search.specs.declared.solving.SearchStop.TheVariants.{WriteFault}
+use Rattle.run_questions.specs.SearchStop.{SearchStop}
+use Rattle.run_questions.specs.SearchStop.TheVariants.{WriteFault}
 use Rattle.io_ports.specs.declared.ports.Failed.{Failed}
 
 -- ---- the last line

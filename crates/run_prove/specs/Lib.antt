@@ -1,2 +1,3 @@
 pub mod Proof
 pub mod Proves
+pub use Rattle.run_questions.specs.Planned

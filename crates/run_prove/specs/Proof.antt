@@ -13,7 +13,7 @@ use Rattle.proof_text.specs.Written.{HasWritten, MayStand, IsProof}
 use Rattle.proof_text.specs.declared.Version.{Version}
 use Rattle.proof_text.specs.declared.Verdict.{Verdict}
 use Rattle.proof_text.specs.declared.Verdict.TheVariants.{Unknown}
-use Rattle.deep_search.specs.Planned.{solved_within, ArePlanned}
+use Rattle.run_questions.specs.Planned.{solved_within, ArePlanned}
 use Rattle.io_ports.specs.declared.ports.Failed.{Failed}
 use Rattle.run_questions.specs.Questions.{IsRemarkedInTurn, HasBothRemarks}
 use Rattle.run_questions.specs.Remarks.{IsFrontRemark}

@@ -18,9 +18,8 @@ use board_bits::Game;
 use cert_format::Verdict;
 use io_ports::{Failed, Sink, Source};
 use position_table::Table;
-use rule_chooser::Chooser;
 use run_frame::{MemoryStop, RunStop, Sought, read_game_input};
-use run_questions::front_for;
+use run_questions::{Chooser, front_for};
 use std::alloc::Global;
 
 /// Reads a game and writes a proof of its position's value, from a search that may enter `nodes` positions, with plans from

@@ -5,5 +5,6 @@ mod command;
 mod proved;
 mod writing;
 
+pub use cert_format::Version;
 pub use command::prove;
 pub use proved::{Proved, Proving};

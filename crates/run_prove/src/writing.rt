@@ -6,17 +6,15 @@ ghost use Rattle.game_rules.specs.Game.{IsTextOf};
 ghost use Rattle.game_rules.specs.declared.Side.TheVariants as sides;
 ghost use Rattle.proof_text.specs.Spelling.{greatest_number, verdict_line};
 ghost use Rattle.proof_text.specs.declared.Verdict.TheVariants as verdicts;
-ghost use Rattle.deep_search.specs.Planned.{solved_within};
+ghost use Rattle.run_questions.specs.Planned.{solved_within};
 ghost use Rattle.run_questions.specs.SizedFronts.{slots_of, IsAfter};
 ghost use Rattle.run_prove.specs.Proof.{Writes};
 
 use board_bits::Game;
 use cert_format::{Line, Verdict, Version, head_of, print_line};
-use deep_search::SearchStop;
 use io_ports::{Failed, Sink, put_all};
 use position_table::Table;
-use rule_chooser::Chooser;
-use run_questions::{SizedFront, ask};
+use run_questions::{Chooser, SearchStop, SizedFront, ask};
 
 /// Writes a proof of this version, of the game's position, from a search that may enter `nodes` positions, with remarks of the
 /// front, where there is one. The verdict is `Unknown` only where that number is below the position's cost.

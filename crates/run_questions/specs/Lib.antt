@@ -1,3 +1,5 @@
 pub mod Remarks
 pub mod SizedFronts
 pub mod Questions
+pub use Rattle.deep_search.specs.Planned
+pub use Rattle.deep_search.specs.declared.solving.SearchStop

@@ -14,8 +14,7 @@ ghost use Rattle.run_questions.specs.SizedFronts.{AreSlots, slots_of, IsAfter, I
 
 use board_bits::{Position, Question, Side};
 use io_ports::{Failed, Sink, put_all};
-use proof_front::{Count, Front, Grown};
-use rule_chooser::Chooser;
+use proof_front::{Chooser, Count, Front, Grown};
 use std::alloc::{AllocError, Global};
 use text_words::{LineText, push_number, push_text};
 

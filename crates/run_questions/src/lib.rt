@@ -7,6 +7,8 @@ mod fronts;
 mod questions;
 mod value;
 
+pub use deep_search::SearchStop;
 pub use fronts::{SizedFront, front_for};
+pub use proof_front::Chooser;
 pub use questions::ask;
 pub use value::find_value;

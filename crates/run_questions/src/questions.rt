@@ -17,11 +17,10 @@ ghost use Rattle.run_questions.specs.SizedFronts.{slots_of, IsAfter, IsAfterSome
 
 use crate::fronts::{SizedFront, turn_to_black, write_remark};
 use board_bits::{Position, Question, Side};
-use cert_format::{LemmaOut, Verdict, Version};
-use deep_search::{Answer, SearchStop, search};
+use deep_search::{Answer, LemmaOut, SearchStop, Verdict, Version, search};
 use io_ports::Sink;
 use position_table::Table;
-use rule_chooser::Chooser;
+use proof_front::Chooser;
 
 /// Asks whether White wins and, where it doesn't, whether Black does, within one budget of `nodes` positions and with plans
 /// from the first `reach` sets of zones, for which the chooser is lent. What is found is kept in the table, which has no entry

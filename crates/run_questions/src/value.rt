@@ -8,10 +8,10 @@ ghost use Rattle.deep_search.specs.Planned.{solved_within};
 
 use crate::questions::ask;
 use board_bits::Position;
-use cert_format::{Verdict, Version};
+use deep_search::{Verdict, Version};
 use io_ports::NullSink;
 use position_table::Table;
-use rule_chooser::Chooser;
+use proof_front::Chooser;
 
 /// What a search finds of a position, whose proof is written nowhere: its value for the side to move, or, only where `nodes`
 /// is below the position's cost, `Unknown`. The search may enter `nodes` positions, takes plans from the first `reach` sets

@@ -2,8 +2,8 @@
 //! What a run answers over sound devices is shown by the files of `examples/`.
 use crate::running::{Devices, SOUND, run_over, words_of};
 use io_ports::{StdSink, StdSource};
+use run_callers::run;
 use std::test::Fail;
-use victor_run::run;
 
 pub(crate) const TWO_SQUARES_LEFT: &str = "board 4 4\nmoves cdccddcdaaaabb";
 

@@ -1,7 +1,7 @@
 //! A run over devices in memory, some of whose calls may fail.
 use io_ports::{MemSink, MemSource};
+use run_callers::run;
 use std::alloc::{AllocError, Global};
-use victor_run::run;
 
 /// Room for all that a run of a test writes.
 const ROOM: usize = 1 << 12;

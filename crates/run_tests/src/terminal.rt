@@ -3,9 +3,9 @@ ghost use Rattle.std.specs.Prelude.{None};
 
 use crate::running::words_of;
 use io_ports::{Failed, NullSink, Sink, Source};
+use run_callers::run;
 use std::cell::Cell;
 use std::test::Fail;
-use victor_run::run;
 
 /// How many bytes of an output are held back, and how many are shown.
 #[derive(Drop)]

@@ -10,10 +10,9 @@ ghost use Rattle.run_trim.specs.Trims.{PutsTrimmed, TrimOwes};
 use crate::trimmed::Trimmed;
 use crate::writing::write_trimmed;
 use io_ports::{Failed, Sink, Source};
-use proof_book::Book;
 use proof_tools::reached;
 use run_frame::{MemoryStop, RunStop};
-use run_proof::{ProofRead, read_whole_proof};
+use run_proof::{Book, ProofRead, read_whole_proof};
 use std::alloc::Global;
 
 /// Reads a proof of either version, and writes it in the same version with those lemmas alone on which its verdict rests. What is

@@ -7,10 +7,9 @@ ghost use Rattle.tool_text.specs.Trim.{CitesEarlier, numbers_named, trimmed_line
 ghost use Rattle.proof_tools.specs.Reach.{reach_of, AreWithin};
 
 use board_bits::Game;
-use cert_format::{Verdict, Version, head_of};
 use io_ports::{Failed, Sink, put_all};
-use proof_book::Book;
-use proof_tools::{Reach, print_trimmed};
+use proof_tools::{Reach, Verdict, Version, head_of, print_trimmed};
+use run_proof::Book;
 
 /// Writes the head of a proof, and those of its lemmas that are reached with its verdict, and hands on what was written.
 pub(crate) fn write_trimmed<O: Sink>(

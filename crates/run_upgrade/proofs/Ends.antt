@@ -20,9 +20,9 @@ use Rattle.proof_text.specs.Written.{IsLastLine}
 use Rattle.proof_text.specs.declared.Verdict.{Verdict}
 use Rattle.proof_text.specs.declared.Version.TheVariants.{One, Two}
 use Rattle.proof_text.specs.declared.Why.TheVariants.{EndedEarly}
-use Rattle.cert_checker.specs.Checking.{why_of}
-use Rattle.cert_checker.specs.declared.stops.Accepted.{Accepted as Right}
-use Rattle.cert_checker.specs.declared.stops.Refusal.{Refusal}
+use Rattle.run_proof.specs.Checking.{why_of}
+use Rattle.run_proof.specs.Accepted.{Accepted as Right}
+use Rattle.run_proof.specs.Refusal.{Refusal}
 use Rattle.run_frame.specs.Streams.{Streams, TakesLines, StillHolds}
 use Rattle.run_frame.specs.declared.game_input.InputStop.TheVariants as inputs
 use Rattle.run_frame.proofs.Inputs.{of_each, IfSome_more, kept_still, appended_still, cut_still}

@@ -13,7 +13,7 @@ use Rattle.io_ports.specs.Reading.{Pending, Reads, PassesLines}
 use Rattle.io_ports.specs.declared.line_reader.LineGot.{LineGot}
 use Rattle.io_ports.specs.declared.line_reader.LineGot.TheVariants.{Line, Long, Done, Failed}
 use Rattle.io_ports.proofs.Reading.{Reads_start, Reads_more, Reads_then, passes_none, passes_then, passes_most}
-use Rattle.cert_checker.specs.Index.{Numbers}
+use Rattle.run_proof.specs.Index.{Numbers}
 use Rattle.proof_text.specs.Checked.{CheckerState, with_line, lemmas_in}
 use Rattle.proof_text.specs.Lemma.{Line as Said, ALemma, ARemark, AVerdict}
 use Rattle.proof_text.specs.Right.{Shown, AreRight}

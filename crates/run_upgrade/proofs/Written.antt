@@ -18,8 +18,8 @@ use Rattle.proof_text.specs.declared.Version.TheVariants.{One}
 use Rattle.proof_text.proofs.Accepted.{shown_along}
 use Rattle.proof_text.proofs.Refusals.{right_of_none, line_of_none}
 use Rattle.proof_text.proofs.Spelled.{line_read}
-use Rattle.cert_checker.specs.Index.{Numbers, Follows, Keeps, kept_for}
-use Rattle.cert_checker.proofs.Follows.{follows_push}
+use Rattle.run_proof.specs.Index.{Numbers, Follows, Keeps, kept_for}
+use Rattle.run_proof.proofs.Follows.{follows_push}
 use Rattle.io_ports.specs.Reading.{Pending}
 use Rattle.run_proof.specs.Steps.{AcceptsNext}
 use Rattle.run_proof.proofs.Known.{not_refused, next_lemma}

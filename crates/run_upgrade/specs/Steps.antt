@@ -13,7 +13,7 @@ use Rattle.proof_text.specs.Spelling.{lemma_line, lines_of}
 use Rattle.proof_text.specs.Texts.{pieces, lines_in, game_of, behind_game, first_line, first_number, bytes_refusal, with_bytes, start, verdict_answer}
 use Rattle.proof_text.specs.Upgrade.{upgraded, resting_on}
 use Rattle.proof_text.specs.declared.Version.TheVariants.{One}
-use Rattle.cert_checker.specs.Index.{Numbers, Follows, Keeps, kept_for}
+use Rattle.run_proof.specs.Index.{Numbers, Follows, Keeps, kept_for}
 use Rattle.io_ports.specs.Reading.{Pending, Reads, PassesLines}
 use Rattle.run_frame.specs.declared.game_input.InputStop.TheVariants as inputs
 use Rattle.run_proof.specs.Steps.{AtHead, AtLine, GoesOn, StopsBy, IsStopAt, StopsAtLine, lines_from, lines_read_until}

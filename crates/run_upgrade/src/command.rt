@@ -19,11 +19,10 @@ use crate::lines::upgrade_lines;
 use crate::upgraded::{UpgradeEnd, UpgradeStop};
 use crate::writing::{Writer, put_verdict};
 use board_bits::Game;
-use cert_checker::Checker;
 use cert_format::{Version, head_of};
 use io_ports::{Lines, Sink, Source, put_all};
 use run_frame::read_played_game;
-use run_proof::{ProofStop, read_head};
+use run_proof::{Checker, ProofStop, read_head};
 use std::alloc::Global;
 
 /// Reads a proof of the first version, and writes it in the second: the head as soon as its game is read, each lemma as soon

@@ -10,10 +10,9 @@ ghost use Rattle.run_upgrade.specs.Steps.{InStep, WritesNext, WritesLines, Sourc
 use crate::upgraded::UpgradeStop;
 use crate::writing::Writer;
 use board_bits::Size;
-use cert_checker::Checker;
 use cert_format::{LineBuffer, LineView, Version};
 use io_ports::{Lines, Sink, Source};
-use run_proof::{FIRST_NUMBER, accept_next};
+use run_proof::{Checker, FIRST_NUMBER, accept_next};
 
 /// Adds the lines behind the game, writes what becomes of their lemmas, and answers the number after that of the last line.
 /// Where a line stops this, what was written is handed on.

@@ -7,10 +7,9 @@ ghost use Rattle.run_upgrade.specs.Steps.{WritesLemma, SinkRose};
 
 use crate::upgraded::UpgradeStop;
 use board_bits::Position;
-use cert_checker::MirrorIndex;
 use cert_format::{LemmaOut, LemmaView, Line, Reason, Verdict, print_line};
 use io_ports::{Failed, Sink};
-use run_proof::ProofStop;
+use run_proof::{MirrorIndex, ProofStop};
 use std::alloc::Global;
 
 /// What is kept of the lemmas that were written: their numbers by their positions, and how many there are.

@@ -11,6 +11,7 @@ mod line;
 mod marks;
 mod number;
 
+pub use board_bits::{Column, Game, Size, Square};
 pub use first_word::{split_path, split_word};
 pub use game_text::push_game;
 pub use letters::letter_of;

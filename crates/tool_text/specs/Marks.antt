@@ -6,7 +6,7 @@ use Rattle.game_rules.specs.Value.{win_of, same_end, value}
 use Rattle.game_rules.specs.declared.Side.{Side}
 use Rattle.game_rules.specs.declared.End.{End}
 use Rattle.game_rules.specs.declared.End.TheVariants as ends
-use Rattle.plan_text.specs.Items.{square_text}
+use Rattle.proof_text.specs.Items.{square_text}
 use Rattle.proof_text.specs.Spelling.{as_line}
 use Rattle.tool_text.specs.declared.Mark.{Mark}
 use Rattle.tool_text.specs.declared.Mark.TheVariants.{Fine, Bad, Open}

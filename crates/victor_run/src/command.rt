@@ -7,7 +7,6 @@ ghost use Rattle.run_frame.specs.Streams.{StillHolds};
 ghost use Rattle.victor_run.specs.Outcome.{version_named, Outcome, Completes};
 
 use crate::no_form::NoForm;
-use cert_format::Version;
 use io_ports::{Sink, Source};
 use run_annotate::{Annotating, annotate};
 use run_check::check;
@@ -16,7 +15,7 @@ use run_explain::explain;
 use run_follow::follow;
 use run_frame::report;
 use run_play::play;
-use run_prove::{Proving, prove};
+use run_prove::{Proving, Version, prove};
 use run_threat::threat;
 use run_trim::trim;
 use run_upgrade::upgrade;

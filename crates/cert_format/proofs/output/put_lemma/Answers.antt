@@ -2,7 +2,7 @@ use Rattle.std.proofs.Common.{◌≡◌, ◌∙◌, ◌++◌, [], ◌∷◌, fal
 use Rattle.std.proofs.lemmas.Result.{err_from_is_err_and}
 use Rattle.device_rules.specs.Devices.{AppendsPrefix}
 use Rattle.device_rules.proofs.DeviceLaws.{AppendsPrefix_take, AppendsPrefix_more}
-use Rattle.rule_compat.specs.Written.{written_list}
+use Rattle.plan_lines.specs.Written.{written_list}
 use Rattle.plan_lines.specs.Items.{members_text}
 use Rattle.cert_format.specs.Shape.{reason_viewed, behind_word}
 use Rattle.cert_format.proofs.output.put_lemma.Goals as goal

@@ -4,7 +4,7 @@ use Rattle.game_rules.specs.Value.{win_of, same_end}
 use Rattle.game_rules.specs.Mirror.{mirror}
 use Rattle.game_rules.proofs.ImageValues.{value_mirrored}
 use Rattle.game_rules.proofs.Values.{value_at_end}
-use Rattle.rule_compat.specs.Written.{written_list}
+use Rattle.rule_chooser.specs.Written.{written_list}
 use Rattle.deep_search.specs.Search.{version_for}
 use Rattle.deep_search.proofs.Tables.{true_same, fits_same, same_then}
 use Rattle.deep_search.proofs.Plans.{plan_none, some_open, solved_lost, plan_reason}

@@ -1,6 +1,6 @@
 use Rattle.std.proofs.Common.{sym, ap, ◌∙◌}
 use Rattle.proof_text.specs.Lemma.{ByPlan}
-use Rattle.rule_compat.specs.Written.{written_list}
+use Rattle.cert_format.specs.Written.{written_list}
 use Rattle.cert_format.specs.Shape.{reason_viewed}
 use Rattle.proof_book.proofs.Kept.{keeps_none, keeps_members}
 use Rattle.proof_book.proofs.book.put_reason.Goals as goal

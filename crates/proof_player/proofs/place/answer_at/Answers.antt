@@ -1,5 +1,5 @@
 use Rattle.std.proofs.Common.{map, Some, ap, ◌∙◌, subst}
-use Rattle.cert_format.specs.Shape.{cite_of}
+use Rattle.proof_book.specs.Shape.{cite_of}
 use Rattle.proof_book.specs.Entries.{reason_held, HeldFits}
 use Rattle.proof_text.specs.Lemma.{ByAll, ByPlan}
 use Rattle.rule_compat.specs.Written.{written_list}

@@ -5,7 +5,7 @@ use Rattle.game_rules.specs.Board.{Board}
 use Rattle.game_rules.specs.Position.{Position}
 use Rattle.game_rules.proofs.Ends.{legal_parts}
 use Rattle.game_rules.proofs.Moves.{room_column}
-use Rattle.cert_format.specs.declared.lines.Cite.{Cite}
+use Rattle.proof_book.specs.Cite.{Cite}
 use Rattle.follow_text.specs.Following.{seen_column, own_move_at}
 use Rattle.proof_player.specs.Playing.{StandsAt, step_of}
 use Rattle.proof_player.proofs.Answered.{mapped_some, is_cited, by_cite}

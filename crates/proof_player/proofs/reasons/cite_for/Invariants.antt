@@ -1,6 +1,6 @@
 use Rattle.std.proofs.Common.{◌≡◌, ◌==◌, drop}
 use Rattle.std.specs.List.{find}
-use Rattle.cert_format.specs.declared.lines.Cite.{Cite}
+use Rattle.proof_book.specs.Cite.{Cite}
 use Rattle.proof_player.proofs.reasons.cite_for.Given as goal
 
 abbrev pub invariant-loop-cite : goal.invariant-loop-cite

@@ -1,6 +1,6 @@
 use Rattle.std.proofs.Common.{◌≡◌, ◌<◌, length, Some, ap, ◌∙◌, arith}
 use Rattle.game_rules.specs.Board.{Board}
-use Rattle.cert_format.specs.Shape.{cite_of}
+use Rattle.proof_book.specs.Shape.{cite_of}
 use Rattle.proof_book.specs.Entries.{reason_held}
 use Rattle.proof_player.proofs.Settled.{one_within}
 use Rattle.proof_player.proofs.reasons.own_move.Goals as goal

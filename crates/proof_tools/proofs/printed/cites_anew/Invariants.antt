@@ -1,5 +1,5 @@
 use Rattle.std.proofs.Common.{◌≡◌, ◌+◌, map, take, drop, length}
-use Rattle.cert_format.specs.Shape.{cite_of}
+use Rattle.proof_book.specs.Shape.{cite_of}
 use Rattle.proof_text.specs.Lemma.{ByAll}
 use Rattle.tool_text.specs.Trim.{numbers_cited, rank, renumbered_cite}
 use Rattle.proof_tools.specs.Printed.{AreMarked}

@@ -3,7 +3,7 @@ use Rattle.std.specs.Io.KnownBytes.{Appends}
 use Rattle.std.proofs.KnownBytes.{Appends-nil}
 use Rattle.std.proofs.lemmas.Result.{err_from_is_err_and}
 use Rattle.device_rules.specs.Devices.{AppendsPrefix}
-use Rattle.cert_format.specs.Shape.{reason_of}
+use Rattle.proof_book.specs.Shape.{reason_of}
 use Rattle.proof_book.specs.Entries.{reason_held}
 use Rattle.tool_text.specs.Trim.{rank}
 use Rattle.tool_text.proofs.Whole.{rank_most}

@@ -1,6 +1,6 @@
 use Rattle.std.proofs.Common.{◌≡◌, drop, map, length}
 use Rattle.proof_text.specs.Lemma.{ByAll}
-use Rattle.cert_format.specs.Shape.{cite_of}
+use Rattle.proof_book.specs.Shape.{cite_of}
 use Rattle.tool_text.specs.Trim.{numbers_cited}
 use Rattle.proof_tools.specs.Reach.{marked, AreWithin}
 use Rattle.proof_tools.proofs.reach.mark_each.Given as goal

@@ -1,7 +1,7 @@
 use Rattle.std.proofs.Common.{◌+◌, not, sym, ap, ◌∙◌}
 use Rattle.plan_rules.specs.Rules.{is_supported}
 use Rattle.plan_rules.proofs.Places.{place_here, place_next}
-use Rattle.rule_law.specs.KeptFacts.{facts_in}
+use Rattle.group_rules.specs.KeptFacts.{facts_in}
 use Rattle.rule_compat.specs.Written.{written, written_list}
 use Rattle.rule_compat.proofs.WrittenLists.{member_at}
 use Rattle.rule_compat.proofs.check.first_unsupported.Goals as goal

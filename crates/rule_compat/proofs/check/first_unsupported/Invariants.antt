@@ -1,7 +1,7 @@
 use Rattle.std.proofs.Common.{◌≡◌, ◌+◌, not, drop}
 use Rattle.std.specs.List.{position_from}
 use Rattle.plan_rules.specs.Rules.{is_supported}
-use Rattle.rule_law.specs.KeptFacts.{facts_in}
+use Rattle.group_rules.specs.KeptFacts.{facts_in}
 use Rattle.rule_compat.specs.Written.{written_list}
 use Rattle.rule_compat.proofs.check.first_unsupported.Given as goal
 

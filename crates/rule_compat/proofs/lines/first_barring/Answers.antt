@@ -2,7 +2,7 @@ use Rattle.std.proofs.Common.{◌+◌, sym, ◌∙◌}
 use Rattle.plan_rules.specs.Rules.{facts_of, barred}
 use Rattle.plan_rules.specs.Plan.{empty_part}
 use Rattle.plan_rules.proofs.Places.{place_here, place_next}
-use Rattle.rule_law.specs.KeptFacts.{facts_in}
+use Rattle.group_rules.specs.KeptFacts.{facts_in}
 use Rattle.rule_compat.specs.Written.{written, written_list}
 use Rattle.rule_compat.proofs.WrittenLists.{member_at}
 use Rattle.rule_compat.proofs.BarredSets.{barred_by_sets}

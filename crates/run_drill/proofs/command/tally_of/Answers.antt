@@ -1,6 +1,6 @@
 use Rattle.std.proofs.Common.{arith}
 use Rattle.game_rules.specs.Cost.{cost}
-use Rattle.deep_search.specs.Planned.{solved_within}
+use Rattle.run_questions.specs.Planned.{solved_within}
 use Rattle.run_drill.specs.Drills.{games_of}
 use Rattle.run_drill.proofs.Tallying.{drilled_more, all_drilled}
 use Rattle.run_drill.proofs.command.tally_of.Goals as goal

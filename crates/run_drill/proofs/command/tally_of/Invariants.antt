@@ -1,5 +1,5 @@
 use Rattle.game_rules.specs.Cost.{cost}
-use Rattle.deep_search.specs.Planned.{solved_within}
+use Rattle.run_questions.specs.Planned.{solved_within}
 use Rattle.run_drill.specs.Drills.{games_of}
 use Rattle.run_drill.proofs.Tallying.{Drilled}
 use Rattle.run_drill.proofs.command.tally_of.Given as goal

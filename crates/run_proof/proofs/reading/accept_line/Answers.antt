@@ -1,6 +1,6 @@
 use Rattle.std.proofs.Common.{◌≡◌, None, subst, arith}
 use Rattle.proof_text.specs.Checked.{line_refusal}
-use Rattle.cert_format.specs.Shape.{viewed}
+use Rattle.proof_book.specs.Shape.{viewed}
 use Rattle.cert_checker.specs.Checking.{StopsAt}
 use Rattle.cert_checker.specs.declared.stops.AddStop.{AddStop}
 use Rattle.run_proof.proofs.Known.{next_lemma}

@@ -2,7 +2,7 @@ use Rattle.std.proofs.Common.{refl}
 use Rattle.std.proofs.lemmas.Option.{MatchOption-at_some, MatchOption-at_none}
 use Rattle.std.proofs.lemmas.Result.{err_from_is_err_and}
 use Rattle.game_rules.specs.Position.{board_of}
-use Rattle.cert_format.specs.Shape.{viewed}
+use Rattle.proof_book.specs.Shape.{viewed}
 use Rattle.run_proof.proofs.Taking.{may_hand_on}
 use Rattle.run_proof.proofs.Known.{accepted_known, untaken_stops, ended_known, got_stops}
 use Rattle.run_proof.proofs.reading.add_next.Goals as goal

@@ -6,8 +6,8 @@ use Rattle.game_rules.specs.Cost.{cost}
 use Rattle.game_rules.proofs.Games.{game_in_grammar}
 use Rattle.proof_text.specs.declared.Verdict.TheVariants.{Unknown}
 use Rattle.run_questions.specs.SizedFronts.{slots_of}
-use Rattle.deep_search.specs.Planned.{solved_within}
-use Rattle.deep_search.specs.declared.solving.SearchStop.TheVariants.{Spent, WriteFault}
+use Rattle.run_questions.specs.Planned.{solved_within}
+use Rattle.run_questions.specs.SearchStop.TheVariants.{Spent, WriteFault}
 use Rattle.run_questions.proofs.Asking.{asked_of}
 use Rattle.run_prove.proofs.Standing.{writes_head, writes_lemmas, writes_verdict}
 use Rattle.run_prove.proofs.writing.write_proof.Goals as goal

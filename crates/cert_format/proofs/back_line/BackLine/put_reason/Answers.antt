@@ -1,6 +1,6 @@
 use Rattle.std.proofs.Common.{[], ◌∷◌, ◌++◌, codes, sym, ap, ◌∙◌, append-nil}
 use Rattle.proof_text.specs.Spelling.{reason_words}
-use Rattle.rule_compat.specs.Written.{written_list}
+use Rattle.plan_lines.specs.Written.{written_list}
 use Rattle.plan_lines.specs.Items.{members_text}
 use Rattle.cert_format.specs.Shape.{reason_viewed, behind_spaces, behind_word, cite_words}
 use Rattle.cert_format.proofs.Spaced.{cites_behind, members_behind}

@@ -1,6 +1,6 @@
 use Rattle.std.proofs.Common.{◌≡◌, ◌++◌, sym, ap, ◌∙◌, subst}
 use Rattle.std.specs.Result.{OnOk}
-use Rattle.rule_law.specs.KeptFacts.{facts_in}
+use Rattle.group_rules.specs.KeptFacts.{facts_in}
 use Rattle.rule_compat.specs.Planned.{IsKeptWith}
 use Rattle.rule_compat.proofs.plan.Plan.of.Goals as goal
 

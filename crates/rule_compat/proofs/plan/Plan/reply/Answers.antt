@@ -1,5 +1,5 @@
 use Rattle.std.proofs.Common.{is_some, sym, ap, ◌∙◌, subst}
-use Rattle.rule_law.specs.KeptFacts.{facts_in}
+use Rattle.group_rules.specs.KeptFacts.{facts_in}
 use Rattle.rule_compat.specs.Planned.{IsKeptWith}
 use Rattle.rule_compat.proofs.Played.{IsAnswer, zone_answer, zones_find, what_zones_find}
 use Rattle.rule_compat.proofs.plan.Plan.reply.Goals as goal

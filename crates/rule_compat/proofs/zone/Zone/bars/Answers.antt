@@ -4,7 +4,7 @@ use Rattle.game_rules.specs.Squares.{has_square}
 use Rattle.game_rules.proofs.Squares.{any_in_same}
 use Rattle.plan_rules.specs.Rules.{zone_of, fits}
 use Rattle.plan_rules.specs.Zones.{owns_zone}
-use Rattle.rule_law.specs.KeptFacts.{facts_in}
+use Rattle.group_rules.specs.KeptFacts.{facts_in}
 use Rattle.rule_compat.specs.Written.{written}
 use Rattle.rule_compat.proofs.ZoneBars.{barred_out}
 use Rattle.rule_compat.proofs.zone.Zone.bars.Goals as goal

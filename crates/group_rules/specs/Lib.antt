@@ -1,0 +1,1 @@
+pub use Rattle.rule_law.specs.KeptFacts
