@@ -1,4 +1,4 @@
-# `make` builds the program where it isn't built, which takes `rt`. `make try` shows one example in a minute or two, from
+# `make` builds the program where it isn't built, which takes `rt`. `make try` shows one example in a minute, from
 # sources that nothing has proved here. `make check-proofs` lets the program check the proofs of proofs/. `make install
 # PREFIX=..` puts the program, its manual page, its documents, the examples and the tools below that folder, and `make
 # uninstall PREFIX=..` takes them away. DESTDIR is put before PREFIX.
@@ -16,8 +16,7 @@ all:
 
 # It runs the sources with checks in place of proofs, in a folder of its own, and keeps nothing.
 try:
-	@echo "victor: nothing is proved of what runs here, which takes a minute; ./victor proves before it runs" >&2
-	@cd crates/victor && rt try -- prove --reach 0 <../../examples/two-squares-left.txt
+	@tools/try
 
 # Unpacks the proofs of proofs/, compares their sums with proofs/README.md and lets the program check them, in seconds.
 check-proofs:
