@@ -143,12 +143,15 @@ class SearchTest(unittest.TestCase):
         self.assertEqual(made, Search(columns, rows, moves, **how).text(), f"{moves} {words}")
 
     def test_both_formats_with_tables_of_any_size(self):
-        """Images are used for White and Black to move and at ended positions: the texts are the same, line by line."""
-        for columns, rows, men in ((4, 4, 8), (5, 4, 11), (4, 6, 15), (7, 6, 33)):
-            for moves in games(columns, rows, men, 2, seed=men):
-                for table in (1, 2, 30, TABLE):
-                    self.prove(columns, rows, moves, f"--table {table}", table=table)
-                    self.prove(columns, rows, moves, f"--table {table} --format 2", table=table, images=True)
+        """The texts are the same, line by line. Behind moves that leave a symmetric board, images are used with White to
+        move, with Black to move and at ended positions."""
+        asked = [(4, 4, "bbcc"), (5, 4, "ccccbbdd")]
+        for columns, rows, men in ((4, 4, 8), (5, 4, 12), (4, 6, 15), (7, 6, 33)):
+            asked += [(columns, rows, moves) for moves in games(columns, rows, men, 2, seed=men)]
+        for columns, rows, moves in asked:
+            for table in (2, 30, TABLE):
+                self.prove(columns, rows, moves, f"--table {table}", table=table)
+                self.prove(columns, rows, moves, f"--table {table} --format 2", table=table, images=True)
 
     def test_a_table_has_the_size_that_is_asked_for_and_keeps_on_when_it_is_full(self):
         """The least budget that finds a value is that of a table of so many places, and of no other."""
@@ -160,7 +163,8 @@ class SearchTest(unittest.TestCase):
                 self.prove(5, 4, moves, f"--table {table} --nodes {nodes - 1}", table=table, nodes=nodes - 1)
 
     def test_annotate_searches_each_position_within_its_budget_by_a_large_table(self):
-        for moves in games(4, 4, 9, 6, seed=9):
+        """Without images, which would save positions of the first game."""
+        for moves in ["bbccbbcca", *games(4, 4, 9, 4, seed=9)]:
             both = [Search(4, 4, moves[:8]), Search(4, 4, moves)]
             nodes = max(search.entered() for search in both)
             self.assertLess(nodes, max(Search(4, 4, at.moves, 1).entered() for at in both), "a table doesn't show here")
