@@ -76,8 +76,8 @@ fn check_plan(reached: &Reached, claim: Claim, members: &[Instance]) -> Result<(
     if claim != Claim::WhiteFails {
         return Err(Why::WrongClaim);
     }
-    match Plan::check(reached.position(), members) {
-        Ok(_) => Ok(()),
+    match Plan::test(reached.position(), members) {
+        Ok(()) => Ok(()),
         Err(fault) => Err(Why::BadPlan(fault)),
     }
 }

@@ -1,21 +1,26 @@
 -- Words as they are read: a number is a word of its own, and the first word, where others follow.
-use Rattle.std.proofs.Common.{◌≡◌, ◌≢◌, ℕ, ◌<◌, ◌≤◌, ◌⊎◌, Bool, true, false, cond, ◌&&◌, nat_le, List, [], ◌∷◌, ◌++◌}
+use Rattle.std.proofs.Common.{◌≡◌, ◌≢◌, ℕ, ◌^◌, ◌<◌, ◌≤◌, ◌⊎◌, Bor, get_or, subst, Bool, true, false, cond, ◌&&◌, nat_le, List, [], ◌∷◌, ◌++◌}
 use Rattle.std.proofs.Common.{length, Option, Some, None, codes, refl, sym, ap, ◌∙◌, inl, inr, arith}
 use Rattle.std.specs.Cmp.Lexicographic.{same_text}
 use Rattle.std.specs.Option.{option_map}
 use Rattle.std.specs.Str.{bytes_eq}
 use Rattle.std.specs.Fmt.{decimal}
 use Rattle.std.proofs.lemmas.List.Splits.{join_with_byte-slice_split}
-use Rattle.std.proofs.lemmas.Bool.{le-leb, lt-leb, and_from}
+use Rattle.std.specs.Int.{IsInRange}
+use Rattle.std.proofs.lemmas.Bool.{le-leb, lt-leb, and_from, ne_eqb, false_from_ne_true}
+use Rattle.std.proofs.lemmas.Fmt.{decimal_is_IsNumeral, decimal_nonempty}
+use Rattle.std.proofs.lemmas.List.{get_or-take, length-take-le}
+use Rattle.std.proofs.lemmas.Str.Parse.{digit_at}
 use Rattle.std.proofs.Math.Bool.{and-false}
-use Rattle.proof_text.specs.Lemma.{Cite, Reason, ByEnd, ByOne, ByAll, ByMirror}
-use Rattle.proof_text.specs.Spelling.{spaced, most_cites}
-use Rattle.proof_text.specs.Reading.{◌>>=◌, words_of, number_of, letter_word, cites_of, one_of, all_of, mirror_of, reason_of, with_one, with_two, verdict_of}
+use Rattle.proof_text.specs.Lemma.{Cite, Reason, ByEnd, ByOne, ByAll, ByMirror, Line, ALemma, ARemark, AVerdict}
+use Rattle.proof_text.specs.Spelling.{spaced, most_cites, is_remark, greatest_number}
+use Rattle.proof_text.specs.Reading.{◌>>=◌, words_of, number_of, letter_word, cites_of, one_of, all_of, mirror_of, reason_of, with_one, with_two, verdict_of, lemma_of, line_of_words, read_any}
 use Rattle.proof_text.specs.declared.Claim.TheVariants.{WhiteWins, WhiteFails, BlackWins, BlackFails}
 use Rattle.proof_text.specs.declared.Verdict.{Verdict}
 use Rattle.proof_text.specs.declared.Verdict.TheVariants.{Win, Loss, Draw, Unknown}
-use Rattle.cert_format.specs.Words.{HasNoClaim}
-use Rattle.text_words.proofs.Words.{words_some}
+use Rattle.cert_format.specs.Words.{HasNoClaim, lemma_behind}
+use Rattle.text_words.specs.Words.{words_left, HasNumber, HasNoNumber}
+use Rattle.text_words.proofs.Words.{words_some, first_word_past}
 use Rattle.proof_text.proofs.Words.{number_read}
 use Rattle.proof_text.proofs.Spelled.{plain_decimal}
 use Rattle.proof_text.proofs.Spaced.{words_of_spaced}
@@ -50,6 +55,24 @@ last_word bytes = by_words (words_of bytes) refl
     by_words [] h = absurd (omega (arith, words_some bytes, ap length h))
     by_words (word ∷ []) h = inl (h ∙ ap (λ word. word ∷ []) (sym (ap spaced h) ∙ join_with_byte-slice_split 32 bytes))
     by_words (word ∷ next ∷ more) h = inr (record { word = word; next = next; more = more; words = h; none = none word next more h (number_of bytes) refl })
+
+-- a number that is all of the bytes
+pub whole_number : (bytes : List ℕ) (n : ℕ) → HasNumber 1 greatest_number bytes n None → number_of bytes ≡ Some n
+whole_number bytes n has = elim (last_word bytes) [
+  | inl last ↦
+      let same : bytes ∷ [] ≡ has.word ∷ [] = sym last ∙ has.words in let whole : bytes ≡ has.word = cc same in ap number_of whole ∙ has.spells
+  | inr more ↦ let same : more.word ∷ more.next ∷ more.more ≡ has.word ∷ [] = sym more.words ∙ has.words in absurd (cc same)
+]
+
+-- and one that isn't
+pub part_number : (bytes : List ℕ) (n : ℕ) (rest : Bor (List ℕ)) → HasNumber 1 greatest_number bytes n (Some rest) → number_of bytes ≡ None
+part_number bytes n rest has = elim (last_word bytes) [
+  | inl last ↦ absurd (omega (arith, words_some rest.now, ap length (sym last ∙ has.words)))
+  | inr more ↦ more.none
+]
+
+pub no_number : (bytes : List ℕ) → HasNoNumber 1 greatest_number bytes → number_of bytes ≡ None
+no_number bytes none = elim (last_word bytes) [ inl last ↦ none bytes [] last | inr more ↦ more.none ]
 
 -- ---- numbers at the end of a line
 
@@ -118,6 +141,81 @@ other_first : (text bytes word next : List ℕ) (more : List (List ℕ)) → ((r
 other_first text bytes word next more never cut same =
     never (spaced (next ∷ more)) (sym (join_with_byte-slice_split 32 bytes) ∙ ap spaced cut
     ∙ ap (λ word. word ++ 32 ∷ spaced (next ∷ more)) (same_text word text (sym same)))
+
+-- ---- the number of a lemma
+
+lemma_from : (board : Board) (word : List ℕ) (words : List (List ℕ)) → lemma_of board (word ∷ words) ≡ number_of word >>= (λ n. lemma_behind board n words)
+lemma_from board word [] = none (number_of word)
+  where
+    none : (n : Option ℕ) → None ≡ (n >>= (λ n. lemma_behind board n []))
+    none None = refl
+    none (Some n) = refl
+lemma_from board word (path ∷ []) = none (number_of word)
+  where
+    none : (n : Option ℕ) → None ≡ (n >>= (λ n. lemma_behind board n (path ∷ [])))
+    none None = refl
+    none (Some n) = refl
+lemma_from board word (path ∷ claim ∷ reason) = refl
+
+no_lemma : (board : Board) (word : List ℕ) (words : List (List ℕ)) → number_of word ≡ None → lemma_of board (word ∷ words) ≡ None
+no_lemma board word words none = lemma_from board word words ∙ ap (λ n. n >>= (λ n. lemma_behind board n words)) none
+
+-- the first byte of a number is a digit
+digit_first : (word : List ℕ) (n : ℕ) → number_of word ≡ Some n → (0 < length word) × IsInRange 48 57 (get_or word 0 0)
+digit_first word n h =
+    let read = number_read word n h in
+    let few = read.1.1 in
+    let wide : n < 2 ^ 64 = omega (arith, few) in
+    let some : 0 < length (decimal n) = decimal_nonempty n wide in
+    let digit = digit_at (decimal n) 0 (decimal_is_IsNumeral n wide).0.1 some in
+    subst (λ word. (0 < length word) × IsInRange 48 57 (get_or word 0 0)) (sym read.0) (some, digit)
+
+other_byte : (bytes : List ℕ) → (get_or bytes 0 0 ≡ 35 → ⊥) → is_remark bytes ≡ false
+other_byte [] other = refl
+other_byte (byte ∷ bytes) other = rw (ne_eqb byte 35 other) refl
+
+-- a line that begins with a number is a lemma, or none
+pub lemma_line_read : (board : Board) (bytes : List ℕ) (n : ℕ) (rest : Option (Bor (List ℕ))) → HasNumber 1 greatest_number bytes n rest
+    → read_any board bytes ≡ option_map ALemma (lemma_behind board n (words_left rest))
+lemma_line_read board bytes n rest has =
+    let digit = digit_first has.word n has.spells in
+    let reach = first_word_past bytes has.word (words_left rest) 0 has.words (λ k below. absurd (omega (arith, below))) (omega arith) in
+    let long : length has.word ≡ reach.0 = ap length reach.3 ∙ length-take-le reach.0 bytes reach.2 in
+    let same : get_or has.word 0 0 ≡ get_or bytes 0 0 = ap (λ word. get_or word 0 0) reach.3 ∙ get_or-take reach.0 bytes 0 0 (omega (arith, long, digit.0)) in
+    let remark : is_remark bytes ≡ false = other_byte bytes (λ mark. omega (arith, digit.1, same, mark)) in
+    let word : bytes_eq has.word (codes "value") ≡ false = false_from_ne_true (bytes_eq has.word (codes "value")) (λ value.
+    omega (arith, digit.1, ap (λ word. get_or word 0 0) (same_text has.word (codes "value") (sym value)))) in
+    ap (λ b. cond b (Some ARemark) (line_of_words board (words_of bytes))) remark ∙ ap (line_of_words board) has.words
+    ∙ ap (λ b. cond b (option_map AVerdict (verdict_of (words_left rest))) (option_map ALemma (lemma_of board (has.word ∷ words_left rest)))) word
+    ∙ ap (option_map ALemma) (lemma_from board has.word (words_left rest) ∙ ap (λ n. n >>= (λ n. lemma_behind board n (words_left rest))) has.spells)
+
+pub remark_read : (board : Board) (bytes : List ℕ) → is_remark bytes ≡ true → read_any board bytes ≡ Some ARemark
+remark_read board bytes h = ap (λ b. cond b (Some ARemark) (line_of_words board (words_of bytes))) h
+
+pub verdict_read : (board : Board) (bytes rest : List ℕ) (v : Option Verdict) → bytes ≡ codes "value " ++ rest → v ≡ verdict_of (words_of rest)
+    → read_any board bytes ≡ option_map AVerdict v
+verdict_read board bytes rest v is told = ap (read_any board) is ∙ ap (option_map AVerdict) (sym told)
+
+-- a line that is no remark, and begins with no number and not as a verdict, is none
+pub no_line_read : (board : Board) (bytes : List ℕ) → HasNoNumber 1 greatest_number bytes → is_remark bytes ≡ false
+    → ((rest : List ℕ) → bytes ≢ codes "value " ++ rest) → read_any board bytes ≡ None
+no_line_read board bytes none remark never =
+    ap (λ b. cond b (Some ARemark) (line_of_words board (words_of bytes))) remark ∙ by_words (words_of bytes) refl
+  where
+    alone : (b : Bool) → cond b (option_map AVerdict None) (option_map ALemma None) ≡ None
+    alone true = refl
+    alone false = refl
+
+    first : (b : Bool) (x y : Option Line) → (b ≡ true → ⊥) → y ≡ None → cond b x y ≡ None
+    first true x y other h = absurd (other refl)
+    first false x y other h = h
+
+    by_words : (words : List (List ℕ)) → words_of bytes ≡ words → line_of_words board (words_of bytes) ≡ None
+    by_words [] h = ap (line_of_words board) h
+    by_words (word ∷ []) h = ap (line_of_words board) h ∙ alone (bytes_eq word (codes "value"))
+    by_words (word ∷ next ∷ more) h = ap (line_of_words board) h
+        ∙ first (bytes_eq word (codes "value")) _ _ (other_first (codes "value") bytes word next more never h)
+        (ap (option_map ALemma) (no_lemma board word (next ∷ more) (none word (next ∷ more) h)))
 
 -- ---- the claim
 

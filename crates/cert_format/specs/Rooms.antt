@@ -15,7 +15,7 @@ abbrev pub reason_in : ReasonRoom → PlainReason
 reason_in room = reason_by (λ _. map cite_of room.cites.items) (λ _. written_list room.members.items) room.kind
 
 abbrev pub lemma_in : LemmaRoom → PlainLemma
-lemma_in room = record { number = room.number; path = room.path.items; claim = room.claim; reason = reason_in room.reason }
+lemma_in room = record { number = room.number; path = room.path; claim = room.claim; reason = reason_in room.reason }
 
 -- what is in a room before a line was read into it
 abbrev pub unread_lemma : PlainLemma

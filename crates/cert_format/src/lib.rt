@@ -8,6 +8,7 @@ mod head;
 mod lines;
 mod named_moves;
 mod output;
+mod path_room;
 mod paths;
 mod reading;
 mod room;

@@ -6,20 +6,19 @@ ghost use Rattle.std.specs.List.{list_all};
 ghost use Rattle.proof_text.specs.Lemma.{ByOne, ByAll, allows};
 ghost use Rattle.proof_text.specs.Spelling.{is_printable, is_remark, claim_word};
 ghost use Rattle.proof_text.specs.declared.Verdict.TheVariants.{Draw};
-ghost use Rattle.proof_text.specs.Reading.{words_of, number_of, path_of, letter_word, cite_of, one_of, all_of, reason_of, lemma_of, with_two, verdict_of, read_any, read_line};
+ghost use Rattle.proof_text.specs.Reading.{words_of, number_of, letter_word, cite_of, one_of, all_of, reason_of, with_two, verdict_of, read_any, read_line};
 ghost use Rattle.cert_format.specs.Shape as shape;
 ghost use Rattle.cert_format.specs.Shape.{Reads};
 ghost use Rattle.cert_format.specs.Rooms.{reason_in, lemma_in, kept_in, ReadsInto};
-ghost use Rattle.cert_format.specs.Words.{HasNoClaim};
-ghost use Rattle.cert_format.specs.Names.{AreNamed};
+ghost use Rattle.cert_format.specs.Words.{HasNoClaim, lemma_behind};
+ghost use Rattle.text_words.specs.Words.{words_left};
 
-use crate::lines::{Cite, LONGEST_LINE, LONGEST_PATH, Line, MOST_CITES, Reason};
-use crate::named_moves::named_moves;
+use crate::lines::{Cite, LONGEST_LINE, Line, MOST_CITES, Reason};
 use crate::room::{Kind, LemmaRoom, ReasonRoom};
 use arrayvec::ArrayVec;
 use plan_lines::{LineFault, members_of};
 use proof_text::{Claim, Verdict, Version};
-use text_words::{Column, Size, number_between, split_path, split_word};
+use text_words::{Column, Size, split_number, split_path, split_word};
 
 /// No number of a proof is greater.
 const GREATEST_NUMBER: u32 = 10_000_000;
@@ -38,9 +37,8 @@ pub fn read_line(bytes: &[u8], size: Size, version: Version) -> Result<Line, Lin
     }
 }
 
-/// Reads a line of a version, a lemma into this room. All of the reading is one function, and apart from its callers: what
-/// they keep at hand would else be in its way at each byte.
-#[inline(never)]
+/// Reads a line of a version, a lemma into this room. It is made a part of each caller, as what it calls is of it.
+#[inline(always)]
 pub(crate) fn read_into(
     room: &mut LemmaRoom,
     bytes: &[u8],
@@ -67,21 +65,20 @@ fn allows(version: Version, room: &LemmaRoom, kind: Kind) -> bool
     }
 }
 
-/// Reads a line of any version, a lemma into this room.
+/// Reads a line of any version, a lemma into this room. Nearly all lines are lemmas, and no other begins with a number.
 #[inline(always)]
 fn read_any(room: &mut LemmaRoom, bytes: &[u8], size: Size) -> Result<Kind, LineFault>
     ensures { ReadsInto room.new result (read_any size bytes.now) }
 {
+    if let Some((number, rest)) = split_number(1, GREATEST_NUMBER, bytes) {
+        read_lemma(room, number, rest, size).ok_or(LineFault)?;
+        return Ok(Kind::Lemma);
+    }
     if is_remark(bytes) {
         return Ok(Kind::Remark);
     }
-    let (word, rest) = split_word(bytes);
-    let rest = rest.ok_or(LineFault)?;
-    if is_word(word, b"value") {
-        return Ok(Kind::Verdict(verdict_of(rest).ok_or(LineFault)?));
-    }
-    read_lemma(room, word, rest, size).ok_or(LineFault)?;
-    Ok(Kind::Lemma)
+    let verdict = behind(bytes, b"value ").ok_or(LineFault)?;
+    Ok(Kind::Verdict(verdict_of(verdict).ok_or(LineFault)?))
 }
 
 /// Whether the bytes are `#` and printable bytes behind it, and no more than a line may have.
@@ -102,57 +99,19 @@ fn are_printable(bytes: &[u8]) -> bool
     bytes.iter().all(|byte| (b' '..=b'~').contains(byte))
 }
 
-/// Reads a lemma's number and what stands behind it into this room.
+/// Reads a lemma with this number, of which this stands behind the space after the number, into this room.
 #[inline(always)]
-fn read_lemma(room: &mut LemmaRoom, number: &[u8], rest: &[u8], size: Size) -> Option<()>
-    ensures { option_map (λ _. lemma_in room.new) result ≡ lemma_of size (number.now ∷ words_of rest.now) }
+fn read_lemma(room: &mut LemmaRoom, number: u32, rest: Option<&[u8]>, size: Size) -> Option<()>
+    ensures { option_map (λ _. lemma_in room.new) result ≡ lemma_behind size number (words_left rest.entry) }
 {
-    let kept = named_moves(room.path.as_slice(), rest, size.cols());
+    let rest = rest?;
+    let kept = room.path.named(rest, size);
     let (path, rest) = split_path(rest, kept, size);
-    room.number = number_of(number)?;
-    read_path(&mut room.path, path, kept, size)?;
+    room.number = number;
+    room.path.read(path, kept, size)?;
     let (claim, rest) = split_claim(rest?)?;
     room.claim = claim;
     read_reason(&mut room.reason, rest, size)
-}
-
-/// The letters of at most a hundred columns, or `-` for none. So many moves of the path before are named by the same letters
-/// and stay, so that only the letters behind them are read.
-#[inline(always)]
-fn read_path(
-    path: &mut ArrayVec<Column, LONGEST_PATH>,
-    word: &[u8],
-    kept: usize,
-    size: Size,
-) -> Option<()>
-    requires moves { kept ≤ length path.old.items }
-    requires letters { kept ≤ length word.now }
-    requires named { AreNamed size.cols (take kept path.old.items) (take kept word.now) }
-    ensures { option_map (λ _. path.new.items) result ≡ path_of size.cols word.now }
-{
-    if is_word(word, b"-") {
-        path.clear();
-        return Some(());
-    }
-    if word.is_empty() || word.len() > LONGEST_PATH {
-        return None;
-    }
-    shorten(path, kept);
-    for letter in &word[kept..] {
-        path.push(size.column_named(*letter)?);
-    }
-    Some(())
-}
-
-/// Takes the moves behind the first so many off a path, one by one: mostly there are one or two.
-#[inline(always)]
-fn shorten(path: &mut ArrayVec<Column, LONGEST_PATH>, kept: usize)
-    requires { kept ≤ length path.old.items }
-    ensures { path.new.items ≡ take kept path.old.items }
-{
-    while path.len() > kept {
-        path.pop();
-    }
 }
 
 /// The column that a word of one letter names.
@@ -303,11 +262,14 @@ fn draw_of(bytes: &[u8]) -> Option<Verdict>
 fn number_of(word: &[u8]) -> Option<u32>
     ensures { result ≡ number_of word.now }
 {
-    number_between(1, GREATEST_NUMBER, word)
+    match split_number(1, GREATEST_NUMBER, word)? {
+        (number, None) => Some(number),
+        (_, Some(_)) => None,
+    }
 }
 
 #[inline(always)]
-fn is_word(word: &[u8], text: &[u8]) -> bool
+pub(crate) fn is_word(word: &[u8], text: &[u8]) -> bool
     ensures { result ≡ bytes_eq word.now text.now }
 {
     word == text

@@ -6,14 +6,13 @@ ghost use Rattle.proof_text.specs.Reading.{read_line};
 ghost use Rattle.cert_format.specs.Shape.{reason_of, reason_viewed, lemma_of, lemma_viewed};
 ghost use Rattle.cert_format.specs.Rooms.{reason_in, lemma_in, unread_lemma, Views};
 
-use crate::lines::{
-    Cite, LONGEST_PATH, Lemma, LemmaView, LineView, MOST_CITES, Reason, ReasonKind, ReasonView,
-};
+use crate::lines::{Cite, Lemma, LemmaView, LineView, MOST_CITES, Reason, ReasonKind, ReasonView};
+use crate::path_room::PathRoom;
 use crate::reading::read_into;
 use arrayvec::ArrayVec;
 use plan_lines::{Instance, LineFault, MOST_MEMBERS};
 use proof_text::{Claim, Verdict, Version};
-use text_words::{Column, Size};
+use text_words::Size;
 
 /// Room for one line.
 #[derive(Drop)]
@@ -96,7 +95,7 @@ impl ReasonRoom {
 #[derive(Drop)]
 pub(crate) struct LemmaRoom {
     pub(crate) number: u32,
-    pub(crate) path: ArrayVec<Column, LONGEST_PATH>,
+    pub(crate) path: PathRoom,
     pub(crate) claim: Claim,
     pub(crate) reason: ReasonRoom,
 }
@@ -108,7 +107,7 @@ impl LemmaRoom {
     {
         LemmaRoom {
             number: 0,
-            path: ArrayVec::new(),
+            path: PathRoom::new(),
             claim: Claim::WhiteWins,
             reason: ReasonRoom::new(),
         }
@@ -120,7 +119,7 @@ impl LemmaRoom {
     {
         LemmaView {
             number: self.number,
-            path: &self.path,
+            path: self.path.moves(),
             claim: self.claim,
             reason: self.reason.view(),
         }
@@ -132,7 +131,7 @@ impl LemmaRoom {
     {
         Lemma {
             number: self.number,
-            path: self.path,
+            path: self.path.into_moves(),
             claim: self.claim,
             reason: self.reason.into_reason(),
         }

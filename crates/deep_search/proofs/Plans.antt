@@ -1,7 +1,8 @@
 -- What the search rests on where it answers by a plan, and where there is none.
-use Rattle.std.proofs.Common.{◌≡◌, ◌↔◌, ℕ, true, false, List, Option, Some, None, IfSome, is_none, is_some, refl, sym, ap, ◌∙◌, subst, inl, inr}
-use Rattle.std.proofs.lemmas.Bool.{cases_Bool, and_parts}
-use Rattle.game_rules.specs.Position.{Position, played, end_of, same_side, side_to_move}
+use Rattle.std.proofs.Common.{◌≡◌, ◌↔◌, ℕ, true, false, List, length, Option, Some, None, IfSome, is_none, is_some, refl, sym, ap, ◌∙◌, subst, inl, inr}
+use Rattle.std.proofs.lemmas.Bool.{cases_Bool, and_parts, both_ways}
+use Rattle.game_rules.specs.Board.{below}
+use Rattle.game_rules.specs.Position.{Position, played, end_of, same_side, side_to_move, has_room, after_move, open_columns, moved}
 use Rattle.game_rules.specs.Value.{wins}
 use Rattle.game_rules.specs.declared.End.{End}
 use Rattle.game_rules.specs.declared.Side.{Side}
@@ -12,7 +13,9 @@ use Rattle.game_rules.specs.declared.Question.TheVariants.{WhiteWins, BlackWins}
 use Rattle.game_rules.specs.contracts.QuestionPartialEq.TheImpl as question_eq
 use Rattle.plan_rules.specs.Rules.{RuleInstance}
 use Rattle.plan_rules.specs.Plan.{is_plan}
-use Rattle.game_rules.proofs.Moves.{same_side_is}
+use Rattle.game_rules.proofs.Lists.{any_from, Among-map, Among-filter, Among-below}
+use Rattle.game_rules.proofs.Moves.{same_side_is, room_column}
+use Rattle.game_rules.proofs.Values.{wins_own}
 use Rattle.proof_text.specs.Lemma.{claim_side, claim_for, Reason, ByEnd, ByOne, ByAll, ByPlan, ByMirror, Lemma}
 use Rattle.proof_text.specs.Right.{Shown, HasReason}
 use Rattle.walk_rules.specs.Walk.{solved, Chosen, gave, no_plan, spent, choice_of, is_given}
@@ -66,6 +69,22 @@ some_open k side p some = of_end (end_of p) refl some
 pub solved_lost : (k : ℕ) (side : Side) (p : Position) → solved_within k side p ≡ true → false ≡ wins side p
 solved_lost k Black p h = cc
 solved_lost k White p h = sym (solved_not_won p k h)
+
+-- where the side to move wins, no plan is chosen: White doesn't win at a solved position, and is to move there
+pub won_open : (k : ℕ) (side : Side) (p : Position) → wins (side_to_move p) p ≡ true → solved_within k side p ≡ false
+won_open k side p won = elim (cases_Bool (solved_within k side p)) [
+  | inr open_here ↦ open_here
+  | inl solved_here ↦
+      let mover : side ≡ side_to_move p = same_side_is side (side_to_move p) (solved_own k side p solved_here) in
+      absurd (both_ways (wins side p) (sym (solved_lost k side p solved_here)) (ap (λ s. wins s p) mover ∙ won))
+]
+
+-- the side to move wins where it wins after a move into a column that has room
+pub won_by_move : (p : Position) (c : ℕ) → end_of p ≡ None → has_room p c ≡ true → wins (side_to_move p) (after_move p c) ≡ true
+    → wins (side_to_move p) p ≡ true
+won_by_move p c going room won = wins_own (side_to_move p) p going refl ∙ any_from (wins (side_to_move p)) (moved p) (after_move p c)
+    (Among-map (after_move p) (open_columns p) c
+    (Among-filter (has_room p) (below (length p.columns)) c (Among-below (length p.columns) c (room_column p c room)) room)) won
 
 -- and the plan that is chosen shows it
 pub plan_reason : (known : List Shown) (k : ℕ) (side : Side) (p : Position) (ws : List RuleInstance) → plan_for k side p ≡ Some ws

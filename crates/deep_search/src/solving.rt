@@ -2,7 +2,7 @@
 //! no more than the columns: neither a position's plan nor the text of a lemma stands in a frame. The table is asked
 //! before all else, so a position that another path led to costs one look-up.
 ghost use Rattle.std.specs.Prelude.{◌≡◌, ◌+◌, ◌<◌, ◌≤◌, true, false, List, Ok, Err, Some, None, length, map, IfOk, IfSome, OnOk};
-ghost use Rattle.game_rules.specs.Position.{Position as Men, played, empty_count, end_of, has_room, after_move, open_columns};
+ghost use Rattle.game_rules.specs.Position.{Position as Men, played, empty_count, end_of, side_to_move, has_room, after_move, open_columns};
 ghost use Rattle.game_rules.specs.Mirror.{mirror};
 ghost use Rattle.game_rules.specs.Questions.{side_asked};
 ghost use Rattle.game_rules.specs.Value.{wins};
@@ -21,7 +21,7 @@ ghost use Rattle.deep_search.specs.declared.solving.SearchStop.TheVariants as st
 ghost use Rattle.plan_rules.specs.declared.TheConstants.{MOST_MEMBERS};
 
 use arrayvec::ArrayVec;
-use board_bits::{Column, MOST_COLS, MOST_SQUARES, Position, Question, Side, centre_out};
+use board_bits::{Column, End, MOST_COLS, MOST_SQUARES, Position, Question, Side, centre_out};
 use cert_format::{Cite, Claim, LemmaOut, Reason, ReasonView};
 use io_ports::{Failed, Sink};
 use position_table::{Found, Table};
@@ -97,16 +97,18 @@ pub fn search<O: Sink>(
         mirror,
         order: centre_out(position.size()),
     };
+    let ended = position.ended();
     let mut path = ArrayVec::new();
     solve(
-        position, &aim, &mut path, budget, table, chooser, lemmas, out,
+        position, ended, &aim, &mut path, budget, table, chooser, lemmas, out,
     )
 }
 
-/// Asks the question at a position, to which `path` leads from the root.
+/// Asks the question at a position, to which `path` leads from the root, and which has ended as `ended` says.
 #[cycle(solve)]
 fn solve<O: Sink>(
     position: &Position,
+    ended: Option<End>,
     aim: &Aim,
     path: &mut ArrayVec<Column, MOST_SQUARES>,
     budget: &mut u32,
@@ -115,6 +117,7 @@ fn solve<O: Sink>(
     lemmas: &mut LemmaOut,
     out: &mut O,
 ) -> Result<Answer, SearchStop>
+    requires ended { ended ≡ end_of position.now }
     requires order { aim.now.order.items ≡ centre_out (length position.now.columns) }
     requires deep { length path.old.items + empty_count position.now ≤ longest_path }
     requires room { lemmas.old + budget.old ≤ greatest_number }
@@ -136,7 +139,7 @@ fn solve<O: Sink>(
         return Err(SearchStop::Spent);
     };
     *budget = left;
-    if let Some(found) = closed_here(position, path, aim, table, chooser, lemmas, out) {
+    if let Some(found) = closed_here(position, ended, path, aim, table, chooser, lemmas, out) {
         return found;
     }
     solve_by_moves(position, aim, path, budget, table, chooser, lemmas, out)
@@ -235,8 +238,9 @@ fn solve_after<O: Sink>(
         (moment table.old (O.written out.old)) (moment table.new (O.written out.new)) lemmas.new result }
 {
     let next = position.after(column);
+    let ended = next.ended_by(position.to_move());
     path.push(column);
-    let found = solve(&next, aim, path, budget, table, chooser, lemmas, out);
+    let found = solve(&next, ended, aim, path, budget, table, chooser, lemmas, out);
     path.pop();
     found
 }
@@ -247,6 +251,7 @@ fn solve_after<O: Sink>(
 #[inline(always)]
 fn closed_here<O: Sink>(
     position: &Position,
+    ended: Option<End>,
     path: &[Column],
     aim: &Aim,
     table: &mut Table,
@@ -254,6 +259,7 @@ fn closed_here<O: Sink>(
     lemmas: &mut LemmaOut,
     out: &mut O,
 ) -> Option<Result<Answer, SearchStop>>
+    requires ended { ended ≡ end_of position.now }
     requires deep { length path.now ≤ longest_path }
     requires room { lemmas.old < greatest_number }
     requires entries { IsTrueTable table.old lemmas.old }
@@ -275,7 +281,6 @@ fn closed_here<O: Sink>(
             lemma: kept.lemma,
         }));
     }
-    let ended = position.ended();
     if ended.is_none() && is_planned(position, aim, chooser) {
         let plan = Reason::Plan(chooser.plan());
         return Some(put_lemma(position, path, aim, false, &plan, table, lemmas, out));
@@ -326,16 +331,49 @@ fn keep(table: &mut Table, position: &Position, question: Question, found: Found
     let _memory = table.keep(position, question, found);
 }
 
-/// Whether a plan answers the question at a position: the chooser then has it.
+/// Whether a plan answers the question at a position: the chooser then has it. It isn't asked where White makes a line at
+/// once, since White wins there and no plan stands.
 #[inline(always)]
 fn is_planned(position: &Position, aim: &Aim, chooser: &mut Chooser) -> bool
+    requires going { end_of position.now ≡ None }
     ensures solved { result ≡ solved_within aim.now.reach (side_asked aim.now.question) position.now }
     ensures plan { result ≡ true → plan_for aim.now.reach (side_asked aim.now.question) position.now ≡ Some (written_list chooser.new) }
 {
     if aim.reach == 0 || aim.question == Question::BlackWins || position.to_move() == Side::Black {
         return false;
     }
+    if wins_at_once(position) {
+        return false;
+    }
     chooser.give(position, aim.reach)
+}
+
+/// Whether the side to move makes a line by one move.
+fn wins_at_once(position: &Position) -> bool
+    requires going { end_of position.now ≡ None }
+    ensures { result ≡ true → wins (side_to_move position.now) position.now ≡ true }
+{
+    for index in 0..position.size().cols() {
+        let column = position.size().nth_column(index);
+        if position.has_room(column) && wins_by(position, column) {
+            return true;
+        }
+    }
+    false
+}
+
+/// Whether the side to move makes a line by a move into a column that has room.
+#[inline(always)]
+fn wins_by(position: &Position, column: Column) -> bool
+    requires going { end_of position.now ≡ None }
+    requires room { has_room position.now column ≡ true }
+    ensures { result ≡ true → wins (side_to_move position.now) (after_move position.now column) ≡ true }
+{
+    let mover = position.to_move();
+    match position.after(column).ended_by(mover) {
+        Some(end) => mover.win() == end,
+        None => false,
+    }
 }
 
 /// Puts the lemma of a position, and answers with its number.

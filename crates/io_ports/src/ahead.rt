@@ -1,6 +1,6 @@
-//! The bytes that a reader of lines took from its source and hasn't given up, in a buffer of fixed size. They are moved
-//! to its start once half of it was given up, so no more bytes are ever moved than were given up before.
-ghost use Rattle.std.specs.Prelude.{◌≡◌, ◌↔◌, [], ◌+◌, ◌<◌, ◌≤◌, true, length, take, drop, IfOk, OnErr, OnOk};
+//! The bytes that a reader of lines took from its source and hasn't given up, in a buffer of fixed size. They are moved to
+//! its start before more are taken, which is only where they are no more than the beginning of a line.
+ghost use Rattle.std.specs.Prelude.{◌≡◌, ◌↔◌, [], ◌+◌, ◌-◌, slice_range, ◌<◌, ◌≤◌, true, length, take, drop, IfOk, OnErr, OnOk};
 ghost use Rattle.std.specs.Io.KnownBytes.{IsAtEnd};
 ghost use Rattle.io_ports.specs.Lines.{IsUndecided, IsWithinRead, Moves, line_len};
 ghost use Rattle.device_rules.specs.Devices.{CountsRead, HasCause};
@@ -22,14 +22,14 @@ pub(crate) struct Ahead {
 }
 
 impl Model for Ahead {
-    ghost use Rattle.std.specs.Prelude.{ℕ, List, slice_range, ◌≤◌, ◌<◌};
-    ghost use Rattle.io_ports.specs.declared.ahead.TheConstants.{LONGEST, CAPACITY};
+    ghost use Rattle.std.specs.Prelude.{ℕ, List, slice_range, ◌≤◌};
+    ghost use Rattle.io_ports.specs.declared.ahead.TheConstants.{CAPACITY};
 
     ghost Value = { List ℕ };
 
     ghost view = { λ ahead. slice_range ahead.buffer ahead.start ahead.end };
 
-    ghost invariant = { λ ahead. (ahead.start < LONGEST) × (ahead.start ≤ ahead.end) × (ahead.end ≤ CAPACITY) };
+    ghost invariant = { λ ahead. (ahead.start ≤ ahead.end) × (ahead.end ≤ CAPACITY) };
 }
 
 impl Ahead {
@@ -77,14 +77,7 @@ impl Ahead {
         requires { count ≤ length self.old }
         ensures { self.new ≡ drop count self.old }
     {
-        let (start, end) = (self.start + count, self.end);
-        if start < LONGEST {
-            self.start = start;
-        } else {
-            self.buffer.copy_within(start..end, 0);
-            self.start = 0;
-            self.end = end - start;
-        }
+        self.start += count;
     }
 
     /// Takes more bytes from the source behind those held, and answers how many: none at the end of the input.
@@ -99,9 +92,25 @@ impl Ahead {
         ensures held { length self.new ≤ CAPACITY }
         ensures cause { HasCause (S.faults source.old) (S.faults source.new) result }
     {
-        let end = self.end;
-        let count = source.read(&mut self.buffer[end..])?;
-        self.end = end + count;
+        let (start, end) = (self.start, self.end);
+        let held = end - start;
+        move_to_start(&mut self.buffer, start, end);
+        self.start = 0;
+        self.end = held;
+        let count = source.read(&mut self.buffer[held..])?;
+        self.end = held + count;
         Ok(count)
     }
+}
+
+/// Moves the bytes between two places to the start of the buffer.
+fn move_to_start(buffer: &mut [u8; CAPACITY], start: usize, end: usize)
+    requires ordered { start ≤ end }
+    requires within { end ≤ CAPACITY }
+    ensures { slice_range buffer.new 0 (end - start) ≡ slice_range buffer.old start end }
+{
+    if start == 0 {
+        return;
+    }
+    buffer.copy_within(start..end, 0);
 }

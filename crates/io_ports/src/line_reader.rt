@@ -71,6 +71,7 @@ impl Lines {
     /// only while what is held doesn't decide the next line: no whole line waits for more of the input, and behind a line
     /// that was read no more is held than what the last read gave. Behind the end of the input, which is the last line
     /// without a line feed, or `Done`, there is no line, and nothing is read.
+    #[inline(always)]
     pub fn next<S: Source>(&mut self, source: &mut S) -> LineGot
         ensures gives { Reads (pending self.old (S.left source.old) (S.last_read source.old))
             (pending self.new (S.left source.new) (S.last_read source.new))
@@ -163,6 +164,25 @@ fn is_end(got: LineGot, fed: bool) -> bool
 /// Reads until what is held decides the next line: a line feed stands in it, it is too long for a line, or it is all
 /// that is left. The answer is how many bytes stand before the line feed, or in all.
 fn gather<S: Source>(ahead: &mut Ahead, source: &mut S) -> Result<usize, Failed>
+    ensures len { IfOk result (λ n. n ≡ line_len ahead.new) }
+    ensures whole { IfOk result (λ n. n ≡ length ahead.new → n ≤ LONGEST → IsAtEnd (S.left source.new)) }
+    ensures moves { Moves (S.left source.old) (S.left source.new) ahead.old ahead.new }
+    ensures waiting { OnErr result (IsUndecided ahead.new) }
+    ensures held { length ahead.new ≤ most_held }
+    ensures few { OnOk result (IsWithinRead (S.last_read source.old) ahead.old → IsWithinRead (S.last_read source.new) ahead.new) }
+    ensures cause { HasCause (S.faults source.old) (S.faults source.new) result }
+{
+    let len = ahead.line_len(0);
+    if !ahead.is_undecided(len) {
+        return Ok(len);
+    }
+    gather_more(ahead, source)
+}
+
+/// The same where the bytes held mostly don't decide the next line. It stands apart, since few lines come to it.
+#[cold]
+#[inline(never)]
+fn gather_more<S: Source>(ahead: &mut Ahead, source: &mut S) -> Result<usize, Failed>
     ensures len { IfOk result (λ n. n ≡ line_len ahead.new) }
     ensures whole { IfOk result (λ n. n ≡ length ahead.new → n ≤ LONGEST → IsAtEnd (S.left source.new)) }
     ensures moves { Moves (S.left source.old) (S.left source.new) ahead.old ahead.new }

@@ -38,6 +38,19 @@ impl Plan {
         let kept = cover_accepted(p, list, zones.as_slice())?;
         Ok(Plan::of(p, list, zones, kept))
     }
+
+    /// Whether the list is a plan at the position, and why not, as `check` tells it: no plan is made, since it takes some
+    /// thousand bytes.
+    pub fn test(p: &Position, list: &[Instance]) -> Result<(), PlanFault>
+        requires { length list.now ≤ MOST_MEMBERS }
+        ensures { refusal_of result ≡ plan_refusal p.now (written_list list.now) }
+    {
+        position_accepted(p)?;
+        let mut zones = ArrayVec::new();
+        members_accepted(p, list, &mut zones)?;
+        cover_accepted(p, list, zones.as_slice())?;
+        Ok(())
+    }
 }
 
 /// Whether White is to move and the game goes on.

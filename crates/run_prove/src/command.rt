@@ -21,6 +21,7 @@ use position_table::Table;
 use run_frame::{MemoryStop, RunStop, Sought, read_game_input};
 use run_questions::{Chooser, front_for};
 use std::alloc::Global;
+use std::mem::forget;
 
 /// Reads a game and writes a proof of its position's value, from a search that may enter `nodes` positions, with plans from
 /// the first `reach` sets of zones. Where a number of slots is given, a front with so many grows before each question. The proof
@@ -66,6 +67,8 @@ fn prove_game<O: Sink>(alloc: Global, game: &Game, how: Proving, out: &mut O) ->
         &mut chooser,
         out,
     );
+    // the run ends here, so the table's memory needn't be given back entry by entry
+    forget(table);
     proved_of(proved)
 }
 

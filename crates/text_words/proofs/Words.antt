@@ -4,16 +4,18 @@ use Rattle.std.proofs.Common.{length, get_or, Option, Some, None, Bor, refl, sym
 use Rattle.std.specs.List.{position, position_or_len, onto_first, list_all}
 use Rattle.std.proofs.lemmas.List.{take_rest, get_or-take, length-take-le}
 use Rattle.std.proofs.lemmas.List.Folds.{list_all_at}
-use Rattle.std.proofs.lemmas.List.Sums.{position_or_len_is}
+use Rattle.std.proofs.Math.Seq.{take-length}
+use Rattle.std.proofs.lemmas.List.Sums.{position_or_len_is, passes_at_first}
 use Rattle.std.proofs.lemmas.List.Splits.{slice_split-cons_no, slice_split_first, length-slice_split}
 use Rattle.std.proofs.lemmas.Option.{cond_some}
-use Rattle.std.proofs.lemmas.Bool.{cases_Bool, eqb-true, ltb-true, lt-ltb, le-ltb, eq-eqb, ne_eqb}
+use Rattle.std.proofs.lemmas.Bool.{cases_Bool, cases_lt, both_ways, eqb-true, ltb-true, lt-ltb, le-ltb, eq-eqb, ne_eqb}
 use Rattle.game_rules.specs.Letters.{is_letter}
 use mathlib.Core.Bool.{true≢false}
 use Rattle.std.proofs.lemmas.Bool.Decides.{nat_tests}
 use borrow.Author.Count.{below_more}
 use Rattle.plan_text.specs.Words.{words_of}
 use Rattle.text_words.specs.Words.{AreNoSpaces}
+pub use Rattle.text_words.specs.Words.{words_left}
 
 abbrev pub is_space : ℕ → Bool
 is_space byte = byte == 32
@@ -77,11 +79,27 @@ uncut bytes h = one_part bytes (past (nat_lt (position_or_len is_space bytes) (l
     past true e h = cc
     past false e h = grind (arith, nat_tests)
 
--- ---- what is left of a row of words
+-- the first word reaches behind bytes that are no spaces
+pub first_word_past : (bytes word : List ℕ) (more : List (List ℕ)) (past : ℕ) → words_of bytes ≡ word ∷ more → AreNoSpaces bytes past → past ≤ length bytes
+    → (end : ℕ) × (past ≤ end) × (end ≤ length bytes) × (word ≡ take end bytes)
+first_word_past bytes word more past cut none within = elim (cases_lt (position_or_len is_space bytes) (length bytes)) [
+  | inl found ↦
+      let same : word ∷ more ≡ take (position_or_len is_space bytes) bytes ∷ words_of (drop (position_or_len is_space bytes + 1) bytes) =
+      sym cut ∙ slice_split_first is_space bytes 0 found in
+      (position_or_len is_space bytes, behind found, omega (arith, found), cc same)
+  | inr nowhere ↦
+      let same : word ∷ more ≡ bytes ∷ [] = sym cut ∙ one_part bytes nowhere in
+      let whole : word ≡ bytes = cc same in (length bytes, within, omega arith, whole ∙ sym (take-length bytes))
+]
+  where
+    behind : position_or_len is_space bytes < length bytes → past ≤ position_or_len is_space bytes
+    behind found = elim (cases_lt (position_or_len is_space bytes) past) [
+      | inl below ↦ absurd (both_ways (is_space (get_or bytes (position_or_len is_space bytes) 0)) (none (position_or_len is_space bytes) below)
+          (passes_at_first is_space bytes 0 found))
+      | inr reached ↦ reached
+    ]
 
-abbrev pub words_left : Option (Bor (List ℕ)) → List (List ℕ)
-words_left None = []
-words_left (Some bytes) = words_of bytes.now
+-- ---- what is left of a row of words
 
 abbrev pub bytes_left : Option (Bor (List ℕ)) → ℕ
 bytes_left None = 0

@@ -17,4 +17,4 @@ pub use game_text::push_game;
 pub use letters::letter_of;
 pub use line::{LINE_ROOM, LineText, push_number, push_text};
 pub use marks::split_once;
-pub use number::number_between;
+pub use number::{number_between, split_number};

@@ -1,7 +1,9 @@
-use Rattle.std.proofs.Common.{◌≡◌, not, sym, ap, ◌∙◌, subst, refl, arith}
+use Rattle.std.proofs.Common.{◌≡◌, not, is_none, sym, ap, ◌∙◌, subst, refl, arith}
+use Rattle.std.proofs.lemmas.Bool.{and_from}
 use Rattle.game_rules.specs.Position.{played}
 use Rattle.game_rules.specs.Questions.{side_asked}
 use Rattle.game_rules.proofs.Costs.{count_positive}
+use Rattle.game_rules.proofs.Ends.{none_behind}
 use Rattle.proof_text.specs.Lemma.{claim_for, ByAll}
 use Rattle.proof_text.specs.Right.{HasReason}
 use Rattle.deep_search.specs.Search.{version_for}
@@ -40,12 +42,16 @@ solve-returns-clause-wrote g t c root known along many fits =
 
 -- ---- solve_after
 
+pub solve_after-ended_by-ended-requires : goal.solve_after-ended_by-ended-requires
+solve_after-ended_by-ended-requires g t c =
+    none_behind c.args.position.now c.args.column c.after-next.ensures c.to_move.ensures (and_from _ _ (ap is_none c.requires.going) c.requires.open)
+
 pub solve_after-solve-found-requires : goal.solve_after-solve-found-requires
 solve_after-solve-found-requires g t c κs outlives =
     let p = c.args.position.now in let fewer = empty_after p c.args.column c.after-next.ensures c.requires.open in
     let in_order = order_after p c.args.column c.requires.order c.after-next.ensures in
     let deep = deep_after p c.args.column c.args.path.now.items c.after-next.ensures c.requires.open c.push.ensures.items c.requires.deep in
-    (omega (arith, fewer), (outlives, (in_order, (deep, (c.requires.room, c.requires.entries)))))
+    (omega (arith, fewer), (outlives, (c.ended_by-ended.ensures, (in_order, (deep, (c.requires.room, c.requires.entries))))))
 
 pub solve_after-returns-clause-below : goal.solve_after-returns-clause-below
 solve_after-returns-clause-below g t c = subst (λ n. OnlyBelow n c.args.table.now c.solve-found.new.table) (empty_after c.args.position.now c.args.column

@@ -24,7 +24,7 @@ pub put_lemma-requires-in-Some-ended-clause-true_now : goal.put_lemma-requires-i
 put_lemma-requires-in-Some-ended-clause-true_now g c =
     let side = side_asked c.args.aim.now.question in let end = c.in-Some-ended.end in
     end_told c.eq-yes.result c.side.result side c.win.result end c.eq-yes.ensures c.win.ensures c.side.ensures
-    ∙ ap (same_end (win_of side)) (sym (value_at_end c.args.position.now end (sym c.ended-ended.ensures ∙ c.in-Some-ended.is)))
+    ∙ ap (same_end (win_of side)) (sym (value_at_end c.args.position.now end (sym c.requires.ended ∙ c.in-Some-ended.is)))
 
 pub returns-in-Some-ended-clause-wrote : goal.returns-in-Some-ended-clause-wrote
 returns-in-Some-ended-clause-wrote g c root known along many fits =
@@ -33,7 +33,7 @@ returns-in-Some-ended-clause-wrote g c root known along many fits =
     (same_then _ _ _ c.look_up.ensures.same c.look_up_image.ensures.same) refl
     (c.put_lemma-in-Some-ended.ensures.wrote root known along many (fits_same c.args.table.now c.look_up_image.new.table
     (same_then _ _ _ c.look_up.ensures.same c.look_up_image.ensures.same) known fits)
-    (end_reason known p side c.eq-yes.result end (sym c.ended-ended.ensures ∙ c.in-Some-ended.is)
+    (end_reason known p side c.eq-yes.result end (sym c.requires.ended ∙ c.in-Some-ended.is)
     (end_told c.eq-yes.result c.side.result side c.win.result end c.eq-yes.ensures c.win.ensures c.side.ensures)))
 
 pub put_lemma-requires-clause-true_now : goal.put_lemma-requires-clause-true_now
@@ -61,7 +61,7 @@ put_lemma-requires-in-Some-look_up_image-clause-planned g c =
     sym (plan_none reach side c.args.position.now (elim c.else-is_none.branch [
       | else-is_none-via-then-is_none+else-is_planned w ↦ sym w.is_planned.ensures.solved ∙ w.if-is_planned.false
       | else-is_none-via-else-is_none w ↦ some_open reach side c.args.position.now
-          (ap is_some (sym c.ended-ended.ensures) ∙ c.is_none.ensures ∙ ap not w.if-is_none.false)
+          (ap is_some (sym c.requires.ended) ∙ c.is_none.ensures ∙ ap not w.if-is_none.false)
     ]))
 
 pub returns-in-Some-look_up_image-clause-wrote : goal.returns-in-Some-look_up_image-clause-wrote

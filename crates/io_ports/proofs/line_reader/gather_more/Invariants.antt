@@ -1,6 +1,6 @@
 use Rattle.std.proofs.Common.{◌≡◌, ◌+◌, ◌-◌, ◌≤◌, length}
 use Rattle.io_ports.specs.Lines.{longest_line, line_len, IsWithinRead, Moves}
-use Rattle.io_ports.proofs.line_reader.gather.Given as goal
+use Rattle.io_ports.proofs.line_reader.gather_more.Given as goal
 
 -- no byte was lost, the count hasn't fallen, and no more was taken than has to be
 abbrev pub invariant-loop-ahead : goal.invariant-loop-ahead

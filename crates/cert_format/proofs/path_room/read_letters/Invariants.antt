@@ -1,6 +1,6 @@
 use Rattle.std.proofs.Common.{◌≡◌, ◌+◌, take, length}
 use Rattle.cert_format.specs.Names.{AreNamed}
-use Rattle.cert_format.proofs.reading.read_path.Given as goal
+use Rattle.cert_format.proofs.path_room.read_letters.Given as goal
 
 abbrev pub invariant-loop-letter : goal.invariant-loop-letter
 invariant-loop-letter l = record {

@@ -1,5 +1,5 @@
 use Rattle.std.proofs.Common.{◌≡◌, ◌≤◌, length, take}
-use Rattle.cert_format.proofs.reading.shorten.Given as goal
+use Rattle.cert_format.proofs.path_room.shorten.Given as goal
 
 abbrev pub invariant-loop-path : goal.invariant-loop-path
 invariant-loop-path l = (l.kept ≤ length l.path.items) × (take l.kept l.path.items ≡ take l.kept l.fn.path.items)
