@@ -10,16 +10,8 @@
 
 #include "better.h"
 #include "game.h"
+#include "options.h"
 #include "writer.h"
-
-static const char usage[] =
-    "usage: solve [-o FILE] [--memory MIB] [--lemmas N] [--book FILE] [--mirror N] [--reach N] [--order N]\n"
-    "             [--closure N] [--covers] [--high N] [--probe N] [--part N] [--no-reuse] [--look N] [--rounds N]\n"
-    "             [--nodes N] [--starts N] [--sweeps N] [--seed N] [--seconds N] [--format N] [--start FILE]\n"
-    "             [--also FILE]... [--below MOVES]... [--beside] [--changes FILE FILE]... [--graph MIB] [--heat N]\n"
-    "             [--quiet] [GAME]\n"
-    "Reads the text of a game from the file GAME or from standard input, and writes a proof of its value to FILE or\n"
-    "to standard output. docs/SOLVED.md says more.\n";
 
 // The file that a name stands for, behind any links, which needn't be there.
 static std::string file_behind(std::string name) {
@@ -229,53 +221,11 @@ class Prover {
 };
 
 static void run(int count, char** words) {
-    Options options;
-    std::string input, output;
-    for (int n = 1; n < count; ++n) {
-        std::string word = words[n];
-        auto number = [&](uint64_t least, uint64_t most) { return number_of(word, words[++n], least, most); };
-        if (word == "--help") {
-            fputs(usage, stdout);
-            return;
-        }
-        if (word == "--memory") options.memory = number(1, 1 << 20) << 20;
-        else if (word == "--lemmas") options.lemmas = number(1, 10'000'000);
-        else if (word == "--graph") options.graph = number(0, 1 << 20) << 20;
-        else if (word == "--heat") options.heat = number(0, 10'000);
-        else if (word == "--look") options.look = int(number(0, 63));
-        else if (word == "--rounds") options.rounds = int(number(0, 1000));
-        else if (word == "--nodes") options.nodes = number(0, 1'000'000'000);
-        else if (word == "--seconds") options.seconds = number(0, 1'000'000'000);
-        else if (word == "--format") options.format = int(number(1, 2));
-        else if (word == "--sweeps") options.sweeps = number(0, 1'000'000'000);
-        else if (word == "--starts") options.starts = int(number(0, 63));
-        else if (word == "--seed") options.seed = number(0, 1'000'000'000);
-        else if (word == "--closure") options.closure = number(0, 1'000'000);
-        else if (word == "--part") options.part = number(0, 1'000'000'000);
-        else if (word == "--high") options.high = int(number(0, 63));
-        else if (word == "--probe") options.probe = number(1, 1'000'000'000);
-        else if (word == "--mirror") options.mirror = int(number(0, 63));
-        else if (word == "--reach") options.reach = unsigned(number(0, 1'000'000));
-        else if (word == "--order") options.order = int(number(0, 4));
-        else if (word == "--covers") options.covers = true;
-        else if (word == "--no-reuse") options.reuses = false;
-        else if (word == "--quiet") progress.is_quiet = true;
-        else if (word == "--book" && n + 1 < count && *words[n + 1]) options.book = words[++n];
-        else if (word == "--start" && n + 1 < count && *words[n + 1]) options.start = words[++n];
-        else if (word == "--also" && n + 1 < count && *words[n + 1]) options.also.push_back(words[++n]);
-        else if (word == "--below" && n + 1 < count) options.below.emplace_back().moves = words[++n];
-        else if (word == "--beside") options.beside = true;
-        else if (word == "--changes" && n + 2 < count) {
-            options.changes.push_back(words[++n]);
-            options.changes.push_back(words[++n]);
-        }
-        else if (word == "-o" && n + 1 < count && *words[n + 1]) output = words[++n];
-        else if (word[0] == '-' && word != "-") throw Fault("unknown option " + word + "; --help lists them");
-        else if (input.empty()) input = word;
-        else throw Fault("more than one game is named");
-    }
-    Game game = game_of(input);
-    with_board(game, [&](const auto& board) { Prover(board, game, options).run(output); });
+    Request asked = read_words(count, words);
+    if (asked.wants_help) return print_help();
+    if (asked.wants_table) return print_table();
+    Game game = game_of(asked.input);
+    with_board(game, [&](const auto& board) { Prover(board, game, asked.options).run(asked.output); });
 }
 
 int main(int count, char** words) {
