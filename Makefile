@@ -1,15 +1,17 @@
 # `make` builds the program where it isn't built, which takes `rt`. `make try` shows one example in a minute, from
-# sources that nothing has proved here. `make check-proofs` lets the program check the proofs of proofs/. `make install
-# PREFIX=..` puts the program, its manual page, its documents, the examples and the tools below that folder, and `make
-# uninstall PREFIX=..` takes them away. DESTDIR is put before PREFIX.
+# sources that nothing has proved here. `make tools` builds the fast search. `make check-proofs` lets the program check
+# the proofs of proofs/. `make install PREFIX=..` puts all of it below that folder, and `make uninstall PREFIX=..` takes
+# it away. DESTDIR is put before PREFIX.
 PREFIX ?= /usr/local
 to = $(DESTDIR)$(PREFIX)
-docs = share/doc/victor
+docs = $(to)/share/doc/victor
+library = $(to)/lib/victor
+place = $(shell .ci/python-folder "$(PREFIX)")
+python = $(to)$(place)
 # What the documents speak of, but for the sources and what is made.
 texts = README.md CHANGELOG.md CONTRIBUTING.md examples/runs $(wildcard docs/*.md docs/img/*.png examples/*.* \
-    examples/*/*.* examples/*/*/*.* tools/boards.py tools/lemmas.py tools/settle.py tools/victor.py tools/proof.html tools/board.html tools/tests/*.py \
-    tools/solve/Makefile tools/solve/usual.book tools/solve/*.h tools/solve/*.cpp proofs/*)
-tools = $(addprefix tools/,ask.py batch board check.py draw.py game parts pictures play.py sheet test why words.py)
+    examples/*/*.* examples/*/*/*.* tools/solve/Makefile tools/solve/usual.book tools/solve/*.h tools/solve/*.cpp)
+package = $(wildcard tools/victor/*.py tools/victor/*.html tools/victor/py.typed tools/victor/commands/*.py)
 
 all:
 	./victor check <examples/usual-board.proof >/dev/null
@@ -22,17 +24,37 @@ try:
 check-proofs:
 	@.ci/proofs
 
-# The folder of the documents is laid out as the checkout, with a link to the program, so that their commands work there.
+# The fast search, which decides far more positions than `victor prove`, and the program that makes books for it.
+tools:
+	@echo "victor: building tools/solve with $(or $(CXX),g++), in about a minute; make install installs it too" >&2
+	@$(MAKE) --no-print-directory -C tools/solve
+
+# What is needed to run stands in bin, lib and share/victor. The folder of the documents is laid out as the checkout, with
+# links to these, so that the documents' commands work there.
 install: all
-	install -d "$(to)/bin" "$(to)/share/man/man1" "$(to)/$(docs)"
-	install -m 755 crates/victor/out/victor "$(to)/bin/victor"
-	install -m 644 victor.1 "$(to)/share/man/man1/victor.1"
-	for file in $(texts); do install -D -m 644 "$$file" "$(to)/$(docs)/$$file" || exit 1; done
-	for file in $(tools); do install -D -m 755 "$$file" "$(to)/$(docs)/$$file" || exit 1; done
-	ln -sf ../../../bin/victor "$(to)/$(docs)/victor"
+	install -d "$(to)/bin" "$(docs)/tools/solve"
+	install -D -m 755 crates/victor/out/victor "$(library)/victor"
+	install -m 644 crates/victor/out/victor.sources "$(library)/victor.sources"
+	install -m 755 tools/why "$(library)/why"
+	install -m 755 victor "$(to)/bin/victor"
+	install -m 755 .ci/proofs "$(to)/bin/victor-check-proofs"
+	install -D -m 644 victor.1 "$(to)/share/man/man1/victor.1"
+	for file in proofs/*; do install -D -m 644 "$$file" "$(to)/share/victor/$$file" || exit 1; done
+	for file in $(texts); do install -D -m 644 "$$file" "$(docs)/$$file" || exit 1; done
+	for file in $(package); do install -D -m 644 "$$file" "$(python)/$${file#tools/}" || exit 1; done
+	install -m 755 tools/check.py "$(python)/victor_check.py"
+	sed 's|^HERE = .*|HERE = str(pathlib.Path(__file__).resolve().parents[1]) + "$(place)"|' tools/lab >"$(to)/bin/victor-lab"
+	chmod 755 "$(to)/bin/victor-lab"
+	[ ! -x tools/solve/solve ] || install -m 755 tools/solve/solve "$(to)/bin/victor-solve"
+	[ ! -x tools/solve/solve ] || ln -srf "$(to)/bin/victor-solve" "$(docs)/tools/solve/solve"
+	ln -srf "$(to)/bin/victor" "$(docs)/victor"
+	ln -srf "$(to)/bin/victor-lab" "$(docs)/tools/lab"
+	ln -srf "$(python)/victor_check.py" "$(docs)/tools/check.py"
+	ln -srfn "$(to)/share/victor/proofs" "$(docs)/proofs"
 
 uninstall:
-	rm -f "$(to)/bin/victor" "$(to)/share/man/man1/victor.1"
-	rm -rf "$(to)/$(docs)"
+	cd "$(to)/bin" && rm -f victor victor-lab victor-solve victor-check-proofs
+	rm -f "$(to)/share/man/man1/victor.1" "$(python)"/victor_check.py "$(python)"/__pycache__/victor_check.*
+	rm -rf "$(docs)" "$(library)" "$(to)/share/victor" "$(python)/victor"
 
-.PHONY: all try check-proofs install uninstall
+.PHONY: all try tools check-proofs install uninstall
