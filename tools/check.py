@@ -117,7 +117,7 @@ def read_game(text):
     fixed(b" ")
     rows = number(ROWS)
     length = 4
-    if text[place:place + 1] == b" ":
+    if text[place : place + 1] == b" ":
         place += 1
         length = number(LENGTHS)
     fixed(b"\nmoves ")
@@ -209,7 +209,7 @@ def read_instance(board, text):
 
 
 def claimeven(made, board, squares):
-    (i, r), = squares
+    ((i, r),) = squares
     made.zone = board.bit(i, r) * 3
     made.upper = board.bit(i, r) << 1
     made.barred = (made.upper,)
@@ -265,7 +265,7 @@ def baseclaim(made, board, squares):
 
 
 def vertical(made, board, squares):
-    (i, r), = squares
+    ((i, r),) = squares
     made.empty = board.bit(i, r) * 3
     made.barred = (made.empty,)
     return r % 2 == 0 and r < board.rows
@@ -283,8 +283,15 @@ def specialbefore(made, board, squares):
 
 
 SHAPES = {
-    "CE": claimeven, "BI": baseinverse, "LI": lowinverse, "HI": highinverse, "BC": baseclaim, "VE": vertical,
-    "AE": group_rule, "BE": group_rule, "SB": specialbefore,
+    "CE": claimeven,
+    "BI": baseinverse,
+    "LI": lowinverse,
+    "HI": highinverse,
+    "BC": baseclaim,
+    "VE": vertical,
+    "AE": group_rule,
+    "BE": group_rule,
+    "SB": specialbefore,
 }
 
 
@@ -361,8 +368,18 @@ class Checker:
         letter = b"[a-%s]" % board.letters[-1].encode()
         number = rb"([1-9][0-9]{0,7})"
         self.lemma_form = re.compile(
-            number + rb" (-|" + letter + rb"{1,100}) ([WB][+-]) (?:(end)|one (" + letter + rb") " + number +
-            rb"|all((?: " + letter + rb":[1-9][0-9]{0,7}){1,10})|plan((?: [!-~]+){1,300})|mirror " + number + rb")"
+            number
+            + rb" (-|"
+            + letter
+            + rb"{1,100}) ([WB][+-]) (?:(end)|one ("
+            + letter
+            + rb") "
+            + number
+            + rb"|all((?: "
+            + letter
+            + rb":[1-9][0-9]{0,7}){1,10})|plan((?: [!-~]+){1,300})|mirror "
+            + number
+            + rb")"
         )
         self.verdict_form = re.compile(
             rb"value (?:(win|loss) " + number + rb"|draw " + number + rb" " + number + rb"|(unknown))"
@@ -727,7 +744,8 @@ class Closed:
 
 def main():
     parser = argparse.ArgumentParser(
-        prog="check.py", description="A second checker of proofs, which answers as `victor check` does.",
+        prog="check.py",
+        description="A second checker of proofs, which answers as `victor check` does.",
         epilog="Statuses and texts are those of docs/PROOFS.md. Nothing is proved of this program.",
     )
     parser.add_argument("proof", nargs="?", help="a file with a proof; without it, standard input")

@@ -1,5 +1,5 @@
-"""What a person does on the page of tools/board, in Chromium by selenium. It takes the address of a page that is served, and is
-run by test_board.py with the system's Python, which has selenium where Debian's package is installed."""
+"""What a person does on the page of `lab board`, in Chromium by selenium. It takes the address of a served page,
+and is run by test_board.py with the system's Python, which has selenium where Debian's package is installed."""
 
 import sys
 import time
@@ -37,10 +37,12 @@ def main():
 
     def click(column):
         """A click on the board, which may be drawn again just then."""
+
         def clicked(_):
             square = page.find_element(By.CSS_SELECTOR, "[data-column=%s] rect" % column)
             ActionChains(page).move_to_element(square).click().perform()
             return True
+
         WebDriverWait(page, 10, 0.1, [StaleElementReferenceException]).until(clicked)
 
     def choose(name):

@@ -2,6 +2,7 @@
 
 import os
 import re
+import stat
 import subprocess
 import sys
 import tempfile
@@ -9,25 +10,23 @@ import unittest
 
 HERE = os.path.dirname(os.path.abspath(__file__))
 TOOLS = os.path.dirname(HERE)
+TOP = os.path.dirname(TOOLS)
+LAB = os.path.join(TOOLS, "lab")
 sys.path[:0] = [HERE, TOOLS]
-import boards  # noqa: E402
+import victor  # noqa: E402
 
 # What the tools keep to be quicker is kept for the time of the tests.
 KEPT = tempfile.TemporaryDirectory(prefix="kept-")
 os.environ["XDG_CACHE_HOME"] = KEPT.name
-EXAMPLES = os.path.join(boards.TOP, "examples")
-PROGRAM = None
 
 
 def program():
     """The program to compare with. VICTOR names another than that of this checkout."""
-    global PROGRAM
-    PROGRAM = PROGRAM or boards.program(os.environ.get("VICTOR"))
-    return PROGRAM
+    return victor.find_program()
 
 
 def example(*names):
-    return os.path.join(EXAMPLES, *names)
+    return os.path.join(TOP, "examples", *names)
 
 
 def read(path):
@@ -35,15 +34,29 @@ def read(path):
         return source.read()
 
 
+def write(path, text, is_program=False):
+    with open(path, "w", encoding="ascii") as out:
+        out.write(text)
+    if is_program:
+        os.chmod(path, stat.S_IRWXU)
+    return str(path)
+
+
 def shipped_lemmas():
     """How many lemmas the shipped proof of the usual board has, by the table beside it."""
-    return int(re.search(r"`accepted win (\d+)`", read(os.path.join(boards.TOP, "proofs", "README.md"))).group(1))
+    return int(re.search(r"`accepted win (\d+)`", read(os.path.join(TOP, "proofs", "README.md"))).group(1))
+
+
+def command_of(name, *words):
+    """The words of a subcommand of `lab`, or of the second checker."""
+    return [sys.executable, *([os.path.join(TOOLS, name)] if name == "check.py" else [LAB, name]), *words]
 
 
 def tool(name, *words, text=None, **more):
     """Runs a tool. Its standard input is the text, or empty."""
-    run = subprocess.run([sys.executable, os.path.join(TOOLS, name), *words], input=text or "", stdout=subprocess.PIPE,
-                         stderr=subprocess.PIPE, encoding="utf-8", timeout=170, **more)
+    run = subprocess.run(
+        command_of(name, *words), input=text or "", capture_output=True, encoding="utf-8", timeout=170, **more
+    )
     return run.returncode, run.stdout, run.stderr
 
 
@@ -56,15 +69,21 @@ def heard(pipe, call):
 
 
 class ToolTest(unittest.TestCase):
-    def refuses(self, name, *words, said="", text=None):
+    def folder_for(self, prefix="tools test-"):
+        """A folder for the time of the test."""
+        folder = tempfile.TemporaryDirectory(prefix=prefix)
+        self.addCleanup(folder.cleanup)
+        return folder.name
+
+    def refuses(self, name, *words, said="", text=None, **more):
         """Status 2, and one line on standard error that says this."""
-        status, out, err = tool(name, *words, text=text)
+        status, out, err = tool(name, *words, text=text, **more)
         self.assertEqual((status, out), (2, ""), err)
         self.assertEqual(err.count("\n"), 1, err)
-        self.assertTrue(err.startswith(name + ": "), err)
+        self.assertTrue(err.startswith(f"{name if name == 'check.py' else 'lab ' + name}: "), err)
         self.assertIn(said, err)
 
     def helps(self, name):
         status, out, err = tool(name, "--help")
         self.assertEqual((status, err), (0, ""))
-        self.assertIn("usage: " + name, out)
+        self.assertIn(f"usage: {name if name == 'check.py' else 'lab ' + name}", out)

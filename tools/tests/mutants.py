@@ -13,8 +13,11 @@ import sys
 
 HERE = os.path.dirname(os.path.abspath(__file__))
 sys.path.insert(0, os.path.dirname(HERE))
-import boards  # noqa: E402
 import check  # noqa: E402
+import victor  # noqa: E402
+from victor import Game  # noqa: E402
+
+TOP = os.path.dirname(os.path.dirname(HERE))
 
 ALPHABET = b"abcdefghijWB+-0123456789 :,\n\rCEBILHVASenolhuvd#~\x7f\x00\xff"
 INSTANCE_SIZES = ((4, 4), (4, 4), (4, 6), (5, 4), (6, 4), (6, 6), (7, 6), (4, 8), (4, 10), (10, 4))
@@ -22,7 +25,7 @@ INSTANCE_SIZES = ((4, 4), (4, 4), (4, 6), (5, 4), (6, 4), (6, 6), (7, 6), (4, 8)
 
 def random_game(rng, cols, rows, most, length=4):
     """The moves of a random game that goes on, of at most so many."""
-    game = boards.Game(cols, rows, length=length)
+    game = Game((cols, rows, length))
     for _ in range(rng.randrange(most + 1)):
         column = rng.choice(game.open_columns())
         longer = game.after(column)
@@ -89,7 +92,7 @@ def near_plan(rng, cols=None, rows=None):
     game = random_game(rng, cols, rows, rng.choice((0, most // 3, most, most)), rng.choice((4, 4, 5)))
     board, white, black, _ = check.read_game(game.text().encode())
     if game.side == "B" and rng.random() < 0.95:
-        game = boards.Game.on(game.size, game.moves[:-1])
+        game = Game(game.size, game.moves[:-1])
         board, white, black, _ = check.read_game(game.text().encode())
     fitting = fitting_instances(board, white, black)
     zones = [pair for pair in fitting if pair[1].zone]
@@ -101,8 +104,14 @@ def near_plan(rng, cols=None, rows=None):
     empty = board.all & ~(white | black)
     while empty and zones:
         first = empty & -empty
-        taken = next((pair for pair in zones if pair[1].zone & first
-                      and all(check.may_stand(board, pair[1], other[1]) for other in members)), None)
+        taken = next(
+            (
+                pair
+                for pair in zones
+                if pair[1].zone & first and all(check.may_stand(board, pair[1], other[1]) for other in members)
+            ),
+            None,
+        )
         if taken is None:
             break
         members.append(taken)
@@ -127,7 +136,7 @@ def near_plan(rng, cols=None, rows=None):
             texts.insert(place, random_instance(rng, board))
         elif texts:
             texts.append(texts.pop(place - 1))
-    texts = texts[:rng.choice((299, 300, 300))] or ["CE:a1"]
+    texts = texts[: rng.choice((299, 300, 300))] or ["CE:a1"]
     return ("victor 1\n%s1 - W- plan %s\nvalue unknown\n" % (game.text(), " ".join(texts))).encode()
 
 
@@ -142,20 +151,28 @@ def change(rng, proof):
     how = rng.randrange(16)
     if how == 0 and line:  # a byte
         at = rng.randrange(len(line))
-        lines[place] = line[:at] + bytes([rng.choice(ALPHABET)]) + line[at + 1:]
+        lines[place] = line[:at] + bytes([rng.choice(ALPHABET)]) + line[at + 1 :]
     elif how == 1:  # a byte more, or one fewer
         at = rng.randrange(len(line) + 1)
         more = bytes([rng.choice(ALPHABET)]) if rng.random() < 0.5 else b""
-        lines[place] = line[:at] + more + line[at + (not more):]
+        lines[place] = line[:at] + more + line[at + (not more) :]
     elif how in (2, 3):  # a number
         at = [k for k, word in enumerate(words) if word.strip(b"abcdefghij:").isdigit()]
         if at:
             k = rng.choice(at)
             digits = words[k].strip(b"abcdefghij:")
-            other = rng.choice((int(digits) + 1, max(int(digits) - 1, 0), rng.randint(0, len(lines)), 10_000_001,
-                                10_000_000, 10 ** rng.randint(1, 20)))
+            other = rng.choice(
+                (
+                    int(digits) + 1,
+                    max(int(digits) - 1, 0),
+                    rng.randint(0, len(lines)),
+                    10_000_001,
+                    10_000_000,
+                    10 ** rng.randint(1, 20),
+                )
+            )
             spelling = b"%d" % other if rng.random() < 0.9 else b"0%d" % other
-            words[k] = words[k][:len(words[k]) - len(digits)] + spelling
+            words[k] = words[k][: len(words[k]) - len(digits)] + spelling
             lines[place] = b" ".join(words)
     elif how in (4, 5):  # a claim
         at = [k for k, word in enumerate(words) if word in (b"W+", b"W-", b"B+", b"B-")]
@@ -183,8 +200,7 @@ def change(rng, proof):
         lines[place] = b" ".join(words)
     elif how == 9 and len(words) > 4:  # cites or instances: one fewer, one doubled, two swapped
         k, m = rng.randrange(4, len(words)), rng.randrange(4, len(words))
-        rng.choice((lambda: words.pop(k), lambda: words.insert(k, words[m]),
-                    lambda: words.insert(k, words.pop(m))))()
+        rng.choice((lambda: words.pop(k), lambda: words.insert(k, words[m]), lambda: words.insert(k, words.pop(m))))()
         lines[place] = b" ".join(words)
     elif how == 10:
         lines.pop(place)
@@ -194,16 +210,31 @@ def change(rng, proof):
         other = rng.randrange(len(lines))
         lines[place], lines[other] = lines[other], lines[place]
     elif how == 13:  # cut
-        return proof[:rng.randrange(len(proof) + 1)]
+        return proof[: rng.randrange(len(proof) + 1)]
     elif how == 14:
         long = (b"x" * rng.choice((8192, 8193)), b"#" + b"y" * rng.choice((8191, 8192)))
-        lines.insert(place, rng.choice((b"", b"# a remark", b"#", b"#\t", b"value unknown", b"value win 1",
-                                        b"value loss 2", b"value draw 1 2", *long)))
+        lines.insert(
+            place,
+            rng.choice(
+                (
+                    b"",
+                    b"# a remark",
+                    b"#",
+                    b"#\t",
+                    b"value unknown",
+                    b"value win 1",
+                    b"value loss 2",
+                    b"value draw 1 2",
+                    *long,
+                )
+            ),
+        )
     else:  # the verdict
         count = max(len(lines) - 5, 1)
         one, two = rng.randint(1, count + 1), rng.randint(1, count + 1)
-        word = rng.choice((b"value win %d" % one, b"value loss %d" % one, b"value draw %d %d" % (one, two),
-                           b"value unknown"))
+        word = rng.choice(
+            (b"value win %d" % one, b"value loss %d" % one, b"value draw %d %d" % (one, two), b"value unknown")
+        )
         lines[-2 if len(lines) > 1 else 0] = word
     return b"\n".join(lines)
 
@@ -234,7 +265,7 @@ def change_plan(rng, proof, board):
 
 
 def example_proofs():
-    folder = os.path.join(boards.TOP, "examples")
+    folder = os.path.join(TOP, "examples")
     names = [os.path.join(folder, name) for name in sorted(os.listdir(folder)) if name.endswith(".proof")]
     refused = os.path.join(folder, "refused")
     names += [os.path.join(refused, name) for name in sorted(os.listdir(refused)) if name.endswith(".proof")]
@@ -304,8 +335,8 @@ def answer_of(words, proof):
 
 def main():
     if len(sys.argv) != 3:
-        sys.exit(boards.complain("mutants.py", "two words: a seed and a count"))
-    program = boards.program()
+        sys.exit("mutants.py: two words: a seed and a count")
+    program = victor.find_program()
     seen, differ = {}, 0
     for proof in mutants(program, int(sys.argv[1]), int(sys.argv[2])):
         here, there = answer_here(proof), answer_of([program, "check"], proof)

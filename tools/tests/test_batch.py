@@ -1,4 +1,4 @@
-"""tools/batch: a list of positions in, a folder of proofs out; killed in the middle, and resumed."""
+"""lab batch: a list of positions in, a folder of proofs out; killed in the middle, and resumed."""
 
 import csv
 import hashlib
@@ -6,17 +6,16 @@ import os
 import random
 import shutil
 import signal
-import stat
 import subprocess
-import sys
 import tempfile
 import time
 import unittest
 
-from common import TOOLS, ToolTest, boards, heard, program, read, tool
+from common import LAB, TOP, ToolTest, command_of, heard, program, read, tool, write
 import mutants
+from victor import Game, Size
 
-COUNT = 60
+COUNT = 28
 PARALLEL = shutil.which("parallel")
 with_make = unittest.skipUnless(shutil.which("make"), "make isn't there: apt-get install make")
 # A stand-in for `sbatch --wait SCRIPT`: it runs each task of the array, one after the other.
@@ -29,13 +28,6 @@ for task in $(seq "$tasks"); do
 done
 exit "$status"
 """
-
-
-def write(path, text, is_program=False):
-    with open(path, "w", encoding="ascii") as out:
-        out.write(text)
-    if is_program:
-        os.chmod(path, stat.S_IRWXU)
 
 
 def letters_of(name):
@@ -62,7 +54,7 @@ class BatchTest(ToolTest):
         write(self.list, "# positions\n\n" + "\r\n".join(lines + [self.names[3]]) + "\n")
         # A program that takes its time before each proof, so that a run can be killed in the middle.
         self.slow = os.path.join(self.folder, "slow victor")
-        write(self.slow, "#!/bin/bash\n[ \"$1\" != prove ] || sleep 0.05\nexec %s \"$@\"\n" % program(), True)
+        write(self.slow, '#!/bin/bash\n[ "$1" != prove ] || sleep 0.05\nexec %s "$@"\n' % program(), True)
 
     def words(self, *more, slow=False):
         victor = self.slow if slow else program()
@@ -99,14 +91,16 @@ class BatchTest(ToolTest):
         return rows
 
     def kill_and_resume(self, engine, **more):
-        words = [sys.executable, os.path.join(TOOLS, "batch"), *self.words("--engine", engine, slow=True)]
-        run = subprocess.Popen(words, stdout=subprocess.DEVNULL, stderr=subprocess.DEVNULL, start_new_session=True,
-                               **more)
+        words = command_of("batch", *self.words("--engine", engine, slow=True))
+        run = subprocess.Popen(
+            words, stdout=subprocess.DEVNULL, stderr=subprocess.DEVNULL, start_new_session=True, **more
+        )
         limit = time.monotonic() + 60
         while len(self.proofs()) < COUNT // 4 and run.poll() is None and time.monotonic() < limit:
             time.sleep(0.01)
         os.killpg(run.pid, signal.SIGKILL)
         run.wait()
+        time.sleep(0.5)  # steps that had begun end by themselves
         found = self.proofs()
         self.assertGreaterEqual(len(found), COUNT // 4)
         self.assertLess(len(found), COUNT)
@@ -127,12 +121,12 @@ class BatchTest(ToolTest):
         rows = self.kill_and_resume("make")
         # Nothing is left to do.
         status, out, _ = tool("batch", *self.words())
-        said = "batch: %d positions, %d done before, %d to prove"
+        said = "lab batch: %d positions, %d done before, %d to prove"
         self.assertEqual((status, out.split("\n")[0]), (0, said % (COUNT, COUNT, 0)))
         # A proof that was cut, one that was changed and one that is gone are made anew.
         paths = [os.path.join(self.out, self.names[n] + ".proof") for n in (5, 6, 7)]
         text = read(paths[0])
-        write(paths[0], text[:len(text) // 2])
+        write(paths[0], text[: len(text) // 2])
         text = read(paths[1])
         write(paths[1], text.replace("victor 1", "victor 2"))
         os.remove(paths[2])
@@ -164,8 +158,8 @@ class BatchTest(ToolTest):
         self.assertEqual(self.proofs(), [])
         commands = read(os.path.join(self.out, ".work", "commands")).split("\n")[:-1]
         self.assertEqual(len(commands), 4)
-        self.assertNotIn(os.path.dirname(TOOLS), "".join(commands))
-        elsewhere = {**os.environ, "BATCH": os.path.join(TOOLS, "batch"), "VICTOR": program()}
+        self.assertNotIn(TOP, "".join(commands))
+        elsewhere = {**os.environ, "LAB": LAB, "VICTOR": program()}
         run = subprocess.run(["bash", "-c", commands[1]], stdin=subprocess.DEVNULL, cwd=self.out, env=elsewhere)
         self.assertEqual(run.returncode, 0)
         self.assertEqual(self.proofs(), [self.names[0]])
@@ -174,13 +168,13 @@ class BatchTest(ToolTest):
     def test_all_positions(self):
         """How many positions there are after so many moves, by a count that is written apart."""
         for size, most in (("4x4", 6), ("7x6", 4)):
-            cols, rows, _length = boards.board_size(size)
+            cols, rows, _length = Size.read(size)
             level = {frozenset(): []}
             for _ in range(most):
                 further = {}
                 for moves in level.values():
-                    for i in boards.Game(cols, rows, moves).open_columns():
-                        game = boards.Game(cols, rows, moves + [i])
+                    for i in Game((cols, rows), moves).open_columns():
+                        game = Game((cols, rows), [*moves, i])
                         if not game.is_over:
                             further.setdefault(frozenset(game.men.items()), game.moves)
                 level = further
@@ -188,7 +182,7 @@ class BatchTest(ToolTest):
             self.assertEqual((status, err), (0, ""))
             names = out.split()
             self.assertEqual(len(names), len(level))
-            games = [boards.Game(cols, rows, [int(digit) - 1 for digit in name]) for name in names]
+            games = [Game((cols, rows), [int(digit) - 1 for digit in name]) for name in names]
             self.assertEqual({frozenset(game.men.items()) for game in games}, set(level))
 
     @with_make
@@ -197,7 +191,7 @@ class BatchTest(ToolTest):
         write(self.list, "-\n4\n")
         words = [self.list, self.out, "--board", "4x4", "--by", "prove", "--reach", "0", "--victor", program()]
         status, out, _ = tool("batch", *words, "--nodes", "50")
-        self.assertEqual((status, out.split("\n")[1]), (0, "batch: 2 unknown"))
+        self.assertEqual((status, out.split("\n")[1]), (0, "lab batch: 2 unknown"))
         status, out, _ = tool("batch", *words, "--nodes", "50")
         self.assertIn("2 done before, 0 to prove", out)
         status, out, _ = tool("batch", *words, "--nodes", "60")
@@ -207,7 +201,7 @@ class BatchTest(ToolTest):
 
     @with_make
     def test_what_is_no_file(self):
-        """The table is written behind a link and to a pipe as it stands, as are proofs behind links; no proof is a pipe."""
+        """The table is written behind a link and to a pipe, as are proofs behind links; no proof is a pipe."""
         name = self.names[0]
         write(self.list, name + "\n")
         os.mkdir(self.out)
@@ -234,15 +228,19 @@ class BatchTest(ToolTest):
         write(self.list, "\n".join(self.names[:2]) + "\n")
         write(self.slow, "#!/bin/bash\nexit 7\n", True)
         status, out, err = tool("batch", *self.words(slow=True))
-        self.assertEqual((status, out.split("\n")[1], self.proofs()), (1, "batch: 2 missing", []), err)
+        self.assertEqual((status, out.split("\n")[1], self.proofs()), (1, "lab batch: 2 missing", []), err)
         self.assertIn("ended with status 7", err)
 
     @with_make
     def test_refused_proof(self):
         """A proof that a checker refuses is in the table as such, and is run again."""
         write(self.list, self.names[0] + "\n")
-        write(self.slow, "#!/bin/bash\n[ \"$1\" = prove ] || exec %s $1\n%s prove | sed 's/^value .*/value win 1/'\n"
-              % (program(), program()), True)
+        write(
+            self.slow,
+            "#!/bin/bash\n[ \"$1\" = prove ] || exec %s $1\n%s prove | sed 's/^value .*/value win 1/'\n"
+            % (program(), program()),
+            True,
+        )
         status, out, err = tool("batch", *self.words(slow=True))
         row = self.rows()[0]
         if row["accepted"] == "both":
@@ -257,9 +255,11 @@ class BatchTest(ToolTest):
         name = self.names[0]
         write(self.list, "48\n%s\n444 2 3\nxyz\n" % name)
         status, out, err = tool("batch", *self.words())
-        said = ("batch: line 1: move 2: the board has no column 8 (columns count from 1)",
-                "batch: line 3: '3' stands behind the position: a line has one word, and maybe a score",
-                "batch: line 4: move 1: 'x' is no column of this board (a to g)")
+        said = (
+            "lab batch: line 1: move 2: the board has no column 8 (columns count from 1)",
+            "lab batch: line 3: '3' stands behind the position: a line has one word, and maybe a score",
+            "lab batch: line 4: move 1: 'x' is no column of this board (a to g)",
+        )
         self.assertEqual((status, tuple(err.split("\n")[:3])), (1, said), out)
         self.assertEqual([row["position"] for row in self.rows()], [name])
 

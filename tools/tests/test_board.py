@@ -1,4 +1,4 @@
-"""tools/board: what it answers, to whom, and that no program is left behind."""
+"""lab board: what it answers, to whom, and that no program is left behind."""
 
 import http.client
 import json
@@ -6,15 +6,18 @@ import os
 import shutil
 import signal
 import subprocess
-import sys
 import time
 import unittest
 
-from common import TOOLS, ToolTest, program, shipped_lemmas
+from common import TOOLS, ToolTest, command_of, program, shipped_lemmas
+
 
 SYSTEM_PYTHON = "/usr/bin/python3"
-BROWSER = shutil.which("chromedriver") and os.path.exists(SYSTEM_PYTHON) and subprocess.run(
-    [SYSTEM_PYTHON, "-c", "import selenium"], stderr=subprocess.DEVNULL).returncode == 0
+BROWSER = (
+    shutil.which("chromedriver")
+    and os.path.exists(SYSTEM_PYTHON)
+    and subprocess.run([SYSTEM_PYTHON, "-c", "import selenium"], stderr=subprocess.DEVNULL).returncode == 0
+)
 PLAN = "plan CE:a1 CE:a3 CE:b1 CE:b3 BI:c1,d1 LI:c2-c4,d2-d4"
 
 
@@ -32,7 +35,7 @@ def children_of(pid):
 
 class BoardTest(ToolTest):
     def setUp(self):
-        words = [sys.executable, os.path.join(TOOLS, "board"), "--port", "0", "--seconds", "8", "--victor", program()]
+        words = command_of("board", "--port", "0", "--seconds", "8", "--victor", program())
         self.server = subprocess.Popen(words, stdout=subprocess.PIPE, stdin=subprocess.DEVNULL, encoding="ascii")
         self.addCleanup(self.end)
         self.address = self.server.stdout.readline().strip()
@@ -89,16 +92,30 @@ class BoardTest(ToolTest):
         draw = {"size": "4x4", "moves": "cdccddcdaaaabb", "by": "proof", "holder": "black"}
         draw["proof"] = self.call("/ask", size="4x4", moves=draw["moves"])[1]["proof"]
         self.assertEqual(self.call("/play", answered="b", **draw)[1]["lines"], ["b3 b4 full"])
-        for change, said in (({"holder": "black"}, "NoClaim"), ({"holder": "grey"}, "white or black"),
-                             ({"proof": 999}, "no proof 999"), ({"proof": "../1"}, "a number"), ({"proof": None}, "a number"),
-                             ({"moves": "-"}, "another game"), ({"answered": "b"}, "ColumnFull"), ({"answered": "a\n"}, "letters")):
+        for change, said in (
+            ({"holder": "black"}, "NoClaim"),
+            ({"holder": "grey"}, "white or black"),
+            ({"proof": 999}, "no proof 999"),
+            ({"proof": "../1"}, "a number"),
+            ({"proof": None}, "a number"),
+            ({"moves": "-"}, "another game"),
+            ({"answered": "b"}, "ColumnFull"),
+            ({"answered": "a\n"}, "letters"),
+        ):
             status, answer = self.call("/play", **{**win, "answered": "", **change})
             self.assertEqual(status, 400, change)
             self.assertIn(said, answer["fault"])
 
     def test_bad_questions(self):
-        for question in ({}, {"size": "4x4"}, {"size": "5x5", "moves": ""}, {"size": "4x4", "moves": "zz"},
-                         {"size": "4x4", "moves": "aaaaa"}, {"size": 4, "moves": ""}, {"size": "4x4", "moves": "", "page": "x"}):
+        for question in (
+            {},
+            {"size": "4x4"},
+            {"size": "5x5", "moves": ""},
+            {"size": "4x4", "moves": "zz"},
+            {"size": "4x4", "moves": "aaaaa"},
+            {"size": 4, "moves": ""},
+            {"size": "4x4", "moves": "", "page": "x"},
+        ):
             status, answer = self.call("/ask", **question)
             self.assertEqual(status, 400, question)
             self.assertTrue(answer["fault"], question)
@@ -140,10 +157,16 @@ class BoardTest(ToolTest):
             time.sleep(0.1)
         self.fail("it didn't come to that")
 
-    @unittest.skipUnless(BROWSER, "Chromium and selenium aren't there: apt-get install chromium-driver python3-selenium")
+    @unittest.skipUnless(
+        BROWSER, "Chromium and selenium aren't there: apt-get install chromium-driver python3-selenium"
+    )
     def test_in_a_browser(self):
-        has_threat = subprocess.run([program(), "threat"], stdin=subprocess.DEVNULL, stderr=subprocess.DEVNULL).returncode == 3
-        has_follow = "follow" in subprocess.run([program()], stdin=subprocess.DEVNULL, capture_output=True, text=True).stderr
+        has_threat = (
+            subprocess.run([program(), "threat"], stdin=subprocess.DEVNULL, stderr=subprocess.DEVNULL).returncode == 3
+        )
+        has_follow = (
+            "follow" in subprocess.run([program()], stdin=subprocess.DEVNULL, capture_output=True, text=True).stderr
+        )
         words = [SYSTEM_PYTHON, os.path.join(TOOLS, "tests", "browser_board.py"), self.address]
         words += ["threat"] * has_threat + ["follow"] * has_follow
         made = subprocess.run(words, stdout=subprocess.PIPE, stderr=subprocess.STDOUT, encoding="utf-8", timeout=160)

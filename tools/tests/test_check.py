@@ -7,7 +7,7 @@ import subprocess
 import sys
 import unittest
 
-from common import TOOLS, ToolTest, boards, example, program, read, tool
+from common import TOOLS, ToolTest, example, program, read
 import check
 import mutants
 
@@ -33,7 +33,9 @@ class CheckTest(ToolTest):
 
     def test_games(self):
         """The games that are refused, as games of proofs: the kind and the place."""
-        for folder, name in [(example(part), name) for part in ("refused", "five") for name in os.listdir(example(part))]:
+        for folder, name in [
+            (example(part), name) for part in ("refused", "five") for name in os.listdir(example(part))
+        ]:
             if name.endswith(".txt"):
                 text = b"victor 1\n" + read(os.path.join(folder, name)).encode()
                 there = mutants.answer_of([program(), "check"], text)
@@ -72,11 +74,20 @@ class CheckTest(ToolTest):
         """Lines at the limit and past it, a text without an end, and one whose last line feed is missing."""
         head = b"victor 1\nboard 4 4\nmoves -\n"
         for text in (
-            b"", b"victor 1", b"x" * 9000, head, head[:-1], head + b"value unknown", head + b"value unknown\n\n",
-            head + b"#" * 8192 + b"\nvalue unknown\n", head + b"#" * 8193 + b"\nvalue unknown\n",
+            b"",
+            b"victor 1",
+            b"x" * 9000,
+            head,
+            head[:-1],
+            head + b"value unknown",
+            head + b"value unknown\n\n",
+            head + b"#" * 8192 + b"\nvalue unknown\n",
+            head + b"#" * 8193 + b"\nvalue unknown\n",
             head + b"#" * 3_000_000,
-            b"victor 1\nboard 4 4\nmoves " + b"a" * 9000, b"victor 1\n" + b"board " * 2000 + b"\nmoves -\n",
-            b"victor 1\nboard " + b"4" * 300 + b" 4\nmoves -\n", b"victor 1\r\nboard 4 4\r\nmoves -\r\n",
+            b"victor 1\nboard 4 4\nmoves " + b"a" * 9000,
+            b"victor 1\n" + b"board " * 2000 + b"\nmoves -\n",
+            b"victor 1\nboard " + b"4" * 300 + b" 4\nmoves -\n",
+            b"victor 1\r\nboard 4 4\r\nmoves -\r\n",
         ):
             self.assertEqual(mutants.answer_here(text), mutants.answer_of([program(), "check"], text), text[:80])
 

@@ -11,39 +11,56 @@ import subprocess
 import tempfile
 import unittest
 
-from common import boards, program, read
+from common import TOP, program, read, tool
+from victor.commands import COMMANDS
+
 
 DOCUMENTS = ("README.md",) + tuple(
-    "docs/%s.md" % name for name in (
-        "USE", "TOOLS", "PLAY", "CHOOSER", "FRONT", "SOLVED", "TEACH", "PROOFS", "RULES", "FIVE", "MIRROR", "THREAT", "FOLLOW"))
-COMMAND = re.compile(r"(tools/|\./victor|printf|echo|make|moves=|tr |set -o|python3|apt-get|\.ci/) *")
+    "docs/%s.md" % name
+    for name in (
+        "USE",
+        "TOOLS",
+        "PLAY",
+        "CHOOSER",
+        "FRONT",
+        "SOLVED",
+        "TEACH",
+        "PROOFS",
+        "RULES",
+        "FIVE",
+        "MIRROR",
+        "THREAT",
+        "FOLLOW",
+    )
+)
+COMMAND = re.compile(r"(tools/|LAB=|pip |\./victor|printf|echo|make|moves=|tr |set -o|python3|apt-get|\.ci/) *")
 # The beginning of a command, and why it isn't run.
 LEFT_OUT = {
     "make": "it builds, installs, or takes 40 minutes; .ci/launcher and test_solve.py try the short ones",
     ".ci/run": "this is a part of it",
     "apt-get": "it installs",
+    "pip ": "it installs; test_install.py tries it",
     "./victor check < tools/solve/usual.txt": "it needs the proof that takes half an hour",
     "xz ": "it unpacks a large proof, which .ci/proofs does",
     "./victor check < usual-board.txt": "it needs that proof",
     "tools/check.py usual-board.txt": "the same, and takes a minute",
-    "tools/batch": "tools/tests/test_batch.py runs it, and Slurm is elsewhere",
-    "tools/parts": "tools/tests/test_parts.py runs it, and it takes tools/solve",
-    "tools/ask.py dddcccbb": "it takes tools/solve, which isn't copied there",
-    "python3 tools/tests/mutants.py": "it takes minutes",
-    "tools/board": "it serves until it is interrupted; tools/tests/test_board.py asks it",
-    "tools/play.py": "it asks a person; tools/tests/test_play.py plays it",
+    "tools/lab batch": "test_batch.py runs it, and Slurm is elsewhere",
+    "LAB=": "the same",
+    "tools/lab parts": "test_parts.py runs it, and it takes tools/solve",
+    "tools/lab sheet 434343 efbaebdcfcee": "it takes tools/solve, which isn't copied there",
+    "tools/lab board": "it serves until it is interrupted; test_board.py asks it",
+    "tools/lab play": "it asks a person; test_play.py plays it",
     "./victor play": "it asks a person; a test below plays it",
     "./victor threat": "the same",
-    "tools/ask.py --seconds 4 ab": "it takes tools/solve too",
 }
 # What stands there before a document's commands.
 FIRST = {
     "docs/FOLLOW.md": "xz -dc proofs/usual-board.txt.xz > usual-board.txt",
     "docs/SOLVED.md": "./victor prove < examples/usual-board.txt > proof.txt",
     "docs/USE.md": r"printf 'board 7 6\nmoves dcdcdc\n' > game.txt; ./victor prove < game.txt > proof.txt;"
-                   r" printf 'board 7 6\r\nmoves dcdcdc\r\n' > game-of-windows.txt; moves=dcdcdc",
+    r" printf 'board 7 6\r\nmoves dcdcdc\r\n' > game-of-windows.txt; moves=dcdcdc",
     "docs/TOOLS.md": r"printf 'board 4 4\nmoves -\n' | tee game.txt one.txt > two.txt;"
-                     r" printf 'board 4 4\nmoves -\nplan CE:a1 CE:a3 CE:b1 CE:b3 BI:c1,d1 LI:c2-c4,d2-d4\nc\n' > moves.txt",
+    r" printf 'board 4 4\nmoves -\nplan CE:a1 CE:a3 CE:b1 CE:b3 BI:c1,d1 LI:c2-c4,d2-d4\nc\n' > moves.txt",
 }
 
 
@@ -87,11 +104,14 @@ def runs_of(block):
 
 
 def commands_of(name):
-    path = os.path.join(boards.TOP, name)
+    path = os.path.join(TOP, name)
     runs = [run for block in blocks_of(read(path)) for run in runs_of(block)] if os.path.exists(path) else []
     # tools/solve has to be made first, which tools/tests/test_solve.py does.
-    return [(line, shown) for line, shown in runs
-            if "tools/solve/solve" not in line and not any(line.startswith(words) for words in LEFT_OUT)]
+    return [
+        (line, shown)
+        for line, shown in runs
+        if "tools/solve/solve" not in line and not any(line.startswith(words) for words in LEFT_OUT)
+    ]
 
 
 def is_shown(shown, made):
@@ -101,7 +121,8 @@ def is_shown(shown, made):
         return True
     lines = made.split("\n")
     return len(shown) <= len(lines) and all(
-        line.startswith(part[:-2]) if part.endswith(" ..") else line == part for part, line in zip(shown, lines))
+        line.startswith(part[:-2]) if part.endswith(" ..") else line == part for part, line in zip(shown, lines)
+    )
 
 
 class DocumentsTest(unittest.TestCase):
@@ -111,14 +132,22 @@ class DocumentsTest(unittest.TestCase):
         for name in ("tools", "examples", "docs", "proofs"):
             # Copied, so that the tools take the program beside them.
             others = shutil.ignore_patterns("solve", "wrong-bodies", "__pycache__")
-            shutil.copytree(os.path.join(boards.TOP, name), os.path.join(self.folder, name), ignore=others)
+            shutil.copytree(os.path.join(TOP, name), os.path.join(self.folder, name), ignore=others)
 
     def link(self, path):
         os.symlink(path, os.path.join(self.folder, "victor"))
 
     def bash(self, line, text=None, **more):
-        made = subprocess.run(["bash", "-c", line], cwd=self.folder, input=text or "", stdout=subprocess.PIPE,
-                              stderr=subprocess.STDOUT, encoding="utf-8", timeout=150, **more)
+        made = subprocess.run(
+            ["bash", "-c", line],
+            cwd=self.folder,
+            input=text or "",
+            stdout=subprocess.PIPE,
+            stderr=subprocess.STDOUT,
+            encoding="utf-8",
+            timeout=150,
+            **more,
+        )
         return made.returncode, made.stdout
 
     def try_commands(self, name, environment=None):
@@ -147,25 +176,42 @@ class DocumentsTest(unittest.TestCase):
 
     def test_use(self):
         """The page shows what the launcher says on a terminal."""
-        launcher = os.path.join(boards.TOP, "victor")
+        launcher = os.path.join(TOP, "victor")
         if os.environ.get("VICTOR") or not os.access(launcher, os.X_OK):
             self.skipTest("another program than that of the checkout is tested")
         program()  # built where it isn't
         self.link(launcher)
         self.try_commands("docs/USE.md", dict(os.environ, VICTOR_EXPLAIN="1"))
 
+    def test_tools(self):
+        """The page on the tools and their help go together: each subcommand with what it does and its own example, and
+        no option that isn't there."""
+        text = read(os.path.join(TOP, "docs", "TOOLS.md"))
+        self.assertLessEqual(text.count("\n"), 200)
+        helped = ""
+        for command, what in COMMANDS.items():
+            self.assertIn(f"| `{command}` | {what} |\n", text)
+            status, out, err = tool(command, "--help")
+            self.assertEqual((status, err), (0, ""))
+            example = out.rstrip().split("\nexample:\n  ")[1]
+            self.assertIn(f"\n    {example}\n", text)
+            self.assertRegex(text, rf"\n## {command}: ")
+            helped += out
+        for option in set(re.findall(r"`(--[a-z]+)", text)) - {"--help", "--no"}:
+            self.assertRegex(helped, rf"{option}\b", option)
+
     def test_play(self):
         """The games of the page on playing: each line that is typed there, and what is answered."""
         self.link(program())
-        text = read(os.path.join(boards.TOP, "docs", "PLAY.md"))
+        text = read(os.path.join(TOP, "docs", "PLAY.md"))
         lines = [line.strip() for line in text.split("\n") if line.startswith("    ")]
-        start = lines[lines.index("$ ./victor play") + 1:][:3]
+        start = lines[lines.index("$ ./victor play") + 1 :][:3]
         answers = [line for line in lines if re.fullmatch(r"[a-j]\d+ [a-j]\d+( won| full)?", line)]
         typed = [line for line in lines if re.fullmatch("[a-j]", line)]
         first = self.bash("./victor play", text="\n".join(start + typed))
-        self.assertEqual(first, (0, "".join(line + "\n" for line in answers[:len(typed)])))
+        self.assertEqual(first, (0, "".join(line + "\n" for line in answers[: len(typed)])))
         second = self.bash("./victor play", text="\n".join(start + ["c", "c", "c", "d"]))
-        self.assertEqual(second, (0, "".join(line + "\n" for line in answers[len(typed):-2])))
+        self.assertEqual(second, (0, "".join(line + "\n" for line in answers[len(typed) : -2])))
         third = ["board 4 4", "moves cccdcd", "plan CE:a1 CE:a3 CE:b1 CE:b3 CE:d3 AE:a2h", "a", "b"]
         self.assertEqual(self.bash("./victor play", text="\n".join(third)), (0, "\n".join(answers[-2:]) + "\n"))
         fewer = ["board 4 4", "moves cccdcd", "plan CE:a1 CE:a3 CE:b1 CE:b3 CE:d3"]
@@ -174,9 +220,9 @@ class DocumentsTest(unittest.TestCase):
     def test_threat(self):
         """The game of the page on the odd threat."""
         self.link(program())
-        text = read(os.path.join(boards.TOP, "docs", "THREAT.md"))
+        text = read(os.path.join(TOP, "docs", "THREAT.md"))
         lines = [line.strip() for line in text.split("\n") if line.startswith("    ")]
-        start = lines[lines.index("$ ./victor threat") + 1:]
+        start = lines[lines.index("$ ./victor threat") + 1 :]
         answers = [line for line in start if re.fullmatch(r"[a-j]\d+ [a-j]\d+( won)?", line)]
         typed = [line for line in start if re.fullmatch("[a-j]", line)]
         self.assertEqual(len(typed), len(answers))

@@ -1,4 +1,4 @@
-"""tools/draw.py: pictures of positions, plans and duels, and the page of a proof in a real browser."""
+"""lab draw: pictures of positions, plans and duels, and the page of a proof in a real browser."""
 
 import os
 import random
@@ -10,7 +10,7 @@ import tempfile
 import unittest
 import xml.etree.ElementTree
 
-from common import ToolTest, boards, example, heard, program, read, tool
+from common import TOP, ToolTest, example, heard, program, read, tool
 import mutants
 
 SVG = "{http://www.w3.org/2000/svg}"
@@ -24,21 +24,34 @@ def texts_of(svg):
 
 def count_of(svg, name, **attributes):
     root = xml.etree.ElementTree.fromstring(svg)
-    return sum(all(piece.get(key.replace("_", "-")) == value for key, value in attributes.items())
-               for piece in root.iter(SVG + name))
+    return sum(
+        all(piece.get(key.replace("_", "-")) == value for key, value in attributes.items())
+        for piece in root.iter(SVG + name)
+    )
 
 
 class PositionTest(ToolTest):
     def test_text(self):
         # The board of docs/PLAY.md after cccdcd.
-        wanted = "\n".join((" 4 . . W .", " 3 . . W .", " 2 . . B B", " 1 . . W B", "   a b c d",
-                            "4 by 4 after cccdcd: White is to move")) + "\n"
-        self.assertEqual(tool("draw.py", "position", "--text", text="board 4 4\nmoves cccdcd\n"), (0, wanted, ""))
-        status, out, _ = tool("draw.py", "position", "--text", example("four-in-a-column.txt"))
+        wanted = (
+            "\n".join(
+                (
+                    " 4 . . W .",
+                    " 3 . . W .",
+                    " 2 . . B B",
+                    " 1 . . W B",
+                    "   a b c d",
+                    "4 by 4 after cccdcd: White is to move",
+                )
+            )
+            + "\n"
+        )
+        self.assertEqual(tool("draw", "position", "--text", text="board 4 4\nmoves cccdcd\n"), (0, wanted, ""))
+        status, out, _ = tool("draw", "position", "--text", example("four-in-a-column.txt"))
         self.assertEqual((status, out.split("\n")[5]), (0, "4 by 4 after abababa: White has four in a line"))
 
     def test_svg(self):
-        status, out, err = tool("draw.py", "position", text="board 10 10\nmoves abababa")
+        status, out, err = tool("draw", "position", text="board 10 10\nmoves abababa")
         self.assertEqual((status, err), (0, ""))
         self.assertEqual(count_of(out, "circle", fill="#ffffff"), 4)
         self.assertEqual(count_of(out, "circle", fill="#2b2b2b"), 3)
@@ -47,26 +60,26 @@ class PositionTest(ToolTest):
         self.assertIn("10", texts_of(out))
 
     def test_faults(self):
-        self.helps("draw.py")
-        self.refuses("draw.py", "position", text="board 4 4\nmoves aaaaa\n", said="move 5: column a is full")
-        self.refuses("draw.py", "position", text="board 5 5\nmoves a\n", said="no board has")
-        self.refuses("draw.py", "position", text="", said="there is no position")
-        self.refuses("draw.py", "position", text="board 4 4\nmoves \u00e9\n", said="ASCII")
-        self.refuses("draw.py", "position", "/no/such/file", said="there is no file")
-        self.refuses("draw.py", "picture", said="picture")
-        self.refuses("draw.py", "position", "--html", text="board 4 4\nmoves a\n", said="only a proof")
-        self.refuses("draw.py", "proof", "--text", text="", said="a page alone")
+        self.helps("draw")
+        self.refuses("draw", "position", text="board 4 4\nmoves aaaaa\n", said="move 5: column a is full")
+        self.refuses("draw", "position", text="board 5 5\nmoves a\n", said="no board has")
+        self.refuses("draw", "position", text="", said="there is no position")
+        self.refuses("draw", "position", text="board 4 4\nmoves \u00e9\n", said="ASCII")
+        self.refuses("draw", "position", "/no/such/file", said="there is no file")
+        self.refuses("draw", "picture", said="picture")
+        self.refuses("draw", "position", "--html", text="board 4 4\nmoves a\n", said="only a proof")
+        self.refuses("draw", "proof", "--text", text="", said="a page alone")
 
 
 class PlanTest(ToolTest):
     def test_example(self):
         text = read(example("explain", "empty-board.explained"))
-        status, out, err = tool("draw.py", "plan", "--text", text=text)
+        status, out, err = tool("draw", "plan", "--text", text=text)
         self.assertEqual((status, err), (0, ""))
         self.assertEqual(out.split("\n")[2:7], [" 4 2 4 6 6", " 3 2 4 6 6", " 2 1 3 6 6", " 1 1 3 5 5", "   a b c d"])
         self.assertIn("6  LI:c2-c4,d2-d4  Lowinverse, owns c2 c3 c4 d2 d3 d4\n", out)
         self.assertIn("a1h by 5  BI:c1,d1\n", out)
-        status, out, err = tool("draw.py", "plan", text=text)
+        status, out, err = tool("draw", "plan", text=text)
         texts = texts_of(out)
         for line in text.split("\n")[7:-1]:
             name, _, member = line.split(" ")
@@ -83,7 +96,7 @@ class PlanTest(ToolTest):
         for game, rule, size in (("board 4 6\nmoves dccdcd\n", "VE", 4), ("board 4 4\nmoves cccdcd\n", "AE", 4)):
             made = subprocess.run([program(), "explain"], input=game.encode(), stdout=subprocess.PIPE).stdout.decode()
             self.assertIn(" %s:" % rule, made)
-            status, out, err = tool("draw.py", "plan", text=made)
+            status, out, err = tool("draw", "plan", text=made)
             self.assertEqual((status, err), (0, ""))
             # The line of each standing instance, and one in the key.
             members = [member for member in made.split("\n")[0].split(" ")[1:] if member[:2] == rule]
@@ -92,13 +105,13 @@ class PlanTest(ToolTest):
     def test_lines_of_five(self):
         """The plan and the duel of a board with lines of five, which their texts don't tell."""
         words = ("--text", "--game", example("five", "wider.txt"))
-        status, out, err = tool("draw.py", "plan", *words, example("five", "wider.explained"))
+        status, out, err = tool("draw", "plan", *words, example("five", "wider.explained"))
         self.assertEqual((status, err), (0, ""))
         self.assertIn("a2h by 1  CE:a1", out)
-        self.assertEqual(tool("draw.py", "duel", *words, example("five", "plan.played"))[0], 0)
-        status, out, err = tool("draw.py", "position", "--text", example("five", "won.txt"))
+        self.assertEqual(tool("draw", "duel", *words, example("five", "plan.played"))[0], 0)
+        status, out, err = tool("draw", "position", "--text", example("five", "won.txt"))
         self.assertIn("5 by 4 with lines of five after aabbccdde: White has five in a line", out)
-        said = tool("words.py", "--game", example("five", "wider.txt"), example("five", "wider.explained"))[1]
+        said = tool("words", "--game", example("five", "wider.txt"), example("five", "wider.explained"))[1]
         self.assertIn("the row a3 to e3 never gets whole: White never gets d3 and e3 both", said)
 
     def test_with_and_without_the_game(self):
@@ -116,14 +129,14 @@ class PlanTest(ToolTest):
             with tempfile.NamedTemporaryFile("w", suffix=".txt") as file:
                 file.write(game.text())
                 file.flush()
-                status, out, err = tool("draw.py", "plan", "--text", "--game", file.name, text=made)
-                other = tool("draw.py", "plan", "--text", "--game", example("usual-board.txt"), text=made)
+                status, out, err = tool("draw", "plan", "--text", "--game", file.name, text=made)
+                other = tool("draw", "plan", "--text", "--game", example("usual-board.txt"), text=made)
             self.assertEqual((status, err), (0, ""), made)
             self.assertEqual(other[0], 2)
-            board = [line[3:].split() for line in out.split("\n")[2:2 + rows]]
-            alone = tool("draw.py", "plan", "--text", text=made)
+            board = [line[3:].split() for line in out.split("\n")[2 : 2 + rows]]
+            alone = tool("draw", "plan", "--text", text=made)
             self.assertEqual((alone[0], alone[2]), (0, ""), made)
-            guessed = [line[3:].split() for line in alone[1].split("\n")[2:2 + rows]]
+            guessed = [line[3:].split() for line in alone[1].split("\n")[2 : 2 + rows]]
             for r in range(rows):
                 for i in range(cols):
                     man = game.men.get((i, rows - r))
@@ -134,24 +147,25 @@ class PlanTest(ToolTest):
                         self.assertTrue(man)  # a full column at the right that no line touches isn't told
 
     def test_faults(self):
-        self.refuses("draw.py", "plan", text="no plan\n", said="there is no plan to draw")
-        self.refuses("draw.py", "plan", text="plan CE:a1\nCE:a1 owns a1\nx by CE:a1\n", said="line 3")
-        self.refuses("draw.py", "plan", text="plan CE:a1\nCE:a2 owns a1\n", said="line 2")
-        self.refuses("draw.py", "plan", text="plan CE:a1 CE:b1\nCE:a1 owns a1 a2\n", said="ends before")
+        self.refuses("draw", "plan", text="no plan\n", said="there is no plan to draw")
+        self.refuses("draw", "plan", text="plan CE:a1\nCE:a1 owns a1\nx by CE:a1\n", said="line 3")
+        self.refuses("draw", "plan", text="plan CE:a1\nCE:a2 owns a1\n", said="line 2")
+        self.refuses("draw", "plan", text="plan CE:a1 CE:b1\nCE:a1 owns a1 a2\n", said="ends before")
 
 
 class DuelTest(ToolTest):
     def test_text(self):
         # The last board of docs/PLAY.md.
-        status, out, err = tool("draw.py", "duel", "--text", "--game", example("play", "lowinverse.txt"),
-                                example("play", "lowinverse.played"))
+        status, out, err = tool(
+            "draw", "duel", "--text", "--game", example("play", "lowinverse.txt"), example("play", "lowinverse.played")
+        )
         self.assertEqual((status, err), (0, ""))
         for line in ("B B W B", "W W B B", "B B W W", "W W W B", "8.  b3  b4  full"):
             self.assertIn(line, out)
 
     def test_out(self):
         """A file is written whole, a pipe as it stands, and a link stays one."""
-        words = ("draw.py", "position", "--text", example("four-in-a-column.txt"))
+        words = ("draw", "position", "--text", example("four-in-a-column.txt"))
         _, wanted, _ = tool(*words)
         with tempfile.TemporaryDirectory() as folder:
             path, pipe, link = (os.path.join(folder, name) for name in ("file", "pipe", "link"))
@@ -167,13 +181,13 @@ class DuelTest(ToolTest):
         for name, men in (("aftereven", 10), ("specialbefore", 18), ("shifted", 8), ("baseclaim", 10)):
             with open(example("play", name + ".played"), encoding="ascii") as source:
                 text = source.read()
-            status, out, err = tool("draw.py", "duel", "--game", example("play", name + ".txt"), text=text)
+            status, out, err = tool("draw", "duel", "--game", example("play", name + ".txt"), text=text)
             self.assertEqual((status, err), (0, ""), name)
             turns = text.count("\n")
             self.assertEqual(texts_of(out).count("the start"), 1)
             for n in range(1, turns + 1):
                 self.assertTrue(any(said.startswith("%d.  " % n) for said in texts_of(out)), name)
-            without, _, _ = tool("draw.py", "duel", text=text)
+            without, _, _ = tool("draw", "duel", text=text)
             self.assertEqual(without, 0)
             if name == "aftereven":
                 self.assertEqual(count_of(out, "circle", stroke="#d01c1c"), 4)  # Black's line
@@ -181,7 +195,7 @@ class DuelTest(ToolTest):
 
     def test_threat(self):
         """A duel by an odd threat: Black moves first, and the pair and the target are marked."""
-        words = ("draw.py", "duel", "--text", "--game", example("threat", "explained.txt"))
+        words = ("draw", "duel", "--text", "--game", example("threat", "explained.txt"))
         status, out, err = tool(*words, example("threat", "explained.played"))
         self.assertEqual((status, err), (0, ""))
         # The first board and the last of docs/THREAT.md.
@@ -190,15 +204,15 @@ class DuelTest(ToolTest):
         self.refuses(*words, example("threat", "unplayed.played"), said="isn't one of this game's position")
         for name in ("one-column", "unplayed", "with-pair", "two-pairs"):
             text = read(example("threat", name + ".played"))
-            status, out, err = tool("draw.py", "duel", "--game", example("threat", name + ".txt"), text=text)
+            status, out, err = tool("draw", "duel", "--game", example("threat", name + ".txt"), text=text)
             self.assertEqual((status, err), (0, ""), name)
             self.assertIn(text.split("\n")[0], " ".join(texts_of(out)))
-            self.assertEqual(tool("draw.py", "duel", text=text)[0], 0, name)
-        self.refuses("draw.py", "duel", text="no threat\n", said="no threat to draw")
-        self.refuses("draw.py", "duel", text="threat a3\n", said="line 1")
-        self.refuses("draw.py", "duel", text="threat a3h CE:a1\n", said="line 1")
-        self.refuses("draw.py", "duel", text="threat a3h BI:a1\n", said="line 1")
-        self.refuses("draw.py", "duel", text="threat a3h\na1 a2 full\n", said="line 2")
+            self.assertEqual(tool("draw", "duel", text=text)[0], 0, name)
+        self.refuses("draw", "duel", text="no threat\n", said="no threat to draw")
+        self.refuses("draw", "duel", text="threat a3\n", said="line 1")
+        self.refuses("draw", "duel", text="threat a3h CE:a1\n", said="line 1")
+        self.refuses("draw", "duel", text="threat a3h BI:a1\n", said="line 1")
+        self.refuses("draw", "duel", text="threat a3h\na1 a2 full\n", said="line 2")
 
     def test_follow(self):
         """A duel by a whole proof, whose game says who begins: either side may, and the first move may stand alone."""
@@ -209,23 +223,23 @@ class DuelTest(ToolTest):
             ("usual-board.proof", "usual-board", ("1.  -  d4  won",)),
             (os.path.join("mirror", "four-tops.proof"), "mirror", ("1.  c4  b4", "2.  a4  d4  full")),
         ):
-            words = ("draw.py", "duel", "--game", example(proof))
+            words = ("draw", "duel", "--game", example(proof))
             text = read(example("follow", played + ".played"))
             status, out, err = tool(*words, "--text", text=text)
             self.assertEqual((status, err), (0, ""), played)
             for line in shown:
                 self.assertIn(line, out)
             self.assertIn("by a proof", " ".join(texts_of(tool(*words, text=text)[1])))
-        self.refuses("draw.py", "duel", text="- b3\n", said="whose first move it is")
+        self.refuses("draw", "duel", text="- b3\n", said="whose first move it is")
         for text in ("a1 -\n", "- full\n", "b3 - full\nb4 a1\n", "b3 a4\n- b4\n"):
             self.refuses(*words, text=text, said="line ")
 
     def test_faults(self):
-        self.refuses("draw.py", "duel", text="a1\n", said="line 1")
-        self.refuses("draw.py", "duel", text="a1 a3\n", said="a3 isn't playable")
-        self.refuses("draw.py", "duel", text="", said="line 1")
-        self.refuses("draw.py", "duel", "--board", "4x4", text="e1 e2\n", said="isn't on this board")
-        self.refuses("draw.py", "duel", "--board", "4x5", text="e1 e2\n", said="no board has")
+        self.refuses("draw", "duel", text="a1\n", said="line 1")
+        self.refuses("draw", "duel", text="a1 a3\n", said="a3 isn't playable")
+        self.refuses("draw", "duel", text="", said="line 1")
+        self.refuses("draw", "duel", "--board", "4x4", text="e1 e2\n", said="isn't on this board")
+        self.refuses("draw", "duel", "--board", "4x5", text="e1 e2\n", said="no board has")
 
 
 def browse(page, anchor="", picture=None, size="1000,560"):
@@ -235,10 +249,15 @@ def browse(page, anchor="", picture=None, size="1000,560"):
         words.append("--user-data-dir=" + home)
         url = "file://" + page + anchor
         if picture:
-            subprocess.run(words + ["--screenshot=" + picture, url], stdout=subprocess.DEVNULL,
-                           stderr=subprocess.DEVNULL, timeout=100)
-        run = subprocess.run(words + ["--dump-dom", url], stdout=subprocess.PIPE, stderr=subprocess.DEVNULL,
-                             timeout=100)
+            subprocess.run(
+                words + ["--screenshot=" + picture, url],
+                stdout=subprocess.DEVNULL,
+                stderr=subprocess.DEVNULL,
+                timeout=100,
+            )
+        run = subprocess.run(
+            words + ["--dump-dom", url], stdout=subprocess.PIPE, stderr=subprocess.DEVNULL, timeout=100
+        )
     return run.stdout.decode("utf-8")
 
 
@@ -247,7 +266,7 @@ class PageTest(ToolTest):
         folder = tempfile.mkdtemp(prefix="page-")
         self.addCleanup(shutil.rmtree, folder)
         path = os.path.join(folder, "proof.html")
-        status, out, err = tool("draw.py", "proof", "--html", "-o", path, *words, text=proof)
+        status, out, err = tool("draw", "proof", "--html", "-o", path, *words, text=proof)
         self.assertEqual((status, out, err), (0, "", ""))
         return path
 
@@ -266,17 +285,17 @@ class PageTest(ToolTest):
             self.assertEqual('"%d ' % number in page, is_shown, number)
 
     def test_faults(self):
-        self.refuses("draw.py", "proof", text="", said="this is no proof")
-        self.refuses("draw.py", "proof", text="victor 1\nboard 4 4\nmoves -\n2 - W- end\n", said="line 4")
-        self.refuses("draw.py", "proof", text="victor 1\nboard 4 4\nmoves -\n1 - W- <b>\n", said="line 4")
-        self.refuses("draw.py", "proof", "--most", "0", text="", said="--most")
+        self.refuses("draw", "proof", text="", said="this is no proof")
+        self.refuses("draw", "proof", text="victor 1\nboard 4 4\nmoves -\n2 - W- end\n", said="line 4")
+        self.refuses("draw", "proof", text="victor 1\nboard 4 4\nmoves -\n1 - W- <b>\n", said="line 4")
+        self.refuses("draw", "proof", "--most", "0", text="", said="--most")
 
     @unittest.skipUnless(BROWSER, "Chromium isn't there: apt-get install chromium")
     def test_in_a_browser(self):
         path = self.page(read(example("shared-position.proof")))
         picture = path.replace(".html", ".png")
         found = browse(path, "#12", picture)
-        self.assertIn("<h2 id=\"name\">Lemma 12</h2>", found)
+        self.assertIn('<h2 id="name">Lemma 12</h2>', found)
         self.assertIn("Black doesn't win", found)
         self.assertIn("Shows 16 of 16 lemmas", found)
         svg = re.search(r"<svg.*?</svg>", found, re.S).group()
@@ -302,8 +321,11 @@ class PageTest(ToolTest):
         self.assertIn('a4</a></td><td>Black doesn\'t win by <a href="#13">lemma 13</a></td>', found)
         self.assertIn("b4</a></td><td>not known on this page</td>", found)
         self.assertIn("No lemma on this page stands at this position.", browse(path, "#+ba"))
-        for address, said in (("#99", "Lemma 99 isn't on this page, which has 16 of 16."), ("#+z", "z can't be played from"),
-                              ("#/ccc", "No lemma on this page has a path that begins so.")):
+        for address, said in (
+            ("#99", "Lemma 99 isn't on this page, which has 16 of 16."),
+            ("#+z", "z can't be played from"),
+            ("#/ccc", "No lemma on this page has a path that begins so."),
+        ):
             self.assertIn(said, browse(path, address), address)
         # A lemma by a plan has the zones on its board.
         found = browse(self.page(read(example("six-zones.proof"))))
@@ -315,7 +337,7 @@ class PageTest(ToolTest):
         count = 30_000
         lines = ["1 dcdcdc W- plan CE:a1 CE:b1"]
         for n in range(2, count + 1):
-            path = "".join("abcefg"[n // 6 ** k % 6] for k in range(5))
+            path = "".join("abcefg"[n // 6**k % 6] for k in range(5))
             reason = "all a:%d b:%d" % (n - 1, max(n - 9, 1)) if n % 2 else "one c %d" % (n - 1)
             lines.append("%d %s W- %s" % (n, path, reason))
         proof = "victor 1\nboard 7 6\nmoves -\n%s\nvalue draw %d 1\n" % ("\n".join(lines), count)
@@ -329,7 +351,7 @@ class ImagesTest(unittest.TestCase):
     def test_images_of_the_documents(self):
         """Each picture that a document shows is there, is PNG and has fewer than 60,000 bytes."""
         shown = set()
-        folder = os.path.join(boards.TOP, "docs")
+        folder = os.path.join(TOP, "docs")
         for name in ("TOOLS.md", "TEACH.md", "../README.md"):
             found = re.findall(r"!\[[^]]*\]\(([^)]*)\)", read(os.path.join(folder, name)))
             shown |= {path.replace("docs/", "") for path in found}

@@ -1,10 +1,11 @@
-"""tools/game: the text of a game, of a position as people write it; and that the tools read a position alike."""
+"""lab game: the text of a game, of a position as people write it; and that the tools read a position alike."""
 
 import os
 import tempfile
 import unittest
 
 from common import ToolTest, example, read, tool
+
 
 USUAL = "board 7 6\nmoves dcdcdc\n"
 
@@ -14,8 +15,16 @@ class GameTest(ToolTest):
         self.assertEqual(tool("game", *words, text=text), (0, wanted, ""))
 
     def test_words(self):
-        for word in ("dcdcdc", "434343", "1. d c 2. d c 3. d c", "d1 c1 d2 c2 d3 c3", example("usual-board.txt"),
-                     example("usual-board.proof"), USUAL, USUAL.replace("\n", "\r\n")):
+        for word in (
+            "dcdcdc",
+            "434343",
+            "1. d c 2. d c 3. d c",
+            "d1 c1 d2 c2 d3 c3",
+            example("usual-board.txt"),
+            example("usual-board.proof"),
+            USUAL,
+            USUAL.replace("\n", "\r\n"),
+        ):
             self.says(USUAL, word)
             if not os.path.exists(word):
                 self.says(USUAL, text=word)
@@ -41,16 +50,20 @@ class GameTest(ToolTest):
         for first, second in ("RY", "YR"):
             drawn = "....\n....\n%s...\n%s%s%s.\n" % (first, first, second, second.lower())
             self.refuses("game", text=drawn, said="can't be known")
-            self.says("board 4 4\nmoves %s\n" % tool("game", text=drawn.replace(second.lower(), "."))[1].split()[-1],
-                      text=drawn.replace(second.lower(), ".").replace(first, "X").replace(second, "O"))
+            self.says(
+                "board 4 4\nmoves %s\n" % tool("game", text=drawn.replace(second.lower(), "."))[1].split()[-1],
+                text=drawn.replace(second.lower(), ".").replace(first, "X").replace(second, "O"),
+            )
         self.refuses("game", text="....\n....\n....\nRYX.\n", said="")
 
     def test_alike(self):
         """The same position by its moves, by digits and in a file, for each tool that takes one."""
         plan = read(example("explain", "empty-board.explained"))
         for name, words, text in (
-            ("draw.py", ["position", "--text"], None), ("draw.py", ["position"], None),
-            ("draw.py", ["plan", "--board", "4x4", "--game"], plan), ("words.py", ["--board", "4x4", "--game"], plan),
+            ("draw", ["position", "--text"], None),
+            ("draw", ["position"], None),
+            ("draw", ["plan", "--board", "4x4", "--game"], plan),
+            ("words", ["--board", "4x4", "--game"], plan),
         ):
             moves = ("-", "-") if text else ("dcdcdc", "434343")
             file = example("explain", "empty-board.txt") if text else example("usual-board.txt")

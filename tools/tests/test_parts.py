@@ -1,12 +1,13 @@
-"""tools/parts: one proof of a position from the proofs of positions some moves later."""
+"""lab parts: one proof of a position from the proofs of positions some moves later."""
 
 import os
 import shutil
 import tempfile
 import unittest
 
-from common import ToolTest, boards, program, read, tool
+from common import ToolTest, program, read, tool
 import mutants
+from victor import Game
 
 WON = "dccbbdbbddcc"  # White, who is to move, wins on 4 by 4
 EMPTY_LOST = "dcaggegcacefcggebd"  # Black wins on 7 by 6 after these
@@ -42,8 +43,11 @@ class PartsTest(ToolTest):
         count = self.accepted("loss")
         self.assertIn("one proof of %d lemmas" % count, err)
         # A further call proves nothing again, and one whose part is gone proves that one.
-        made = {name: os.stat(os.path.join(self.folder, name)).st_mtime_ns for name in os.listdir(self.folder)
-                if name.endswith(".proof")}
+        made = {
+            name: os.stat(os.path.join(self.folder, name)).st_mtime_ns
+            for name in os.listdir(self.folder)
+            if name.endswith(".proof")
+        }
         gone = sorted(made)[0]
         os.remove(os.path.join(self.folder, gone))
         status, _, err = self.parts(EMPTY_LOST, "black", "--at", "2", "--reach", "0")
@@ -64,7 +68,9 @@ class PartsTest(ToolTest):
 
     def test_not_won(self):
         status, _, err = self.parts("cdccddcdaaaabb", "white", "--board", "4x4", "--at", "1")
-        self.assertEqual((status, err.split("\n")[-2]), (5, "parts: white doesn't win the position after cdccddcdaaaabb"))
+        self.assertEqual(
+            (status, err.split("\n")[-2]), (5, "lab parts: white doesn't win the position after cdccddcdaaaabb")
+        )
 
     def test_a_part_that_fails(self):
         """A part that stays unknown is named, and a further call with more makes it."""
@@ -75,8 +81,10 @@ class PartsTest(ToolTest):
 
     def test_list(self):
         status, out, err = self.parts(EMPTY_LOST, "black", "--at", "1", "--write")
-        game = boards.Game.read(EMPTY_LOST)
-        self.assertEqual((status, sorted(out.split()), err), (0, [game.after(i).digits() for i in game.open_columns()], ""))
+        game = Game.read(EMPTY_LOST)
+        self.assertEqual(
+            (status, sorted(out.split()), err), (0, [game.after(i).digits() for i in game.open_columns()], "")
+        )
         self.assertEqual(os.listdir(self.folder), [])
 
     def test_faults(self):

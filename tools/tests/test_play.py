@@ -1,4 +1,4 @@
-"""tools/play.py: games by a pipe and in a terminal, slips, moves taken back, and a program that fails."""
+"""lab play: games by a pipe and in a terminal, slips, moves taken back, and a program that fails."""
 
 import os
 import pty
@@ -6,21 +6,20 @@ import random
 import signal
 import stat
 import subprocess
-import sys
 import tempfile
 import time
 import unittest
 
-from common import TOOLS, ToolTest, boards, example, program, read, tool
+from common import ToolTest, command_of, example, program, read, tool
+from victor.notation import read_game
 
 PLAN = "CE:a1 CE:a3 CE:b1 CE:b3 BI:c1,d1 LI:c2-c4,d2-d4"
-COMMAND = [sys.executable, os.path.join(TOOLS, "play.py")]
 
 
 class PlayTest(ToolTest):
     def plays(self, text, *words, status=0):
         """What is written for these lines."""
-        given, out, err = tool("play.py", "--victor", program(), *words, text=text)
+        given, out, err = tool("play", "--victor", program(), *words, text=text)
         self.assertEqual((given, err), (status, ""))
         return out
 
@@ -32,15 +31,19 @@ class PlayTest(ToolTest):
         out = self.plays("c\nC\n4\n 3 \r\n1\na\nB\n2\n", "--board", "4x4")
         self.assertIn("Black answers by a plan: %s\n" % PLAN, out)
         self.assertIn(" 4 . . . .\n 3 . . B .\n 2 . . W .\n 1 . . W B\n   a b c d\n", out)
-        self.assertIn("White c2, Black c3 (Lowinverse, the zone of LI:c2-c4,d2-d4).\n"
-                      "So the column c1 to c4, in which White has c1 and c2, never gets whole.", out)
+        self.assertIn(
+            "White c2, Black c3 (Lowinverse, the zone of LI:c2-c4,d2-d4).\n"
+            "So the column c1 to c4, in which White has c1 and c2, never gets whole.",
+            out,
+        )
         self.assertIn("White's column (a-d; u takes back, q ends): C\n", out)
         self.assertNotIn("\033", out)
         self.ends(out, "The board is full and no side has a line: a draw.", "cdccddcdaaaabbbb")
         played = read(example("play", "lowinverse.played")).split("\n")[:-1]
         told = [line.split(" ") for line in out.split("\n") if line.startswith("White ")]
-        self.assertEqual([[words[1][:-1], words[3].rstrip(".")] for words in told],
-                         [line.split(" ")[:2] for line in played])
+        self.assertEqual(
+            [[words[1][:-1], words[3].rstrip(".")] for words in told], [line.split(" ")[:2] for line in played]
+        )
 
     def test_black_wins(self):
         out = self.plays("a\nb\na\n", example("play", "aftereven.txt"))
@@ -67,9 +70,9 @@ class PlayTest(ToolTest):
     def test_white_never_gets_a_line(self):
         rng = random.Random(5)
         for size in ("4x4", "5x4", "6x4", "4x6"):
-            typed = "".join(rng.choice("abcdefu"[:int(size[0])] + "u" * (k % 9 == 8)) + "\n" for k in range(90))
+            typed = "".join(rng.choice("abcdefu"[: int(size[0])] + "u" * (k % 9 == 8)) + "\n" for k in range(90))
             out = self.plays(typed, "--board", size)
-            end, game = out.split("\n")[-4], boards.read_game("\n".join(out.split("\n")[-3:]))
+            end, game = out.split("\n")[-4], read_game("\n".join(out.split("\n")[-3:]))
             if game.is_over:
                 self.assertIn("Black has a line" if game.line else "a draw", end)
                 self.assertEqual(game.side if game.line else "W", "W")
@@ -84,9 +87,19 @@ class PlayTest(ToolTest):
             out = self.plays("c\nc\nd\n", "--board", "4x4", "--plan", path, "--keep", kept)
             self.assertIn("White c2, Black c3 (Highinverse, the zone of HI:c2,d2)", out)
             self.assertEqual(read(kept), "\n".join(out.split("\n")[-3:]))
-            self.refuses("play.py", "--board", "4x4", "--moves", "a", "--plan", path, "--victor", program(),
-                         said="this is no plan there: refused line 3: NotWhiteToMove")
-            self.refuses("play.py", "--board", "4x4", "--plan", kept, said="no line that begins with `plan `")
+            self.refuses(
+                "play",
+                "--board",
+                "4x4",
+                "--moves",
+                "a",
+                "--plan",
+                path,
+                "--victor",
+                program(),
+                said="this is no plan there: refused line 3: NotWhiteToMove",
+            )
+            self.refuses("play", "--board", "4x4", "--plan", kept, said="no line that begins with `plan `")
 
     def test_a_whole_proof(self):
         """Both sides of a draw, a win whose holder begins, and lemmas at mirror images."""
@@ -121,31 +134,36 @@ class PlayTest(ToolTest):
                 ([example("forced-win.proof"), "--side", "white"], "has no lemma for Black"),
                 ([example("tight-budget.proof")], "has no lemma for Black"),
                 ([example("refused", "wrong-verdict.proof")], "can be followed: refused line 10: BadVerdict"),
-                ([example("usual-board.txt")], "no text of a game"), ([short], "no text of a game"),
-                (["/no/such/file"], "No such file"), ([example("forced-win.proof"), "--board", "4x4"], "names the game"),
+                ([example("usual-board.txt")], "no text of a game"),
+                ([short], "no text of a game"),
+                (["/no/such/file"], "No such file"),
+                ([example("forced-win.proof"), "--board", "4x4"], "names the game"),
                 ([example("forced-win.proof"), "--side", "grey"], "invalid choice"),
             ):
-                self.refuses("play.py", "--victor", program(), "--proof", *words, said=said)
-            self.refuses("play.py", "--victor", program(), "--side", "white", said="--side is for a proof")
+                self.refuses("play", "--victor", program(), "--proof", *words, said=said)
+            self.refuses("play", "--victor", program(), "--side", "white", said="--side is for a proof")
             # A program that fails at the first move behind the ten lines of a proof.
             stub = os.path.join(folder, "victor")
             with open(stub, "w", encoding="ascii") as out:
                 out.write("#!/bin/bash\n[ $(tail -n +11 | wc -l) -eq 0 ] || exit 7\n")
             os.chmod(stub, stat.S_IRWXU)
             words = ("--victor", stub, "--proof", example("two-squares-left.proof"))
-            status, _, err = tool("play.py", *words, text="b\n")
+            status, _, err = tool("play", *words, text="b\n")
             self.assertEqual(status, 1)
             self.assertIn("victor follow ended with status 7", err)
 
     def test_faults(self):
-        self.helps("play.py")
+        self.helps("play")
         for words, said in (
             (["--board", "4x4", "--moves", "d"], "Black is to move after d on 4 by 4"),
             (["--board", "4x4", "--moves", "abababa"], "the game has ended after abababa"),
             (["--board", "4x4", "--moves", "dccbbdbbddcc"], "there is no plan after dccbbdbbddcc"),
             (["--reach", "1"], "explain finds no plan after - on 6 by 6 in its reach of 1"),
-            (["--reach", "-1"], "--reach takes"), (["--board", "5x5"], "no board has"), (["--moves", "x"], "'x'"),
-            (["/no/such/file"], "there is no file"), (["--plan", "/no/such/file"], "No such file"),
+            (["--reach", "-1"], "--reach takes"),
+            (["--board", "5x5"], "no board has"),
+            (["--moves", "x"], "'x'"),
+            (["/no/such/file"], "there is no file"),
+            (["--plan", "/no/such/file"], "No such file"),
             ([example("usual-board.txt"), "--board", "4x4"], "another board"),
             ([example("usual-board.txt"), "--moves", "d"], "--moves can't name one"),
             (["434343"], "finds no plan after dcdcdc on 7 by 6"),
@@ -153,7 +171,7 @@ class PlayTest(ToolTest):
         ):
             if "--victor" not in words:
                 words = words + ["--victor", program()]
-            self.refuses("play.py", *words, said=said)
+            self.refuses("play", *words, said=said)
 
     def test_stand_ins(self):
         """An answer that can't be played, none at all, and a program that fails are told, with status 1."""
@@ -161,16 +179,16 @@ class PlayTest(ToolTest):
             ('[ $(wc -l) -eq 3 ] || echo "c1 c3"', "the answer c3 hangs or is taken"),
             ('[ $(wc -l) -eq 3 ] || echo "c1 g1"', "the answer g1 can't be played"),
             ('[ $(wc -l) -eq 3 ] || echo "c1 d11"', "has written no answer to the last of 1 moves"),
-            ('cat >/dev/null', "has written no answer to the last of 1 moves"),
+            ("cat >/dev/null", "has written no answer to the last of 1 moves"),
             ('[ $(wc -l) -eq 3 ] || { echo "c1 d1"; exit 7; }', "victor play ended with status 7"),
-            ('[ $(wc -l) -eq 3 ]', "victor play ended with status 1"),
+            ("[ $(wc -l) -eq 3 ]", "victor play ended with status 1"),
         ):
             with tempfile.TemporaryDirectory() as folder:
                 path = os.path.join(folder, "victor")
                 with open(path, "w", encoding="ascii") as out:
                     out.write("#!/bin/bash\n%s\n" % script)
                 os.chmod(path, stat.S_IRWXU)
-                status, _, err = tool("play.py", example("play", "shifted.txt"), "--victor", path, text="c\n")
+                status, _, err = tool("play", example("play", "shifted.txt"), "--victor", path, text="c\n")
                 self.assertEqual(status, 1, err)
                 self.assertIn(said, err)
                 self.assertEqual(err.count("\n"), 1)
@@ -181,11 +199,17 @@ class TerminalTest(ToolTest):
         """What a terminal shows while this is typed, a prompt for each, and that no process is left."""
         leader, follower = pty.openpty()
         self.addCleanup(os.close, leader)
-        words = COMMAND + ["--board", "4x4", "--victor", program()]
+        words = command_of("play", "--board", "4x4", "--victor", program())
         # An interrupt is heard, also where whoever began the tests in the background had it ignored.
-        run = subprocess.Popen(words, stdin=follower, stdout=follower, stderr=follower, start_new_session=True,
-                               preexec_fn=lambda: signal.signal(signal.SIGINT, signal.SIG_DFL),
-                               env={**os.environ, "NO_COLOR": "", "TERM": "xterm", **environment})
+        run = subprocess.Popen(
+            words,
+            stdin=follower,
+            stdout=follower,
+            stderr=follower,
+            start_new_session=True,
+            preexec_fn=lambda: signal.signal(signal.SIGINT, signal.SIG_DFL),
+            env={**os.environ, "NO_COLOR": "", "TERM": "xterm", **environment},
+        )
         os.close(follower)
         shown = b""
         for n, keys in enumerate(typed, 1):

@@ -1,16 +1,16 @@
-"""tools/sheet: what is asked and answered, as the page has it."""
+"""lab sheet: what is asked and answered, as the page has it."""
 
 import os
 import random
 import re
-import stat
 import tempfile
 import unittest
 import xml.etree.ElementTree
 
-from common import ToolTest, boards, example, program, read, tool
-from test_ask import worth
+from common import ToolTest, example, program, read, tool, write
 import mutants
+from test_ask import worth
+from victor.games import LETTERS
 
 SVG = "{http://www.w3.org/2000/svg}"
 
@@ -23,21 +23,27 @@ class SheetTest(ToolTest):
             for name, game in zip(names, games):
                 with open(name, "w", encoding="ascii") as out:
                     out.write(game)
-            given, out, err = tool("sheet", "--victor", program(), "--nodes", "5000", *names, *words)
+            given, out, err = tool("sheet", "--by", "prove", "--victor", program(), "--nodes", "5000", *names, *words)
         self.assertEqual((given, err), (status, ""))
         root = xml.etree.ElementTree.fromstring(out.split("\n", 1)[1])
         body = root.find("body")
         asked, answered = body.findall("section"), body.find("div[@class='answers']").findall("section")
         self.assertEqual((len(asked), len(answered)), (len(games), len(games)))
-        return [[["".join(item.itertext()) for item in section.findall("div/ol/li")] for section in sections]
-                for sections in (asked, answered)] + [out]
+        return [
+            [["".join(item.itertext()) for item in section.findall("div/ol/li")] for section in sections]
+            for sections in (asked, answered)
+        ] + [out]
 
     def test_moves_and_lines(self):
-        asked, answered, out = self.page("board 7 6\nmoves dcdcdc\n", "board 4 4\nmoves ababa\n", "434343",
-                                         words=["--ask", "move,line", "--nodes", "1000"])
+        asked, answered, out = self.page(
+            "board 7 6\nmoves dcdcdc\n",
+            "board 4 4\nmoves ababa\n",
+            "434343",
+            words=["--ask", "move,line", "--nodes", "1000"],
+        )
         self.assertEqual(asked[0], ["Which move is best for White?", "Can White get a line, if Black plays well?"])
         self.assertEqual(asked[1][0], "Which move is best for Black?")
-        self.assertRegex(answered[0][0], r"^d wins; .* aren't known\. \([0-9,]+ lemmas, accepted by check\)$")
+        self.assertRegex(answered[0][0], r"^d wins; .* are unknown\. \([0-9,]+ lemmas, accepted by check\)$")
         self.assertEqual(answered[0][1], "Yes: White wins. (2 lemmas, accepted by check)")
         self.assertEqual(answered[0], answered[2])
         self.assertRegex(answered[1][0], r"^a draws; b, c and d lose\. ")
@@ -49,8 +55,10 @@ class SheetTest(ToolTest):
         self.assertIn("Lowinverse c2 c3 c4 d2 d3 d4. White takes a1, b1, c1 or d1.", asked[0][1])
         self.assertTrue(answered[0][0].startswith("No. Black has a plan, whose numbers stand on the board. "))
         self.assertIn("5, Baseinverse: If White takes c1, Black takes d1. If White takes d1, Black takes c1.", out)
-        for said in ("a1 is in the zone of the Claimeven 1: Black takes a2.",
-                     "d1 is in the zone of the Baseinverse 5: Black takes c1."):
+        for said in (
+            "a1 is in the zone of the Claimeven 1: Black takes a2.",
+            "d1 is in the zone of the Baseinverse 5: Black takes c1.",
+        ):
             self.assertIn("<li>%s</li>" % said, out)
         # The board of the answers has the numbers, and that of the questions hasn't.
         first, second = re.findall("<svg.*?</svg>", out)
@@ -85,8 +93,8 @@ class SheetTest(ToolTest):
                 games.append(game)
         _, answered, _ = self.page(*(game.text() for game in games), words=["--ask", "move", "--title", "a < b"])
         for game, said in zip(games, answered):
-            values = {i: -worth(boards.Game(4, 4, game.moves + [i])) for i in game.open_columns()}
-            best = [boards.LETTERS[i] for i in values if values[i] == max(values.values())]
+            values = {i: -worth(game.after(i)) for i in game.open_columns()}
+            best = [LETTERS[i] for i in values if values[i] == max(values.values())]
             named = re.match(r"(.*?) (win|draw|lose)s?[.;]", said[0])
             self.assertEqual(re.findall("[a-d]", named.group(1).replace(" and ", " ")), best, game.letters())
             self.assertEqual({"win": 1, "draw": 0, "lose": -1}[named.group(2)], max(values.values()), game.letters())
@@ -94,29 +102,43 @@ class SheetTest(ToolTest):
     def test_faults(self):
         self.helps("sheet")
         for words, said in (
-            ([], "the following arguments are required"), (["/no/such/file"], "there is no file"),
-            ([example("full-board.txt")], "the game has ended"), (["--ask", "why", "x"], "--ask takes some of move"),
-            (["--nodes", "0", "x"], "--nodes takes"), (["--reach", "-1", "x"], "--reach takes"),
+            ([], "the following arguments are required"),
+            (["/no/such/file"], "there is no file"),
+            ([example("full-board.txt")], "the game has ended"),
+            (["--ask", "why", "x"], "--ask takes some of move"),
+            (["--nodes", "0", "x"], "--nodes takes"),
+            (["--reach", "-1", "x"], "--reach takes"),
             (["dcx"], "dcx: move 3: 'x' is no column"),
         ):
             self.refuses("sheet", *words, said=said)
-        self.refuses("sheet", "-", "--nodes", "1", "--reach", "1", "--victor", program(), text="-",
-                     said="-: nothing that is asked has a known answer")
+        self.refuses(
+            "sheet",
+            "-",
+            "--by",
+            "prove",
+            "--nodes",
+            "1",
+            "--reach",
+            "1",
+            "--victor",
+            program(),
+            text="-",
+            said="-: left out, as nothing that is asked has a known answer there: try --nodes above 1",
+        )
 
     def test_stand_ins(self):
         """A program that fails, and a proof that isn't accepted or is about another game, are told, with status 1."""
         for script, said in (
             ("exit 7", "victor explain ended with status 7"),
-            ('[ "$1" = explain ] && exit 5; [ "$1" = check ] && exit 4; echo victor 1; cat',
-             "victor check ended with status 4"),
+            (
+                '[ "$1" = explain ] && exit 5; [ "$1" = check ] && exit 4; echo victor 1; cat',
+                "victor check ended with status 4",
+            ),
             ('[ "$1" = explain ] && exit 5; [ "$1" = check ] && echo accepted win 2; true', "is about another game"),
         ):
             with tempfile.TemporaryDirectory() as folder:
-                path = os.path.join(folder, "victor")
-                with open(path, "w", encoding="ascii") as out:
-                    out.write("#!/bin/bash\n%s\n" % script)
-                os.chmod(path, stat.S_IRWXU)
-                status, out, err = tool("sheet", example("usual-board.txt"), "--victor", path)
+                path = write(os.path.join(folder, "victor"), f"#!/bin/bash\n{script}\n", True)
+                status, out, err = tool("sheet", example("usual-board.txt"), "--by", "prove", "--victor", path)
                 self.assertEqual((status, out), (1, ""), err)
                 self.assertIn(said, err)
 

@@ -11,9 +11,10 @@ import subprocess
 import tempfile
 import unittest
 
-from common import TOOLS, ToolTest, boards, heard, program, read
+from common import TOOLS, ToolTest, heard, program, read
 import mutants
 import victor
+from victor import Game
 
 SOURCES = os.path.join(TOOLS, "solve")
 COMPILER = shutil.which("g++")
@@ -26,9 +27,9 @@ def game_text(columns, rows, moves, line=4):
 def late_game(rng, columns, rows, length, line=4):
     """A random game of this length that goes on before its last move; it may end with that."""
     while True:
-        game = boards.Game(columns, rows, length=line)
+        game = Game((columns, rows, line))
         while len(game.moves) < length and not game.is_over:
-            longer = [boards.Game(columns, rows, game.moves + [column], line) for column in game.open_columns()]
+            longer = [Game((columns, rows, line), [*game.moves, column]) for column in game.open_columns()]
             game = rng.choice([one for one in longer if not one.is_over] or longer)
         if len(game.moves) == length:
             return game.letters()
@@ -46,13 +47,32 @@ class SolveTest(ToolTest):
     @classmethod
     def made(cls, name):
         path = os.path.join(cls.folder, name)
-        subprocess.run([COMPILER, "-std=c++17", "-O2", "-Wall", "-Wextra", "-Werror", "-o", path,
-                        os.path.join(SOURCES, name + ".cpp")], check=True)
+        subprocess.run(
+            [
+                COMPILER,
+                "-std=c++17",
+                "-O2",
+                "-Wall",
+                "-Wextra",
+                "-Werror",
+                "-o",
+                path,
+                os.path.join(SOURCES, name + ".cpp"),
+            ],
+            check=True,
+        )
         return path
 
     def solve(self, text, *words, **more):
-        run = subprocess.run([self.solver, *words], input=text, stdout=subprocess.PIPE, stderr=subprocess.PIPE,
-                             encoding="utf-8", timeout=100, **more)
+        run = subprocess.run(
+            [self.solver, *words],
+            input=text,
+            stdout=subprocess.PIPE,
+            stderr=subprocess.PIPE,
+            encoding="utf-8",
+            timeout=100,
+            **more,
+        )
         return run.returncode, run.stdout, run.stderr
 
     def proof_of(self, text, *words):
@@ -94,7 +114,7 @@ class SolveTest(ToolTest):
         self.assertLess({"draw"}, words)
         proof = self.proof_of(game_text(4, 4, "", 5))[0]
         self.assertTrue(proof.split("\n")[3].startswith("1 - W- plan "))
-        found = victor.solve(boards.Game(4, 4, length=5), program=self.solver, memory=300)
+        found = victor.solve(Game((4, 4), length=5), program=self.solver, memory=300)
         self.assertEqual((found.value, found.text), ("draw", proof))
 
     def value_of(self, text):
@@ -129,12 +149,38 @@ class SolveTest(ToolTest):
     def test_options(self):
         """Each way to choose gives a proof, and the better ones a smaller one."""
         text = game_text(7, 6, "dcddddababec")
-        plain = self.proof_of(text, "--order", "0", "--no-reuse", "--look", "0", "--rounds", "0", "--part", "0",
-                              "--high", "0", "--sweeps", "0")[0]
-        for words in (["--order", "1"], ["--order", "2"], ["--order", "2", "--closure", "0"], ["--part", "10"],
-                      ["--high", "42", "--probe", "100"], ["--order", "3", "--sweeps", "0"], ["--starts", "16"],
-                      ["--seed", "7"], ["--seconds", "0"], ["--mirror", "42"], ["--reach", "1"], ["--graph", "40"],
-                      ["--graph", "40", "--heat", "50", "--seconds", "2"], []):
+        plain = self.proof_of(
+            text,
+            "--order",
+            "0",
+            "--no-reuse",
+            "--look",
+            "0",
+            "--rounds",
+            "0",
+            "--part",
+            "0",
+            "--high",
+            "0",
+            "--sweeps",
+            "0",
+        )[0]
+        for words in (
+            ["--order", "1"],
+            ["--order", "2"],
+            ["--order", "2", "--closure", "0"],
+            ["--part", "10"],
+            ["--high", "42", "--probe", "100"],
+            ["--order", "3", "--sweeps", "0"],
+            ["--starts", "16"],
+            ["--seed", "7"],
+            ["--seconds", "0"],
+            ["--mirror", "42"],
+            ["--reach", "1"],
+            ["--graph", "40"],
+            ["--graph", "40", "--heat", "50", "--seconds", "2"],
+            [],
+        ):
             proof = self.proof_of(text, "--sweeps", "2", *words)[0]
             self.assertLessEqual(proof.count("\n"), plain.count("\n"))
         self.assertLess(proof.count("\n") * 5, plain.count("\n"))
@@ -149,8 +195,10 @@ class SolveTest(ToolTest):
     def test_covers(self):
         """Who mustn't lose answers on top of the other side's men: so few positions come with lines of five."""
         text = game_text(4, 6, "", 5)
-        covers, plain = (self.proof_of(text, "--format", "2", "--order", "3", "--rounds", "1", "--sweeps", "0", *words)[0]
-                         for words in (["--covers"], []))
+        covers, plain = (
+            self.proof_of(text, "--format", "2", "--order", "3", "--rounds", "1", "--sweeps", "0", *words)[0]
+            for words in (["--covers"], [])
+        )
         self.assertLess(covers.count("\n") * 2, plain.count("\n"))
 
     def test_bettered(self):
@@ -169,8 +217,10 @@ class SolveTest(ToolTest):
     def test_little_memory(self):
         """Where the table has lost what was dropped for a trial, that comes back as it was."""
         text = game_text(7, 6, "dddddebb")
-        much, little = (self.proof_of(text, "--format", "2", "--order", "2", "--sweeps", "0", "--memory", memory)[0]
-                        for memory in ("300", "12"))
+        much, little = (
+            self.proof_of(text, "--format", "2", "--order", "2", "--sweeps", "0", "--memory", memory)[0]
+            for memory in ("300", "12")
+        )
         self.assertLess(little.count("\n") * 10, much.count("\n") * 11)
 
     def test_seconds(self):
@@ -204,8 +254,25 @@ class SolveTest(ToolTest):
         # The moves that are written are those of the graph: a proof whose root isn't its own image has as many lemmas
         # as the graph has positions, or fewer, where positions have an end in common.
         path = os.path.join(self.folder, "graph")
-        status, _, err = self.solve(game_text(7, 6, "dddddebb"), "--format", "2", "--order", "1", "--part", "0",
-                                    "--rounds", "0", "--sweeps", "0", "--graph", "100", "--seconds", "10", "-o", path)
+        status, _, err = self.solve(
+            game_text(7, 6, "dddddebb"),
+            "--format",
+            "2",
+            "--order",
+            "1",
+            "--part",
+            "0",
+            "--rounds",
+            "0",
+            "--sweeps",
+            "0",
+            "--graph",
+            "100",
+            "--seconds",
+            "10",
+            "-o",
+            path,
+        )
         self.assertEqual(status, 0, err)
         sizes = [int(size) for size in re.findall(r"renewing, .* (\d+) lemmas", err)]
         self.assertLess(int(re.search(r"value win (\d+)", err)[1]), sizes[-1] * 1.02)
@@ -217,10 +284,13 @@ class SolveTest(ToolTest):
         text = game_text(6, 4, "")
         rough = self.file("rough", self.proof_of(text, "--format", "2", "--rounds", "1", "--sweeps", "0")[0])
         start = ["--format", "2", "--rounds", "0", "--start"]
-        below, beside = (self.proof_of(text, *start, rough, "--sweeps", "1", "--below", "c", *words)[0]
-                         for words in ([], ["--beside"]))
-        both = self.proof_of(text, *start, self.file("below", below), "--sweeps", "0", "--changes", rough,
-                             self.file("beside", beside))[0]
+        below, beside = (
+            self.proof_of(text, *start, rough, "--sweeps", "1", "--below", "c", *words)[0]
+            for words in ([], ["--beside"])
+        )
+        both = self.proof_of(
+            text, *start, self.file("below", below), "--sweeps", "0", "--changes", rough, self.file("beside", beside)
+        )[0]
         self.assertLessEqual(both.count("\n"), min(below.count("\n"), beside.count("\n")))
         for words in ([], ["--beside"]):
             self.proof_of(text, *start, rough, "--sweeps", "0", "--graph", "60", "--below", "c", *words)
@@ -231,8 +301,13 @@ class SolveTest(ToolTest):
         path = os.path.join(self.folder, "ended")
         for number in (signal.SIGTERM, signal.SIGINT):
             words = ["--format", "2", "--memory", "300", "--graph", "60", "--heat", "50", "-o", path]
-            with subprocess.Popen([self.solver, *words], stdin=subprocess.PIPE, stdout=subprocess.PIPE,
-                                  stderr=subprocess.PIPE, encoding="utf-8") as run:
+            with subprocess.Popen(
+                [self.solver, *words],
+                stdin=subprocess.PIPE,
+                stdout=subprocess.PIPE,
+                stderr=subprocess.PIPE,
+                encoding="utf-8",
+            ) as run:
                 run.stdin.write(game_text(5, 4, ""))
                 run.stdin.close()
                 line = next(line for line in run.stderr if "renewing" in line)
@@ -247,10 +322,16 @@ class SolveTest(ToolTest):
         text = game_text(4, 4, "dcddd")
         proof = self.proof_of(text)[0]
         head = "\n".join(proof.split("\n")[:3]) + "\n"
-        for bad, said in (("", "line 1"), ("victor 3\n" + text, "line 1"), ("victor 1\nboard 5 4\nmoves -\n", "line 2"),
-                          (head, "it has no value"), (head + "nothing\n", "line 4"),
-                          (head + "1 dddd W- end\n", "it has no value"), (head + "1 d W- one d 1\n", "line 4"),
-                          (head + "1 - W- one e 1\n", "line 4")):
+        for bad, said in (
+            ("", "line 1"),
+            ("victor 3\n" + text, "line 1"),
+            ("victor 1\nboard 5 4\nmoves -\n", "line 2"),
+            (head, "it has no value"),
+            (head + "nothing\n", "line 4"),
+            (head + "1 dddd W- end\n", "it has no value"),
+            (head + "1 d W- one d 1\n", "line 4"),
+            (head + "1 - W- one e 1\n", "line 4"),
+        ):
             for option in ("--start", "--also"):
                 self.fails(text, "no proof of this board: " + said, option, self.file("bad", bad))
         self.fails(text, "another game", "--start", self.file("bad", self.proof_of(game_text(4, 4, "dcdd"))[0]))
@@ -271,8 +352,15 @@ class SolveTest(ToolTest):
         return path
 
     def openings(self, text, *words):
-        run = subprocess.run([self.planner, *words], input=text, stdout=subprocess.PIPE, stderr=subprocess.PIPE,
-                             encoding="ascii", timeout=100, check=False)
+        run = subprocess.run(
+            [self.planner, *words],
+            input=text,
+            stdout=subprocess.PIPE,
+            stderr=subprocess.PIPE,
+            encoding="ascii",
+            timeout=100,
+            check=False,
+        )
         return run.returncode, run.stdout, run.stderr
 
     def test_openings(self):
@@ -285,8 +373,9 @@ class SolveTest(ToolTest):
         lengths = [len(line.split()[0]) for line in lines]
         self.assertEqual(set(lengths), {1, 3, 5, 7})
         for line in [line for line in lines if len(line) == 9][::40]:
-            run = mutants.answer_of([program(), "prove", "--nodes", "1000000"],
-                                    game_text(6, 4, line.replace(" ", "")).encode())
+            run = mutants.answer_of(
+                [program(), "prove", "--nodes", "1000000"], game_text(6, 4, line.replace(" ", "")).encode()
+            )
             self.assertEqual(run[1].split("\n")[-2].split()[:2], ["value", "loss"], line)
         for words in ([], ["--mirror", "8"]):
             self.proof_of(text, "--book", self.book(book), "--rounds", "0", "--sweeps", "0", *words)
@@ -300,12 +389,27 @@ class SolveTest(ToolTest):
         for book in ("board 4 4\n", "# nothing\nboard 4 4\n# nothing", "board 4 4\ndcddd a\ndcdddab a\n- d\n"):
             self.proof_of(text, "--book", self.book(book))
         self.proof_of(game_text(7, 6, "dcddddababec"), "--book", os.path.join(SOURCES, "usual.book"))
-        for book, line in (("", "it is empty"), ("board 5 4\n", "line 1"), ("board 4 4\na\n", "line 2"),
-                           ("board 4 4\na b\nd e\n", "line 3"), ("board 4 4\n- b c\n", "line 2"),
-                           ("board 4 4\naaaa a\n", "line 2"), ("board 4 4\nabababa b\n", "line 2"),
-                           ("board 4 4\n\n", "line 2"), ("board 4 4\na- b\n", "line 2")):
+        for book, line in (
+            ("", "it is empty"),
+            ("board 5 4\n", "line 1"),
+            ("board 4 4\na\n", "line 2"),
+            ("board 4 4\na b\nd e\n", "line 3"),
+            ("board 4 4\n- b c\n", "line 2"),
+            ("board 4 4\naaaa a\n", "line 2"),
+            ("board 4 4\nabababa b\n", "line 2"),
+            ("board 4 4\n\n", "line 2"),
+            ("board 4 4\na- b\n", "line 2"),
+        ):
             self.fails(text, "no book of this board: " + line, "--book", self.book(book))
         self.fails(text, "can't read", "--book", os.path.join(self.folder, "no such book"))
+
+    def test_table_of_options(self):
+        """The document's table is the tool's own, and --help names the same options."""
+        table = self.solve("", "--help-table")[1]
+        self.assertIn(f"\n\n{table}\n", read(os.path.join(os.path.dirname(TOOLS), "docs", "SOLVED.md")))
+        names = re.findall(r"^\| `(-+[a-z-]+)", table, re.M)
+        self.assertEqual(re.findall(r"^  (-+[a-z-]+)", self.solve("", "--help")[1], re.M), [*names, "--help-table"])
+        self.assertGreater(len(names), 25)
 
     def test_file(self):
         """A file gets its name when it is whole."""
@@ -355,12 +459,20 @@ class SolveTest(ToolTest):
         self.assertEqual([name for name in os.listdir(self.folder) if name.startswith("none")], [])
 
     def test_bad_input(self):
-        for text, said in (("", "BadHeader at 0"), ("board 3 4\nmoves -\n", "BadSize at 6"),
-                           ("board 4 5\nmoves -\n", "BadSize at 8"), ("board 4 4\nmoves -\n\n", "Trailing at 18"),
-                           ("board 4 4\nmoves e\n", "BadColumn at 16"), ("board 4 4\nmoves \n", "BadColumn at 16"),
-                           ("board 4 4\nmoves ae\n", "BadColumn at 17"), ("board 4 4\nmoves -a\n", "Trailing at 17"),
-                           ("board 4 4\nmoves aaaaa\n", "ColumnFull"), ("board 4 4\nmoves abababab\n", "GameOver"),
-                           ("board 10 10\nmoves -\n", "too large"), ("board 4 4 6\nmoves -\n", "BadSize at 10")):
+        for text, said in (
+            ("", "BadHeader at 0"),
+            ("board 3 4\nmoves -\n", "BadSize at 6"),
+            ("board 4 5\nmoves -\n", "BadSize at 8"),
+            ("board 4 4\nmoves -\n\n", "Trailing at 18"),
+            ("board 4 4\nmoves e\n", "BadColumn at 16"),
+            ("board 4 4\nmoves \n", "BadColumn at 16"),
+            ("board 4 4\nmoves ae\n", "BadColumn at 17"),
+            ("board 4 4\nmoves -a\n", "Trailing at 17"),
+            ("board 4 4\nmoves aaaaa\n", "ColumnFull"),
+            ("board 4 4\nmoves abababab\n", "GameOver"),
+            ("board 10 10\nmoves -\n", "too large"),
+            ("board 4 4 6\nmoves -\n", "BadSize at 10"),
+        ):
             self.fails(text, said)
         text = game_text(4, 4, "")
         self.fails(text, "--lemmas", "--lemmas", "0")
@@ -378,8 +490,15 @@ class SolveTest(ToolTest):
         limit = {"preexec_fn": lambda: resource.setrlimit(resource.RLIMIT_FSIZE, (10000, 10000))}
         self.fails(game_text(4, 4, ""), "can't write", **limit)
         with open("/dev/full", "w", encoding="ascii") as full:
-            run = subprocess.run([self.solver, "--quiet"], input=game_text(4, 4, ""), stdout=full,
-                                 stderr=subprocess.PIPE, encoding="ascii", timeout=100, check=False)
+            run = subprocess.run(
+                [self.solver, "--quiet"],
+                input=game_text(4, 4, ""),
+                stdout=full,
+                stderr=subprocess.PIPE,
+                encoding="ascii",
+                timeout=100,
+                check=False,
+            )
         self.assertEqual((run.returncode, run.stderr.count("\n")), (2, 1))
         path = os.path.join(self.folder, "no folder", "proof")
         status, _, err = self.solve(game_text(4, 4, ""), "-o", path)

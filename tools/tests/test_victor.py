@@ -1,7 +1,9 @@
-"""tools/victor.py: the session of docs/TOOLS.md, each command as a function, limits, and faults."""
+"""The package victor: the session of docs/TOOLS.md, each command as a function, limits, and faults."""
 
 import doctest
+import lzma
 import os
+import pickle
 import stat
 import tempfile
 import time
@@ -9,18 +11,11 @@ import unittest
 from pathlib import Path
 from unittest import mock
 
-from common import ToolTest, boards, example, program, read
+from common import TOP, ToolTest, example, read
 import victor
+from victor import processes, programs, proofs
 
 USUAL = read(example("usual-board.proof"))
-
-
-def setUpModule():
-    """The program is the one that the tests compare with."""
-    found = victor.find_program
-    patch = mock.patch.object(victor, "find_program", lambda given=None: found(given) if given else program())
-    patch.start()
-    unittest.addModuleCleanup(patch.stop)
 
 
 class GameTest(ToolTest):
@@ -38,10 +33,10 @@ class GameTest(ToolTest):
             game = victor.Game.read(text, (5, 4, 5))
             self.assertEqual(game.text(), "board 5 4 5\nmoves aabbccdde\n")
             self.assertEqual(game.line, ((0, 1), (1, 1), (2, 1), (3, 1), (4, 1)))
-        self.assertEqual(victor.board_size("8x6x5"), (8, 6, 5))
+        self.assertEqual(victor.Size.read("8x6x5"), (8, 6, 5))
         self.fails(lambda: victor.Game.read("aabbccdde", (5, 4)), "move 8: the game has ended before it")
         self.fails(lambda: victor.Game.read("board 5 4 4\nmoves aa"), "5 behind them where lines of five win")
-        self.fails(lambda: victor.board_size("8x6x6"), "no board has lines of 6")
+        self.fails(lambda: victor.Size.read("8x6x6"), "no board has lines of 6")
 
     def fails(self, call, said):
         with self.assertRaises(victor.Fault) as caught:
@@ -54,14 +49,35 @@ class GameTest(ToolTest):
         self.assertEqual(game.after(3).line, ((3, 1), (3, 2), (3, 3), (3, 4)))
         self.assertEqual((game.letters(), game.is_over, game.after(3).is_over), ("dcdcdc", False, True))
         self.fails(lambda: game.after(7), "move 7: the board has no column 8")
-        self.assertIs(boards.Game, victor.Game)
+
+    def test_value(self):
+        """A game is a value: it never changes, and equals each with the same men on the same board."""
+        game = victor.Game.read("dcdc")
+        self.assertEqual({game, victor.Game.read("d c d c"), victor.Game.read("dcdcd").undone()}, {game})
+        self.assertEqual(victor.Game.read("abcd"), victor.Game.read("cbad"))
+        self.assertNotEqual(game, victor.Game.read("dcdc", (7, 8)))
+        self.assertNotEqual(victor.Game.read("ab"), victor.Game.read("ba"))
+        self.assertEqual(game.after(0).undone(), game)
+        self.fails(lambda: victor.Game.read("-").undone(), "no move to take back")
+        for change in (lambda: setattr(game, "moves", ()), lambda: game.men.update({(0, 1): "W"})):
+            self.assertRaises(AttributeError, change)
+        self.assertEqual(pickle.loads(pickle.dumps(game)).moves, game.moves)
+
+    def test_shown(self):
+        """As a text a game is a drawing that is read again, and in a notebook it is one in colours."""
+        game = victor.Game.read("cccdcd", (4, 4))
+        rows = " 4 . . W .\n 3 . . W .\n 2 . . B B\n 1 . . W B\n   a b c d\n"
+        self.assertEqual(str(game), rows + "4 by 4 after cccdcd: White is to move")
+        self.assertEqual(victor.Game.read(str(game)), game)
+        self.assertEqual(eval(repr(game), {"Game": victor.Game}), game)
+        self.assertEqual(game._repr_svg_().count("<circle"), 7)  # six men, and the last one's mark
 
 
 class SessionTest(ToolTest):
     def test_session(self):
         """The session of docs/TOOLS.md, as it stands there."""
-        result = doctest.testfile(os.path.join(boards.TOP, "docs", "TOOLS.md"), module_relative=False)
-        self.assertGreater(result.attempted, 15)
+        result = doctest.testfile(os.path.join(TOP, "docs", "TOOLS.md"), module_relative=False)
+        self.assertGreater(result.attempted, 9)
         self.assertEqual(result.failed, 0)
 
 
@@ -124,7 +140,9 @@ class RunTest(ToolTest):
     def test_annotate(self):
         game = victor.Game.read("cdccddcdaababb", (4, 4))
         marks = victor.annotate(game, last=2)
-        self.assertEqual([(mark.number, mark.square, mark.word) for mark in marks], [(13, "b2", "bad"), (14, "b3", "ok")])
+        self.assertEqual(
+            [(mark.number, mark.square, mark.word) for mark in marks], [(13, "b2", "bad"), (14, "b3", "ok")]
+        )
         self.assertEqual(victor.annotate(game, last=0), ())
 
     def test_trim(self):
@@ -194,9 +212,15 @@ class RunTest(ToolTest):
         """A program is ended when its seconds are spent, and who asked for it is told of the time."""
         told = []
         begin = time.monotonic()
-        with mock.patch.object(victor, "FIRST_TOLD", 0.1):
-            fault = self.fails(victor.OutOfTime, victor.prove, self.game, seconds=0.5, tell=told.append,
-                               program=self.stub("echo begun >&2; while :; do :; done"))
+        with mock.patch.object(processes, "FIRST_TOLD", 0.1):
+            fault = self.fails(
+                victor.OutOfTime,
+                victor.prove,
+                self.game,
+                seconds=0.5,
+                tell=told.append,
+                program=self.stub("echo begun >&2; while :; do :; done"),
+            )
         self.assertLess(time.monotonic() - begin, 20)
         self.assertEqual((fault.status, fault.text, fault.is_starved), (-9, "begun\n", False))
         self.assertIn("its seconds were spent", str(fault))
@@ -212,8 +236,11 @@ class RunTest(ToolTest):
         self.assertEqual((fault.status, fault.text.split("\n")[-2]), (1, "MemoryError"))
 
     def test_faults(self):
-        for script, status, text in (("echo out of memory >&2; exit 8", 8, "out of memory\n"), ("kill -9 $$", -9, ""),
-                                     ("exit 1", 1, "")):
+        for script, status, text in (
+            ("echo out of memory >&2; exit 8", 8, "out of memory\n"),
+            ("kill -9 $$", -9, ""),
+            ("exit 1", 1, ""),
+        ):
             fault = self.fails(victor.Failed, victor.prove, self.game, program=self.stub(script))
             self.assertEqual((fault.name, fault.status, fault.text), ("victor prove", status, text))
         self.fails(victor.OtherGame, victor.prove, self.game, program=self.stub("echo victor 1"))
@@ -228,7 +255,7 @@ class RunTest(ToolTest):
         """The words that solve gets, and what its proof and its faults become."""
         words = self.folder / "words"
         stub = self.stub("echo \"$@\" >'%s'; cat '%s'" % (words, example("usual-board.proof")))
-        proof = victor.solve(self.game, seconds=61, memory=500, rounds=3, program=stub)
+        proof = victor.solve(self.game, {"rounds": 3}, seconds=61, memory=500, program=stub)
         self.assertEqual((proof.value, proof.lemmas, proof.text, proof.status), ("win", 2, USUAL, 0))
         self.assertEqual(words.read_text(encoding="ascii"), "--quiet --memory 500 --rounds 3 --seconds 30\n")
         self.assertEqual(victor.check(proof).value, "win")
@@ -237,8 +264,37 @@ class RunTest(ToolTest):
         self.assertEqual((proof.value, proof.game.size), ("win", five.size))
         fault = self.fails(victor.Failed, victor.solve, self.game, program=self.stub("echo solve: no >&2; exit 2"))
         self.assertEqual((fault.status, fault.text), (2, "solve: no\n"))
-        with mock.patch.object(victor, "SOLVER", "/no/such"):
+        with mock.patch.object(programs, "solver_path", lambda: None):
             self.assertIn("make -C tools/solve", str(self.fails(victor.Fault, victor.find_solver)))
+
+    def test_one_line(self):
+        """Whatever is wrong is a fault of one line with its cause: a text for a game, a folder for a file, a full disk,
+        and a file that is cut off."""
+        cut, packed = self.folder / "cut", self.folder / "cut.xz"
+        cut.write_text(USUAL[:30])
+        packed.write_bytes(lzma.compress(Path(example("shared-position.proof")).read_bytes())[:-30])
+        other = victor.prove(self.game.after(0).after(1), nodes=1, reach=0)
+        for call, said in (
+            (lambda: victor.prove("434343"), "a game is wanted here, and not a str: Game.read"),
+            (lambda: victor.explain(None), "a game is wanted here"),
+            (lambda: victor.Game.read(434343), "a text is wanted here"),
+            (lambda: victor.check(self.folder), "Is a directory"),
+            (lambda: victor.check(12), "a text or the path of one is wanted here"),
+            (lambda: victor.check(self.folder / "none"), "No such file"),
+            (lambda: victor.prove(self.game, into=self.folder), "Is a directory"),
+            (lambda: victor.prove(self.game, into="/dev/full"), "write fault"),
+            (lambda: victor.prove_by_move(self.game, 3, after, "/dev/full"), "/dev/full: No space left"),
+            (lambda: victor.check(cut), "refused line 4: EndedEarly"),
+            (lambda: victor.trim(cut), "refused line 4: EndedEarly"),
+            (lambda: proofs.unpacked(packed, self.folder), "cut.xz can't be unpacked: "),
+            (lambda: victor.check(other.text, self.game), "another game"),
+            (lambda: victor.prove(self.game, program=self.stub("exit 1")), "ended with status 1 and said nothing"),
+            (lambda: victor.prove(self.game, program=self.stub("kill -9 $$")), "ended by signal 9 (Killed)"),
+        ):
+            after = victor.prove(self.game.after(3))
+            said_now = str(self.fails(victor.Fault, call))
+            self.assertIn(said, said_now)
+            self.assertRegex(said_now, r"^[^\n]*[^\n: ]$")
 
 
 if __name__ == "__main__":

@@ -1,0 +1,83 @@
+"""The prover `victor` for programs in Python: games as people write them, and each command as a function.
+
+    game = victor.Game.read("434343")
+    proof = victor.prove(game)
+    accepted = victor.check(proof)
+
+A function that runs a program takes these by keyword: `program`, its path, else the one that is found; `seconds` of
+processor time, `clock`, seconds by the clock, and `memory`, in MiB, which it may take at most; and `tell`, which is
+called with the seconds that are spent, now and then from two on. What gives no answer is a `Fault`, and a program that
+ended so a `Failed`, with its own text and status. Nothing is built: where there is no program, that is a `Fault` too.
+
+A column is a number from 0 at the left, a row from 1 at the bottom, and a square the pair of both. Nothing is proved of
+this package; what a proof shows, `check` says.
+"""
+
+from .asking import Answer, Asker, Means
+from .faults import Failed, Fault, OtherGame, OutOfTime, Unproved
+from .games import Game, Size
+from .plans import Plan
+from .processes import Limits, answer
+from .programs import build, find_program, find_solver
+from .prover import (
+    Accepted,
+    Drill,
+    Duel,
+    Explanation,
+    Following,
+    Mark,
+    Proof,
+    Threat,
+    annotate,
+    check,
+    drill,
+    explain,
+    follow,
+    play,
+    prove,
+    prove_by_move,
+    solve,
+    threat,
+    trim,
+    upgrade,
+)
+
+__version__ = "0.1"
+__all__ = [
+    "Accepted",
+    "Answer",
+    "Asker",
+    "Drill",
+    "Duel",
+    "Explanation",
+    "Failed",
+    "Fault",
+    "Following",
+    "Game",
+    "Limits",
+    "Mark",
+    "Means",
+    "OtherGame",
+    "OutOfTime",
+    "Plan",
+    "Proof",
+    "Size",
+    "Threat",
+    "Unproved",
+    "annotate",
+    "answer",
+    "build",
+    "check",
+    "drill",
+    "explain",
+    "find_program",
+    "find_solver",
+    "follow",
+    "play",
+    "prove",
+    "prove_by_move",
+    "solve",
+    "threat",
+    "trim",
+    "upgrade",
+]

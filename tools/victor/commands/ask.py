@@ -1,0 +1,76 @@
+"""Says in one sentence what a position is worth under perfect play. The shipped proofs are looked in, then
+tools/solve or victor prove finds a proof; victor check checks it, and its first lines are compared with the
+question."""
+
+import argparse
+import json
+import shutil
+import tempfile
+from typing import Optional
+
+from .. import prover
+from ..answers import data_of, sentence
+from ..asking import Answer, Asker
+from ..faults import Fault
+from ..files import output, read_input
+from ..games import Game
+from ..notation import asked_game, read_position
+from ..proofs import Lemmas, Line, mapped
+from .options import SEARCH, Parser, means_of, size_of, write
+
+COMMON = ("position", "--board", *SEARCH, "--json")
+STATUS = (
+    "Status: 0 where the value is said, 5 where it stays unknown, 2 where the question is none or an argument is "
+    "wrong, 1 where a program failed or no proof was accepted."
+)
+EXAMPLE = "tools/lab ask --moves 434343"
+
+
+def add_options(parser: Parser) -> None:
+    """The options of this subcommand alone."""
+    parser.add_argument("--file", metavar="FILE", help="the file to read the position from, whatever its name")
+    parser.add_argument("--moves", action="store_true", help="say also which moves are best, each by its own proof")
+    parser.add_argument("--line", action="store_true", help="say also a best line, by the proof")
+    parser.add_argument("--keep", metavar="FILE", help="keep the position's proof in this file")
+
+
+def run(words: argparse.Namespace) -> int:
+    """Answers, and gives the status."""
+    game = game_of(words)
+    with tempfile.TemporaryDirectory(prefix="ask-") as folder:
+        asker = Asker(means_of(words), folder)
+        answer, moves = asker.answer(game, needs_proof=bool(words.keep)), None
+        if words.moves:
+            answer, moves = asker.moves_of(game, answer, needs_proof=bool(words.keep))
+        kept = None
+        if words.keep and answer.proof:
+            kept = prover.trim(answer.proof, asker.folder / "kept", program=asker.program)
+            answer = answer if answer.value == "unknown" else asker.accepted(kept, answer.by)
+        line = line_of(game, answer, asker.program) if words.line else None
+        if kept and kept.path:
+            with open(kept.path, "rb") as source, output(words.keep) as out:
+                shutil.copyfileobj(source, out)
+    if words.json:
+        write(json.dumps(data_of(game, answer, asker.engines, moves, line)) + "\n")
+    else:
+        write(sentence(game, answer, asker.engines, moves, line) + "\n")
+    return 5 if answer.value == "unknown" else 0
+
+
+def game_of(words: argparse.Namespace) -> Game:
+    """The game that is asked about."""
+    if words.position is not None and words.file:
+        raise Fault("the position is given twice")
+    if words.file:
+        return read_position(read_input(words.file), size_of(words))
+    return asked_game(words.position, size_of(words))
+
+
+def line_of(game: Game, answer: Answer, program: Optional[str]) -> Line:
+    """A best line by the proof that was accepted: an empty one where there is no proof."""
+    path = answer.proof.path if answer.proof else answer.path
+    if not path or answer.value == "unknown":
+        return Line()
+    with mapped(path) as text:
+        lemmas = Lemmas(path, text)
+        return lemmas.line(game, answer.places or lemmas.verdict, program)
