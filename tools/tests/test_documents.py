@@ -12,7 +12,7 @@ import tempfile
 import unittest
 
 from common import TOP, program, read, tool
-from victor.commands import COMMANDS
+from victor._commands import COMMANDS
 
 
 DOCUMENTS = ("README.md",) + tuple(

@@ -11,7 +11,7 @@ from common import TOOLS, TOP, ToolTest, program, read, shipped_lemmas
 import victor
 
 CODE = "import victor; print(victor.check(victor.prove(victor.Game.read('434343'))).value, victor.__version__)"
-COPIED = (
+COPIED: tuple[str, ...] = (
     "victor",
     "victor.1",
     "Makefile",

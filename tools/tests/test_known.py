@@ -10,7 +10,7 @@ from unittest import mock
 
 from common import ToolTest, example, program, read, shipped_lemmas, tool
 import victor
-from victor import Game, asking, proofs
+from victor import Game, _asking as asking, _proofs as proofs
 
 
 class KnownTest(ToolTest):

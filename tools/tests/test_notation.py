@@ -6,8 +6,8 @@ import unittest
 from common import ToolTest, tool
 import victor
 from victor import Game
-from victor.games import columns_of
-from victor.notation import read_position
+from victor._games import columns_of
+from victor._notation import read_position
 
 
 def diagram_of(game, men="XO"):

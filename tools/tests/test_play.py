@@ -11,7 +11,7 @@ import time
 import unittest
 
 from common import ToolTest, command_of, example, program, read, tool
-from victor.notation import read_game
+from victor._notation import read_game
 
 PLAN = "CE:a1 CE:a3 CE:b1 CE:b3 BI:c1,d1 LI:c2-c4,d2-d4"
 

@@ -10,7 +10,7 @@ import xml.etree.ElementTree
 from common import ToolTest, example, program, read, tool, write
 import mutants
 from test_ask import worth
-from victor.games import LETTERS
+from victor._games import LETTERS
 
 SVG = "{http://www.w3.org/2000/svg}"
 

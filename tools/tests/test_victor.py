@@ -13,7 +13,7 @@ from unittest import mock
 
 from common import TOP, ToolTest, example, read
 import victor
-from victor import processes, programs, proofs
+from victor import _processes as processes, _programs as programs, _proofs as proofs
 
 USUAL = read(example("usual-board.proof"))
 

@@ -9,10 +9,10 @@ import unittest
 from common import ToolTest, example, program, read, tool
 import check
 import mutants
-from victor import Game, Plan, sentences
-from victor.games import LETTERS, columns_of, name_of, square_of
-from victor.notation import read_game
-from victor.plans import RULES, barred_by, up, zone_of
+from victor import Game, Plan, _sentences as sentences
+from victor._games import LETTERS, columns_of, name_of, square_of
+from victor._notation import read_game
+from victor._plans import RULES, barred_by, up, zone_of
 
 # A game for each rule, with a plan that has an instance of it.
 GAMES = {

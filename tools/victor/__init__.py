@@ -13,13 +13,13 @@ A column is a number from 0 at the left, a row from 1 at the bottom, and a squar
 this package; what a proof shows, `check` says.
 """
 
-from .asking import Answer, Asker, Means
-from .faults import Failed, Fault, OtherGame, OutOfTime, Unproved
-from .games import Game, Size
-from .plans import Plan
-from .processes import Limits, answer
-from .programs import build, find_program, find_solver
-from .prover import (
+from ._asking import Answer, Asker, Means
+from ._faults import Failed, Fault, OtherGame, OutOfTime, Unproved
+from ._games import Game, Size
+from ._plans import Plan
+from ._processes import Limits, answer
+from ._programs import build, find_program, find_solver
+from ._prover import (
     Accepted,
     Drill,
     Duel,
@@ -81,3 +81,7 @@ __all__ = [
     "trim",
     "upgrade",
 ]
+
+# Faults and values are shown by their public names, and not by those of the modules that have them.
+for _name in __all__:
+    globals()[_name].__module__ = __name__

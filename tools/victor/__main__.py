@@ -1,3 +1,3 @@
-from .lab import script
+from ._lab import script
 
 script()

@@ -9,8 +9,8 @@ import subprocess
 import sys
 from typing import Optional
 
-from .faults import Fault, files_told
-from .files import Path
+from ._faults import Fault, files_told
+from ._files import Path
 
 HERE = pathlib.Path(__file__).resolve().parent
 CHECKOUT = HERE.parent.parent if (HERE.parent.parent / "crates.txt").is_file() else None

@@ -8,8 +8,8 @@ from collections.abc import Sequence
 from typing import Optional
 
 from . import __version__
-from .commands import COMMANDS
-from .faults import Fault
+from ._commands import COMMANDS
+from ._faults import Fault
 
 INTERRUPTED = 130
 
@@ -47,9 +47,9 @@ def run(command: str, prog: str, argv: Sequence[str]) -> int:
     """Runs a subcommand by its words."""
     signal.signal(signal.SIGTERM, signal.default_int_handler)
     try:
-        module = importlib.import_module(f".commands.{command}", __package__)
-        from . import programs
-        from .commands.options import parser_of
+        module = importlib.import_module(f"._commands.{command}", __package__)
+        from . import _programs as programs
+        from ._commands.options import parser_of
 
         words = parser_of(prog, module).parse_intermixed_args(argv)
         words.prog = prog

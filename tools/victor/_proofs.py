@@ -16,12 +16,12 @@ from collections.abc import Iterator
 from dataclasses import dataclass, field
 from typing import BinaryIO, NamedTuple, Optional
 
-from . import plans, prover
-from .faults import Fault, files_told
-from .files import Path, output
-from .games import LETTERS, OTHER, Game, Square, columns_of
-from .notation import read_game
-from .prover import FORMATS, tail_of
+from . import _plans as plans, _prover as prover
+from ._faults import Fault, files_told
+from ._files import Path, output
+from ._games import LETTERS, OTHER, Game, Square, columns_of
+from ._notation import read_game
+from ._prover import FORMATS, tail_of
 
 MOST_LINE = 2_000_000  # lemmas of a proof that a line is read from
 CLAIMS = (b"W+", b"W-", b"B+", b"B-")

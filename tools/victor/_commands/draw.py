@@ -5,14 +5,14 @@ victor follow writes. proof: what victor prove writes. What is drawn isn't check
 import argparse
 from typing import Optional
 
-from ..drawing import draw_duel, draw_plan, draw_position, duel_text, plan_text
-from ..duels import Shown
-from ..faults import Fault
-from ..files import read_input
-from ..games import Game, Size
-from ..notation import asked_game, named_game
-from ..pages import MOST_SHOWN, draw_proof, read_proof
-from ..plans import Plan
+from .._drawing import draw_duel, draw_plan, draw_position, duel_text, plan_text
+from .._duels import Shown
+from .._faults import Fault
+from .._files import read_input
+from .._games import Game, Size
+from .._notation import asked_game, named_game
+from .._pages import MOST_SHOWN, draw_proof, read_proof
+from .._plans import Plan
 from .options import Parser, size_of, write
 
 COMMON = ("--game", "--board", "--out")

@@ -7,7 +7,7 @@ import types
 from collections.abc import Iterable, Iterator, Mapping, Sequence
 from typing import Any, Callable, NamedTuple, Optional
 
-from .faults import Fault
+from ._faults import Fault
 
 Square = tuple[int, int]
 LETTERS = "abcdefghij"
@@ -121,14 +121,14 @@ class Game:
         return "\n".join([*grid_text(self.size, lambda square: self.men.get(square, ".")), self.sentence()])
 
     def _repr_svg_(self) -> str:
-        from .drawing import draw_position
+        from ._drawing import draw_position
 
         return draw_position(self)
 
     @classmethod
     def read(cls, text: str, size: Optional[Sequence[int]] = None) -> "Game":
         """The game that people write so: letters, digits, squares, numbered moves, the text of a game or a diagram."""
-        from .notation import read_position
+        from ._notation import read_position
 
         return read_position(text, size)
 

@@ -10,16 +10,16 @@ import sys
 from collections.abc import Collection, Sequence
 from typing import Optional, Protocol
 
-from .. import prover
-from ..faults import Failed, Fault, Unproved, files_told
-from ..files import read_input, write_text
-from ..games import LETTERS, OTHER, SIDES, Game, Size, Square, grid_text, lines_with, name_of, square_of
-from ..notation import named_game, read_game, read_position
-from ..plans import RULES, zone_of
-from ..programs import find_program
-from ..proofs import verdict_of
-from ..prover import MOST_REACH
-from ..sentences import line_name, listed
+from .. import _prover as prover
+from .._faults import Failed, Fault, Unproved, files_told
+from .._files import read_input, write_text
+from .._games import LETTERS, OTHER, SIDES, Game, Size, Square, grid_text, lines_with, name_of, square_of
+from .._notation import named_game, read_game, read_position
+from .._plans import RULES, zone_of
+from .._programs import find_program
+from .._proofs import verdict_of
+from .._prover import MOST_REACH
+from .._sentences import line_name, listed
 from .options import PROGRAM, Parser, size_of
 
 COMMON = ("--board", "--reach", *PROGRAM)

@@ -6,12 +6,12 @@ import re
 from collections.abc import Sequence
 from typing import Union
 
-from .drawing import COLOURS
-from .faults import Fault
-from .games import Game
-from .notation import read_game
-from .plans import RULES, STANDING, zone_of
-from .prover import FORMATS
+from ._drawing import COLOURS
+from ._faults import Fault
+from ._games import Game
+from ._notation import read_game
+from ._plans import RULES, STANDING, zone_of
+from ._prover import FORMATS
 
 MOST_SHOWN = 20_000
 LEMMA = re.compile(

@@ -3,9 +3,9 @@
 from collections.abc import Sequence
 from typing import Optional
 
-from .faults import Fault
-from .games import OTHER, ROWS, Game, Size, Square, name_of, square_of
-from .plans import group_of
+from ._faults import Fault
+from ._games import OTHER, ROWS, Game, Size, Square, name_of, square_of
+from ._plans import group_of
 
 Turn = tuple[list[Square], list[str]]  # the squares of a turn, and the words of its line
 

@@ -4,8 +4,8 @@ a game that leads to its men, and any other would do."""
 import argparse
 import json
 
-from ..answers import game_data
-from ..notation import asked_game
+from .._answers import game_data
+from .._notation import asked_game
 from .options import Parser, size_of, write
 
 COMMON = ("position", "--board", "--json", "--out")

@@ -9,11 +9,11 @@ from collections.abc import Iterator
 from types import ModuleType
 from typing import Any, NoReturn, Optional
 
-from .. import asking, processes
-from ..asking import Means
-from ..faults import Fault, files_told
-from ..files import output
-from ..games import Game, Size
+from .. import _asking as asking, _processes as processes
+from .._asking import Means
+from .._faults import Fault, files_told
+from .._files import output
+from .._games import Game, Size
 
 WIDTH = 100
 COMMON: dict[str, dict[str, Any]] = {

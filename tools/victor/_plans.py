@@ -4,8 +4,8 @@ rule does."""
 from collections.abc import Sequence
 from typing import Optional
 
-from .faults import Fault
-from .games import LETTERS, ROWS, WAYS, Game, Size, Square, name_of, square_of
+from ._faults import Fault
+from ._games import LETTERS, ROWS, WAYS, Game, Size, Square, name_of, square_of
 
 RULES = {
     "CE": "Claimeven",

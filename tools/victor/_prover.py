@@ -14,12 +14,12 @@ from collections.abc import Iterable, Iterator, Mapping
 from dataclasses import dataclass
 from typing import Any, BinaryIO, Optional, Union
 
-from .faults import Failed, Fault, OtherGame, files_told
-from .files import Path, Text, file_of, place_for
-from .games import LETTERS, Game, Size, require_game
-from .notation import read_game
-from .processes import Limits, answer, answer_from, run
-from .programs import find_program, find_solver
+from ._faults import Failed, Fault, OtherGame, files_told
+from ._files import Path, Text, file_of, place_for
+from ._games import LETTERS, Game, Size, require_game
+from ._notation import read_game
+from ._processes import Limits, answer, answer_from, run
+from ._programs import find_program, find_solver
 
 FORMATS = (b"victor 1\n", b"victor 2\n")
 LONGEST_HEAD = 16  # bytes of a first line, and more

@@ -5,9 +5,9 @@ import re
 from collections.abc import Iterator, Mapping, Sequence
 from typing import Optional
 
-from .faults import Fault
-from .files import read_input
-from .games import LETTERS, OTHER, USUAL, Game, Size, Square, columns_of, line_through
+from ._faults import Fault
+from ._files import read_input
+from ._games import LETTERS, OTHER, USUAL, Game, Size, Square, columns_of, line_through
 
 MOST_TRIED = 2_000_000
 MAYBE_SCORE = "%r may be a score and no move: moves as digits stand in one word, or with commas between them"

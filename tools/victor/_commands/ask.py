@@ -8,14 +8,14 @@ import shutil
 import tempfile
 from typing import Optional
 
-from .. import prover
-from ..answers import data_of, sentence
-from ..asking import Answer, Asker
-from ..faults import Fault
-from ..files import output, read_input
-from ..games import Game
-from ..notation import asked_game, read_position
-from ..proofs import Lemmas, Line, mapped
+from .. import _prover as prover
+from .._answers import data_of, sentence
+from .._asking import Answer, Asker
+from .._faults import Fault
+from .._files import output, read_input
+from .._games import Game
+from .._notation import asked_game, read_position
+from .._proofs import Lemmas, Line, mapped
 from .options import SEARCH, Parser, means_of, size_of, write
 
 COMMON = ("position", "--board", *SEARCH, "--json")

@@ -16,16 +16,16 @@ import threading
 from collections.abc import Callable, Iterator
 from typing import Any, Optional
 
-from .. import prover
-from ..answers import data_of
-from ..asking import Asker, Means
-from ..faults import Failed, Fault, Gone
-from ..files import Path
-from ..games import Game, Size, columns_of
-from ..notation import read_position
-from ..pages import draw_proof, page_of, read_proof, zone_colours
-from ..programs import find_program
-from ..sentences import of_explanation
+from .. import _prover as prover
+from .._answers import data_of
+from .._asking import Asker, Means
+from .._faults import Failed, Fault, Gone
+from .._files import Path
+from .._games import Game, Size, columns_of
+from .._notation import read_position
+from .._pages import draw_proof, page_of, read_proof, zone_colours
+from .._programs import find_program
+from .._sentences import of_explanation
 from .options import SEARCH, Parser, means_of
 
 COMMON = SEARCH

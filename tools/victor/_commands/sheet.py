@@ -10,14 +10,14 @@ from collections.abc import Sequence
 from dataclasses import dataclass
 from typing import Optional
 
-from .. import prover, sentences
-from ..answers import each_value
-from ..asking import Answer, Asker
-from ..drawing import draw_for_paper
-from ..faults import Fault
-from ..games import SIDES, Game, Size, name_of
-from ..notation import asked_game
-from ..plans import RULES, Plan
+from .. import _prover as prover, _sentences as sentences
+from .._answers import each_value
+from .._asking import Answer, Asker
+from .._drawing import draw_for_paper
+from .._faults import Fault
+from .._games import SIDES, Game, Size, name_of
+from .._notation import asked_game
+from .._plans import RULES, Plan
 from .options import SEARCH, Parser, means_of, say, size_of, write
 from .play import PlanPlayer
 

@@ -13,8 +13,8 @@ from collections.abc import Iterable, Iterator
 from dataclasses import dataclass
 from typing import Any, BinaryIO, Callable, Optional
 
-from .faults import Failed, Gone, OutOfTime, files_told
-from .files import Text, file_of
+from ._faults import Failed, Gone, OutOfTime, files_told
+from ._files import Text, file_of
 
 FIRST_TOLD = 2.0  # seconds after which `tell` is called for the first time
 SLOWEST = 10  # times its seconds of processor time a program may take by the clock on the wall

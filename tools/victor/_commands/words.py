@@ -3,9 +3,9 @@ whole. What is said isn't checked."""
 
 import argparse
 
-from ..files import read_input
-from ..notation import named_game
-from ..sentences import of_explanation
+from .._files import read_input
+from .._notation import named_game
+from .._sentences import of_explanation
 from .options import Parser, size_of, write
 
 COMMON = ("--game", "--board", "--out")

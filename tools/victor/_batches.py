@@ -22,13 +22,13 @@ from dataclasses import dataclass
 from types import ModuleType
 from typing import IO, Any, Optional
 
-from . import programs, prover
-from .asking import Asker, Means
-from .faults import Failed, Fault, Unproved, files_told
-from .files import write_text
-from .games import Game, Size
-from .notation import read_moves
-from .processes import apart
+from . import _programs as programs, _prover as prover
+from ._asking import Asker, Means
+from ._faults import Failed, Fault, Unproved, files_told
+from ._files import write_text
+from ._games import Game, Size
+from ._notation import read_moves
+from ._processes import apart
 
 HEAD = ("position", "value", "lemmas", "bytes", "seconds", "by", "sha256", "accepted")
 MOST_TASKS = 1000  # of an array job; each has its share of the commands

@@ -3,9 +3,9 @@
 from collections.abc import Sequence
 from typing import Callable, Optional
 
-from .faults import Fault
-from .games import LETTERS, Game, Square, name_of
-from .plans import BY_LINES, RULES, STANDING, Plan, barred_by, group_of, parts_of, up, words_of
+from ._faults import Fault
+from ._games import LETTERS, Game, Square, name_of
+from ._plans import BY_LINES, RULES, STANDING, Plan, barred_by, group_of, parts_of, up, words_of
 
 TURNED = {"win": "loss", "loss": "win", "draw": "draw", "unknown": "unknown"}
 

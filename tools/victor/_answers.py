@@ -3,11 +3,11 @@
 from collections.abc import Sequence
 from typing import Any, Optional
 
-from .asking import Answer
-from .games import LENGTHS, LETTERS, OTHER, SIDES, Game
-from .programs import MAKE_SOLVER
-from .proofs import Line
-from .sentences import count_of, joined
+from ._asking import Answer
+from ._games import LENGTHS, LETTERS, OTHER, SIDES, Game
+from ._programs import MAKE_SOLVER
+from ._proofs import Line
+from ._sentences import count_of, joined
 
 Moves = Sequence[tuple[int, str]]  # the columns with the verdict of each for the side that moves
 VERBS = {

@@ -9,7 +9,7 @@ import tempfile
 from collections.abc import Iterator
 from typing import BinaryIO, Optional, Union
 
-from .faults import Fault, files_told
+from ._faults import Fault, files_told
 
 Path = Union[str, "os.PathLike[str]"]
 Text = Union[str, bytes, "os.PathLike[str]"]  # a text, or the path of one

@@ -5,9 +5,9 @@ import html
 from collections.abc import Collection, Mapping, Sequence
 from typing import Optional
 
-from .duels import Shown
-from .games import LETTERS, Game, Size, Square, grid_text, line_through, name_of, squares_of
-from .plans import RULES, STANDING, Plan, group_of, parts_of, up, words_of
+from ._duels import Shown
+from ._games import LETTERS, Game, Size, Square, grid_text, line_through, name_of, squares_of
+from ._plans import RULES, STANDING, Plan, group_of, parts_of, up, words_of
 
 CELL, SMALL_CELL, SHEET_CELL = 44, 26, 30
 EDGE = 26

@@ -8,10 +8,10 @@ import json
 import os
 import sys
 
-from ..batches import Batch, all_positions, prove_one, read_list
-from ..faults import Fault
-from ..files import read_input
-from ..games import USUAL
+from .._batches import Batch, all_positions, prove_one, read_list
+from .._faults import Fault
+from .._files import read_input
+from .._games import USUAL
 from .options import SEARCH, Parser, means_of, say, size_of, write
 
 COMMON = ("--board", *SEARCH, "--json")

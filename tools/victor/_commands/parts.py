@@ -9,12 +9,12 @@ import pathlib
 import sys
 from typing import BinaryIO, Optional
 
-from .. import proofs
-from ..batches import Batch, path_of
-from ..faults import Fault, Unproved
-from ..files import output, read_input
-from ..games import LETTERS, Game, Size, columns_of
-from ..notation import asked_game
+from .. import _proofs as proofs
+from .._batches import Batch, path_of
+from .._faults import Fault, Unproved
+from .._files import output, read_input
+from .._games import LETTERS, Game, Size, columns_of
+from .._notation import asked_game
 from .batch import add_engine
 from .options import SEARCH, Parser, means_of, say, size_of
 

@@ -8,13 +8,13 @@ from collections.abc import Iterable
 from dataclasses import dataclass, replace
 from typing import Any, Callable, Optional, Union
 
-from . import programs, proofs, prover
-from .faults import Failed, Fault, OutOfTime, Unproved
-from .files import Path
-from .games import Game
-from .processes import Tell
-from .prover import MOST_NODES, MOST_REACH, Accepted, Proof
-from .sentences import TURNED, count_of
+from . import _programs as programs, _proofs as proofs, _prover as prover
+from ._faults import Failed, Fault, OutOfTime, Unproved
+from ._files import Path
+from ._games import Game
+from ._processes import Tell
+from ._prover import MOST_NODES, MOST_REACH, Accepted, Proof
+from ._sentences import TURNED, count_of
 
 SECONDS = 60  # of processor time
 MEMORY = 2000  # MiB for solve
