@@ -15,7 +15,7 @@ from common import LAB, TOP, ToolTest, command_of, heard, program, read, tool, w
 import mutants
 from victor import Game, Size
 
-COUNT = 28
+COUNT = 20
 PARALLEL = shutil.which("parallel")
 with_make = unittest.skipUnless(shutil.which("make"), "make isn't there: apt-get install make")
 # A stand-in for `sbatch --wait SCRIPT`: it runs each task of the array, one after the other.
