@@ -49,6 +49,7 @@ install: all
 	[ ! -x tools/solve/solve ] || ln -srf "$(to)/bin/victor-solve" "$(docs)/tools/solve/solve"
 	ln -srf "$(to)/bin/victor" "$(docs)/victor"
 	ln -srf "$(to)/bin/victor-lab" "$(docs)/tools/lab"
+	ln -srf "$(library)/why" "$(docs)/tools/why"
 	ln -srf "$(python)/victor_check.py" "$(docs)/tools/check.py"
 	ln -srfn "$(to)/share/victor/proofs" "$(docs)/proofs"
 

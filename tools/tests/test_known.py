@@ -3,12 +3,14 @@
 import json
 import lzma
 import os
+import pathlib
 import random
 import tempfile
 import unittest
 from unittest import mock
 
-from common import ToolTest, example, program, read, shipped_lemmas, tool
+from common import TOP, ToolTest, example, program, read, shipped_lemmas, tool
+import mutants
 import victor
 from victor import Game, _asking as asking, _proofs as proofs
 
@@ -107,6 +109,41 @@ class KnownTest(ToolTest):
                 self.assertEqual(proofs.claims_below(made.name, game), there, game)
                 count += bool(there)
             self.assertGreater(count, 10)
+
+    def test_extracted(self):
+        """What a whole board's proof says of a position is a proof of that alone, which both checkers accept; also
+        where its lemmas stand at mirror images and have plans there."""
+        rng, plans, values = random.Random(9), 0, set()
+        asker = victor.Asker(victor.Means(program=program()), self.folder_for())
+        asker.known = [known for known in asker.known if known.name.endswith(self.SMALL)]
+        for _ in range(60):
+            size = rng.choice([known.size for known in asker.known])
+            game = mutants.random_game(rng, size.cols, size.rows, 6)
+            for image in (game, game.mirrored()):
+                found = (known.proof(image, asker.folder / "out") for known in asker.known)
+                answer = next(filter(None, found), None)
+                if answer:
+                    text = answer.proof.path.read_bytes()
+                    self.assertEqual(mutants.answer_here(text)[1], f"accepted {answer.value} {answer.lemmas}\n")
+                    self.assertEqual(victor.trim(answer.proof, program=program()).lemmas, answer.lemmas)
+                    self.assertNotIn(b" mirror ", text)
+                    plans += b" plan " in text
+                    values.add(answer.value)
+        self.assertGreater(plans, 10)
+        self.assertEqual(values, {"win", "draw", "loss"})
+
+    SMALL = ("/4-by-4.txt.xz", "5-by-4.txt.xz", "6-by-4.txt.xz", "/4-by-6.txt.xz")
+
+    def test_folder(self):
+        """A folder of proofs may be named, and what is kept of a position is a proof of its own."""
+        folder = self.folder_for()
+        for name in ("4-by-6.txt.xz", "6-by-4.txt.xz"):
+            os.symlink(os.path.join(TOP, "proofs", name), os.path.join(folder, name))
+        kept = os.path.join(folder, "kept")
+        said = self.says("6-by-4.txt.xz, ", "--from", folder, "--board", "6x4", "c", "--keep", kept)[1]
+        found = victor.check(pathlib.Path(kept), Game.read("c", (6, 4)), program=program())
+        self.assertIn(f" {found.lemmas:,} lemmas accepted", said)
+        self.says("found in ", "--from", folder, "--board", "4x6", "-")
 
     def test_line(self):
         """A best line ends the game as the value says, and each of its moves keeps that value."""

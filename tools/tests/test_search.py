@@ -39,12 +39,15 @@ class Search:
         return "WB"[sum(map(len, board)) % 2]
 
     def after(self, board, column):
-        return board[:column] + (board[column] + self.to_move(board),) + board[column + 1:]
+        return board[:column] + (board[column] + self.to_move(board),) + board[column + 1 :]
 
     def has_line(self, board, man):
         men = {(x, y) for x, column in enumerate(board) for y, own in enumerate(column) if own == man}
-        return any(all((x + n * right, y + n * up) in men for n in range(4))
-                   for x, y in men for right, up in ((1, 0), (0, 1), (1, 1), (1, -1)))
+        return any(
+            all((x + n * right, y + n * up) in men for n in range(4))
+            for x, y in men
+            for right, up in ((1, 0), (0, 1), (1, 1), (1, -1))
+        )
 
     def is_full(self, board):
         return all(len(column) == self.rows for column in board)
@@ -117,8 +120,14 @@ class Search:
 
 def victor(words, game):
     """What the program writes for a game; each run has to end with 0 or, for an unknown value, 5."""
-    run = subprocess.run([PROGRAM, *words.split()], input=game, stdout=subprocess.PIPE, encoding="ascii", timeout=60,
-                         env={**os.environ, "VICTOR_EXPLAIN": "0"})
+    run = subprocess.run(
+        [PROGRAM, *words.split()],
+        input=game,
+        stdout=subprocess.PIPE,
+        encoding="ascii",
+        timeout=60,
+        env={**os.environ, "VICTOR_EXPLAIN": "0"},
+    )
     assert run.returncode in (0, 5), run
     return run.stdout
 
@@ -143,8 +152,8 @@ class SearchTest(unittest.TestCase):
         self.assertEqual(made, Search(columns, rows, moves, **how).text(), f"{moves} {words}")
 
     def test_both_formats_with_tables_of_any_size(self):
-        """The texts are the same, line by line. Behind moves that leave a symmetric board, images are used with White to
-        move, with Black to move and at ended positions."""
+        """The texts are the same, line by line. Behind moves that leave a symmetric board, images are used with White
+        to move, with Black to move and at ended positions."""
         asked = [(4, 4, "bbcc"), (5, 4, "ccccbbdd")]
         for columns, rows, men in ((4, 4, 8), (5, 4, 12), (4, 6, 15), (7, 6, 33)):
             asked += [(columns, rows, moves) for moves in games(columns, rows, men, 2, seed=men)]
@@ -189,7 +198,8 @@ class SearchTest(unittest.TestCase):
         for nodes in sorted(set(entered) - {1})[::8]:
             for budget in (nodes, nodes - 1):
                 counts = collections.Counter(
-                    Search(4, 4, moves, nodes=budget).verdict().split()[0] for moves in searches)
+                    Search(4, 4, moves, nodes=budget).verdict().split()[0] for moves in searches
+                )
                 said = " ".join(f"{word} {counts[word]}" for word in ("win", "draw", "loss", "unknown"))
                 self.assertEqual(victor(f"drill --reach 0 --nodes {budget} 4 4 8 5 40", ""), f"drill {said}\n")
 

@@ -1,4 +1,4 @@
-"""The program at a terminal: it asks once for the end of its input, and answers each line before it asks for the next."""
+"""The program at a terminal: it asks once for the end of its input, and answers each line before the next one."""
 
 import os
 import pty

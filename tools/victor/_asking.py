@@ -68,9 +68,9 @@ class Means:
         for name, number, least, most in (
             ("nodes", self.nodes, 1, MOST_NODES),
             ("reach", self.reach, 0, MOST_REACH),
-            ("memory", self.memory or 1, 1, 1 << 20),
+            ("memory", 1 if self.memory is None else self.memory, 1, 1 << 20),
         ):
-            if not least <= number <= most or (name, self.memory) == ("memory", 0):
+            if not least <= number <= most:
                 raise Fault(f"--{name} takes a number from {least} to {most}")
         for name, seconds in (("seconds", self.seconds), ("clock", self.clock)):
             if seconds is not None and not 0 < seconds < float("inf"):

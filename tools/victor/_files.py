@@ -73,7 +73,7 @@ def file_of(text: Text) -> Iterator[BinaryIO]:
 def read_input(name: Optional[str]) -> str:
     """All text of a file, or of standard input where no name is given."""
     with files_told("standard input"):
-        data = sys.stdin.buffer.read() if name in (None, "-") else pathlib.Path(name).read_bytes()  # type: ignore
+        data = pathlib.Path(name).read_bytes() if name and name != "-" else sys.stdin.buffer.read()
     try:
         return data.decode("ascii")
     except UnicodeDecodeError as fault:
