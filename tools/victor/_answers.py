@@ -5,7 +5,7 @@ from typing import Any, Optional
 
 from ._asking import Answer
 from ._games import LENGTHS, LETTERS, OTHER, SIDES, Game
-from ._programs import MAKE_SOLVER
+from ._programs import ASK_SOLVER, MAKE_SOLVER
 from ._proofs import Line
 from ._sentences import count_of, joined
 
@@ -54,9 +54,11 @@ def advice(answer: Answer, engines: tuple[str, ...]) -> str:
     """What may help where a value is unknown."""
     if not answer.wishes:
         return "no greater budget can be given"
-    is_budget = engines == ("prove",) and answer.proof is not None and answer.wishes != (MAKE_SOLVER,)
-    said = f"{'raise it by' if is_budget else 'try'} {' or '.join(answer.wishes)}"
-    return said.replace(f" or {MAKE_SOLVER}", f", or try {MAKE_SOLVER}")
+    is_budget = engines == ("prove",) and answer.proof is not None and answer.wishes[0].startswith("--n")
+    *few, last = answer.wishes
+    if few and last in (MAKE_SOLVER, ASK_SOLVER):
+        return f"{'raise it by' if is_budget else 'try'} {' or '.join(few)}, or try {last}"
+    return f"{'raise it by' if is_budget else 'try'} {' or '.join(answer.wishes)}"
 
 
 def best_of(moves: Moves) -> list[str]:

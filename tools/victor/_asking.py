@@ -149,7 +149,7 @@ class Asker:
         """The advice to ask solve, where it wasn't asked and takes such a board."""
         if self.solver or game.size.cols * (game.size.rows + 1) > MOST_BITS:
             return ()
-        return ("--by both",) if self.means.by and programs.solver_path() else (programs.MAKE_SOLVER,)
+        return (programs.ASK_SOLVER,) if self.means.by and programs.solver_path() else (programs.MAKE_SOLVER,)
 
     def by_solve(self, game: Game, path: pathlib.Path, seconds: Optional[float]) -> Answer:
         """What `tools/solve` says, by the first proof that it finds; or by a smaller one, where that is wanted."""
@@ -187,12 +187,8 @@ class Asker:
             return answer
         wishes = [f"--nodes above {nodes}"] if nodes < MOST_NODES else []
         wishes += [f"--reach above {reach}"] if reach < MOST_REACH else []
-        budget = count_of(nodes, "position")
-        why = (
-            f"prove's budget of {budget} is below the cost"
-            if self.solver
-            else f"the budget of {budget} is below its cost"
-        )
+        whose, its = ("prove's", "the") if self.solver else ("the", "its")
+        why = f"{whose} budget of {count_of(nodes, 'position')} is below {its} cost"
         return replace(answer, whys=(why,), wishes=tuple(wishes))
 
     def out_of_time(self, engine: str, fault: OutOfTime) -> Answer:

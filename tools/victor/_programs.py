@@ -21,6 +21,7 @@ is_current && exit
 read -r _ _ seconds < <(outlook $(kept_crates)) && minutes "$seconds"
 exit 1
 """
+ASK_SOLVER = "--by both"
 MAKE_SOLVER = "tools/solve, which decides many more positions (make -C tools/solve)"
 
 

@@ -66,6 +66,7 @@ COMMON: dict[str, dict[str, Any]] = {
     "--out": {"metavar": "FILE", "help": "where to write; without it, standard output"},
 }
 PROGRAM = ("--victor", "--build")
+MEANS = ("by", "solver", "nodes", "reach", "memory", "seconds", "clock", "small", "known")
 SEARCH = ("--from", "--by", "--seconds", "--clock", "--memory", "--nodes", "--reach", "--small", "--solver", *PROGRAM)
 
 
@@ -95,20 +96,8 @@ def parser_of(name: str, command: ModuleType) -> Parser:
 
 def means_of(words: argparse.Namespace, **more: Any) -> Means:
     """What the words say of who is asked, and what each may spend."""
-    return Means(
-        by=words.by,
-        program=words.victor,
-        solver=words.solver,
-        nodes=words.nodes,
-        reach=words.reach,
-        memory=words.memory,
-        seconds=words.seconds,
-        clock=words.clock,
-        small=words.small,
-        known=words.known,
-        progress=teller(words.prog),
-        **more,
-    )
+    said = {name: getattr(words, name) for name in MEANS}
+    return Means(program=words.victor, progress=teller(words.prog), **said, **more)
 
 
 def teller(prog: str) -> asking.Progress:
