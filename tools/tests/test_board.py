@@ -132,7 +132,7 @@ class BoardTest(ToolTest):
         for headers in ({"Host": "example.org"}, {"Origin": "http://example.org"}, {"Content-Type": "text/plain"}):
             self.assertEqual(self.call("/ask", headers=headers, size="4x4", moves="")[0], 403, headers)
         self.assertEqual(self.get("/", {"Host": "example.org"})[0], 403)
-        self.assertEqual(self.get("/../ask.py")[0], 404)
+        self.assertEqual(self.get("/../lab")[0], 404)
         self.assertEqual(self.get("/board.html")[0], 404)
 
     def test_nothing_is_left_behind(self):

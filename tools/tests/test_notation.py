@@ -100,7 +100,7 @@ class QuestionTest(ToolTest):
         self.reads(framed, "aaab")
 
     def test_what_draw_writes(self):
-        """What draw.py writes of a position is read again as it stands, whoever has a line in it."""
+        """What `lab draw` writes of a position is read again as it stands, whoever has a line in it."""
         for cols, rows, letters in ((4, 4, "cccdcd"), (7, 6, "-"), (7, 6, "dcdcdcd"), (10, 10, "jjjiiiaaaaaaaaaa")):
             game = Game((cols, rows), columns_of(letters))
             drawn = tool("draw", "position", "--text", text=game.text())[1]
