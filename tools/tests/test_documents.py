@@ -141,23 +141,23 @@ class DocumentsTest(unittest.TestCase):
         made = subprocess.run(
             ["bash", "-c", line],
             cwd=self.folder,
+            env={**os.environ, "VICTOR": program(), **more},
             input=text or "",
             stdout=subprocess.PIPE,
             stderr=subprocess.STDOUT,
             encoding="utf-8",
             timeout=150,
-            **more,
         )
         return made.returncode, made.stdout
 
-    def try_commands(self, name, environment=None):
+    def try_commands(self, name, **more):
         first = FIRST.get(name, "true")
         self.bash(first)
         # What a command sets stands for those behind it.
         kept = first.rsplit("; ", 1)[-1] if "=" in first.rsplit("; ", 1)[-1] else "true"
         for line, shown in commands_of(name):
             with self.subTest(document=name, command=line):
-                status, made = self.bash(kept + "\n" + line, env=environment)
+                status, made = self.bash(kept + "\n" + line, **more)
                 if line.startswith("moves="):
                     self.assertEqual(self.bash(line + "\necho $moves")[1], "dcdcdc\n")
                     kept = line
@@ -181,7 +181,7 @@ class DocumentsTest(unittest.TestCase):
             self.skipTest("another program than that of the checkout is tested")
         program()  # built where it isn't
         self.link(launcher)
-        self.try_commands("docs/USE.md", dict(os.environ, VICTOR_EXPLAIN="1"))
+        self.try_commands("docs/USE.md", VICTOR_EXPLAIN="1")
 
     def test_tools(self):
         """The page on the tools and their help go together: each subcommand with what it does and its own example, and
