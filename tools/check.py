@@ -4,8 +4,8 @@
 It reads a proof from standard input or from the file that is named, and writes one line where each lemma and the
 verdict are right. Else it names on standard error the first line that fails, and why. Nothing is proved of it.
 
-It stays one file that shares nothing with the package beside it, nor with the program: a slip in a rule would have to be
-made twice, by two who wrote apart, for a wrong proof to be accepted by both.
+It stays one file that shares nothing with the package beside it, nor with the program: a slip in a rule would have to
+be made twice, by two who wrote apart, for a wrong proof to be accepted by both.
 """
 
 import argparse
