@@ -109,6 +109,7 @@ class InterruptTest(ToolTest):
         words += ["--nodes", "100000", "--victor", self.slow]
         status, lines = self.interrupted(lambda: len(self.proofs()) > 2, *words)
         self.assertEqual((status, lines[0]), (130, f"lab batch: {len(names)} positions, 0 done before, 14 to prove"))
+        lines = [line for line in lines if not line.endswith(" done")]  # how far it is
         self.assertEqual(len(lines), 2, lines)
         self.assertRegex(
             lines[1], r"^lab batch: interrupted; \d+ of 14 are done, and the same call goes on from there$"
