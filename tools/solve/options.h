@@ -55,7 +55,8 @@ inline const std::vector<Option>& all_options() {
          "the file that the proof is written to; without it, standard output",
          [](Request& asked, Values values) { asked.output = values[0]; }},
         {"--memory", "MIB",
-         "memory for the tables, of which the search takes up to half",
+         "memory for the tables, of which the search takes up to a third, and 264 MiB at most behind the first "
+         "moves",
          number("--memory", 1, 1 << 20, &Options::memory, 20), default_of(&Options::memory, 20)},
         {"--lemmas", "N",
          "no proof with more lemmas is written",

@@ -17,11 +17,11 @@ inline std::string head_of(const Game& game, int format) {
 }
 
 // The tables for the search, which take at most a third of the memory, and less where a game ends soon. More than this
-// makes the search no quicker.
+// makes the search no quicker, but where nearly all squares are empty.
 template <int ROWS>
 BoundTables tables_for(const Board<ROWS>& board, const Game& game, const Options& options) {
     int empty = board.columns * ROWS - int(game.moves.size());
-    uint64_t early = uint64_t(1) << std::min(28, 10 + std::max(0, empty) * 3 / 4);
+    uint64_t early = uint64_t(1) << std::min(empty > 36 ? 30 : 28, 10 + std::max(0, empty) * 3 / 4);
     return BoundTables(std::min(options.memory / 4, early), std::min(options.memory / 16, uint64_t(1) << 23));
 }
 
