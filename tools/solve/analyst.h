@@ -109,6 +109,8 @@ class Analyst {
     }
 
   private:
+    static constexpr int UNKNOWN = OpeningTable<ROWS>::UNKNOWN;
+
     const Board<ROWS>& board_;
     Scorer<ROWS>& scorer_;
     OpeningTable<ROWS> openings_;
@@ -184,22 +186,29 @@ class Analyst {
         }
     }
 
-    // The value of a position without a line, with no more men than the openings have, for the side to move.
+    // The value of a position without a line, with no more men than the openings have, for the side to move. Moves that
+    // need no search go first.
     int opened(Position at) {
-        if (board_.playable(at.men) & board_.wins(at.own, at.men)) return 1;
-        Word moves = board_.safe_moves(at);
-        if (!moves) return at.men == board_.full ? 0 : -1;
-        if (count_of(at.men) == openings_.men()) {
-            int value = openings_.find(at);
-            return value == OpeningTable<ROWS>::UNKNOWN ? searched(at) : value;
-        }
+        if (int value = seen(at); value != UNKNOWN) return value;
+        if (count_of(at.men) == openings_.men()) return searched(at);
         Word key = openings_.least_key(at);
         if (auto known = opened_.find(key); known != opened_.end()) return known->second;
         int best = -1;
-        for (Word rest = moves; rest && best < 1; rest &= rest - 1) {
-            best = std::max(best, -opened(board_.after(at, rest & -rest)));
+        for (bool searches : {false, true}) {
+            for (Word rest = board_.safe_moves(at); rest && best < 1; rest &= rest - 1) {
+                Position next = board_.after(at, rest & -rest);
+                bool needs_search = count_of(next.men) == openings_.men() && seen(next) == UNKNOWN;
+                if (needs_search == searches) best = std::max(best, -opened(next));
+            }
         }
         return opened_[key] = best;
+    }
+
+    // The same as far as it is seen at once, or stands in the openings; else UNKNOWN.
+    int seen(Position at) const {
+        if (board_.playable(at.men) & board_.wins(at.own, at.men)) return 1;
+        if (!board_.safe_moves(at)) return at.men == board_.full ? 0 : -1;
+        return count_of(at.men) == openings_.men() ? openings_.find(at) : UNKNOWN;
     }
 
     int searched(Position at) {
