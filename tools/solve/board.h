@@ -16,7 +16,17 @@ struct Position {
     Word men;
 };
 
-inline int count_of(Word word) { return __builtin_popcountll(word); }
+// By additions where the processor needn't count itself: a call of the library's function takes longer.
+inline int count_of(Word word) {
+#ifdef __POPCNT__
+    return __builtin_popcountll(word);
+#else
+    word -= word >> 1 & 0x5555555555555555u;
+    word = (word & 0x3333333333333333u) + (word >> 2 & 0x3333333333333333u);
+    word = (word + (word >> 4)) & 0x0f0f0f0f0f0f0f0fu;
+    return int(word * 0x0101010101010101u >> 56);
+#endif
+}
 
 // A board with ROWS rows. The bits of all columns have to fit into 63.
 template <int ROWS>

@@ -27,7 +27,7 @@ template <int ROWS>
 class Planner {
   public:
     Planner(const Board<ROWS>& board, const Options& options)
-        : board_(board), options_(options), decided_(size_t(1) << 28) {}
+        : board_(board), options_(options), tables_(size_t(1) << 28, size_t(1) << 23) {}
 
     // Writes a book for a position and those that follow. False where the side wasn't seen to win.
     bool write(Position at, const std::string& moves) {
@@ -57,7 +57,7 @@ class Planner {
 
     const Board<ROWS>& board_;
     const Options& options_;
-    Decided decided_;
+    BoundTables tables_;
     std::map<Word, Entry> entries_;
     std::set<Word> written_;
 
@@ -127,14 +127,14 @@ class Planner {
             uint64_t limit = most;
             for (Word rest = moves; rest; rest &= rest - 1) {
                 Word square = rest & -rest;
-                decided_.clear(limit);
-                Search<ROWS> search(board_, decided_, options_.is_black, Position{0, 0});
+                tables_.clear(limit);
+                Search<ROWS> search(board_, tables_, options_.is_black, Position{0, 0});
                 bool loses = search.reaches(board_.after(at, square), limit);
                 if (search.is_spent) continue;
                 moves &= ~square;
                 if (loses) continue;
-                found.push_back({search.nodes, square});
-                limit = std::min(limit, search.nodes * (is_leaf(at) ? 1 : options_.ratio));
+                found.push_back({search.nodes(), square});
+                limit = std::min(limit, search.nodes() * (is_leaf(at) ? 1 : options_.ratio));
             }
         }
         std::sort(found.begin(), found.end());

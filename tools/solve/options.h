@@ -55,7 +55,8 @@ inline const std::vector<Option>& all_options() {
          "the file that the proof is written to; without it, standard output",
          [](Request& asked, Values values) { asked.output = values[0]; }},
         {"--memory", "MIB",
-         "memory for the tables, of which the search takes up to half",
+         "memory for the tables, of which the search takes up to a third, and 264 MiB at most behind the first "
+         "moves",
          number("--memory", 1, 1 << 20, &Options::memory, 20), default_of(&Options::memory, 20)},
         {"--lemmas", "N",
          "no proof with more lemmas is written",
@@ -175,8 +176,8 @@ inline void print_wrapped(const std::string& head, const std::string& text) {
 
 inline void print_help() {
     printf("usage: solve [OPTION]... [GAME]\n"
-           "Reads the text of a game from the file GAME or from standard input, and writes a proof of its value.\n"
-           "A number in brackets is what holds without the option. docs/SOLVED.md says more.\n");
+           "Reads the text of a game from the file GAME or from standard input, and writes a proof of its value. A number\n"
+           "in brackets is what holds without the option. docs/SOLVED.md says more.\n");
     for (const Option& option : all_options()) {
         print_wrapped(named(option), option.text + (option.unset.empty() ? "" : " (" + option.unset + ")"));
     }

@@ -3,7 +3,9 @@
 
 #include <algorithm>
 #include <cstddef>
+#include <cstdint>
 #include <cstdlib>
+#include <cstring>
 #include <memory>
 #include <new>
 #include <sys/mman.h>
@@ -38,4 +40,43 @@ class Pages {
 
     size_t size_ = 0;
     std::unique_ptr<Value[], Free> values_;
+};
+
+// So many bytes, a multiple of the large pages or less than one, which are 0 at first and take no memory until they are
+// used.
+class Zeros {
+  public:
+    explicit Zeros(size_t bytes) : bytes_(bytes), mapped_(bytes + LARGE) {
+        void* start = mmap(nullptr, mapped_, PROT_READ | PROT_WRITE, MAP_PRIVATE | MAP_ANONYMOUS | MAP_NORESERVE, -1, 0);
+        if (start == MAP_FAILED) throw std::bad_alloc();
+        start_ = static_cast<char*>(start);
+        values_ = start_ + (LARGE - reinterpret_cast<uintptr_t>(start_) % LARGE) % LARGE;
+        madvise(values_, bytes, MADV_HUGEPAGE);
+    }
+
+    ~Zeros() { munmap(start_, mapped_); }
+
+    Zeros(const Zeros&) = delete;
+    Zeros& operator=(const Zeros&) = delete;
+
+    void* values() const { return values_; }
+
+    // Makes the first bytes 0 again.
+    void clear(size_t bytes) {
+        if (bytes < LARGE) memset(values_, 0, bytes);
+        else madvise(values_, bytes_, MADV_DONTNEED);
+    }
+
+    // Has the system give all the memory now.
+    void touch() {
+        for (size_t n = 0; n < bytes_; n += 4096) static_cast<volatile char*>(values_)[n] = 0;
+    }
+
+  private:
+    static constexpr size_t LARGE = size_t(1) << 21;
+
+    size_t bytes_;
+    size_t mapped_;
+    char* start_;
+    char* values_;
 };

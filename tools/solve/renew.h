@@ -21,7 +21,7 @@ class Renewed : public Graph<ROWS> {
             renew(30 * uint64_t(live_));
             if (is_full() && !shed()) return;
             progress.lemmas = uint64_t(live_);
-            progress.line(search_.nodes);
+            progress.line(search_.nodes());
             idle = heat() > 0 || before - live_ > before / 50000 ? 0 : idle + 1;
         }
     }
@@ -75,7 +75,7 @@ class Renewed : public Graph<ROWS> {
     bool is_late() {
         if (++calls_ % 1024 == 0) {
             progress.lemmas = uint64_t(live_);
-            say_now(search_.nodes);
+            say_now(search_.nodes());
             late_ = progress.is_late(options_.seconds);
         }
         return late_;
@@ -107,11 +107,11 @@ class Renewed : public Graph<ROWS> {
             const std::vector<uint32_t>& some = lists[place % 64];
             if (some.empty()) return;
             int64_t size = live_;
-            uint64_t before = work_ + search_.nodes;
+            uint64_t before = work_ + search_.nodes();
             if (place < 64) renew_part(some[random(some.size())]);
             else for (int n = 0; n < 32; ++n) vary(some[random(some.size())]);
             Way& way = ways_[place];
-            double work = double(work_ + search_.nodes - before) + 10;
+            double work = double(work_ + search_.nodes() - before) + 10;
             double kept = std::exp(-work / KNOWN);
             way.gains = way.gains * kept + double(size - live_);
             way.work = way.work * kept + work;

@@ -5,6 +5,7 @@
 #include <cstdint>
 #include <cstdio>
 #include <ctime>
+#include <functional>
 
 struct Progress {
     const char* stage = "";
@@ -13,12 +14,20 @@ struct Progress {
     bool is_quiet = false;
     time_t last = time(nullptr);
     volatile sig_atomic_t is_stopped = 0;  // a signal has ended the bettering
+    std::function<void()> watch;  // is called often, and may throw; where there is one, signals are left alone
+    double begin = 0;             // of what is counted by seconds
 
     // Seconds of processor time.
-    static double seconds() {
+    double seconds() const { return now() - begin; }
+
+    static double now() {
         timespec now{};
         clock_gettime(CLOCK_PROCESS_CPUTIME_ID, &now);
         return double(now.tv_sec) + double(now.tv_nsec) / 1e9;
+    }
+
+    void heed() const {
+        if (watch) watch();
     }
 
     // No choice is to be bettered any more.
@@ -37,6 +46,7 @@ inline Progress progress;
 // From here on the first SIGINT or SIGTERM ends the bettering, so that what there is gets written; another ends the
 // tool.
 inline void catch_signals() {
+    if (progress.watch) return;
     struct sigaction action = {};
     action.sa_handler = [](int) { progress.is_stopped = 1; };
     action.sa_flags = SA_RESETHAND | SA_RESTART;
@@ -44,6 +54,7 @@ inline void catch_signals() {
 }
 
 inline void say_now(uint64_t nodes) {
+    progress.heed();
     time_t now = time(nullptr);
     if (now - progress.last < 5) return;
     progress.last = now;

@@ -213,7 +213,7 @@ class Strategy {
     // given lead to a wrong end.
     bool take(Position at) {
         Node& node = table_.add(board_.key(at));
-        ++work_;
+        if ((++work_ & 0x3ff) == 0) progress.heed();
         if (node.refs) {
             ++node.refs;
             return true;
@@ -485,6 +485,6 @@ class Strategy {
     void report() {
         progress.lemmas = live_;
         progress.bytes = search_.bytes() + table_.bytes();
-        say_now(search_.nodes);
+        say_now(search_.nodes());
     }
 };

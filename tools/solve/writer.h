@@ -22,6 +22,7 @@ class Writer {
         if (auto known = numbers_.find(key); known != numbers_.end()) return known->second;
         auto image = has_images_ ? numbers_.find(board_.mirrored(key)) : numbers_.end();
         std::string reason = image == numbers_.end() ? reason_of(at) : "mirror " + std::to_string(image->second);
+        if ((written_ & 0x3ff) == 0) progress.heed();
         out_.write(std::to_string(++written_) + " " + (path_.empty() ? "-" : path_) + claim_ + reason + "\n");
         numbers_[key] = written_;
         return written_;
