@@ -1,12 +1,11 @@
-"""tools/solve/engine: values and scores against a plain search and the shipped proofs, its protocol, `stop`, limits, and
-the table of openings. It stands alone: of the tools it runs `engine`, and nothing else."""
+"""tools/solve/engine: values and scores against a plain search and the shipped proofs, its protocol, `stop`, limits,
+and the table of openings. It stands alone: of the tools it runs `engine`, and nothing else."""
 
 import json
 import lzma
 import os
 import random
 import re
-import resource
 import shutil
 import subprocess
 import sys
@@ -17,12 +16,28 @@ import unittest
 HERE = os.path.dirname(os.path.abspath(__file__))
 TOP = os.path.dirname(os.path.dirname(HERE))
 ENGINE = os.path.join(TOP, "tools", "solve", "engine")
-PROGRAM = os.environ.get("VICTOR") or os.path.join(TOP, "out", "victor")
+PROGRAM = os.environ.get("VICTOR") or os.path.join(TOP, "victor")
 COMPILER = shutil.which("g++")
 LETTERS = "abcdefghij"
-BOARDS = ((4, 4), (5, 4), (6, 4), (7, 4), (10, 4), (4, 6), (5, 6), (6, 6), (7, 6), (8, 6), (9, 6), (4, 8), (5, 8),
-          (7, 8), (4, 10), (5, 10))
-# How many of the positions of the plain search have so many empty squares, from none on: a plain search takes long for many.
+BOARDS = (
+    (4, 4),
+    (5, 4),
+    (6, 4),
+    (7, 4),
+    (10, 4),
+    (4, 6),
+    (5, 6),
+    (6, 6),
+    (7, 6),
+    (8, 6),
+    (9, 6),
+    (4, 8),
+    (5, 8),
+    (7, 8),
+    (4, 10),
+    (5, 10),
+)
+# How many positions of the plain search have this many empty squares, from none on: it takes long for many.
 EMPTY = (20, 20, 20, 30, 60, 120, 180, 230, 280, 220, 150, 50, 15, 3, 1)
 SLOW = ("board 4 10",)  # takes more than some seconds
 
@@ -168,8 +183,11 @@ class EngineTest(unittest.TestCase):
 
     def values_agree(self, engine, moves, outcomes):
         said = by_moves(engine.ask("value " + moves))
-        self.assertEqual({move: value for move, (value, _) in said.items()},
-                         {move: value for move, (value, _) in outcomes.items()}, moves)
+        self.assertEqual(
+            {move: value for move, (value, _) in said.items()},
+            {move: value for move, (value, _) in outcomes.items()},
+            moves,
+        )
 
     def test_lines(self):
         """A best line has as many moves as the game goes on for, and each of them keeps the outcome."""
@@ -225,8 +243,15 @@ class EngineTest(unittest.TestCase):
         with open(os.path.join(TOP, "docs", "ENGINE.md"), encoding="utf-8") as page:
             lines = re.search(r"```\n(.*?)```", page.read(), re.S)[1].splitlines()
         requests = [line[2:] for line in lines if line.startswith("> ")]
-        run = subprocess.run([ENGINE], input="".join(line + "\n" for line in requests), stdout=subprocess.PIPE,
-                             encoding="ascii", timeout=100, check=True, cwd=self.folder)
+        run = subprocess.run(
+            [ENGINE],
+            input="".join(line + "\n" for line in requests),
+            stdout=subprocess.PIPE,
+            encoding="ascii",
+            timeout=100,
+            check=True,
+            cwd=self.folder,
+        )
         said = [self.without_costs(line) for line in run.stdout.splitlines()]
         self.assertEqual(said, [self.without_costs(line) for line in lines if not line.startswith("> ")])
 
@@ -236,11 +261,43 @@ class EngineTest(unittest.TestCase):
 
     def test_bad_lines(self):
         """One object with an error, and nothing else; what comes behind is answered."""
-        bad = ["", " ", "values dcd", "value", "value dcd c", "value ddddddd", "value abababab", "value dch", "value D",
-               "value -d", "score 4", "line", "board", "board 3 4", "board 4 5", "board 4 4 6", "board 10 10",
-               "board 4 4 5 5", "limits", "limits 1", "limits -1 100", "limits 1 15", "limits x 100", "limits 1 100 1",
-               "table", "table /no/such/file", "table " + HERE, "new now", "stop now", "proof dcd", "proof",
-               "value \"dcd", "\x01\x7f", "value " + "d" * 100_000, "board 4 4\\n"]
+        bad = [
+            "",
+            " ",
+            "values dcd",
+            "value",
+            "value dcd c",
+            "value ddddddd",
+            "value abababab",
+            "value dch",
+            "value D",
+            "value -d",
+            "score 4",
+            "line",
+            "board",
+            "board 3 4",
+            "board 4 5",
+            "board 4 4 6",
+            "board 10 10",
+            "board 4 4 5 5",
+            "limits",
+            "limits 1",
+            "limits -1 100",
+            "limits 1 15",
+            "limits x 100",
+            "limits 1 100 1",
+            "table",
+            "table /no/such/file",
+            "table " + HERE,
+            "new now",
+            "stop now",
+            "proof dcd",
+            "proof",
+            'value "dcd',
+            "\x01\x7f",
+            "value " + "d" * 100_000,
+            "board 4 4\\n",
+        ]
         with Engine("limits 0 16") as engine:
             for line in bad:
                 engine.send(line)
@@ -264,10 +321,16 @@ class EngineTest(unittest.TestCase):
                 value = by_moves(engine.ask("value " + moves))[""][0]
                 self.assertEqual(self.proved(engine, moves, words), value)
                 wins = {"win": men % 2 == 0, "loss": men % 2 == 1}.get(value)
-                for claim, is_true in (("W+", wins is True), ("W-", wins is not True), ("B+", wins is False),
-                                       ("B-", wins is not False)):
+                for claim, is_true in (
+                    ("W+", wins is True),
+                    ("W-", wins is not True),
+                    ("B+", wins is False),
+                    ("B-", wins is not False),
+                ):
                     found = self.proved(engine, moves, "--claim %s %s" % (claim, words))
-                    self.assertEqual(found, (value if claim[1] == "+" else "unknown") if is_true else None, (claim, moves))
+                    self.assertEqual(
+                        found, (value if claim[1] == "+" else "unknown") if is_true else None, (claim, moves)
+                    )
 
     def proved(self, engine, moves, words):
         """The value of a proof that is written and accepted; nothing where there is none."""
@@ -277,8 +340,12 @@ class EngineTest(unittest.TestCase):
             self.assertIn("is false", said[0]["error"])
             self.assertEqual([name for name in os.listdir(self.folder) if name.startswith("a proof")], [])
             return None
-        run = subprocess.run([sys.executable, os.path.join(TOP, "tools", "check.py"), path], stdout=subprocess.PIPE,
-                             encoding="ascii", check=False)
+        run = subprocess.run(
+            [sys.executable, os.path.join(TOP, "tools", "check.py"), path],
+            stdout=subprocess.PIPE,
+            encoding="ascii",
+            check=False,
+        )
         self.assertEqual((run.returncode, run.stdout.split()[:2]), (0, ["accepted", said[0]["value"]]), moves)
         os.unlink(path)
         return said[0]["value"]
@@ -300,7 +367,7 @@ class EngineTest(unittest.TestCase):
             self.assertEqual(by_moves(engine.ask("value dcdcdc"))[""], ("win", None))
 
     def test_stop(self):
-        """`stop` at random times ends the request in hand within 50 ms of processor time, and what was said is right."""
+        """`stop` at random times ends the request in hand within 50 ms of CPU time, and what was said is right."""
         rng, whole = random.Random(5), {}
         with Engine("limits 0 64") as engine:
             for _ in range(25):
@@ -339,8 +406,14 @@ class EngineTest(unittest.TestCase):
             engine.send("stop")
             engine.answer("stop")
         # What waits is answered though the input has ended; where nobody reads it, the engine ends.
-        run = subprocess.run([ENGINE], input="value dcdcdc\nscore dcdcdc\n", stdout=subprocess.PIPE, encoding="ascii",
-                             timeout=60, check=True)
+        run = subprocess.run(
+            [ENGINE],
+            input="value dcdcdc\nscore dcdcdc\n",
+            stdout=subprocess.PIPE,
+            encoding="ascii",
+            timeout=60,
+            check=True,
+        )
         self.assertEqual(sum('"done": true' in line for line in run.stdout.splitlines()), 2)
         process = subprocess.Popen([ENGINE], stdin=subprocess.PIPE, stdout=subprocess.PIPE)
         process.stdin.write(b"board 9 6\nvalue -\n")
@@ -412,9 +485,17 @@ class EngineTest(unittest.TestCase):
     def test_bad_tables(self):
         """A table that isn't one is refused as a whole."""
         with Engine("limits 0 16") as engine:
-            for text in ("", "moves,value", "moves\n", "moves,value\ndd,wins\n", "moves,value\ndd,win\nd,win\n",
-                         "moves,value\nddddddd,win\n", "moves,value\nabababab,win\n", "moves,value\n,win\n",
-                         "moves,value\n" + "d" * 2000):
+            for text in (
+                "",
+                "moves,value",
+                "moves\n",
+                "moves,value\ndd,wins\n",
+                "moves,value\ndd,win\nd,win\n",
+                "moves,value\nddddddd,win\n",
+                "moves,value\nabababab,win\n",
+                "moves,value\n,win\n",
+                "moves,value\n" + "d" * 2000,
+            ):
                 said = engine.ask('table "%s"' % self.file("bad.csv", text))
                 self.assertIn("error", said[0], text)
             said = engine.ask('table "%s"' % self.file("none.csv.xz", "moves,value\ndd,win\n"))

@@ -21,7 +21,6 @@ ghost use Rattle.run_callers.specs.Held.{StillHolds, HoldsProof};
 use io_ports::{MemSink, NullSink, Sink, Source};
 use std::alloc::Global;
 pub use victor_run::run;
-use victor_run::run;
 
 /// Runs the arguments over any source into a sink in memory. Whatever the source tells, what the sink held stands there
 /// still, and where `prove` ended with 0 or 5, a right proof of some game, in the version that was asked for, stands behind it.
