@@ -114,7 +114,7 @@ class SolveTest(ToolTest):
         self.assertLess({"draw"}, words)
         proof = self.proof_of(game_text(4, 4, "", 5))[0]
         self.assertTrue(proof.split("\n")[3].startswith("1 - W- plan "))
-        found = victor.solve(Game((4, 4), length=5), program=self.solver, memory=300)
+        found = victor.solve(Game((4, 4, 5)), program=self.solver, memory=300)
         self.assertEqual((found.value, found.text), ("draw", proof))
 
     def value_of(self, text):
