@@ -20,17 +20,13 @@ DOCUMENTS = ("README.md",) + tuple(
     for name in (
         "USE",
         "TOOLS",
-        "PLAY",
+        "PLAYING",
         "CHOOSER",
         "FRONT",
         "SOLVED",
         "TEACH",
         "PROOFS",
         "RULES",
-        "FIVE",
-        "MIRROR",
-        "THREAT",
-        "FOLLOW",
     )
 )
 COMMAND = re.compile(r"(tools/|LAB=|pip |\./victor|printf|echo|make|moves=|tr |set -o|python3|apt-get|\.ci/) *")
@@ -55,7 +51,7 @@ LEFT_OUT = {
 }
 # What stands there before a document's commands.
 FIRST = {
-    "docs/FOLLOW.md": "xz -dc proofs/usual-board.txt.xz > usual-board.txt",
+    "docs/PLAYING.md": "xz -dc proofs/usual-board.txt.xz > usual-board.txt",
     "docs/SOLVED.md": "./victor prove < examples/usual-board.txt > proof.txt",
     "docs/USE.md": r"printf 'board 7 6\nmoves dcdcdc\n' > game.txt; ./victor prove < game.txt > proof.txt;"
     r" printf 'board 7 6\r\nmoves dcdcdc\r\n' > game-of-windows.txt; moves=dcdcdc",
@@ -200,14 +196,19 @@ class DocumentsTest(unittest.TestCase):
         for option in set(re.findall(r"`(--[a-z]+)", text)) - {"--help", "--no"}:
             self.assertRegex(helped, rf"{option}\b", option)
 
+    def games_of(self, heading):
+        """Of a section of the page on playing: what is typed before the first answer, the answers and the moves."""
+        text = read(os.path.join(TOP, "docs", "PLAYING.md"))
+        section = next(part for part in text.split("\n## ") if part.startswith(heading))
+        lines = [line.strip() for line in section.split("\n") if line.startswith("    ")]
+        start = lines[1:4]
+        answers = [found[0] for line in lines for found in re.finditer(r"[a-j]\d+ [a-j]\d+( won| full)?", line)]
+        return start, answers, [line for line in lines if re.fullmatch("[a-j]", line)]
+
     def test_play(self):
-        """The games of the page on playing: each line that is typed there, and what is answered."""
+        """The games by a plan on the page on playing: each line that is typed there, and what is answered."""
         self.link(program())
-        text = read(os.path.join(TOP, "docs", "PLAY.md"))
-        lines = [line.strip() for line in text.split("\n") if line.startswith("    ")]
-        start = lines[lines.index("$ ./victor play") + 1 :][:3]
-        answers = [line for line in lines if re.fullmatch(r"[a-j]\d+ [a-j]\d+( won| full)?", line)]
-        typed = [line for line in lines if re.fullmatch("[a-j]", line)]
+        start, answers, typed = self.games_of("`play`")
         first = self.bash("./victor play", text="\n".join(start + typed))
         self.assertEqual(first, (0, "".join(line + "\n" for line in answers[: len(typed)])))
         second = self.bash("./victor play", text="\n".join(start + ["c", "c", "c", "d"]))
@@ -218,13 +219,9 @@ class DocumentsTest(unittest.TestCase):
         self.assertEqual(self.bash("./victor play", text="\n".join(fewer)), (4, "refused line 3: Unanswered a3h\n"))
 
     def test_threat(self):
-        """The game of the page on the odd threat."""
+        """The game by an odd threat on the same page."""
         self.link(program())
-        text = read(os.path.join(TOP, "docs", "THREAT.md"))
-        lines = [line.strip() for line in text.split("\n") if line.startswith("    ")]
-        start = lines[lines.index("$ ./victor threat") + 1 :]
-        answers = [line for line in start if re.fullmatch(r"[a-j]\d+ [a-j]\d+( won)?", line)]
-        typed = [line for line in start if re.fullmatch("[a-j]", line)]
+        start, answers, typed = self.games_of("`threat`")
         self.assertEqual(len(typed), len(answers))
         played = self.bash("./victor threat", text="\n".join(start[:2] + typed))
         self.assertEqual(played, (0, "".join(line + "\n" for line in [start[2]] + answers)))
