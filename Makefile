@@ -24,6 +24,10 @@ try:
 check-proofs:
 	@.ci/proofs
 
+# The table of crates, and a page of definitions and laws for each crate in docs/definitions.
+docs:
+	@.ci/documents
+
 # The fast search, which decides far more positions than `victor prove`, and the program that makes books for it.
 tools:
 	@echo "victor: building tools/solve with $(or $(CXX),g++), in about a minute; make install installs it too" >&2
@@ -58,4 +62,4 @@ uninstall:
 	rm -f "$(to)/share/man/man1/victor.1" "$(python)"/victor_check.py "$(python)"/__pycache__/victor_check.*
 	rm -rf "$(docs)" "$(library)" "$(to)/share/victor" "$(python)/victor"
 
-.PHONY: all try tools check-proofs install uninstall
+.PHONY: all try docs tools check-proofs install uninstall

@@ -1,9 +1,12 @@
-"""The documents: each command that they show runs, and what stands behind `$` is what comes.
+"""The documents: each command that they show runs, and what stands after `$` is what comes; their sentences are short,
+and in the field's words.
 
-A document's commands run one after the other in a folder that is laid out as the checkout. `LEFT_OUT` names those that
 don't run here, each with the reason; they are run by hand.
 """
 
+import glob
+import importlib.machinery
+import importlib.util
 import os
 import re
 import shutil
@@ -17,21 +20,7 @@ from victor._commands import COMMANDS
 
 DOCUMENTS = ("README.md",) + tuple(
     "docs/%s.md" % name
-    for name in (
-        "USE",
-        "TOOLS",
-        "PLAY",
-        "CHOOSER",
-        "FRONT",
-        "SOLVED",
-        "TEACH",
-        "PROOFS",
-        "RULES",
-        "FIVE",
-        "MIRROR",
-        "THREAT",
-        "FOLLOW",
-    )
+    for name in ("USE", "TOOLS", "PLAYING", "CHOOSER", "FRONT", "SOLVED", "TEACH", "PROOFS", "RULES")
 )
 COMMAND = re.compile(r"(tools/|LAB=|pip |\./victor|printf|echo|make|moves=|tr |set -o|python3|apt-get|\.ci/) *")
 # The beginning of a command, and why it isn't run.
@@ -55,7 +44,7 @@ LEFT_OUT = {
 }
 # What stands there before a document's commands.
 FIRST = {
-    "docs/FOLLOW.md": "xz -dc proofs/usual-board.txt.xz > usual-board.txt",
+    "docs/PLAYING.md": "xz -dc proofs/usual-board.txt.xz > usual-board.txt",
     "docs/SOLVED.md": "./victor prove < examples/usual-board.txt > proof.txt",
     "docs/USE.md": r"printf 'board 7 6\nmoves dcdcdc\n' > game.txt; ./victor prove < game.txt > proof.txt;"
     r" printf 'board 7 6\r\nmoves dcdcdc\r\n' > game-of-windows.txt; moves=dcdcdc",
@@ -125,6 +114,110 @@ def is_shown(shown, made):
     )
 
 
+# Words that aren't used any more, each with what is said in its place.
+OLD_WORDS = {
+    r"\bbehind\b": "after, beyond, below",
+    r"\bso many\b": "this many, a number of, as many",
+    r"\bthe middle one\b|\bin the middle \|": "the median",
+    r"\bprocessor time\b|\bseconds of (a|the) processor\b": "CPU time, CPU seconds",
+    r"\bby the clock\b": "wall time",
+    r"\bon an average\b": "on average",
+}
+LONGEST_SENTENCE = 40  # words
+NAME = r"`(?:\w+::)?([a-z]+(?:_[a-z0-9]+)+|(?:[A-Z][a-z]+){2,})`"
+# Sections on times of runs and on building, blocks of text as it is, commands and tables.
+NOT_PROSE = re.compile(
+    r"^## (?:The gate|Install and run)\n.*?(?=^## )|^```.*?^```\n|^( {4,}| *\||#)[^\n]*\n", re.M | re.S
+)
+# Pages whose words are held elsewhere.
+OTHER_PAGES = ("docs/TOOLS.md", "docs/ENGINE.md")
+
+
+def prose_pages():
+    """Each document of this repository, by its path."""
+    paths = ["README.md", "CONTRIBUTING.md", "CHANGELOG.md", "examples/README.md", "proofs/README.md"]
+    paths += sorted(os.path.relpath(path, TOP) for path in glob.glob(os.path.join(TOP, "docs", "*.md")))
+    return [path for path in paths if path not in OTHER_PAGES]
+
+
+def prose_of(path):
+    """A document without its tables, its commands and its headings."""
+    return re.sub(NOT_PROSE, "\n", read(os.path.join(TOP, path)) + "\n## \n")
+
+
+def sentences_of(prose):
+    """The sentences, where an item of a list and a paragraph end one too."""
+    for part in re.split(r"\n\s*\n|\n *(?:-|\d+\.) ", prose):
+        yield from re.split(r"(?<=[.?!])[\"')*]* +(?=[A-Z`*(\"])|(?<=:) (?=[A-Z])", " ".join(part.split()))
+
+
+def maker():
+    """`.ci/documents`, which makes what the documents take from the sources."""
+    loader = importlib.machinery.SourceFileLoader("documents", os.path.join(TOP, ".ci", "documents"))
+    module = importlib.util.module_from_spec(importlib.util.spec_from_loader("documents", loader))
+    loader.exec_module(module)
+    return module
+
+
+def sources():
+    """All text of the crates."""
+    paths = glob.glob(os.path.join(TOP, "crates", "*", "*", "**", "*.*t"), recursive=True)
+    return "\n".join(read(path) for path in paths if path.endswith((".rt", ".antt")))
+
+
+class WordsTest(unittest.TestCase):
+    """What needs no program: words, lengths, and what is made from the sources."""
+
+    def test_old_words(self):
+        for path in prose_pages():
+            prose = prose_of(path)
+            for word, better in OLD_WORDS.items():
+                found = re.search(word, prose)
+                with self.subTest(document=path, word=word):
+                    near = prose[max(found.start() - 60, 0) : found.end() + 20] if found else ""
+                    self.assertFalse(found, f"say {better} in {near!r}")
+
+    def test_lengths(self):
+        for path in prose_pages():
+            for line in read(os.path.join(TOP, path)).split("\n"):
+                with self.subTest(document=path, line=line):
+                    self.assertTrue(len(line) <= 120 or line.startswith(("|", " ")))
+            for sentence in sentences_of(prose_of(path)):
+                with self.subTest(document=path, sentence=sentence):
+                    self.assertLessEqual(len(sentence.split()), LONGEST_SENTENCE)
+
+    def test_names(self):
+        """Each name of a law, a clause or a definition on these pages stands in the sources."""
+        known = set(re.findall(r"\w+", sources()))
+        for path in ("docs/WHAT-IS-PROVED.md", "docs/PLAYING.md", "docs/PROOFS.md"):
+            names = re.findall(NAME, read(os.path.join(TOP, path)))
+            self.assertGreater(len(names), 15, path)
+            self.assertEqual(sorted(set(names) - known), [], path)
+
+    def test_crates(self):
+        """The table of crates is made from crates.txt and from each crate's own comment."""
+        table = maker().crate_table()
+        self.assertIn("| `threat_rules` | The odd threat in code", table)
+        self.assertIn("\n" + table + "\n", read(os.path.join(TOP, "docs", "ARCHITECTURE.md")))
+        picture = read(os.path.join(TOP, "docs", "ARCHITECTURE.md")).split("```")[1]
+        for crate in maker().listed_crates():
+            self.assertRegex(picture, rf"\b{crate}\b")
+
+    def test_definitions(self):
+        """`make docs` writes a page for each crate that defines something, with the comments of the sources."""
+        with tempfile.TemporaryDirectory() as folder:
+            made = subprocess.run(
+                [os.path.join(TOP, ".ci", "documents"), folder], stdout=subprocess.PIPE, encoding="utf-8", check=True
+            )
+            self.assertIn(f"{len(os.listdir(folder))} pages", made.stdout)
+            page = read(os.path.join(folder, "game_rules.md"))
+            for line in (
+                "- `side_to_move`: White moves where the number of men is even, also after the end of the game\n",
+                "- `at_most_one_side_has_a_line`: Along lists of legal moves at most one side has a line.\n",
+            ):
+                self.assertIn(line, page)
+
+
 class DocumentsTest(unittest.TestCase):
     def setUp(self):
         self.folder = tempfile.mkdtemp()
@@ -153,7 +246,7 @@ class DocumentsTest(unittest.TestCase):
     def try_commands(self, name, **more):
         first = FIRST.get(name, "true")
         self.bash(first)
-        # What a command sets stands for those behind it.
+        # What a command sets stands for those after it.
         kept = first.rsplit("; ", 1)[-1] if "=" in first.rsplit("; ", 1)[-1] else "true"
         for line, shown in commands_of(name):
             with self.subTest(document=name, command=line):
@@ -200,14 +293,19 @@ class DocumentsTest(unittest.TestCase):
         for option in set(re.findall(r"`(--[a-z]+)", text)) - {"--help", "--no"}:
             self.assertRegex(helped, rf"{option}\b", option)
 
+    def games_of(self, heading):
+        """Of a section of the page on playing: what is typed before the first answer, the answers and the moves."""
+        text = read(os.path.join(TOP, "docs", "PLAYING.md"))
+        section = next(part for part in text.split("\n## ") if part.startswith(heading))
+        lines = [line.strip() for line in section.split("\n") if line.startswith("    ")]
+        start = lines[1:4]
+        answers = [found[0] for line in lines for found in re.finditer(r"[a-j]\d+ [a-j]\d+( won| full)?", line)]
+        return start, answers, [line for line in lines if re.fullmatch("[a-j]", line)]
+
     def test_play(self):
-        """The games of the page on playing: each line that is typed there, and what is answered."""
+        """The games by a plan on the page on playing: each line that is typed there, and what is answered."""
         self.link(program())
-        text = read(os.path.join(TOP, "docs", "PLAY.md"))
-        lines = [line.strip() for line in text.split("\n") if line.startswith("    ")]
-        start = lines[lines.index("$ ./victor play") + 1 :][:3]
-        answers = [line for line in lines if re.fullmatch(r"[a-j]\d+ [a-j]\d+( won| full)?", line)]
-        typed = [line for line in lines if re.fullmatch("[a-j]", line)]
+        start, answers, typed = self.games_of("`play`")
         first = self.bash("./victor play", text="\n".join(start + typed))
         self.assertEqual(first, (0, "".join(line + "\n" for line in answers[: len(typed)])))
         second = self.bash("./victor play", text="\n".join(start + ["c", "c", "c", "d"]))
@@ -218,13 +316,9 @@ class DocumentsTest(unittest.TestCase):
         self.assertEqual(self.bash("./victor play", text="\n".join(fewer)), (4, "refused line 3: Unanswered a3h\n"))
 
     def test_threat(self):
-        """The game of the page on the odd threat."""
+        """The game by an odd threat on the same page."""
         self.link(program())
-        text = read(os.path.join(TOP, "docs", "THREAT.md"))
-        lines = [line.strip() for line in text.split("\n") if line.startswith("    ")]
-        start = lines[lines.index("$ ./victor threat") + 1 :]
-        answers = [line for line in start if re.fullmatch(r"[a-j]\d+ [a-j]\d+( won)?", line)]
-        typed = [line for line in start if re.fullmatch("[a-j]", line)]
+        start, answers, typed = self.games_of("`threat`")
         self.assertEqual(len(typed), len(answers))
         played = self.bash("./victor threat", text="\n".join(start[:2] + typed))
         self.assertEqual(played, (0, "".join(line + "\n" for line in [start[2]] + answers)))

@@ -32,7 +32,7 @@ def count_of(svg, name, **attributes):
 
 class PositionTest(ToolTest):
     def test_text(self):
-        # The board of docs/PLAY.md after cccdcd.
+        # The board of docs/PLAYING.md after cccdcd.
         wanted = (
             "\n".join(
                 (
@@ -155,7 +155,7 @@ class PlanTest(ToolTest):
 
 class DuelTest(ToolTest):
     def test_text(self):
-        # The last board of docs/PLAY.md.
+        # The last board of docs/PLAYING.md.
         status, out, err = tool(
             "draw", "duel", "--text", "--game", example("play", "lowinverse.txt"), example("play", "lowinverse.played")
         )
@@ -198,7 +198,7 @@ class DuelTest(ToolTest):
         words = ("draw", "duel", "--text", "--game", example("threat", "explained.txt"))
         status, out, err = tool(*words, example("threat", "explained.played"))
         self.assertEqual((status, err), (0, ""))
-        # The first board and the last of docs/THREAT.md.
+        # The first board and the last of docs/PLAYING.md.
         for line in ("4 . 1 . W B", "3 . W * W B", "2 1 W . B B", "3 B W W W B", "2 W W B B B", "3.  c2  c3  won"):
             self.assertIn(line, out)
         self.refuses(*words, example("threat", "unplayed.played"), said="isn't one of this game's position")

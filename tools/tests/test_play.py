@@ -27,7 +27,7 @@ class PlayTest(ToolTest):
         self.assertEqual(out.split("\n")[-4:], [sentence, "board " + size, "moves " + moves, ""])
 
     def test_a_whole_game(self):
-        """The game of docs/PLAY.md, by letters of either case and by numbers."""
+        """The game of docs/PLAYING.md, by letters of either case and by numbers."""
         out = self.plays("c\nC\n4\n 3 \r\n1\na\nB\n2\n", "--board", "4x4")
         self.assertIn("Black answers by a plan: %s\n" % PLAN, out)
         self.assertIn(" 4 . . . .\n 3 . . B .\n 2 . . W .\n 1 . . W B\n   a b c d\n", out)
