@@ -28,9 +28,10 @@ check-proofs:
 docs:
 	@.ci/documents
 
-# The fast search, which decides far more positions than `victor prove`, and the program that makes books for it.
+# The fast search, which decides far more positions than `victor prove`, the warm engine by the same search, and the
+# program that makes books.
 tools:
-	@echo "victor: building tools/solve with $(or $(CXX),g++), in about a minute; make install installs it too" >&2
+	@echo "victor: building tools/solve with $(or $(CXX),g++), in some two minutes; make install installs it too" >&2
 	@$(MAKE) --no-print-directory -C tools/solve
 
 # What is needed to run stands in bin, lib and share/victor. The folder of the documents is laid out as the checkout, with
@@ -51,6 +52,8 @@ install: all
 	chmod 755 "$(to)/bin/victor-lab"
 	[ ! -x tools/solve/solve ] || install -m 755 tools/solve/solve "$(to)/bin/victor-solve"
 	[ ! -x tools/solve/solve ] || ln -srf "$(to)/bin/victor-solve" "$(docs)/tools/solve/solve"
+	[ ! -x tools/solve/engine ] || install -m 755 tools/solve/engine "$(to)/bin/victor-engine"
+	[ ! -x tools/solve/engine ] || ln -srf "$(to)/bin/victor-engine" "$(docs)/tools/solve/engine"
 	ln -srf "$(to)/bin/victor" "$(docs)/victor"
 	ln -srf "$(to)/bin/victor-lab" "$(docs)/tools/lab"
 	ln -srf "$(library)/why" "$(docs)/tools/why"
@@ -58,7 +61,7 @@ install: all
 	ln -srfn "$(to)/share/victor/proofs" "$(docs)/proofs"
 
 uninstall:
-	cd "$(to)/bin" && rm -f victor victor-lab victor-solve victor-check-proofs
+	cd "$(to)/bin" && rm -f victor victor-lab victor-solve victor-engine victor-check-proofs
 	rm -f "$(to)/share/man/man1/victor.1" "$(python)"/victor_check.py "$(python)"/__pycache__/victor_check.*
 	rm -rf "$(docs)" "$(library)" "$(to)/share/victor" "$(python)/victor"
 

@@ -19,7 +19,7 @@ game = victor.Game.read("434343")
 proof = victor.Proof(game, "win", 2, open("examples/usual-board.proof").read(), 0)
 calls = {
     "play": (game, "CE:a1", []), "check": (proof,), "trim": (proof,), "upgrade": (proof,), "follow": (proof, "white"),
-    "drill": ((4, 4), 4, 1, 1), "find_program": (), "find_solver": (),
+    "drill": ((4, 4), 4, 1, 1), "find_program": (), "find_solver": (), "find_engine": (),
 }
 for name in sys.argv[1:]:
     begin = time.monotonic()
@@ -34,6 +34,7 @@ FUNCTIONS: tuple[str, ...] = (
     "check",
     "drill",
     "explain",
+    "find_engine",
     "find_program",
     "find_solver",
     "follow",
@@ -71,7 +72,9 @@ class UnbuiltTest(ToolTest):
 
     def is_bare(self, path):
         """No installed program is found there."""
-        return not any(os.path.exists(os.path.join(path, name)) for name in ("victor", "victor-solve", "rt"))
+        return not any(
+            os.path.exists(os.path.join(path, name)) for name in ("victor", "victor-solve", "victor-engine", "rt")
+        )
 
     def lab(self, *words, text="", **more):
         begin = processor_time()
@@ -128,6 +131,8 @@ class UnbuiltTest(ToolTest):
             what = (
                 "tools/solve isn't built: `make -C"
                 if name in ("solve", "find_solver")
+                else "the engine isn't built: `make -C"
+                if name == "find_engine"
                 else "the program isn't built yet"
             )
             self.assertTrue(line.startswith(f"{name} {what}"), line)

@@ -14,11 +14,12 @@ this package; what a proof shows, `check` says.
 """
 
 from ._asking import Answer, Asker, Means
+from ._engine import Engine, Found, Searched
 from ._faults import Failed, Fault, OtherGame, OutOfTime, Unproved
 from ._games import Game, Size
 from ._plans import Plan
 from ._processes import Limits, answer
-from ._programs import build, find_program, find_solver
+from ._programs import build, find_engine, find_program, find_solver
 from ._prover import (
     Accepted,
     Drill,
@@ -49,10 +50,12 @@ __all__ = [
     "Asker",
     "Drill",
     "Duel",
+    "Engine",
     "Explanation",
     "Failed",
     "Fault",
     "Following",
+    "Found",
     "Game",
     "Limits",
     "Mark",
@@ -61,6 +64,7 @@ __all__ = [
     "OutOfTime",
     "Plan",
     "Proof",
+    "Searched",
     "Size",
     "Threat",
     "Unproved",
@@ -70,6 +74,7 @@ __all__ = [
     "check",
     "drill",
     "explain",
+    "find_engine",
     "find_program",
     "find_solver",
     "follow",

@@ -51,6 +51,13 @@ class OutOfTime(Failed):
         return f"{self.name} was ended, as {why}"
 
 
+class Refused(Failed):
+    """A program that goes on running says what is wrong with a request."""
+
+    def __str__(self) -> str:
+        return f"{self.name}: {self.text}"
+
+
 class Gone(Fault):
     """Nobody waits for the answer any more."""
 

@@ -23,6 +23,7 @@ exit 1
 """
 ASK_SOLVER = "--by both"
 MAKE_SOLVER = "tools/solve, which decides many more positions (make -C tools/solve)"
+MAKE_ENGINE = "the engine isn't built, so nothing is searched beside the proofs: `make -C tools/solve engine` builds it"
 
 
 def find_program(given: Optional[Path] = None) -> str:
@@ -84,6 +85,28 @@ def find_solver(given: Optional[Path] = None) -> str:
     path = runnable(given) if given else solver_path()
     if not path:
         raise Fault("tools/solve isn't built: `make -C tools/solve` builds it in a minute; --solver PATH names another")
+    return path
+
+
+def engine_path(solver: Optional[Path] = None) -> Optional[str]:
+    """The path of `tools/solve/engine`: that of VICTOR_ENGINE, the one beside a solver that is named, or the one that
+    was built or installed; or None."""
+    named = os.environ.get("VICTOR_ENGINE")
+    if named:
+        return runnable(named)
+    if solver:
+        near = pathlib.Path(solver).absolute()
+        path = near.with_name("victor-engine" if near.name == "victor-solve" else "engine")
+        return str(path) if path.is_file() and os.access(path, os.X_OK) else None
+    made = HERE.parent / "solve" / "engine"
+    return str(made) if CHECKOUT and os.access(made, os.X_OK) else beside("victor-engine")
+
+
+def find_engine(given: Optional[Path] = None) -> str:
+    """The path of `tools/solve/engine`: the one given, that of VICTOR_ENGINE, or one that was built or installed."""
+    path = runnable(given) if given else engine_path()
+    if not path:
+        raise Fault("the engine isn't built: `make -C tools/solve engine` builds it; VICTOR_ENGINE=PATH names another")
     return path
 
 
