@@ -22,9 +22,10 @@ PLAN = "plan CE:a1 CE:a3 CE:b1 CE:b3 BI:c1,d1 LI:c2-c4,d2-d4"
 
 
 def children_of(pid):
-    """The processes that this one began, and those that they began."""
-    listed = subprocess.run(["ps", "-eo", "pid=,ppid="], stdout=subprocess.PIPE, encoding="ascii").stdout
-    pairs = [tuple(map(int, line.split())) for line in listed.splitlines()]
+    """The processes that this one began, and those that they began, but for the warm engine, which stays."""
+    listed = subprocess.run(["ps", "-eo", "pid=,ppid=,comm="], stdout=subprocess.PIPE, encoding="utf-8").stdout
+    rows = [line.split(None, 2) for line in listed.splitlines()]
+    pairs = [(int(child), int(parent)) for child, parent, name in rows if name != "engine"]
     found = {pid}
     while True:
         more = {child for child, parent in pairs if parent in found} - found

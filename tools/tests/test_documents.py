@@ -37,6 +37,7 @@ LEFT_OUT = {
     "LAB=": "the same",
     "tools/lab parts": "test_parts.py runs it, and it takes tools/solve",
     "tools/lab sheet 434343 efbaebdcfcee": "it takes tools/solve, which isn't copied there",
+    "tools/lab ask --scores": "it takes the engine, which isn't copied there; test_warm.py tries the same",
     "tools/lab board": "it serves until it is interrupted; test_board.py asks it",
     "tools/lab play": "it asks a person; test_play.py plays it",
     "./victor play": "it asks a person; a test below plays it",

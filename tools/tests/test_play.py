@@ -36,7 +36,7 @@ class PlayTest(ToolTest):
             "So the column c1 to c4, in which White has c1 and c2, never gets whole.",
             out,
         )
-        self.assertIn("White's column (a-d; u takes back, q ends): C\n", out)
+        self.assertIn("White's column (a-d; u takes back, v values, q ends): C\n", out)
         self.assertNotIn("\033", out)
         self.ends(out, "The board is full and no side has a line: a draw.", "cdccddcdaaaabbbb")
         played = read(example("play", "lowinverse.played")).split("\n")[:-1]
@@ -107,7 +107,7 @@ class PlayTest(ToolTest):
         for words in (["--side", "white"], []):
             out = self.plays("b\n", "--proof", draw, *words)
             self.assertIn("Black answers by the proof %s.\n" % draw, out)
-            self.assertIn("White's column (a-d; u takes back, q ends): b\nWhite b3, Black b4.\n", out)
+            self.assertIn("White's column (a-d; u takes back, v values, q ends): b\nWhite b3, Black b4.\n", out)
             self.ends(out, "The board is full and no side has a line: a draw.", "cdccddcdaaaabbbb")
         out = self.plays("u\nb\n", "--proof", draw, "--side", "black")
         self.assertIn("White answers by the proof %s.\nWhite begins with b3.\n" % draw, out)
@@ -115,7 +115,7 @@ class PlayTest(ToolTest):
         self.ends(out, "The board is full and no side has a line: a draw.", "cdccddcdaaaabbbb")
         out = self.plays("a\nu\na\n", "--proof", example("forced-win.proof"))
         self.assertIn("White begins with a1.\n", out)
-        self.assertIn("Black's column (a-d; u takes back, q ends): a\nBlack a2, White a3.\n", out)
+        self.assertIn("Black's column (a-d; u takes back, v values, q ends): a\nBlack a2, White a3.\n", out)
         self.ends(out, "White has a line, a3 b3 c3 d3, and wins.", "dccbbdbbddccaaa")
         out = self.plays("", "--proof", example("usual-board.proof"))
         self.ends(out, "White has a line, d1 d2 d3 d4, and wins.", "dcdcdcd", "7 6")

@@ -4,12 +4,13 @@ and what they write counts only where `victor check` accepts it."""
 import functools
 import os
 import pathlib
-from collections.abc import Iterable
+from collections.abc import Iterable, Iterator
 from dataclasses import dataclass, replace
 from typing import Any, Callable, Optional, Union
 
 from . import _programs as programs, _proofs as proofs, _prover as prover
-from ._faults import Failed, Fault, OutOfTime, Unproved
+from ._engine import Engine, Searched, is_searchable
+from ._faults import Failed, Fault, OutOfTime, Refused, Unproved
 from ._files import Path
 from ._games import Game
 from ._processes import Tell
@@ -26,7 +27,6 @@ MORE = 5  # times the seconds are advised where they were spent
 SOON = {"order": 0, "high": 0, "part": 0}
 AS_IT_STANDS = {"rounds": 0, "sweeps": 0}  # and these better none
 ENGINES = {"solve": ("solve",), "prove": ("prove",), "both": ("solve", "prove")}
-MOST_BITS = 63  # of a board that solve takes: its columns, each with a bit more than its rows
 EARLY = 16  # men, below which the shipped proofs are looked in
 Progress = Callable[[str, str, Game, float], None]
 
@@ -85,18 +85,27 @@ def engines_of(by: Optional[str], solver: Optional[str]) -> tuple[str, ...]:
 
 
 class Asker:
-    """Asks about positions. Proofs are written into a folder, where one of a name takes the place of the one before."""
+    """Asks about positions. Proofs are written into a folder, where one of a name takes the place of the one before.
+    Where a warm engine is given, it says what is only searched, and writes proofs in place of `tools/solve`."""
 
-    def __init__(self, means: Means, folder: Path) -> None:
-        self.means, self.folder = means, pathlib.Path(folder)
-        self.engines = engines_of(means.by, means.solver)
-        self.solver = programs.find_solver(means.solver) if "solve" in self.engines else None
+    def __init__(self, means: Means, folder: Path, engine: Optional[Engine] = None) -> None:
+        self.means, self.folder, self.engine = means, pathlib.Path(folder), engine
+        self.engines = engines_of(means.by or ("both" if engine else None), means.solver)
+        self.solver = self.found_solver() if "solve" in self.engines else None
+        self.found = Searched()  # what the engine said at last
+        self.found_of: Optional[Game] = None  # and of which game
+        self.lost: Optional[Failed] = None  # why the engine isn't asked any more
         self.program = programs.find_program(means.program)
         self.choices = SOON if means.small else {**SOON, **AS_IT_STANDS}
         # Alone, prove takes what its budget takes.
-        self.seconds = means.seconds or (SECONDS if self.solver else None)
+        self.seconds = means.seconds or (SECONDS if "solve" in self.engines else None)
         self.spent = 0.0  # of processor time, by all programs
         self.known = list(self.known_proofs())
+
+    def found_solver(self) -> Optional[str]:
+        """The path of `tools/solve`, which isn't needed where an engine is given."""
+        is_needed = not self.engine or self.means.solver or programs.solver_path()
+        return programs.find_solver(self.means.solver) if is_needed else None
 
     def known_proofs(self) -> Iterable["Known"]:
         """The proofs of whole games to look in: those that are named, and where no program is asked for alone, those
@@ -130,13 +139,21 @@ class Asker:
     def answer(self, game: Game, name: str = "proof", *, needs_proof: bool = False) -> Answer:
         """What the first says that decides a position: a known proof, or a program; else why each did not, and what may
         help. A proof of its own is made from a known one where that is needed."""
+        return self.known_answer(game, name, needs_proof) or self.looked_for(game, name)
+
+    def known_answer(self, game: Game, name: str, needs_proof: bool) -> Optional[Answer]:
+        """What a known proof says, where one has the position."""
         for known in self.known:
             answer = known.proof(game, self.folder / name) if needs_proof else known.answer(game)
             if answer:
                 return answer
+        return None
+
+    def looked_for(self, game: Game, name: str) -> Answer:
+        """What a program says."""
         begun, answers = self.spent, []
         for engine in self.engines:
-            asked = self.by_solve if engine == "solve" else self.by_prove
+            asked = self.by_search if engine == "solve" else self.by_prove
             left = None if self.seconds is None else max(0.1, self.seconds - (self.spent - begun))
             answers.append(asked(game, self.folder / name, left))
             if answers[-1].value != "unknown":
@@ -147,9 +164,54 @@ class Asker:
 
     def other_engine(self, game: Game) -> tuple[str, ...]:
         """The advice to ask solve, where it wasn't asked and takes such a board."""
-        if self.solver or game.size.cols * (game.size.rows + 1) > MOST_BITS:
+        if "solve" in self.engines or not is_searchable(game.size):
             return ()
         return (programs.ASK_SOLVER,) if self.means.by and programs.solver_path() else (programs.MAKE_SOLVER,)
+
+    def by_search(self, game: Game, path: pathlib.Path, seconds: Optional[float]) -> Answer:
+        """What the engine's proof says, by what it knows already; or that of `tools/solve`, where there is no engine,
+        or it answers somebody else."""
+        is_engine = self.engine and is_searchable(game.size) and not (self.solver and self.engine.is_busy)
+        if not is_engine and self.solver:
+            return self.by_solve(game, path, seconds)
+        if not is_engine:
+            return Answer(whys=("the engine doesn't answer" if self.lost else "the engine takes no such board",))
+        answer = self.by_engine(game, path, seconds)
+        return self.by_solve(game, path, seconds) if self.lost and self.solver else answer
+
+    def by_engine(self, game: Game, path: pathlib.Path, seconds: Optional[float]) -> Answer:
+        """What the engine's first proof says, or a smaller one, where that is wanted."""
+        assert self.engine
+        seconds = SECONDS if seconds is None else seconds
+        share = seconds * SHARE if "prove" in self.engines else seconds
+        options = prover.options_of(**self.choices, seconds=int(share / 2))
+        limits = self.limits("engine", game, share, clock=self.means.clock)
+        try:
+            return self.accepted(self.engine.proof(game, path, options, **limits), "engine")
+        except OutOfTime as fault:
+            return self.out_of_time("the engine", fault)
+        except Refused as fault:
+            if "memory" in fault.text:
+                return out_of_memory("the engine", self.engine.memory)
+            return Answer(whys=(str(fault),))
+        except Failed as fault:
+            self.lose(fault)
+            return Answer(whys=(str(fault),))
+
+    def lose(self, fault: Failed) -> None:
+        """The engine isn't asked any more."""
+        self.engine, self.lost = None, fault
+
+    def search(self, game: Game, **more: Any) -> Searched:
+        """What the engine says of a position and its moves, which isn't proved. Nothing where there is no engine."""
+        self.found, self.found_of = Searched(), game
+        if self.engine and is_searchable(game.size) and not game.is_over:
+            limits = self.limits("engine", game, self.seconds, clock=self.means.clock)
+            try:
+                self.found = self.engine.search(game, **more, **limits)
+            except Failed as fault:
+                self.lose(fault)
+        return self.found
 
     def by_solve(self, game: Game, path: pathlib.Path, seconds: Optional[float]) -> Answer:
         """What `tools/solve` says, by the first proof that it finds; or by a smaller one, where that is wanted."""
@@ -219,12 +281,20 @@ class Asker:
         """The answer to the position, and each legal move with its value for the side that moves. A move that wins
         proves the position."""
         moves = []
-        for column in [] if game.is_over else game.open_columns():
-            after = self.answer(game.after(column), "after", needs_proof=needs_proof)
+        for column, after in self.after_moves(game, needs_proof=needs_proof):
             moves.append((column, TURNED[after.value]))
             if answer.value == "unknown" and after.value == "loss":
                 answer = self.won_by(game, column, after)
         return answer, moves
+
+    def after_moves(self, game: Game, *, needs_proof: bool = False) -> Iterator[tuple[int, Answer]]:
+        """The answer behind each move. The engine searches all of them first, unless each is known."""
+        for column in [] if game.is_over else game.open_columns():
+            after = game.after(column)
+            answer = self.known_answer(after, "after", needs_proof)
+            if not answer and self.found_of is not game:
+                self.search(game)
+            yield column, answer or self.looked_for(after, "after")
 
     def won_by(self, game: Game, column: int, after: Answer) -> Answer:
         """The answer to a position, from that to the one behind a move that wins."""

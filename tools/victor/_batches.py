@@ -23,7 +23,8 @@ from types import ModuleType
 from typing import IO, Any, Optional
 
 from . import _programs as programs, _prover as prover
-from ._asking import Asker, Means
+from ._asking import MEMORY, SECONDS, Asker, Means
+from ._engine import LEAST_MEMORY, Engine, is_searchable
 from ._faults import Failed, Fault, Unproved, files_told
 from ._files import write_text
 from ._games import Game, Size
@@ -31,6 +32,7 @@ from ._notation import read_moves
 from ._processes import apart
 
 HEAD = ("position", "value", "lemmas", "bytes", "seconds", "by", "sha256", "accepted")
+SEARCHED = "searched"  # the last column: what the engine says of a position whose value no proof shows
 MOST_TASKS = 1000  # of an array job; each has its share of the commands
 TOLD = 5.0  # seconds between two looks at how far it is
 VALUES = {1: "win", 0: "draw", -1: "loss"}
@@ -55,6 +57,8 @@ def prove_one(folder: str, name: str, size: Size, means: Means) -> None:
         asker = Asker(means, place / ".work")
         row: Row = {"position": name, "budget": budget_of(means), **proved(asker, game, path)}
         row.update(bytes=path.stat().st_size, sha256=sum_of(path), **judged(asker.program, path))
+        if row["value"] == "unknown":
+            row[SEARCHED] = searched_value(means, game)
         os.replace(path, os.path.realpath(path_of(place, name)))
         write_text(row_of(place, name), json.dumps(row) + "\n")
     except Unproved as fault:
@@ -63,6 +67,17 @@ def prove_one(folder: str, name: str, size: Size, means: Means) -> None:
         path.unlink(missing_ok=True)
     if row["accepted"] != "both":
         raise Fault(f"{name}: accepted by {row['accepted']} of the two checkers")
+
+
+def searched_value(means: Means, game: Game) -> str:
+    """What the engine says of a position, which isn't proved; nothing where it has no value, or isn't asked."""
+    path = programs.engine_path(means.solver) if means.by != "prove" else None
+    memory = means.memory or MEMORY
+    if not path or memory < LEAST_MEMORY or not is_searchable(game.size) or game.is_over:
+        return ""
+    with Engine(path, memory=memory) as engine:
+        found = engine.search(game, seconds=means.seconds or SECONDS, clock=means.clock)
+    return found.position.value if found.position else ""
 
 
 def budget_of(means: Means) -> str:
@@ -233,6 +248,7 @@ class Batch:
         self.work, self.table = self.folder / ".work", self.folder / "positions.csv"
         self.lock: Optional[IO[str]] = None
         self.counts: dict[str, int] = {}
+        self.searched: list[str] = []
 
     def say(self, message: str, out: Optional[IO[str]] = None) -> None:
         """Says something in one line."""
@@ -244,6 +260,8 @@ class Batch:
         if not only_write:
             require_engine(self.engine)
             program = programs.find_program(self.means.program) if missing else ""
+            if missing and self.means.by != "prove" and not programs.engine_path(self.means.solver):
+                self.say(programs.MAKE_ENGINE)
         self.write_files(missing)
         self.say(f"{len(names)} positions, {len(names) - len(missing)} done before, {len(missing)} to prove", self.out)
         if only_write:
@@ -382,6 +400,9 @@ class Batch:
         for line in others:
             self.say(line)
         self.say(", ".join(f"{self.counts[value]} {value}" for value in sorted(self.counts)), self.out)
+        if self.searched:
+            found = ", ".join(f"{self.searched.count(value)} {value}" for value in sorted(set(self.searched)))
+            self.say(f"of the unknown ones searched, and not proved: {found}", self.out)
         if "unknown" in self.counts and self.means.by is None and not self.means.solver and not programs.solver_path():
             self.say(f"for the unknown ones try {programs.MAKE_SOLVER}")
         return bool(others) or "missing" in self.counts or "refused" in self.counts
@@ -389,17 +410,22 @@ class Batch:
     def write_table(self, names: Mapping[str, Optional[str]]) -> list[str]:
         """Writes the table of all positions of the list, counts how many have each value, and gives what is to be said
         of those that differ from their scores."""
-        self.counts, others = {}, []
+        self.counts, self.searched, others = {}, [], []
         made = io.StringIO()
         table = csv.writer(made, lineterminator="\n")
-        table.writerow(HEAD)
+        table.writerow((*HEAD, SEARCHED))
         for name, said in names.items():
             row = read_row(self.folder, name)
             value = row["value"] or "refused" if row else "missing"
             self.counts[value] = self.counts.get(value, 0) + 1
             if said and value in VALUES.values() and value != said:
                 others.append(f"{name}: the score says {said}, and the proof {value}")
-            table.writerow([row[key] for key in HEAD] if row else [name] + [""] * (len(HEAD) - 2) + ["none"])
+            cells = [row[key] for key in HEAD] if row else [name] + [""] * (len(HEAD) - 2) + ["none"]
+            found = row.get(SEARCHED, "") if row else ""
+            self.searched += [found] if found else []
+            if said and found and found != said:
+                others.append(f"{name}: the score says {said}, and the search {found}, which isn't proved")
+            table.writerow([*cells, found])
         write_text(self.table, made.getvalue())
         return others
 

@@ -1,5 +1,6 @@
 """Serves a page to play Connect Four on, on this machine alone, until it is interrupted: a board to click on, the
-value of each move by an accepted proof, plans, threats and whole proofs to play against."""
+value of each move, searched by the engine and then by an accepted proof, plans, threats and whole proofs to play
+against."""
 
 import argparse
 import collections
@@ -19,14 +20,15 @@ from typing import Any, Callable, Optional
 from .. import _prover as prover
 from .._answers import data_of
 from .._asking import Asker, Means
+from .._engine import Engine, Found, is_searchable
 from .._faults import Failed, Fault, Gone
 from .._files import Path
-from .._games import Game, Size, columns_of
+from .._games import LETTERS, Game, Size, columns_of
 from .._notation import read_position
 from .._pages import draw_proof, page_of, read_proof, zone_colours
 from .._programs import find_program
 from .._sentences import of_explanation
-from .options import SEARCH, Parser, means_of
+from .options import SEARCH, Parser, engine_of, means_of
 
 COMMON = SEARCH
 STATUS = "Status: 0 where it was interrupted, 2 where it can't begin."
@@ -90,10 +92,10 @@ class Turns:
 
 
 class Desk:
-    """What the pages ask for. The newest proofs are kept in a folder, each by its number."""
+    """What the pages ask for. The newest proofs are kept in a folder, each by its number. One engine answers all."""
 
-    def __init__(self, words: argparse.Namespace, folder: Path) -> None:
-        self.folder, self.words = pathlib.Path(folder), words
+    def __init__(self, words: argparse.Namespace, folder: Path, engine: Optional[Engine]) -> None:
+        self.folder, self.words, self.engine = pathlib.Path(folder), words, engine
         words.victor = find_program(words.victor)
         self.lock = threading.Lock()
         self.proofs: list[int] = [0]
@@ -107,13 +109,21 @@ class Desk:
         play by is wanted."""
         game, number = game_of(asked), self.new_number()
         with tempfile.TemporaryDirectory(dir=self.folder) as room:
-            asker = Asker(self.means(is_wanted), room)
+            asker = Asker(self.means(is_wanted), room, self.engine)
             answer = asker.answer(game, needs_proof=bool(asked.get("kept")))
             said = data_of(game, answer, asker.engines)
             if answer.proof and answer.value != "unknown":
                 kept = prover.trim(answer.proof, self.folder / f"{number}.txt", program=asker.program)
                 said.update(proof=number, lemmas=kept.lemmas)
         return said
+
+    def moves(self, asked: Asked, is_wanted: Wanted) -> Iterator[Asked]:
+        """What the engine says of each move, as soon as it is known. None of it is proved."""
+        game = game_of(asked)
+        if not self.engine or not is_searchable(game.size) or game.is_over:
+            return iter(())
+        found = self.engine.scores(game, seconds=self.words.seconds, clock=self.words.clock, is_wanted=is_wanted)
+        return (data_of_move(one) for one in found if one.column is not None)
 
     def new_number(self) -> int:
         """A number for a proof. The oldest proofs go."""
@@ -172,6 +182,19 @@ def game_of(asked: Asked) -> Game:
     return read_position(moves or "-", Size.read(size))
 
 
+def page_in(asked: Asked) -> str:
+    """The name of the page that asks."""
+    page = asked.get("page")
+    if not isinstance(page, str) or not NAME.fullmatch(page):
+        raise Fault("a question has the name of its page")
+    return page
+
+
+def data_of_move(found: Found) -> Asked:
+    """What was searched of a move as data."""
+    return {"move": LETTERS[found.column or 0], "searched": found.value, "moves_to_end": found.moves_to_end}
+
+
 def answered_columns(asked: Asked) -> list[int]:
     """The columns of the moves that are answered."""
     letters = asked.get("answered")
@@ -193,17 +216,21 @@ class Handler(http.server.BaseHTTPRequestHandler):
     def send(self, status: int, body: str, kind: str) -> None:
         """Sends an answer."""
         data = body.encode()
+        self.send_head(status, kind, ("Content-Length", str(len(data))))
+        self.wfile.write(data)
+
+    def send_head(self, status: int, kind: str, length: tuple[str, str]) -> None:
+        """Sends what comes before an answer; its length is told, or that it ends with the connection."""
         self.send_response(status)
         for name, value in (
             ("Content-Type", f"{kind}; charset=utf-8"),
-            ("Content-Length", str(len(data))),
+            length,
             ("Cache-Control", "no-store"),
             ("X-Content-Type-Options", "nosniff"),
             ("Referrer-Policy", "no-referrer"),
         ):
             self.send_header(name, value)
         self.end_headers()
-        self.wfile.write(data)
 
     def is_ours(self) -> bool:
         """Whether the request is for this machine's page: by its Host, and where a page sent it, by its Origin."""
@@ -241,8 +268,10 @@ class Handler(http.server.BaseHTTPRequestHandler):
         if not length.isdigit() or int(length) > MOST_BODY:
             return self.refuse(413)
         try:
-            answer = json.dumps(self.answer(json.loads(self.rfile.read(int(length)))))
-            return self.send(200, answer, "application/json")
+            asked = json.loads(self.rfile.read(int(length)))
+            if self.path == "/moves":
+                return self.answer_in_lines(asked)
+            return self.send(200, json.dumps(self.answer(asked)), "application/json")
         except Gone:
             # Said, since a browser asks again where a connection ends without an answer.
             self.close_connection = True
@@ -263,11 +292,24 @@ class Handler(http.server.BaseHTTPRequestHandler):
         calls = {"/ask": desk.ask, "/explain": desk.explain, "/play": desk.play}
         if self.path not in calls or not isinstance(asked, dict):
             raise Fault("there is no such question")
-        page = asked.get("page")
-        if not isinstance(page, str) or not NAME.fullmatch(page):
-            raise Fault("a question has the name of its page")
-        with self.server.turns.turn(page, self.is_waiting) as is_wanted:
+        with self.server.turns.turn(page_in(asked), self.is_waiting) as is_wanted:
             return calls[self.path](asked, is_wanted)
+
+    def answer_in_lines(self, asked: object) -> None:
+        """Sends what is found of the moves, an object a line, each as soon as it is there."""
+        if not isinstance(asked, dict):
+            raise Fault("there is no such question")
+        with self.server.turns.turn(page_in(asked), self.is_waiting) as is_wanted:
+            moves = self.server.desk.moves(asked, is_wanted)
+            self.close_connection = True
+            self.send_head(200, "application/x-ndjson", ("Connection", "close"))
+            try:
+                for said in moves:
+                    self.wfile.write(json.dumps(said).encode() + b"\n")
+            except Failed as fault:
+                self.wfile.write(json.dumps({"fault": str(fault)}).encode() + b"\n")
+            except Gone:
+                pass
 
 
 class Server(http.server.ThreadingHTTPServer):
@@ -290,7 +332,7 @@ def run(words: argparse.Namespace) -> int:
     means_of(words)
     folder: Optional[str] = tempfile.mkdtemp(prefix="board-")
     try:
-        with Server(words.port, Desk(words, folder or "")) as server:
+        with engine_of(words) as engine, Server(words.port, Desk(words, folder or "", engine)) as server:
             print(f"http://127.0.0.1:{server.server_address[1]}/", flush=True)
             with contextlib.suppress(KeyboardInterrupt):
                 server.serve_forever(POLL)

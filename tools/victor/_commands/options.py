@@ -9,8 +9,9 @@ from collections.abc import Iterator
 from types import ModuleType
 from typing import Any, NoReturn, Optional
 
-from .. import _asking as asking, _processes as processes
+from .. import _asking as asking, _engine, _processes as processes, _programs as programs
 from .._asking import Means
+from .._engine import Engine
 from .._faults import Fault, files_told
 from .._files import output
 from .._games import Game, Size
@@ -98,6 +99,28 @@ def means_of(words: argparse.Namespace, **more: Any) -> Means:
     """What the words say of who is asked, and what each may spend."""
     said = {name: getattr(words, name) for name in MEANS}
     return Means(program=words.victor, progress=teller(words.prog), **said, **more)
+
+
+@contextlib.contextmanager
+def engine_of(words: argparse.Namespace) -> Iterator[Optional[Engine]]:
+    """The warm engine for the time of a command. None where prove is asked alone, or where it isn't built, which is
+    said in a line."""
+    path = programs.engine_path(words.solver) if words.by != "prove" else None
+    memory = words.memory or asking.MEMORY
+    if words.by != "prove" and not path:
+        programs.find_program(words.victor)  # where there is none, that is all that is said
+        say(words.prog, programs.MAKE_ENGINE)
+    if not path or memory < _engine.LEAST_MEMORY:
+        yield None
+        return
+    with Engine(path, memory=memory) as engine:
+        yield engine
+
+
+def say_lost(words: argparse.Namespace, asker: asking.Asker) -> None:
+    """Says why the engine was asked no more."""
+    if asker.lost:
+        say(words.prog, f"{asker.lost}; it isn't asked any more")
 
 
 def teller(prog: str) -> asking.Progress:

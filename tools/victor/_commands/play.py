@@ -1,8 +1,10 @@
 """Plays Connect Four in a terminal, or over a pipe, against a plan, with White for you, or against a whole proof:
 victor play or victor follow answers. A column is typed as a letter or as a number from 1. White never gets a line
-against a plan, nor you against a proof."""
+against a plan, nor you against a proof. v says what each move is worth, searched by the engine and not proved."""
 
 import argparse
+import contextlib
+import functools
 import itertools
 import os
 import pathlib
@@ -10,7 +12,9 @@ import sys
 from collections.abc import Collection, Sequence
 from typing import Optional, Protocol
 
-from .. import _prover as prover
+from .. import _programs as programs, _prover as prover
+from .._answers import said_of_moves_found
+from .._engine import Engine, is_searchable
 from .._faults import Failed, Fault, Unproved, files_told
 from .._files import read_input, write_text
 from .._games import LETTERS, OTHER, SIDES, Game, Size, Square, grid_text, lines_with, name_of, square_of
@@ -20,7 +24,7 @@ from .._programs import find_program
 from .._proofs import verdict_of
 from .._prover import MOST_REACH
 from .._sentences import line_name, listed
-from .options import PROGRAM, Parser, size_of
+from .options import PROGRAM, Parser, size_of, teller
 
 COMMON = ("--board", "--reach", *PROGRAM)
 STATUS = (
@@ -29,6 +33,7 @@ STATUS = (
 )
 EXAMPLE = "tools/lab play --board 4x4"
 LONGEST_SHOWN = 20
+SEARCH_SECONDS = 30  # of processor time, for what each move is worth
 MEN = {"W": "\033[1;33m", "B": "\033[1;36m"}
 NEW, PLAIN = "\033[7m", "\033[0m"
 
@@ -266,8 +271,9 @@ class Table:
     """A game against a player. The columns of a turn are the person's and the player's; the player's first move, where
     it has one, comes before them."""
 
-    def __init__(self, start: Game, player: Player) -> None:
-        self.start, self.player, self.game = start, player, start
+    def __init__(self, prog: str, start: Game, player: Player, engine: Optional[Engine]) -> None:
+        self.prog, self.start, self.player, self.game = prog, start, player, start
+        self.engine = engine
         self.first: list[int] = []
         self.turns: list[tuple[int, ...]] = []
         self.side = SIDES[OTHER[player.side]]
@@ -322,10 +328,23 @@ class Table:
         self.replay()
         self.show()
 
+    def tell_values(self) -> None:
+        """Says what the engine finds of each move."""
+        if not self.engine or not is_searchable(self.game.size):
+            raise Slip("the engine takes no board of this size" if self.engine else programs.MAKE_ENGINE)
+        tell = functools.partial(teller(self.prog), "engine", f" of {SEARCH_SECONDS}", self.game)
+        try:
+            found = self.engine.search(self.game, scores=True, seconds=SEARCH_SECONDS, tell=tell)
+        except Failed as fault:
+            raise Slip(str(fault)) from fault
+        if not found.moves:
+            raise Slip(f"the engine found nothing within {SEARCH_SECONDS} seconds")
+        print(f"{said_of_moves_found(found)}.")
+
     def ask(self) -> Optional[str]:
         """What was typed, in small letters, or None where there is no more."""
         last = LETTERS[self.game.size.cols - 1]
-        print(f"{self.side}'s column (a-{last}; u takes back, q ends): ", end="", flush=True)
+        print(f"{self.side}'s column (a-{last}; u takes back, v values, q ends): ", end="", flush=True)
         line = sys.stdin.buffer.readline().decode("utf-8", "replace")
         if not sys.stdin.isatty() or not line:
             print(line.rstrip("\r\n").encode("ascii", "replace").decode("ascii"))
@@ -342,6 +361,8 @@ class Table:
             try:
                 if word == "u":
                     self.take_back()
+                elif word == "v":
+                    self.tell_values()
                 else:
                     self.turn(column_of(word, self.game))
             except Slip as slip:
@@ -385,11 +406,14 @@ def run(words: argparse.Namespace) -> int:
     if not 0 <= words.reach <= MOST_REACH:
         raise Fault(f"--reach takes a number from 0 to {MOST_REACH}")
     start, given = read_start(words)
-    table = Table(start, player_of(words, find_program(words.victor), start, given))
-    try:
-        table.play()
-    except KeyboardInterrupt:
-        print()
+    path = programs.engine_path()
+    with contextlib.ExitStack() as kept:
+        engine = kept.enter_context(Engine(path)) if path else None
+        table = Table(words.prog, start, player_of(words, find_program(words.victor), start, given), engine)
+        try:
+            table.play()
+        except KeyboardInterrupt:
+            print()
     table.end()
     if words.keep:
         write_text(words.keep, table.game.text())

@@ -1,8 +1,10 @@
 """Makes one HTML page to print from positions: boards with questions, and behind them the answers. Each answer is
-from proofs that victor check accepted, or from a plan that victor explain wrote. move: which move is best. line: can
-White get a line. zone: in whose zone of a plan a square is, and what Black answers."""
+from proofs that victor check accepted, or from a plan that victor explain wrote; a move that has no proof is said to be
+searched only. move: which move is best. line: can White get a line. zone: in whose zone of a plan a square is, and what
+Black answers."""
 
 import argparse
+import contextlib
 import html
 import re
 import tempfile
@@ -15,10 +17,11 @@ from .._answers import each_value
 from .._asking import Answer, Asker
 from .._drawing import draw_for_paper
 from .._faults import Fault
-from .._games import SIDES, Game, Size, name_of
+from .._engine import Searched
+from .._games import LETTERS, SIDES, Game, Size, name_of
 from .._notation import asked_game
 from .._plans import RULES, Plan
-from .options import SEARCH, Parser, means_of, say, size_of, write
+from .options import SEARCH, Parser, engine_of, means_of, say, say_lost, size_of, write
 from .play import PlanPlayer
 
 COMMON = ("--board", *SEARCH, "--out")
@@ -90,14 +93,23 @@ class Questions:
 
     def ask_move(self) -> Optional[Question]:
         """Which move is best."""
-        after = {column: self.worth(self.game.after(column)) for column in self.game.open_columns()}
-        moves = [(column, sentences.TURNED[answer.value]) for column, answer in after.items()]
+        after = dict(self.asker.after_moves(self.game))
+        self.unknown = next((answer for answer in after.values() if answer.value == "unknown"), self.unknown)
+        proved = {column: sentences.TURNED[answer.value] for column, answer in after.items()}
+        searched = {column for column, value in proved.items() if value == "unknown" and column in self.found.moves}
+        moves = [(column, self.found.value_of(column) if column in searched else proved[column]) for column in after]
         values = {value for _, value in moves}
         if "win" not in values and "unknown" in values:
             return None
         best, *others = each_value(moves)
         said = f"{best}; {', '.join(others)}." if others else f"{best}."
-        return Question(f"Which move is best for {SIDES[self.game.side]}?", said, source_of(list(after.values())))
+        source = source_of(list(after.values()), [LETTERS[column] for column in searched])
+        return Question(f"Which move is best for {SIDES[self.game.side]}?", said, source)
+
+    @property
+    def found(self) -> Searched:
+        """What the engine said of the game, where it was asked."""
+        return self.asker.found if self.asker.found_of is self.game else Searched()
 
     def ask_line(self) -> Optional[Question]:
         """Can White get a line."""
@@ -139,11 +151,12 @@ def lines_of(plan: Plan) -> list[str]:
     return [f"{n}, {RULES[member[:2]]}: {' '.join(says.of_instance(member))}" for n, member in numbered]
 
 
-def source_of(answers: Sequence[Answer]) -> str:
-    """What answers rest on: lemmas of their own, and proofs of whole games."""
+def source_of(answers: Sequence[Answer], searched: Sequence[str] = ()) -> str:
+    """What answers rest on: lemmas of their own, and proofs of whole games; and for which moves on a search alone."""
     whole = {answer.by: answer.lemmas for answer in answers if answer.path}
     lemmas = sum(whole.values()) + sum(answer.lemmas for answer in answers if not answer.path)
-    return f"{sentences.count_of(lemmas, 'lemma')}, accepted by check"
+    more = f"; {sentences.joined(sorted(searched))} searched, and not proved" if searched else ""
+    return f"{sentences.count_of(lemmas, 'lemma')}, accepted by check{more}"
 
 
 class Page:
@@ -216,8 +229,9 @@ def run(words: argparse.Namespace) -> int:
     kinds, means = kinds_of(words.ask), means_of(words)
     games = [game_of(name, size_of(words)) for name in words.positions]
     page, left = Page(words.title, COLOURS[words.colours]), []
-    with tempfile.TemporaryDirectory(prefix="sheet-") as folder:
-        asker = Asker(means, folder)
+    engines = engine_of(words) if "move" in kinds else contextlib.nullcontext()
+    with tempfile.TemporaryDirectory(prefix="sheet-") as folder, engines as engine:
+        asker = Asker(means, folder, engine)
         for name, game in zip(words.positions, games):
             questions = Questions(asker, game, kinds)
             if questions.all:
@@ -226,6 +240,7 @@ def run(words: argparse.Namespace) -> int:
             wishes = questions.unknown.wishes if questions.unknown else ()
             more = f": try {' or '.join(wishes)}" if wishes else ""
             left.append(f"{name}: left out, as nothing that is asked has a known answer there{more}")
+        say_lost(words, asker)
     if len(left) == len(games):
         raise Fault("; ".join(left))
     for line in left:
