@@ -12,7 +12,7 @@ import termios
 import time
 import unittest
 
-from common import ToolTest, command_of, program, write
+from common import ToolTest, command_of, program, read, write
 import mutants
 import random
 
@@ -100,6 +100,13 @@ class InterruptTest(ToolTest):
     def test_ask(self):
         status, lines = self.interrupted(self.sleeps, "ask", "d", "--by", "prove", "--victor", self.endless)
         self.assertEqual((status, lines), (130, ["lab ask: interrupted"]))
+        self.assertFalse(self.sleeps())
+
+    def test_engine(self):
+        """An engine that doesn't answer is ended too, in a session of its own as it is."""
+        write(os.path.join(self.folder, "engine"), read(self.endless), True)
+        words = ("ask", "--moves", "--board", "4x4", "-", "--solver", self.endless, "--victor", self.slow)
+        self.assertEqual(self.interrupted(self.sleeps, *words), (130, ["lab ask: interrupted"]))
         self.assertFalse(self.sleeps())
 
     def batch(self, engine):
