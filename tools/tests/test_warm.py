@@ -267,6 +267,10 @@ class AskTest(ToolTest):
         with open(os.path.join(place, "positions.csv"), encoding="ascii", newline="") as table:
             row = next(csv.DictReader(table))
         self.assertEqual((row["value"], row["searched"]), ("unknown", "draw"))
+        write(os.path.join(self.folder, "engine"), "#!/bin/bash\nexit 3\n", True)
+        status, out, err = tool("batch", listed, place + "2", *few, "--victor", program(), "-j", "1")
+        self.assertEqual((status, out.splitlines()[1:]), (0, ["lab batch: 1 unknown"]))
+        self.assertIn("12121: the engine ended with status 3 and said nothing; nothing is searched\n", err)
         words = ("play", "--proof", example("two-squares-left.proof"), "--victor", program())
         out = tool(*words, text="v\nb\n")[1]
         self.assertIn("v\nSearched, and not proved: b draws in 2 moves.\n", out)

@@ -9,6 +9,8 @@ processor time, `clock`, seconds by the clock, and `memory`, in MiB, which it ma
 called with the seconds that are spent, now and then from two on. What gives no answer is a `Fault`, and a program that
 ended so a `Failed`, with its own text and status. Nothing is built: where there is no program, that is a `Fault` too.
 
+`Engine` is a warm process of `tools/solve/engine`, which says what is searched, and `Asker` does what `lab ask` does.
+
 A column is a number from 0 at the left, a row from 1 at the bottom, and a square the pair of both. Nothing is proved of
 this package; what a proof shows, `check` says.
 """

@@ -75,8 +75,12 @@ def searched_value(means: Means, game: Game) -> str:
     memory = means.memory or MEMORY
     if not path or memory < LEAST_MEMORY or not is_searchable(game.size) or game.is_over:
         return ""
-    with Engine(path, memory=memory) as engine:
-        found = engine.search(game, seconds=means.seconds or SECONDS, clock=means.clock)
+    try:
+        with Engine(path, memory=memory) as engine:
+            found = engine.search(game, seconds=means.seconds or SECONDS, clock=means.clock)
+    except Failed as fault:
+        sys.stderr.write(f"{game.digits()}: {fault}; nothing is searched\n")
+        return ""
     return found.position.value if found.position else ""
 
 

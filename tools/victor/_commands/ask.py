@@ -1,6 +1,7 @@
 """Says in one sentence what a position is worth under perfect play. The shipped proofs are looked in, then
 tools/solve or victor prove finds a proof; victor check checks it, and its first lines are compared with the
-question."""
+question. For values of all moves the warm engine takes the place of tools/solve; what it says without an accepted proof
+is called searched."""
 
 import argparse
 import contextlib
@@ -23,8 +24,8 @@ from .options import SEARCH, Parser, engine_of, means_of, say, say_lost, size_of
 
 COMMON = ("position", "--board", *SEARCH, "--json")
 STATUS = (
-    "Status: 0 where the value is said, 5 where it stays unknown, 2 where the question is none or an argument is "
-    "wrong, 1 where a program failed or no proof was accepted."
+    "Status: 0 where the value is proved, 5 where it isn't, also where it is searched, 2 where the question is none or "
+    "an argument is wrong, 1 where a program failed or no proof was accepted."
 )
 EXAMPLE = "tools/lab ask --moves 434343"
 
