@@ -2,7 +2,8 @@
 root.
 
 The repository that they are made of is a small one: this one's files without most of the crates, the examples and the
-proofs. A script stands in place of the program where it has to count as proved, and nothing is built or proved here.
+proofs, of which one of 6 by 4 is tried in place of that of the usual board. A script stands in place of the program
+where it has to count as proved, and nothing is built or proved here.
 """
 
 import os
@@ -21,7 +22,7 @@ MISSING = [name for name in NEEDED if not shutil.which(name)]
 BUILT = ("out", "__pycache__", "wrong-bodies", "must-fail", ".git")
 NAMES = ".ci .gitignore CHANGELOG.md CONTRIBUTING.md HANDLES Makefile README.md crates.txt victor victor.1".split()
 NAMES += "crates/victor docs examples proofs tools".split()
-KEPT = re.compile(r"proofs/(README.md|boards.csv|usual-board.txt.xz)|examples/(README.md|runs|usual-board.*)")
+KEPT = re.compile(r"proofs/(README.md|boards.csv|6-by-4.txt.xz)|examples/(README.md|runs|usual-board.*)")
 # A commit has the same name wherever it is made.
 WHO = {f"GIT_{role}_{what}": "nobody@localhost" for role in ("AUTHOR", "COMMITTER") for what in ("NAME", "EMAIL")}
 WHEN = {"GIT_AUTHOR_DATE": "2026-11-30T12:00:00+0000", "GIT_COMMITTER_DATE": "2026-11-30T12:00:00+0000"}
@@ -48,6 +49,8 @@ def small_copy(folder, mask):
         if path.is_file() and not KEPT.fullmatch(path.relative_to(source).as_posix()):
             path.unlink()
     shutil.copytree(os.path.join(TOP, "tools", "solve"), source / "tools" / "solve", ignore=only_sources)
+    install = source / "docs" / "INSTALL.md"
+    write(install, read(install).replace("proofs/usual-board.txt.xz", "proofs/6-by-4.txt.xz"))
     modes = "u=rwX,go=" if mask & 0o055 else "u=rwX,go=rX"
     lines = f"umask {mask:o} && chmod -R {modes} . && git init -q . && git add -A && git commit -qm all"
     subprocess.run(["bash", "-c", lines], cwd=source, env=environment(), check=True, capture_output=True)
