@@ -1,13 +1,18 @@
 # `make` builds the program where it isn't built, which takes `rt`. `make try` shows one example in a minute, from
 # sources that nothing has proved here. `make tools` builds the fast search. `make check-proofs` lets the program check
 # the proofs of proofs/. `make install PREFIX=..` puts all of it below that folder, and `make uninstall PREFIX=..` takes
-# it away. DESTDIR is put before PREFIX.
+# it away. DESTDIR is put before PREFIX. `make dist` makes the archives of a release in dist/, `make deb` a package for
+# Debian, and `make check-dist` tries what stands there.
 PREFIX ?= /usr/local
 to = $(DESTDIR)$(PREFIX)
 docs = $(to)/share/doc/victor
 library = $(to)/lib/victor
 place = $(shell .ci/python-folder "$(PREFIX)")
 python = $(to)$(place)
+# What is installed: the program with the sums that were noted of it, none where that is empty, and the fast search.
+program = crates/victor/out/victor
+stamp = $(program).sources
+search = tools/solve
 # What the documents speak of, but for the sources and what is made.
 texts = README.md CHANGELOG.md CONTRIBUTING.md examples/runs $(wildcard docs/*.md docs/img/*.png examples/*.* \
     examples/*/*.* examples/*/*/*.* tools/solve/Makefile tools/solve/usual.book tools/solve/*.h tools/solve/*.cpp)
@@ -38,8 +43,8 @@ tools:
 # links to these, so that the documents' commands work there.
 install: all
 	install -d "$(to)/bin" "$(docs)/tools/solve"
-	install -D -m 755 crates/victor/out/victor "$(library)/victor"
-	install -m 644 crates/victor/out/victor.sources "$(library)/victor.sources"
+	install -D -m 755 "$(program)" "$(library)/victor"
+	[ -z "$(stamp)" ] || install -m 644 "$(stamp)" "$(library)/victor.sources"
 	install -m 755 tools/why "$(library)/why"
 	install -m 755 victor "$(to)/bin/victor"
 	install -m 755 .ci/proofs "$(to)/bin/victor-check-proofs"
@@ -50,10 +55,11 @@ install: all
 	install -m 755 tools/check.py "$(python)/victor_check.py"
 	sed 's|^HERE = .*|HERE = str(pathlib.Path(__file__).resolve().parents[1]) + "$(place)"|' tools/lab >"$(to)/bin/victor-lab"
 	chmod 755 "$(to)/bin/victor-lab"
-	[ ! -x tools/solve/solve ] || install -m 755 tools/solve/solve "$(to)/bin/victor-solve"
-	[ ! -x tools/solve/solve ] || ln -srf "$(to)/bin/victor-solve" "$(docs)/tools/solve/solve"
-	[ ! -x tools/solve/engine ] || install -m 755 tools/solve/engine "$(to)/bin/victor-engine"
-	[ ! -x tools/solve/engine ] || ln -srf "$(to)/bin/victor-engine" "$(docs)/tools/solve/engine"
+	for name in solve engine; do \
+	    [ -x "$(search)/$$name" ] || continue; \
+	    install -m 755 "$(search)/$$name" "$(to)/bin/victor-$$name" && \
+	        ln -srf "$(to)/bin/victor-$$name" "$(docs)/tools/solve/$$name" || exit 1; \
+	done
 	ln -srf "$(to)/bin/victor" "$(docs)/victor"
 	ln -srf "$(to)/bin/victor-lab" "$(docs)/tools/lab"
 	ln -srf "$(library)/why" "$(docs)/tools/why"
@@ -65,4 +71,8 @@ uninstall:
 	rm -f "$(to)/share/man/man1/victor.1" "$(python)"/victor_check.py "$(python)"/__pycache__/victor_check.*
 	rm -rf "$(docs)" "$(library)" "$(to)/share/victor" "$(python)/victor"
 
-.PHONY: all try docs tools check-proofs install uninstall
+# What is handed on. UNPROVED=PATH takes that program in place of the proved one, to try these, and their names say so.
+dist deb check-dist:
+	@UNPROVED="$(UNPROVED)" .ci/dist $@
+
+.PHONY: all try docs tools check-proofs install uninstall dist deb check-dist

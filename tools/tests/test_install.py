@@ -76,9 +76,10 @@ class InstallTest(ToolTest):
         page = os.path.join(prefix, "share", "doc", "victor")
         line = "tools/lab game 434343 | ./victor prove | tail -n 1 && tools/check.py examples/usual-board.proof"
         self.assertEqual(self.run_in(page, "bash", "-c", line, **there), "value win 2\naccepted win 2\n")
-        for word in ("--help", "--version"):
-            lines = [self.run_in("/", path, word).splitlines() for path in (f"{source}/victor", f"{prefix}/bin/victor")]
-            self.assertEqual(*([line for line in each if not line.startswith("More:")] for each in lines))
+        lines = [self.run_in("/", path, "--help").splitlines() for path in (f"{source}/victor", f"{prefix}/bin/victor")]
+        self.assertEqual(*([line for line in each if not line.startswith("More:")] for each in lines))
+        said = self.run_in("/", f"{prefix}/bin/victor", "--version")
+        self.assertIn(f"victor {victor.__version__}, installed without its sources\n", said)
         shutil.rmtree(page)
         self.assertIn(f"{shipped_lemmas():,} lemmas accepted", self.run_in("/", "victor-lab", "ask", "dddd", **there))
         self.assertEqual(self.run_in("/", sys.executable, "-c", CODE, **there), f"win {victor.__version__}\n")

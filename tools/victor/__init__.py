@@ -45,7 +45,7 @@ from ._prover import (
     upgrade,
 )
 
-__version__ = "0.1"
+__version__ = "0.9.0"
 __all__ = [
     "Accepted",
     "Answer",
