@@ -75,8 +75,12 @@ class GameTest(ToolTest):
 
 class SessionTest(ToolTest):
     def test_session(self):
-        """The session of docs/TOOLS.md, as it stands there."""
-        result = doctest.testfile(os.path.join(TOP, "docs", "TOOLS.md"), module_relative=False)
+        """The session of docs/TOOLS.md, as it stands there, but for the engine where it isn't built."""
+        path = os.path.join(TOP, "docs", "TOOLS.md")
+        session = doctest.DocTestParser().get_doctest(read(path), {}, "TOOLS.md", path, 0)
+        if not programs.engine_path():
+            session.examples = [example for example in session.examples if "Engine()" not in example.source]
+        result = doctest.DocTestRunner().run(session)
         self.assertGreater(result.attempted, 9)
         self.assertEqual(result.failed, 0)
 
