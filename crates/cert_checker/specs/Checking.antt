@@ -1,5 +1,5 @@
 -- What the checker finds, how it stops, and how many lemmas it has room for.
-use Rattle.std.specs.Prelude.{◌≡◌, ℕ, ◌+◌, ◌≤◌, List, map, Option, Some, None, Result, Ok, Err, ⊤}
+use Rattle.std.specs.Prelude.{◌≡◌, ℕ, ◌+◌, ◌<◌, ◌≤◌, List, map, Option, Some, None, Result, Ok, Err, ⊤}
 use Rattle.proof_text.specs.Lemma.{Line, ALemma, ARemark, AVerdict}
 use Rattle.proof_text.specs.Checked.{CheckerState, Why}
 use Rattle.proof_text.specs.declared.Why.{Why as WhyOf}
@@ -37,16 +37,24 @@ IsLemma (ALemma l) = ⊤
 IsLemma ARemark = ⊥
 IsLemma (AVerdict v) = ⊥
 
--- what stands after the lines so far, and how many lemma lines can be added without taking memory
+-- what stands after the lines so far, how many lemma lines can be added without taking memory, and for how many in all
+-- each of the lists that they are kept in has memory
 pub record Checking : Type 0 where
   pub stands : CheckerState
   pub spare : ℕ
+  pub memory : ℕ × ℕ
 
--- An accepted lemma uses up room for one lemma at most, and any other line none.
-abbrev pub LeavesSpare : Line → ℕ → ℕ → Type 0
-LeavesSpare (ALemma l) old new = old ≤ new + 1
-LeavesSpare ARemark old new = new ≡ old
-LeavesSpare (AVerdict v) old new = new ≡ old
+-- An accepted lemma uses up room for one lemma at most, and takes memory only where there was no room. Any other line uses
+-- up no room and takes no memory.
+abbrev pub LeavesSpare : Line → Checking → Checking → Type 0
+LeavesSpare (ALemma l) old new = (old.spare ≤ new.spare + 1) × (0 < old.spare → new.memory ≡ old.memory)
+LeavesSpare ARemark old new = (new.spare ≡ old.spare) × (new.memory ≡ old.memory)
+LeavesSpare (AVerdict v) old new = (new.spare ≡ old.spare) × (new.memory ≡ old.memory)
+
+-- A line that is refused leaves all as it was. Where no memory was found, one of the lists may have got more.
+abbrev pub StaysAs : Checking → Checking → AddStop → Type 0
+StaysAs old new (Refused refused) = new ≡ old
+StaysAs old new (Memory e) = new ≡ record old { memory = new.memory }
 
 -- A line is refused by the name that the definitions give it, with its number; or, being a lemma that isn't refused and for
 -- which there was no room, found no memory.

@@ -7,7 +7,7 @@ use Rattle.cert_checker.specs.Shown.{AllShown, shown_in}
 use Rattle.cert_checker.specs.declared.known.Known.TheInside.{Inside}
 
 abbrev pub all_shown : Inside → AllShown
-all_shown a = record { board = a.size; shown = shown_in a.size a.men.items a.claims.items; spare = a.spare }
+all_shown a = record { board = a.size; shown = shown_in a.size a.men.items a.claims.items; spare = a.spare; memory = (vec_capacity a.men, vec_capacity a.claims) }
 
 pub record IsInStep (a : Inside) : Type 0 where
   pub same_length : length a.men.items ≡ length a.claims.items

@@ -11,8 +11,10 @@ shown_in board [] claims = []
 shown_in board (men ∷ more) [] = []
 shown_in board (men ∷ more) (claim ∷ claims) = (position_read board men, claim) ∷ shown_in board more claims
 
--- what lemmas at positions of one board show, and how many more there is room for
+-- what lemmas at positions of one board show, how many more there is room for, and for how many in all each of the lists
+-- has memory
 pub record AllShown : Type 0 where
   pub board : Board
   pub shown : List Shown
   pub spare : ℕ
+  pub memory : ℕ × ℕ

@@ -6,7 +6,7 @@ ghost use Rattle.proof_text.specs.Checked.{lemma_refusal, line_refusal, with_lin
 ghost use Rattle.proof_text.specs.Texts.{start};
 ghost use Rattle.proof_text.specs.declared.Why.TheVariants.{EndedEarly};
 ghost use Rattle.cert_format.specs.Shape.{lemma_viewed, line_of, viewed};
-ghost use Rattle.cert_checker.specs.Checking.{Finds, LeavesSpare, StopsAt};
+ghost use Rattle.cert_checker.specs.Checking.{Finds, LeavesSpare, StaysAs, StopsAt};
 ghost use Rattle.cert_checker.specs.declared.stops.AddStop.TheVariants.{Refused};
 
 use crate::known::Known;
@@ -39,6 +39,7 @@ impl Model for Checker {
     ghost view = { λ a. record {
       stands = record { root = a.trail.root; known = a.known.shown; verdict = a.verdict };
       spare = a.known.spare;
+      memory = a.known.memory;
     } };
 
     ghost invariant = { λ a. board_of a.trail.root ≡ a.known.board };
@@ -47,7 +48,7 @@ impl Model for Checker {
 impl Checker {
     /// A checker to which no line was added. No memory is taken.
     pub fn new(alloc: Global, root: Position) -> Checker
-        ensures { result ≡ record { stands = start root; spare = 0 } }
+        ensures { result ≡ record { stands = start root; spare = 0; memory = (0, 0) } }
     {
         Checker {
             trail: Trail::new(root),
@@ -71,12 +72,13 @@ impl Checker {
     }
 
     /// Makes room for so many more lemmas, where there is less; what stands doesn't change. `AllocError` comes only where
-    /// memory would have to be taken and none is found, and then nothing has changed.
+    /// memory would have to be taken and none is found, and then there is as much room as before.
     pub fn reserve(&mut self, lemmas: u32) -> Result<(), AllocError>
         ensures stands { self.new.stands ≡ self.old.stands }
         ensures room { OnOk result (lemmas ≤ self.new.spare) }
         ensures more { self.old.spare ≤ self.new.spare }
-        ensures none { OnErr result (self.new ≡ self.old) }
+        ensures enough { lemmas ≤ self.old.spare → self.new ≡ self.old }
+        ensures none { OnErr result (self.new.spare ≡ self.old.spare) }
         ensures full { OnErr result (self.old.spare < lemmas) }
     {
         self.known.reserve(lemmas)
@@ -98,11 +100,12 @@ impl Checker {
 
     /// Adds the line that stands at this line number. It is refused exactly where the definitions refuse it, by the
     /// first name that they give. `Memory` comes only for a lemma that isn't refused, and only where there was no room for
-    /// it. After any error the checker is as before.
+    /// it. After any error what stands and the room are as before. No other line takes memory, and no lemma for which there
+    /// is room.
     pub fn add(&mut self, at: u64, line: &Line) -> Result<(), AddStop>
         ensures accepted { OnOk result ((line_refusal self.old.stands (line_of line.now) ≡ None) × (self.new.stands ≡ with_line self.old.stands (line_of line.now))) }
-        ensures spare { OnOk result (LeavesSpare (line_of line.now) self.old.spare self.new.spare) }
-        ensures kept { OnErr result (self.new ≡ self.old) }
+        ensures spare { OnOk result (LeavesSpare (line_of line.now) self.old self.new) }
+        ensures kept { IfErr result (StaysAs self.old self.new) }
         ensures cause { IfErr result (λ stop. StopsAt self.old.spare at stop (line_refusal self.old.stands (line_of line.now)) (line_of line.now)) }
     {
         match line {
@@ -117,8 +120,8 @@ impl Checker {
     #[inline(always)]
     pub fn add_view(&mut self, at: u64, line: &LineView<'_>) -> Result<(), AddStop>
         ensures accepted { OnOk result ((line_refusal self.old.stands (viewed line.now) ≡ None) × (self.new.stands ≡ with_line self.old.stands (viewed line.now))) }
-        ensures spare { OnOk result (LeavesSpare (viewed line.now) self.old.spare self.new.spare) }
-        ensures kept { OnErr result (self.new ≡ self.old) }
+        ensures spare { OnOk result (LeavesSpare (viewed line.now) self.old self.new) }
+        ensures kept { IfErr result (StaysAs self.old self.new) }
         ensures cause { IfErr result (λ stop. StopsAt self.old.spare at stop (line_refusal self.old.stands (viewed line.now)) (viewed line.now)) }
     {
         if self.verdict.is_some() {
@@ -135,8 +138,8 @@ impl Checker {
     fn add_lemma(&mut self, at: u64, lemma: &LemmaView<'_>) -> Result<(), AddStop>
         requires { self.old.stands.verdict ≡ None }
         ensures accepted { OnOk result ((line_refusal self.old.stands (ALemma (lemma_viewed lemma.now)) ≡ None) × (self.new.stands ≡ with_line self.old.stands (ALemma (lemma_viewed lemma.now)))) }
-        ensures spare { OnOk result (LeavesSpare (ALemma (lemma_viewed lemma.now)) self.old.spare self.new.spare) }
-        ensures kept { OnErr result (self.new ≡ self.old) }
+        ensures spare { OnOk result (LeavesSpare (ALemma (lemma_viewed lemma.now)) self.old self.new) }
+        ensures kept { IfErr result (StaysAs self.old self.new) }
         ensures cause { IfErr result (λ stop. StopsAt self.old.spare at stop (line_refusal self.old.stands (ALemma (lemma_viewed lemma.now))) (ALemma (lemma_viewed lemma.now))) }
     {
         if let Err(why) = check_lemma(&mut self.trail, &self.known, lemma) {
@@ -151,8 +154,8 @@ impl Checker {
     fn add_verdict(&mut self, at: u64, verdict: Verdict) -> Result<(), AddStop>
         requires { self.old.stands.verdict ≡ None }
         ensures accepted { OnOk result ((line_refusal self.old.stands (AVerdict verdict) ≡ None) × (self.new.stands ≡ with_line self.old.stands (AVerdict verdict))) }
-        ensures spare { OnOk result (LeavesSpare (AVerdict verdict) self.old.spare self.new.spare) }
-        ensures kept { OnErr result (self.new ≡ self.old) }
+        ensures spare { OnOk result (LeavesSpare (AVerdict verdict) self.old self.new) }
+        ensures kept { IfErr result (StaysAs self.old self.new) }
         ensures cause { IfErr result (λ stop. StopsAt self.old.spare at stop (line_refusal self.old.stands (AVerdict verdict)) (AVerdict verdict)) }
     {
         if !verdict_stands(&self.known, self.trail.root(), verdict) {

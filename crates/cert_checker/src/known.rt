@@ -47,7 +47,7 @@ impl Model for Known {
 impl Known {
     /// No lemma. No memory is taken.
     pub(crate) fn new(alloc: Global, size: Size) -> Known
-        ensures { result ≡ record { board = size; shown = []; spare = 0 } }
+        ensures { result ≡ record { board = size; shown = []; spare = 0; memory = (0, 0) } }
     {
         Known {
             size,
@@ -71,12 +71,13 @@ impl Known {
         self.spare
     }
 
-    /// Makes room for so many more lemmas, where there is less. Where no memory is found nothing has changed.
+    /// Makes room for so many more lemmas, where there is less. Where no memory is found there is as much room as before.
     pub(crate) fn reserve(&mut self, lemmas: u32) -> Result<(), AllocError>
-        ensures same { self.new ≡ record self.old { spare = self.new.spare } }
+        ensures same { self.new ≡ record self.old { spare = self.new.spare; memory = self.new.memory } }
         ensures room { OnOk result (lemmas ≤ self.new.spare) }
         ensures more { self.old.spare ≤ self.new.spare }
-        ensures none { OnErr result (self.new ≡ self.old) }
+        ensures enough { lemmas ≤ self.old.spare → self.new ≡ self.old }
+        ensures none { OnErr result (self.new.spare ≡ self.old.spare) }
         ensures full { OnErr result (self.old.spare < lemmas) }
     {
         if lemmas <= self.spare {
@@ -91,9 +92,9 @@ impl Known {
     #[inline(never)]
     fn grow(&mut self, lemmas: u32) -> Result<(), AllocError>
         requires { self.old.spare < lemmas }
-        ensures same { self.new ≡ record self.old { spare = self.new.spare } }
+        ensures same { self.new ≡ record self.old { spare = self.new.spare; memory = self.new.memory } }
         ensures room { OnOk result (lemmas ≤ self.new.spare) }
-        ensures none { OnErr result (self.new ≡ self.old) }
+        ensures none { OnErr result (self.new.spare ≡ self.old.spare) }
     {
         let held = self.len();
         let more = lemmas.max(held.min(MOST_LEMMAS.saturating_sub(held)));
@@ -104,14 +105,15 @@ impl Known {
     }
 
     /// One more lemma, which shows this claim at the position. Memory is taken only where there is no room, and where none
-    /// is found nothing has changed.
+    /// is found the lemmas and the room are as before.
     #[inline(always)]
     pub(crate) fn push(&mut self, position: &Position, claim: Claim) -> Result<(), AllocError>
         requires board { board_of position.now ≡ self.old.board }
         requires few { length self.old.shown + 1 < 2 ^ 32 }
-        ensures kept { OnOk result (self.new ≡ record self.old { shown = self.old.shown ++ (position.now, claim) ∷ []; spare = self.new.spare }) }
+        ensures kept { OnOk result (self.new ≡ record self.old { shown = self.old.shown ++ (position.now, claim) ∷ []; spare = self.new.spare; memory = self.new.memory }) }
         ensures taken { OnOk result (self.old.spare ≤ self.new.spare + 1) }
-        ensures none { OnErr result (self.new ≡ self.old) }
+        ensures in_place { 0 < self.old.spare → self.new.memory ≡ self.old.memory }
+        ensures none { OnErr result (self.new ≡ record self.old { memory = self.new.memory }) }
         ensures full { OnErr result (self.old.spare ≡ 0) }
     {
         self.reserve(1)?;

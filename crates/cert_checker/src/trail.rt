@@ -155,6 +155,7 @@ impl Trail {
     }
 
     /// Makes one more move, if it is legal, and answers whether it is.
+    #[inline(always)]
     fn push(&mut self, column: Column) -> bool
         requires { length self.old.path < MOST_SQUARES }
         ensures root { self.new.root ≡ self.old.root }

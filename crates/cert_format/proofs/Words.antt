@@ -1,30 +1,33 @@
 -- Words as they are read: a number is a word of its own, and the first word, where others follow.
-use Rattle.std.proofs.Common.{◌≡◌, ◌≢◌, ℕ, ◌^◌, ◌<◌, ◌≤◌, ◌⊎◌, Bor, get_or, subst, Bool, true, false, cond, ◌&&◌, nat_le, List, [], ◌∷◌, ◌++◌}
-use Rattle.std.proofs.Common.{length, Option, Some, None, codes, refl, sym, ap, ◌∙◌, inl, inr, arith}
+use Rattle.std.proofs.Common.{◌≡◌, ◌≢◌, ℕ, ◌+◌, ◌-◌, ◌^◌, ◌<◌, ◌≤◌, ◌⊎◌, Bor, get_or, subst, Bool, true, false, cond, ◌&&◌, ◌==◌, nat_le, nat_lt}
+use Rattle.std.proofs.Common.{List, [], ◌∷◌, ◌++◌, length, take, drop, Option, Some, None, codes, refl, sym, ap, ◌∙◌, inl, inr, arith}
 use Rattle.std.specs.Cmp.Lexicographic.{same_text}
 use Rattle.std.specs.Option.{option_map}
+use Rattle.std.specs.List.{onto_first}
 use Rattle.std.specs.Str.{bytes_eq}
 use Rattle.std.specs.Fmt.{decimal}
-use Rattle.std.proofs.lemmas.List.Splits.{join_with_byte-slice_split}
+use Rattle.std.proofs.lemmas.List.Splits.{join_with_byte-slice_split, slice_split-cons_yes, slice_split-cons_no}
 use Rattle.std.specs.Int.{IsInRange}
-use Rattle.std.proofs.lemmas.Bool.{le-leb, lt-leb, and_from, ne_eqb, false_from_ne_true}
+use Rattle.std.proofs.lemmas.Bool.{cases_Bool, le-leb, leb-true, lt-leb, and_from, and_parts, eqb-true, eq-eqb, ne_eqb, false_from_ne_true}
 use Rattle.std.proofs.lemmas.Fmt.{decimal_is_IsNumeral, decimal_nonempty}
-use Rattle.std.proofs.lemmas.List.{get_or-take, length-take-le}
+use Rattle.std.proofs.lemmas.Option.{cond_some}
+use Rattle.std.proofs.lemmas.List.{get_or-take, length-take-le, take_rest}
 use Rattle.std.proofs.lemmas.Str.Parse.{digit_at}
 use Rattle.std.proofs.Math.Bool.{and-false}
 use Rattle.proof_text.specs.Lemma.{Cite, Reason, ByEnd, ByOne, ByAll, ByMirror, Line, ALemma, ARemark, AVerdict}
 use Rattle.proof_text.specs.Spelling.{spaced, most_cites, is_remark, greatest_number}
-use Rattle.proof_text.specs.Reading.{◌>>=◌, words_of, number_of, letter_word, cites_of, one_of, all_of, mirror_of, reason_of, with_one, with_two, verdict_of, lemma_of, line_of_words, read_any}
+use Rattle.proof_text.specs.Reading.{◌>>=◌, words_of, number_of, letter_word, cite_of, cites_of, one_of, all_of, mirror_of, reason_of, with_one, with_two, verdict_of, lemma_of, line_of_words, read_any}
 use Rattle.proof_text.specs.declared.Claim.TheVariants.{WhiteWins, WhiteFails, BlackWins, BlackFails}
 use Rattle.proof_text.specs.declared.Verdict.{Verdict}
 use Rattle.proof_text.specs.declared.Verdict.TheVariants.{Win, Loss, Draw, Unknown}
-use Rattle.cert_format.specs.Words.{HasNoClaim, lemma_behind}
+use Rattle.cert_format.specs.Words.{HasNoClaim, HasNoCite, lemma_behind}
 use Rattle.text_words.specs.Words.{words_left, HasNumber, HasNoNumber}
-use Rattle.text_words.proofs.Words.{words_some, first_word_past}
+use Rattle.text_words.proofs.Words.{is_space, words_some, first_word_past}
 use Rattle.proof_text.proofs.Words.{number_read}
 use Rattle.proof_text.proofs.Spelled.{plain_decimal}
 use Rattle.proof_text.proofs.Spaced.{words_of_spaced}
 use Rattle.game_rules.specs.Board.{Board}
+use Rattle.game_rules.specs.Letters.{is_letter, column_of, column_named}
 
 -- ---- the last word
 
@@ -120,7 +123,99 @@ letter_and_number cols bytes letter rest c n cut h k = elim (last_word rest) [
     none None = refl
     none (Some c) = refl
 
+-- a letter of a column with a space behind it
+pub letter_apart : (cols c : ℕ) (bytes : List ℕ) → 2 ≤ length bytes → get_or bytes 1 0 ≡ 32 → column_named cols (get_or bytes 0 0) ≡ Some c
+    → words_of bytes ≡ (get_or bytes 0 0 ∷ []) ∷ words_of (take (length bytes - 2) (drop 2 bytes))
+letter_apart cols c [] long is named = absurd (omega (arith, long))
+letter_apart cols c (letter ∷ []) long is named = absurd (omega (arith, long))
+letter_apart cols c (letter ∷ mark ∷ rest) long is named =
+    let column = cond_some (is_letter cols letter) (column_of letter) c named in
+    let large : 97 ≤ letter = leb-true 97 letter (and_parts (nat_le 97 letter) (nat_lt letter (97 + cols)) column.0).0 in
+    slice_split-cons_no is_space letter (mark ∷ rest) (ne_eqb letter 32 (λ space. omega (arith, large, space)))
+    ∙ ap (onto_first letter) (slice_split-cons_yes is_space mark rest (eq-eqb mark 32 is))
+    ∙ ap (λ rest. (letter ∷ []) ∷ words_of rest) (sym (take_rest (letter ∷ mark ∷ rest) 2))
+
+-- bytes of which the second is no space don't begin with a letter as a word that others follow
+pub one_letter_none : (cols : ℕ) (bytes : List ℕ) → (2 ≤ length bytes → get_or bytes 1 0 ≡ 32 → ⊥) → one_of cols (words_of bytes) ≡ None
+one_letter_none cols bytes other = by_words (words_of bytes) refl
+  where
+    by_words : (words : List (List ℕ)) → words_of bytes ≡ words → one_of cols (words_of bytes) ≡ None
+    by_words [] h = ap (one_of cols) h
+    by_words (word ∷ []) h = ap (one_of cols) h
+    by_words ([] ∷ number ∷ []) h = ap (one_of cols) h
+    by_words ((letter ∷ next ∷ more) ∷ number ∷ []) h = ap (one_of cols) h
+    by_words ((letter ∷ []) ∷ number ∷ []) h =
+        let is : bytes ≡ letter ∷ 32 ∷ spaced (number ∷ []) = sym (join_with_byte-slice_split 32 bytes) ∙ ap spaced h in
+        absurd (other (omega (arith, ap length is)) (ap (λ bytes. get_or bytes 1 0) is))
+    by_words (word ∷ number ∷ next ∷ more) h = ap (one_of cols) h
+
 -- ---- the cites of all moves
+
+-- a first word that is no cite
+no_first_cite : (cols : ℕ) (bytes : List ℕ) → ((word : List ℕ) (more : List (List ℕ)) → words_of bytes ≡ word ∷ more → cite_of cols word ≡ None)
+    → HasNoCite cols bytes
+no_first_cite cols bytes none = by_words (words_of bytes) refl
+  where
+    by_words : (words : List (List ℕ)) → words_of bytes ≡ words → cites_of cols (words_of bytes) ≡ None
+    by_words [] h = absurd (omega (arith, words_some bytes, ap length h))
+    by_words (word ∷ more) h = ap (cites_of cols) h
+        ∙ ap (λ o. o >>= (λ cite. cites_of cols more >>= (λ cites. Some (cite ∷ cites)))) (none word more h)
+
+-- bytes of which the second is no colon
+pub no_colon : (cols : ℕ) (bytes : List ℕ) → (2 ≤ length bytes → get_or bytes 1 0 ≡ 58 → ⊥) → HasNoCite cols bytes
+no_colon cols bytes other = no_first_cite cols bytes by_word
+  where
+    starts : (letter colon : ℕ) (digits : List ℕ) (more : List (List ℕ)) → words_of bytes ≡ (letter ∷ colon ∷ digits) ∷ more
+        → (rest : List ℕ) × (bytes ≡ letter ∷ colon ∷ rest)
+    starts letter colon digits [] h = (digits, sym (join_with_byte-slice_split 32 bytes) ∙ ap spaced h)
+    starts letter colon digits (word ∷ more) h =
+        (digits ++ 32 ∷ spaced (word ∷ more), sym (join_with_byte-slice_split 32 bytes) ∙ ap spaced h)
+
+    by_word : (word : List ℕ) (more : List (List ℕ)) → words_of bytes ≡ word ∷ more → cite_of cols word ≡ None
+    by_word [] more h = refl
+    by_word (letter ∷ []) more h = refl
+    by_word (letter ∷ colon ∷ digits) more h = elim (cases_Bool (colon == 58)) [
+      | inl is ↦
+          let start = starts letter colon digits more h in
+          absurd (other (omega (arith, ap length start.1)) (ap (λ bytes. get_or bytes 1 0) start.1 ∙ eqb-true colon 58 is))
+      | inr isnt ↦ ap (λ b. cond (is_letter cols letter && b) (option_map (λ n. record { column = column_of letter; lemma = n }) (number_of digits)) None) isnt
+          ∙ ap (λ b. cond b (option_map (λ n. record { column = column_of letter; lemma = n }) (number_of digits)) None) (and-false (is_letter cols letter))
+    ]
+
+-- a colon behind which no number stands
+pub no_cited_number : (cols : ℕ) (bytes : List ℕ) → 2 ≤ length bytes → get_or bytes 1 0 ≡ 58
+    → HasNoNumber 1 greatest_number (take (length bytes - 2) (drop 2 bytes)) → HasNoCite cols bytes
+no_cited_number cols [] long colon none = absurd (omega (arith, long))
+no_cited_number cols (letter ∷ []) long colon none = absurd (omega (arith, long))
+no_cited_number cols (letter ∷ mark ∷ digits) long colon none =
+    subst (λ mark. HasNoCite cols (letter ∷ mark ∷ digits)) (sym colon) (no_first_cite cols (letter ∷ 58 ∷ digits) by_word)
+  where
+    unnumbered : (word : List ℕ) (more : List (List ℕ)) → words_of digits ≡ word ∷ more → number_of word ≡ None
+    unnumbered word more h = none word more (ap words_of (take_rest (letter ∷ mark ∷ digits) 2) ∙ h)
+
+    uncited : (word : List ℕ) → number_of word ≡ None → cite_of cols (letter ∷ 58 ∷ word) ≡ None
+    uncited word h = elim (cases_Bool (is_letter cols letter)) [
+      | inl is ↦ ap (λ b. cond (b && true) (option_map (λ n. record { column = column_of letter; lemma = n }) (number_of word)) None) is
+          ∙ ap (option_map (λ n. record { column = column_of letter; lemma = n })) h
+      | inr isnt ↦ ap (λ b. cond (b && true) (option_map (λ n. record { column = column_of letter; lemma = n }) (number_of word)) None) isnt
+    ]
+
+    behind_letter : (words : List (List ℕ)) → words_of digits ≡ words → (letter == 32) ≡ false
+        → (word : List ℕ) (more : List (List ℕ)) → words_of (letter ∷ 58 ∷ digits) ≡ word ∷ more → cite_of cols word ≡ None
+    behind_letter [] h e word more cut = absurd (omega (arith, words_some digits, ap length h))
+    behind_letter (first ∷ others) h e word more cut =
+        let same : word ∷ more ≡ (letter ∷ 58 ∷ first) ∷ others = sym cut ∙ slice_split-cons_no is_space letter (58 ∷ digits) e
+        ∙ ap (λ words. onto_first letter words) (slice_split-cons_no is_space 58 digits refl ∙ ap (λ words. onto_first 58 words) h) in
+        let is : word ≡ letter ∷ 58 ∷ first = cc same in
+        ap (cite_of cols) is ∙ uncited first (unnumbered first others h)
+
+    by_word : (word : List ℕ) (more : List (List ℕ)) → words_of (letter ∷ 58 ∷ digits) ≡ word ∷ more → cite_of cols word ≡ None
+    by_word word more cut = elim (cases_Bool (letter == 32)) [
+      | inl space ↦
+          let same : word ∷ more ≡ [] ∷ words_of (58 ∷ digits) = sym cut ∙ slice_split-cons_yes is_space letter (58 ∷ digits) space in
+          let is : word ≡ [] = cc same in ap (cite_of cols) is
+      | inr other ↦ behind_letter (words_of digits) refl other word more cut
+    ]
 
 pub all_too_many : (cols : ℕ) (words : List (List ℕ)) → 10 < length words → all_of cols words ≡ None
 all_too_many cols words many =

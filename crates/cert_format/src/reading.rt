@@ -1,16 +1,16 @@
 //! The reading of a line, word by word. Each reader gives what the definition of the same name gives of its words. A word
 //! that only a few can be is compared where it stands, with the space behind it; of any other the end is looked for.
-ghost use Rattle.std.specs.Prelude.{◌≡◌, ◌≢◌, ℕ, ◌<◌, ◌≤◌, List, ◌∷◌, ◌++◌, [], true, Some, None, MatchOption, length, map, option_map, take, ◌==◌};
+ghost use Rattle.std.specs.Prelude.{◌≡◌, ◌≢◌, ℕ, ◌<◌, ◌≤◌, List, ◌∷◌, ◌++◌, [], true, Some, None, IfSome, MatchOption, length, map, option_map, take, ◌==◌};
 ghost use Rattle.std.specs.Str.{bytes_eq};
 ghost use Rattle.std.specs.List.{list_all};
 ghost use Rattle.proof_text.specs.Lemma.{ByOne, ByAll, allows};
 ghost use Rattle.proof_text.specs.Spelling.{is_printable, is_remark, claim_word};
 ghost use Rattle.proof_text.specs.declared.Verdict.TheVariants.{Draw};
-ghost use Rattle.proof_text.specs.Reading.{words_of, number_of, letter_word, cite_of, one_of, all_of, reason_of, with_two, verdict_of, read_any, read_line};
+ghost use Rattle.proof_text.specs.Reading.{words_of, number_of, one_of, all_of, reason_of, with_two, verdict_of, read_any, read_line};
 ghost use Rattle.cert_format.specs.Shape as shape;
 ghost use Rattle.cert_format.specs.Shape.{Reads};
 ghost use Rattle.cert_format.specs.Rooms.{reason_in, lemma_in, kept_in, ReadsInto};
-ghost use Rattle.cert_format.specs.Words.{HasNoClaim, lemma_behind};
+ghost use Rattle.cert_format.specs.Words.{HasNoClaim, HasCite, HasNoCite, lemma_behind};
 ghost use Rattle.text_words.specs.Words.{words_left};
 
 use crate::lines::{Cite, LONGEST_LINE, Line, MOST_CITES, Reason};
@@ -18,7 +18,7 @@ use crate::room::{Kind, LemmaRoom, ReasonRoom};
 use arrayvec::ArrayVec;
 use plan_lines::{LineFault, members_of};
 use proof_text::{Claim, Verdict, Version};
-use text_words::{Column, Size, split_number, split_path, split_word};
+use text_words::{Size, split_number, split_path, split_word};
 
 /// No number of a proof is greater.
 const GREATEST_NUMBER: u32 = 10_000_000;
@@ -114,16 +114,6 @@ fn read_lemma(room: &mut LemmaRoom, number: u32, rest: Option<&[u8]>, size: Size
     read_reason(&mut room.reason, rest, size)
 }
 
-/// The column that a word of one letter names.
-fn letter_word(word: &[u8], size: Size) -> Option<Column>
-    ensures { result ≡ letter_word size.cols word.now }
-{
-    match word {
-        [letter] => size.column_named(*letter),
-        _ => None,
-    }
-}
-
 /// The claim that the first word makes, and what stands behind the space after it; None where the first word makes no
 /// claim, or is the last.
 #[inline(always)]
@@ -150,8 +140,11 @@ fn split_claim(bytes: &[u8]) -> Option<(Claim, &[u8])>
 fn behind<'a>(bytes: &'a [u8], text: &[u8]) -> Option<&'a [u8]>
     ensures { MatchOption result ((rest : List ℕ) → bytes.now ≢ text.now ++ rest) (λ rest. bytes.now ≡ text.now ++ rest.now) }
 {
+    if bytes.len() < text.len() {
+        return None;
+    }
     for at in 0..text.len() {
-        if at >= bytes.len() || bytes[at] != text[at] {
+        if bytes[at] != text[at] {
             return None;
         }
     }
@@ -191,10 +184,12 @@ fn read_reason(room: &mut ReasonRoom, bytes: &[u8], size: Size) -> Option<()>
 fn one_of(bytes: &[u8], size: Size) -> Option<Cite>
     ensures { option_map (λ cite. ByOne (shape.cite_of cite)) result ≡ one_of size.cols (words_of bytes.now) }
 {
-    let (letter, number) = split_word(bytes);
+    let [letter, b' ', number @ ..] = bytes else {
+        return None;
+    };
     Some(Cite {
-        column: letter_word(letter, size)?,
-        lemma: number_of(number?)?,
+        column: size.column_named(*letter)?,
+        lemma: number_of(number)?,
     })
 }
 
@@ -209,25 +204,28 @@ fn all_of(bytes: &[u8], size: Size, cites: &mut ArrayVec<Cite, MOST_CITES>) -> O
         if cites.is_full() {
             return None;
         }
-        let (word, rest) = split_word(words);
-        cites.push(cite_of(word, size)?);
+        let Some((cite, rest)) = split_cite(words, size) else {
+            return None;
+        };
+        cites.push(cite);
         left = rest;
     }
     Some(())
 }
 
-/// A letter, a colon and a number.
+/// The cite that the first word is, a letter, a colon and a number, and what stands behind the space after it, if there is
+/// one; None where that word is no cite. Each byte is looked at once.
 #[inline(always)]
-fn cite_of(word: &[u8], size: Size) -> Option<Cite>
-    ensures { option_map shape.cite_of result ≡ cite_of size.cols word.now }
+fn split_cite(bytes: &[u8], size: Size) -> Option<(Cite, Option<&[u8]>)>
+    ensures cite { MatchOption result (HasNoCite size.cols bytes.now) (λ read. HasCite size.cols bytes.now (shape.cite_of read.0) read.1) }
+    ensures shorter { IfSome result (λ read. IfSome read.1 (λ rest. length rest.now < length bytes.now)) }
 {
-    let [letter, b':', number @ ..] = word else {
+    let [letter, b':', number @ ..] = bytes else {
         return None;
     };
-    Some(Cite {
-        column: size.column_named(*letter)?,
-        lemma: number_of(number)?,
-    })
+    let column = size.column_named(*letter)?;
+    let (lemma, rest) = split_number(1, GREATEST_NUMBER, number)?;
+    Some((Cite { column, lemma }, rest))
 }
 
 /// The verdict whose words stand behind the first word of its line.

@@ -382,7 +382,7 @@ new_slots T n =
 pub none_live : (T : Type 0) (n : ℕ) → live_slots (replicate {A = Option T} n None) ≡ 0
 none_live T n = omega (arith, sum_by-replicate {X = Option T} (one {T = T}) n None)
 
-pub new_kept : (T : Type 0) (n values_room free_room : ℕ) → n ≤ 1000000 → n ≤ values_room → n ≤ free_room
+pub new_kept : (T : Type 0) (n values_room free_room : ℕ) → n ≤ 1000000 → values_room ≡ n → free_room ≡ n
     → KeepsFree {T = T} [] [] n values_room free_room
 new_kept T n values_room free_room few values_fit free_fit =
     record {

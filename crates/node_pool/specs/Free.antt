@@ -18,12 +18,13 @@ module _ {T : Type 0} where
   abbrev pub slots_of : List T → List ℕ → ℕ → List (Option T)
   slots_of values free slots = map (slot_value values free) (range_with_len 0 slots)
 
-  -- the numbers in `free` are slots that were used, each once, and both lists have room for all slots
+  -- The numbers in `free` are slots that were used, each once, and both lists have room for all slots and no more: a list
+  -- that took memory would have other room.
   pub record KeepsFree (values : List T) (free : List ℕ) (slots values_room free_room : ℕ) : Type 0 where
     pub few : slots ≤ MOST_SLOTS
     pub used : length values ≤ slots
     pub counted : length free + live_slots (slots_of values free slots) ≡ length values
     pub within : (k : ℕ) → k < length free → slice_index free k < length values
     pub apart : (j k : ℕ) → j < k → k < length free → slice_index free j ≢ slice_index free k
-    pub room_for_values : slots ≤ values_room
-    pub room_for_free : slots ≤ free_room
+    pub room_for_values : values_room ≡ slots
+    pub room_for_free : free_room ≡ slots

@@ -1,7 +1,7 @@
 //! A book of lemmas: all of a proof's lemmas, kept whole for whoever follows it. What lemmas have many of stands in lists of
 //! its own, and an entry names its parts of them by place and count. Since lemmas stand behind those that they cite, the
 //! path of the next lemma mostly is the last one without its last move; it is then not stored again.
-ghost use Rattle.std.specs.Prelude.{◌≡◌, ℕ, ◌+◌, ◌-◌, ◌*◌, ◌^◌, ◌<◌, ◌≤◌, true, List, [], ◌∷◌, ◌++◌, length, take, drop, Some, slice_get, option_map, OnOk, OnErr, IfOk, vec_len, vec_capacity};
+ghost use Rattle.std.specs.Prelude.{◌≡◌, ℕ, ◌+◌, ◌-◌, ◌*◌, ◌^◌, ◌<◌, ◌≤◌, true, List, [], ◌∷◌, ◌++◌, length, take, drop, Some, slice_get, option_map, MatchOption, OnOk, OnErr, IfOk, vec_len, vec_capacity};
 ghost use Rattle.proof_text.specs.Lemma.{Lemma as PlainLemma};
 ghost use Rattle.proof_text.specs.Spelling.{greatest_number, longest_path};
 ghost use Rattle.cert_format.specs.Shape.{lemma_of, lemma_viewed, reason_viewed};
@@ -221,7 +221,9 @@ fn put_run<T: Copy>(items: &mut Vec<T>, run: &[T]) -> Result<Span, AllocError>
 }
 
 /// Where the path of the last lemma stands, or 0.
-fn last_path(entries: &[Entry]) -> u32 {
+fn last_path(entries: &[Entry]) -> u32
+    ensures { MatchOption (slice_get entries.now (length entries.now - 1)) (result ≡ 0) (λ entry. result ≡ entry.path_at) }
+{
     match entries.last() {
         Some(entry) => entry.path_at,
         None => 0,

@@ -11,14 +11,14 @@ use tool_text::Mark;
 
 /// Who tells the value of a position.
 pub trait Valuer {
-    /// At which positions the value may be wanting.
-    ghost short: { Self → Men → Bool };
+    /// What holds of a position whose value was found, and of one where it is wanting.
+    ghost holds: { Self → Men → Bool → Type 0 };
 
-    /// The value of the position under perfect play, or None, only where it may be wanting. Where there is no memory for
-    /// finding it out, that is the answer. At which positions it may be wanting doesn't change.
+    /// The value of the position under perfect play, or None where it is wanting. Where there is no memory for finding it
+    /// out, that is the answer. What holds of a position doesn't change.
     fn value_of(&mut self, p: &Position) -> Result<Option<End>, AllocError>
-        ensures told { IfOk result (IsTold (short self.old) p.now) }
-        ensures kept { (q : Men) → short self.new q ≡ short self.old q };
+        ensures told { IfOk result (IsTold (holds self.old) p.now) }
+        ensures kept { (q : Men) (found : Bool) → holds self.new q found → holds self.old q found };
 }
 
 /// The marks of the last `last` moves of a game that begins on the empty board of this size, or of all its moves where
@@ -32,8 +32,8 @@ pub fn annotate<V: Valuer>(
 ) -> Result<ArrayVec<Mark, MOST_SQUARES>, AllocError>
     requires legal { IsSome (played (empty_position size) moves.now) }
     requires few { length moves.now ≤ 100 }
-    ensures marks { IfOk result (λ marks. AreLastMarks (V.short valuer.old) size moves.now last marks.items) }
-    ensures kept { (q : Men) → V.short valuer.new q ≡ V.short valuer.old q }
+    ensures marks { IfOk result (λ marks. AreLastMarks (V.holds valuer.old) size moves.now last marks.items) }
+    ensures kept { (q : Men) (found : Bool) → V.holds valuer.new q found → V.holds valuer.old q found }
 {
     let (before, marked) = moves.split_at(moves.len().saturating_sub(last));
     marks_from(position_after(size, before), marked, valuer)
@@ -59,8 +59,8 @@ fn marks_from<V: Valuer>(
 ) -> Result<ArrayVec<Mark, MOST_SQUARES>, AllocError>
     requires legal { IsSome (played first moves.now) }
     requires few { length moves.now ≤ 100 }
-    ensures marks { IfOk result (λ marks. AreMarks (V.short valuer.old) first moves.now marks.items) }
-    ensures kept { (q : Men) → V.short valuer.new q ≡ V.short valuer.old q }
+    ensures marks { IfOk result (λ marks. AreMarks (V.holds valuer.old) first moves.now marks.items) }
+    ensures kept { (q : Men) (found : Bool) → V.holds valuer.new q found → V.holds valuer.old q found }
 {
     let mut marks = ArrayVec::new();
     if moves.is_empty() {

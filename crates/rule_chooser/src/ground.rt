@@ -1,4 +1,7 @@
 //! What the position alone decides for a search: listed once a call, and lent to each step.
+ghost use Rattle.std.specs.Prelude.{◌≡◌, [], Ok};
+ghost use Rattle.game_rules.specs.Squares.{has_square, IsSetOf};
+ghost use Rattle.board_squares.specs.Size.{sized};
 ghost use Rattle.rule_chooser.specs.Ground.{IsGround};
 
 use crate::groups::{OpenGroup, list_groups};
@@ -20,7 +23,11 @@ pub(crate) struct Ground {
 
 impl Ground {
     /// That of no position yet.
-    pub(crate) fn new() -> Ground {
+    pub(crate) fn new() -> Ground
+        ensures zones { result.zones.list.items ≡ [] }
+        ensures groups { (result.white.items ≡ []) × (result.black.items ≡ []) }
+        ensures playable { IsSetOf (has_square []) result.playable }
+    {
         Ground {
             table: GroupTable::of(smallest()),
             zones: Zones::new(),
@@ -42,7 +49,9 @@ impl Ground {
 }
 
 /// The size of the smallest board.
-fn smallest() -> Size {
+fn smallest() -> Size
+    ensures { Ok result ≡ sized 4 4 4 }
+{
     let Ok(size) = Size::new(4, 4) else {
         unreachable!()
     };

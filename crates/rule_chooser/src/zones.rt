@@ -1,6 +1,6 @@
 //! The zones that fit at a position, each with the set of its squares and that of its columns, so that a search compares
 //! two zones without computing them again.
-ghost use Rattle.std.specs.Prelude.{◌≡◌, ◌+◌, ◌<◌, ◌≤◌, ℕ, length, drop, Some, slice_get, slice_index_or, slice_set};
+ghost use Rattle.std.specs.Prelude.{◌≡◌, ◌+◌, ◌<◌, ◌≤◌, ℕ, [], length, drop, Some, slice_get, slice_index_or, slice_set};
 ghost use Rattle.board_squares.specs.Words.{place_of};
 ghost use Rattle.rule_compat.specs.declared.instance.Instance.{Instance as Listed};
 ghost use Rattle.rule_compat.specs.Written.{written_list};
@@ -35,7 +35,9 @@ pub(crate) struct Zones {
 
 impl Zones {
     /// The list without zones.
-    pub(crate) fn new() -> Zones {
+    pub(crate) fn new() -> Zones
+        ensures { result.list.items ≡ [] }
+    {
         Zones {
             list: ArrayVec::new(),
             heads: [0; PLACES],

@@ -1,6 +1,5 @@
 -- What a verdict tells, and which moves have their marks.
-use Rattle.std.proofs.Common.{◌≡◌, ℕ, suc, ◌-◌, ◌<◌, Bool, List, [], ◌∷◌, length, take, drop, Option, Some, None, IsSome, refl, sym, ap, ◌∙◌, subst}
-use Rattle.std.proofs.lemmas.Bool.{lt-ltb}
+use Rattle.std.proofs.Common.{◌≡◌, ◌≢◌, ℕ, suc, ◌-◌, ◌<◌, Bool, List, [], ◌∷◌, length, take, drop, Option, Some, None, IsSome, refl, sym, ap, ◌∙◌, subst}
 use Rattle.std.proofs.lemmas.List.{take-append-drop}
 use Rattle.game_rules.specs.Board.{Board}
 use Rattle.game_rules.specs.Cost.{cost}
@@ -9,24 +8,25 @@ use Rattle.game_rules.specs.Position.{Position, side_to_move, after_move, empty_
 use Rattle.proof_text.specs.Right.{IsTrueVerdict}
 use Rattle.proof_text.specs.declared.Verdict.{Verdict}
 use Rattle.proof_text.specs.declared.Verdict.TheVariants.{Win, Loss, Draw, Unknown}
+use Rattle.run_questions.specs.Found.{HasFound}
 use Rattle.run_questions.specs.Planned.{solved_within}
 use Rattle.tool_text.proofs.Legal.{played_parts}
 use Rattle.tool_text.specs.Marks.{AreMarks, AreLastMarks}
 use Rattle.tool_text.specs.declared.Mark.{Mark}
 use Rattle.proof_tools.specs.Marked.{IsTold}
-use Rattle.run_annotate.specs.Dear.{is_dear, told_end}
+use Rattle.run_annotate.specs.Dear.{IsSearched, told_end}
 use Rattle.run_annotate.specs.Lines.{moves_before}
 
 -- a true verdict tells the value, or nothing where the position is dear
-pub verdict_tells : (nodes reach : ℕ) (p : Position) (v : Verdict) → IsTrueVerdict p v → (v ≡ Unknown → nodes < cost (solved_within reach) p)
-    → IsTold (is_dear nodes reach) p (told_end (side_to_move p) v)
-verdict_tells nodes reach p (Win n) says dear = says
-verdict_tells nodes reach p (Loss n) says dear = says
-verdict_tells nodes reach p (Draw n m) says dear = says
-verdict_tells nodes reach p Unknown says dear = lt-ltb nodes (cost (solved_within reach) p) (dear refl)
+pub verdict_tells : (nodes reach : ℕ) (p : Position) (v : Verdict) → IsTrueVerdict p v → (v ≢ Unknown → HasFound nodes reach p v)
+    → (v ≡ Unknown → nodes < cost (solved_within reach) p) → IsTold (IsSearched nodes reach) p (told_end (side_to_move p) v)
+verdict_tells nodes reach p (Win n) says found dear = ((Win n, found (λ is. cc is)), says)
+verdict_tells nodes reach p (Loss n) says found dear = ((Loss n, found (λ is. cc is)), says)
+verdict_tells nodes reach p (Draw n m) says found dear = ((Draw n m, found (λ is. cc is)), says)
+verdict_tells nodes reach p Unknown says found dear = dear refl
 
 -- each move has one mark
-marks_each : (may : Position → Bool) (p : Position) (columns : List ℕ) (marks : List Mark) → AreMarks may p columns marks
+marks_each : (may : Position → Bool → Type 0) (p : Position) (columns : List ℕ) (marks : List Mark) → AreMarks may p columns marks
     → length columns ≡ length marks
 marks_each may p [] [] h = refl
 marks_each may p [] (mark ∷ marks) h = absurd h
@@ -47,7 +47,7 @@ parts_played game n along =
     (subst (λ columns. IsSome (played start columns)) (sym (take-append-drop n game.moves)) (some_of (played start game.moves) game.position along))
 
 module _ (game : Game) (along : IsPlayed game) (board : Board) (moves : List ℕ) (is_board : board ≡ board_played game) (are : moves ≡ game.moves) where
-  pub last_each : (may : Position → Bool) (last : ℕ) (marks : List Mark) → AreLastMarks may board moves last marks
+  pub last_each : (may : Position → Bool → Type 0) (last : ℕ) (marks : List Mark) → AreLastMarks may board moves last marks
       → length (drop (moves_before game last) game.moves) ≡ length marks
   last_each may last marks h =
       of (played (empty_position (board_played game)) (take (moves_before game last) game.moves)) refl (parts_played game (moves_before game last) along).0

@@ -18,7 +18,7 @@ use Rattle.run_frame.specs.declared.run_stop.MemoryStop.{MemoryStop}
 use Rattle.run_frame.specs.declared.run_stop.MemoryStop.TheVariants.{Input, Memory}
 use Rattle.run_frame.specs.declared.run_stop.RunStop.{RunStop}
 use Rattle.run_frame.specs.declared.run_stop.RunStop.TheVariants.{Own, Write}
-use Rattle.run_annotate.specs.Dear.{is_dear}
+use Rattle.run_annotate.specs.Dear.{IsSearched}
 use Rattle.run_annotate.specs.Lines.{moves_before, PutsLines}
 
 -- how it ends: it marks the moves, or something stops it
@@ -30,13 +30,14 @@ abbrev pub annotated_status : Annotated → ℕ
 annotated_status = of_result (λ done. 0) (run_stop_status (memory_stop_status stop_status))
 
 -- The bytes are the text of a game. Its last moves, or all where there are fewer, have these marks: one is left open only where
--- so many nodes are below the cost of the position before or after its move. Their lines were written, or, where they weren't
+-- so many nodes are below the cost of the position before or after its move, and another stands only where right lemmas, at most
+-- so many for each of the two, show their values. Their lines were written, or, where they weren't
 -- written whole, a prefix of them.
 pub record HasAnnotated (whole : Bool) (nodes reach last : ℕ) (bytes : List ℕ) (old new : Option (List ℕ)) : Type 0 where
   pub game : Game
   pub text : IsTextOf bytes game
   pub marks : List Mark
-  pub right : AreLastMarks (is_dear nodes reach) (board_played game) game.moves last marks
+  pub right : AreLastMarks (IsSearched nodes reach) (board_played game) game.moves last marks
   pub puts : PutsLines game (moves_before game last) marks whole old new
 
 -- With so many nodes, this reach and so many moves, from the bytes that it took, by its end. What is written is of the game that

@@ -1,5 +1,5 @@
 -- What a search within so many nodes tells of a position, and where it may tell nothing.
-use Rattle.std.specs.Prelude.{ℕ, Bool, nat_lt, Option, Some, None}
+use Rattle.std.specs.Prelude.{ℕ, ◌<◌, Bool, true, false, Option, Some, None}
 use Rattle.game_rules.specs.Cost.{cost}
 use Rattle.game_rules.specs.Position.{Position, other}
 use Rattle.game_rules.specs.Value.{win_of}
@@ -8,11 +8,14 @@ use Rattle.game_rules.specs.declared.End.TheVariants as ends
 use Rattle.game_rules.specs.declared.Side.{Side}
 use Rattle.proof_text.specs.declared.Verdict.{Verdict}
 use Rattle.proof_text.specs.declared.Verdict.TheVariants.{Win, Loss, Draw, Unknown}
+use Rattle.run_questions.specs.Found.{HasFound}
 use Rattle.run_questions.specs.Planned.{solved_within}
 
--- whether so many nodes are below the cost of a position, with plans from the first so many sets of zones
-abbrev pub is_dear : (nodes reach : ℕ) → Position → Bool
-is_dear nodes reach p = nat_lt nodes (cost (solved_within reach) p)
+-- With plans from the first so many sets of zones: where a value was found, right lemmas, at most so many, show one; and where it
+-- is wanting, so many nodes are below the position's cost.
+abbrev pub IsSearched : (nodes reach : ℕ) → Position → (found : Bool) → Type 0
+IsSearched nodes reach p true = (v : Verdict) × HasFound nodes reach p v
+IsSearched nodes reach p false = nodes < cost (solved_within reach) p
 
 -- the end of the game that a verdict for the side to move tells
 abbrev pub told_end : Side → Verdict → Option End

@@ -49,9 +49,9 @@ impl Searcher {
 }
 
 impl Valuer for Searcher {
-    ghost use Rattle.run_annotate.specs.Dear.{is_dear};
+    ghost use Rattle.run_annotate.specs.Dear.{IsSearched};
 
-    ghost short = { λ searcher. is_dear searcher.0 searcher.1 };
+    ghost holds = { λ searcher. IsSearched searcher.0 searcher.1 };
 
     fn value_of(&mut self, p: &Position) -> Result<Option<End>, AllocError> {
         let mut table = Table::new(self.alloc, SEARCH_TABLE)?;

@@ -27,6 +27,7 @@ follow_laws : (holder : Side) (head opening : ℕ) → 3 ≤ head → head + 1 �
 follow_laws holder head opening from few = record {
   told = follow_is_told holder;
   head = omega (arith, from);
+  unread = omega arith;
   room = omega (arith, few);
 }
 
@@ -42,6 +43,7 @@ module _ (holder : Side) (s : Streams) where
     plays = game_plays (follow_form holder input.head input.opening) (IsTold holder) most_follow_lines
         (follow_laws holder input.head input.opening input.from input.few) s result input.plays
         (λ h is. within h (subst (λ result. IfErr result IsWithin) is input.within));
+    begins = input.begins;
     kept = of_result result input.kept;
   }
     where

@@ -1,6 +1,6 @@
 -- The holder's first move and its line, and what is played behind it.
 use Rattle.std.proofs.Common.{◌≡◌, ℕ, ◌+◌, ◌≤◌, true, false, List, [], ◌∷◌, length, Option, Some, None, option_map, Ok, Err, refl, sym, ap, ◌∙◌, subst, arith}
-use Rattle.std.proofs.Common.{append-nil}
+use Rattle.std.proofs.Common.{append-nil, is_some, if◌then◌else◌}
 use Rattle.std.proofs.KnownBytes.{Appends-nil}
 use Rattle.device_rules.specs.Devices.{AppendsPrefix}
 use Rattle.game_rules.specs.Board.{is_board}
@@ -19,6 +19,7 @@ use Rattle.proof_player.specs.Playing.{FollowState, reply_for, first_in, first_m
 use Rattle.proof_player.specs.declared.follow.FollowReply.{FollowReply}
 use Rattle.run_turns.specs.Steps.{turns_by}
 use Rattle.run_turns.specs.declared.game_end.GameStop.TheVariants as stops
+use Rattle.run_follow.specs.Begun.{OpensWith}
 use Rattle.run_follow.specs.Opening.{PutsFirst}
 use Rattle.run_follow.specs.Turns.{CanReply, first_line, follow_stands, turned_to, player_turn, turns_left}
 use Rattle.run_follow.specs.declared.not_followed.NotFollowed.TheVariants.{NoClaim}
@@ -90,6 +91,30 @@ module _ (s t : FollowState) (n : ℕ) (is : s.at ≡ at_lemma n false) (at : �
           ∙ ap (λ line. behind (line ∷ []) (follow_from s.lemmas s.holder next (after_move s.now column) (at + 1) more)) line
           ∙ ap (λ (t : FollowState). behind (first_line s.now reply ∷ []) (follow_from t.lemmas t.holder t.at t.now (at + 1) more)) (sym begun.2)
 
+-- how many lines stand before the answers
+module _ (s t : FollowState) (n : ℕ) (is : s.at ≡ at_lemma n false) where
+  opens_by : (found : Option (ℕ × Following)) → first_move s ≡ found
+      → OpensWith s.lemmas s.now (Some n) (if is_some found then 1 else 0)
+  opens_by found e = record {
+    lemma = n;
+    is = refl;
+    lines = ap (λ (found : Option (ℕ × Following)). if is_some found then 1 else 0) (sym e ∙ at_first s n is);
+  }
+
+  pub none_opens : HasBegun s t None (first_move s) → OpensWith s.lemmas s.now (Some n) 0
+  none_opens has = of_first (first_move s) refl has
+    where
+      of_first : (found : Option (ℕ × Following)) → first_move s ≡ found → HasBegun s t None found → OpensWith s.lemmas s.now (Some n) 0
+      of_first None e begun = opens_by None e
+      of_first (Some found) e begun = absurd (cc begun.0)
+
+  pub first_opens : (reply : FollowReply) → HasBegun s t (Some reply) (first_move s) → OpensWith s.lemmas s.now (Some n) 1
+  first_opens reply has = of_first (first_move s) refl has
+    where
+      of_first : (found : Option (ℕ × Following)) → first_move s ≡ found → HasBegun s t (Some reply) found → OpensWith s.lemmas s.now (Some n) 1
+      of_first None e begun = absurd (cc begun.0)
+      of_first (Some found) e begun = opens_by (Some found) e
+
 -- the man of the first move has room
 pub first_can : (s t : FollowState) (reply : FollowReply) → HasBegun s t (Some reply) (first_move s) → CanReply s.now reply
 first_can s t reply has = of_first (first_move s) has
@@ -119,16 +144,17 @@ few_turns s t reply board has = of_first (first_move s) has
 
 -- a player who has begun, behind lines that were written
 pub put_begun : (s t : FollowState) (n : ℕ) (is : s.at ≡ at_lemma n false) (at : ℕ) (lines : List (List ℕ)) (old new : Option (List ℕ)) → length lines ≤ 1
-    → Goes s t n is at lines → AppendsPrefix true old new (text_of lines) → PutsFirst s.lemmas s.holder s.now at (Some n) old new (Ok t)
-put_begun s t n is at lines old new few goes put = record { lines = lines; few = few; written = put; goes = goes }
+    → OpensWith s.lemmas s.now (Some n) (length lines) → Goes s t n is at lines → AppendsPrefix true old new (text_of lines) → PutsFirst s.lemmas s.holder s.now at (Some n) old new (Ok t)
+put_begun s t n is at lines old new few opens goes put = record { lines = lines; few = few; written = put; opens = opens; goes = goes }
 
 -- the line of the first move may be cut
 pub put_cut : (s t : FollowState) (n : ℕ) (is : s.at ≡ at_lemma n false) (at : ℕ) (line : List ℕ) (old new : Option (List ℕ))
-    → Goes s t n is at (line ∷ []) → AppendsPrefix false old new line → PutsFirst s.lemmas s.holder s.now at (Some n) old new (Err stops.Write)
-put_cut s t n is at line old new goes put = record {
+    → OpensWith s.lemmas s.now (Some n) 1 → Goes s t n is at (line ∷ []) → AppendsPrefix false old new line → PutsFirst s.lemmas s.holder s.now at (Some n) old new (Err stops.Write)
+put_cut s t n is at line old new opens goes put = record {
   lines = line ∷ [];
   few = omega arith;
   written = subst (AppendsPrefix false old new) (sym (append-nil line)) put;
+  opens = opens;
   goes = λ more. (follow_from t.lemmas t.holder t.at t.now (at + 1) more, goes more);
 }
 
@@ -139,5 +165,6 @@ put_none ls holder root at named old none = record {
   lines = [];
   few = omega arith;
   written = Appends-nil old;
+  opens = tt;
   goes = λ more. ap (follow_named ls holder root at more) none;
 }

@@ -1,4 +1,5 @@
 -- A proof up to its verdict, one step after another: what comes of the bytes is play behind the verdict, or what stopped the reading.
+use Rattle.std.proofs.Common.{◌<◌, ◌++◌, length, append-nil}
 use Rattle.std.proofs.Common.{◌≡◌, ℕ, ◌+◌, ◌-◌, ◌≤◌, Bool, true, false, cond, List, [], ◌∷◌, Some, None, Result, Ok, Err, refl, sym, ap, ◌∙◌, subst, inl, inr}
 use Rattle.std.proofs.Common.{arith}
 use Rattle.std.specs.Str.{bytes_eq}
@@ -14,11 +15,13 @@ use Rattle.proof_text.specs.Lemma.{Lemma}
 use Rattle.proof_text.specs.Right.{AreRight, IsVerdict}
 use Rattle.proof_text.specs.Texts as answers
 use Rattle.proof_text.specs.Texts.{pieces, lines_in, game_of, behind_game, first_number, first_line, version_of, start, check_of, check_in, game_answer}
-use Rattle.proof_text.specs.Texts.{answer_of, pieces_answer}
+use Rattle.proof_text.specs.Texts.{answer_of, pieces_answer, named_by, check_from, verdict_answer}
 use Rattle.proof_text.specs.declared.Verdict.{Verdict}
 use Rattle.proof_text.specs.declared.Version.{Version}
-use Rattle.proof_text.specs.declared.Why.TheVariants.{BadLine}
+use Rattle.proof_text.specs.declared.Version.TheVariants.{One, Two}
+use Rattle.proof_text.specs.declared.Why.TheVariants.{BadLine, EndedEarly}
 use Rattle.proof_text.proofs.First.{only_no_game, refused_first}
+use Rattle.proof_text.proofs.Fold.{answer_by_lines}
 use Rattle.proof_text.proofs.Pieces.{pieces_some}
 use Rattle.run_proof.specs.Checking.{why_of}
 use Rattle.play_text.specs.Play as ends
@@ -28,11 +31,13 @@ use Rattle.follow_text.proofs.Judged.{headed, judged_whole}
 use Rattle.run_frame.specs.Reading.{StopsGame}
 use Rattle.run_frame.specs.declared.game_input.InputStop.{InputStop}
 use Rattle.run_frame.specs.declared.game_input.InputStop.TheVariants as inputs
-use Rattle.run_proof.specs.Steps.{AtHead, IsNamed, IsFirstStop, StopsBy, lines_read_until}
-use Rattle.run_proof.specs.Whole.{most_lines_read}
+use Rattle.run_proof.specs.Steps.{AtHead, IsNamed, IsFirstStop, StopsBy, ReachLemma, lines_read_until}
+use Rattle.run_proof.specs.Whole.{version_named, BeginsProof, most_lines_read}
+use Rattle.run_proof.proofs.Begun.{begins_proof}
 use Rattle.run_proof.specs.declared.stop.ProofStop.{ProofStop}
 use Rattle.run_proof.specs.declared.stop.ProofStop.TheVariants as stops
-use Rattle.run_follow.specs.Reading.{judged_by, AreKept, GoesTo, StopsReading, IsToVerdict, IsRightProof}
+use Rattle.run_follow.specs.Begun.{HasVerdict}
+use Rattle.run_follow.specs.Reading.{judged_by, AreKept, GoesTo, EndsLater, VerdictLater, StopsReading, StopsLines, StopsProof, IsToVerdict, IsRightProof}
 
 -- ---- the first line
 
@@ -71,12 +76,71 @@ refused_first_line holder bytes at why one is =
     ap (follow_pieces holder (version_of bytes)) some.2
     ∙ refused_there holder (version_of bytes) some.0 some.1 at why one (sym (ap (pieces_answer (version_of bytes)) some.2) ∙ is)
 
-head_stops : (bytes : List ℕ) (before after : ℕ) (stop : ProofStop) → IsFirstStop stop → StopsBy (AtHead None) bytes before after stop
-    → StopsReading (λ holder. follow_of holder bytes) before after stop
-head_stops bytes before after (stops.Input (inputs.NoGame fault)) first is = λ holder. no_game holder bytes fault is
-head_stops bytes before after (stops.Input inputs.Read) first is = is
-head_stops bytes before after (stops.Refused r) first is = λ holder. refused_first_line holder bytes r.at (why_of r.why) first is
-head_stops bytes before after stops.Memory first is = absurd first
+-- ---- where the verdict stands
+
+-- a proof has a line, and stands behind the first line and the game
+first_lines : (bytes : List ℕ) (root : Position) (ls : List Lemma) (v : Verdict) (at : ℕ) (moves : List (List ℕ)) → HasVerdict bytes root ls v at moves → 3 < at
+first_lines bytes root ls v at moves has = of_proof has.proof refl
+  where
+    of_proof : (proof : List (List ℕ)) → has.proof ≡ proof → 3 < at
+    of_proof [] none =
+        let never : answers.Refused first_number EndedEarly ≡ answers.Accepted v has.count =
+        sym (answer_by_lines has.version root []) ∙ sym (ap (answer_of has.version root) none) ∙ has.accepted in
+        absurd (cc never)
+    of_proof (line ∷ proof) some = omega (arith, has.number, ap length some)
+
+-- the first line names one version
+same_version : (version other : Version) (more others : List (List ℕ)) → first_line version ∷ more ≡ first_line other ∷ others → version ≡ other
+same_version version other more others is = sym (named version more) ∙ ap named_by is ∙ named other others
+  where
+    named : (version : Version) (more : List (List ℕ)) → named_by (first_line version ∷ more) ≡ version
+    named One more = refl
+    named Two more = refl
+
+-- The bytes begin with the line that names the version and with a game at this position, and behind them stand the rest's lines.
+record AtLines (version : Version) (root : Position) (bytes rest : List ℕ) : Type 0 where
+  pub more : List (List ℕ)
+  pub cut : pieces bytes ≡ first_line version ∷ more
+  pub game : game_at (game_of more) ≡ Ok root
+  pub behind : behind_game more ≡ lines_in (pieces rest)
+
+module _ (version : Version) (root : Position) (bytes rest : List ℕ) (lines : AtLines version root bytes rest) where
+  -- a verdict among the lines that are left
+  verdict_later : (last : List ℕ) → PassesLines 3 bytes rest → EndsLater version (start root) first_number rest last → VerdictLater bytes last
+  verdict_later last passes ends = (
+    3 + ends.0,
+    passes_then 3 ends.0 bytes rest last passes ends.1,
+    λ other ls v at moves has.
+        let same : first_line version ∷ lines.more ≡ first_line has.version ∷ has.more = sym lines.cut ∙ has.first in
+        let version_is : version ≡ has.version = same_version version has.version lines.more has.more same in
+        let more_is : lines.more ≡ has.more = cc same in
+        let read : Ok root ≡ Ok other = sym lines.game ∙ ap (λ more. game_at (game_of more)) more_is ∙ has.game in
+        let root_is : root ≡ other = cc read in
+        let cut : lines_in (pieces rest) ≡ has.proof ++ moves = sym lines.behind ∙ ap behind_game more_is ∙ has.behind in
+        let accepted : check_from version (start root) first_number has.proof ≡ answers.Accepted v has.count =
+        ap (λ version. check_from version (start root) first_number has.proof) version_is
+        ∙ ap (λ root. check_from has.version (start root) first_number has.proof) root_is
+        ∙ sym (answer_by_lines has.version other has.proof) ∙ has.accepted in
+        let behind = ends.2 has.proof moves v has.count cut accepted in
+        omega (arith, has.number, behind),
+  )
+
+  -- where those reach a lemma, the bytes begin as a proof
+  lines_reach : ReachLemma version (start root) first_number (lines_in (pieces rest)) → BeginsProof None bytes
+  lines_reach reach = begins_proof None version bytes (first_line version) lines.more lines.cut (named version) root lines.game
+      (subst (ReachLemma version (start root) first_number) (sym lines.behind) reach)
+    where
+      named : (version : Version) → version_named None (first_line version) ≡ Some version
+      named One = refl
+      named Two = refl
+
+head_stops : (bytes rest : List ℕ) (before after : ℕ) (stop : ProofStop) → IsFirstStop stop → PassesLines 1 bytes rest
+    → StopsBy (AtHead None) bytes before after stop → StopsProof bytes rest before after stop
+head_stops bytes rest before after (stops.Input (inputs.NoGame fault)) first passes is = λ holder. no_game holder bytes fault is
+head_stops bytes rest before after (stops.Input inputs.Read) first passes is =
+    (is, (1, passes, λ root ls v at moves has. omega (arith, first_lines bytes root ls v at moves has)))
+head_stops bytes rest before after (stops.Refused r) first passes is = λ holder. refused_first_line holder bytes r.at (why_of r.why) first is
+head_stops bytes rest before after stops.Memory first passes is = absurd first
 
 -- ---- step after step
 
@@ -103,81 +167,104 @@ until_at (stops.Input inputs.Read) first = omega arith
 until_at (stops.Refused r) first = omega (arith, first)
 until_at stops.Memory first = absurd first
 
--- what stops at a later step, whose count rose after the earlier one
-pub stops_later : (comes : Side → Played) (before mid after : ℕ) (stop : ProofStop) → before ≤ mid → StopsReading comes mid after stop
-    → StopsReading comes before after stop
-stops_later comes before mid after (stops.Input (inputs.NoGame fault)) later is = is
-stops_later comes before mid after (stops.Input inputs.Read) later is = Rose_before before mid after later is
-stops_later comes before mid after (stops.Refused r) later is = is
-stops_later comes before mid after stops.Memory later is = is
-
--- what stops behind bytes of which the same comes
-pub stops_same : (comes others : Side → Played) (before after : ℕ) (stop : ProofStop) → ((holder : Side) → comes holder ≡ others holder)
-    → StopsReading others before after stop → StopsReading comes before after stop
-stops_same comes others before after (stops.Input (inputs.NoGame fault)) same is = λ holder. same holder ∙ is holder
-stops_same comes others before after (stops.Input inputs.Read) same is = is
-stops_same comes others before after (stops.Refused r) same is = λ holder. same holder ∙ is holder
-stops_same comes others before after stops.Memory same is = is
+-- what stops at a later step, behind bytes of which the same comes: its count rose after the earlier one
+pub stops_behind : (comes others : Side → Played) (ahead still reaches there : Type 0) (before mid after : ℕ) (stop : ProofStop) → before ≤ mid
+    → ((holder : Side) → comes holder ≡ others holder) → (still → ahead) → (there → reaches) → StopsReading others still there mid after stop
+    → StopsReading comes ahead reaches before after stop
+stops_behind comes others ahead still reaches there before mid after (stops.Input (inputs.NoGame fault)) later same waits goes is =
+    λ holder. same holder ∙ is holder
+stops_behind comes others ahead still reaches there before mid after (stops.Input inputs.Read) later same waits goes is =
+    (Rose_before before mid after later is.0, waits is.1)
+stops_behind comes others ahead still reaches there before mid after (stops.Refused r) later same waits goes is = λ holder. same holder ∙ is holder
+stops_behind comes others ahead still reaches there before mid after stops.Memory later same waits goes is = goes is
 
 pub head_stopped : (a b : Pending) (before after : ℕ) (stop : ProofStop) → IsFirstStop stop
     → Reads a b (λ bytes rest. PassesLines 1 bytes rest × StopsBy (AtHead None) bytes before after stop)
-    → Reads a b (λ bytes rest. PassesLines (lines_read_until stop) bytes rest × StopsReading (λ holder. follow_of holder bytes) before after stop)
+    → Reads a b (λ bytes rest. PassesLines (lines_read_until stop) bytes rest × StopsProof bytes rest before after stop)
 head_stopped a b before after stop first reads = Reads_more a b _ _ reads (λ bytes rest h. (
   passes_most 1 (lines_read_until stop) bytes rest (until_at stop first) h.0,
-  head_stops bytes before after stop first h.1,
+  head_stops bytes rest before after stop first h.0 h.1,
 ))
 
 module _ (a b c : Pending) (version : Version) (first : Reads a b (λ bytes rest. PassesLines 1 bytes rest × IsNamed version bytes rest)) where
   pub game_stopped : (before mid after : ℕ) (why : InputStop) → before ≤ mid
       → Reads b c (λ bytes rest. PassesLines 2 bytes rest × StopsGame (game_at (game_of (pieces bytes))) mid after why)
-      → Reads a c (λ bytes rest. PassesLines (lines_read_until (stops.Input why)) bytes rest
-      × StopsReading (λ holder. follow_of holder bytes) before after (stops.Input why))
+      → Reads a c (λ bytes rest. PassesLines (lines_read_until (stops.Input why)) bytes rest × StopsProof bytes rest before after (stops.Input why))
   game_stopped before mid after why later reads = Reads_then a b c _ _ _ first reads (λ bytes m rest p q. (
     passes_most 3 (lines_read_until (stops.Input why)) bytes rest (few why) (passes_then 1 2 bytes m rest p.0 q.0),
-    by_why bytes m why p.1 q.1,
+    by_why bytes m rest why p.1 (passes_then 1 2 bytes m rest p.0 q.0) q.1,
   ))
     where
       few : (why : InputStop) → 3 ≤ lines_read_until (stops.Input why)
       few (inputs.NoGame fault) = omega arith
       few inputs.Read = omega arith
 
-      by_why : (bytes m : List ℕ) (why : InputStop) → IsNamed version bytes m → StopsGame (game_at (game_of (pieces m))) mid after why
-          → StopsReading (λ holder. follow_of holder bytes) before after (stops.Input why)
-      by_why bytes m (inputs.NoGame fault) named is = λ holder.
+      by_why : (bytes m rest : List ℕ) (why : InputStop) → IsNamed version bytes m → PassesLines 3 bytes rest
+          → StopsGame (game_at (game_of (pieces m))) mid after why → StopsProof bytes rest before after (stops.Input why)
+      by_why bytes m rest (inputs.NoGame fault) named passes is = λ holder.
           behind_first holder version bytes m named ∙ ap (λ game. follow_game holder version game (behind_game (pieces m))) is
-      by_why bytes m inputs.Read named is = Rose_before before mid after later is
+      by_why bytes m rest inputs.Read named passes is = (
+        Rose_before before mid after later is,
+        (3, passes, λ root ls v at moves has. first_lines bytes root ls v at moves has),
+      )
 
   module _ (d : Pending) (root : Position)
       (game : Reads b c (λ bytes rest. PassesLines 2 bytes rest
       × ((game_at (game_of (pieces bytes)) ≡ Ok root) × (behind_game (pieces bytes) ≡ lines_in (pieces rest))))) where
     -- what comes of the bytes before the first line is what comes of the lines behind the game
-    to_lines : Reads a c (λ bytes rest. PassesLines 3 bytes rest
+    to_lines : Reads a c (λ bytes rest. PassesLines 3 bytes rest × AtLines version root bytes rest
         × ((holder : Side) → follow_of holder bytes ≡ judged_by holder version (start root) [] first_number rest))
     to_lines = Reads_then a b c _ _ _ first game (λ bytes m rest p q. (
       passes_then 1 2 bytes m rest p.0 q.0,
+      record {
+        more = p.1.more;
+        cut = p.1.cut;
+        game = ap game_at p.1.game ∙ q.1.0;
+        behind = p.1.behind ∙ q.1.1;
+      },
       λ holder. behind_first holder version bytes m p.1 ∙ behind_it holder version m rest root q.1.0 q.1.1,
     ))
 
     pub lines_stopped : (before mid after : ℕ) (stop : ProofStop) → before ≤ mid → 4 ≤ lines_read_until stop
         → Reads c d (λ bytes rest. PassesLines (lines_read_until stop - 3) bytes rest
-        × StopsReading (λ holder. judged_by holder version (start root) [] first_number bytes) mid after stop)
-        → Reads a d (λ bytes rest. PassesLines (lines_read_until stop) bytes rest × StopsReading (λ holder. follow_of holder bytes) before after stop)
+        × StopsLines version (start root) [] first_number bytes rest mid after stop)
+        → Reads a d (λ bytes rest. PassesLines (lines_read_until stop) bytes rest × StopsProof bytes rest before after stop)
     lines_stopped before mid after stop later few reads = Reads_then a c d _ _ _ to_lines reads (λ bytes m rest p q. (
       passes_most (3 + (lines_read_until stop - 3)) (lines_read_until stop) bytes rest (omega (arith, few))
           (passes_then 3 (lines_read_until stop - 3) bytes m rest p.0 q.0),
-      stops_same _ _ before after stop p.1 (stops_later _ before mid after stop later q.1),
+      stops_behind _ _ _ _ _ _ before mid after stop later p.2 (verdict_later version root bytes m p.1 rest p.0) (lines_reach version root bytes m p.1) q.1,
     ))
 
     module _ (t : CheckerState) (ms : List Lemma) (v : Verdict) (at : ℕ) (is_verdict : t.verdict ≡ Some v) (is_root : t.root ≡ root) (few : 3 ≤ at) where
+      -- the proof that was passed
+      has_verdict : (bytes m rest : List ℕ) → AtLines version root bytes m → GoesTo version (start root) t [] ms first_number (at + 1) m rest
+          → HasVerdict bytes root ms v at (lines_in (pieces rest))
+      has_verdict bytes m rest lines goes = record {
+        version = version;
+        more = lines.more;
+        first = lines.cut;
+        game = lines.game;
+        proof = goes.passed;
+        behind = lines.behind ∙ goes.lines;
+        count = length t.known;
+        accepted = answer_by_lines version root goes.passed ∙ ap (check_from version (start root) first_number) (sym (append-nil goes.passed))
+            ∙ goes.answer [] ∙ ap (verdict_answer (at + 1) (length t.known)) is_verdict;
+        says = goes.says;
+        number = omega (arith, goes.number);
+      }
+
       pub lines_gone : Reads c d (λ bytes rest. PassesLines (at - 3) bytes rest × GoesTo version (start root) t [] ms first_number (at + 1) bytes rest)
           → Reads a d (λ bytes rest. PassesLines at bytes rest × IsToVerdict (record { root = root; verdict = v; at = at }) ms bytes rest)
       unfolding judged_by
       lines_gone reads = Reads_then a c d _ _ _ to_lines reads (λ bytes m rest p q. (
         passes_most (3 + (at - 3)) at bytes rest (omega (arith, few)) (passes_then 3 (at - 3) bytes m rest p.0 q.0),
-        λ holder. p.1 holder ∙ q.1 holder ∙ ap (judged_behind holder version t ms (at + 1) (lines_in (pieces rest))) is_verdict
-            ∙ ap (λ root. follow_named ms holder root (at + 1 - 1) (lines_in (pieces rest)) (named_for holder (side_to_move root) v)) is_root
-            ∙ ap (λ at. follow_named ms holder root at (lines_in (pieces rest)) (named_for holder (side_to_move root) v))
-            (let same : at + 1 - 1 ≡ at = omega arith in same),
+        (
+          has_verdict bytes m rest p.1 q.1,
+          λ holder. p.2 holder ∙ q.1.judged holder ∙ ap (judged_behind holder version t ms (at + 1) (lines_in (pieces rest))) is_verdict
+              ∙ ap (λ root. follow_named ms holder root (at + 1 - 1) (lines_in (pieces rest)) (named_for holder (side_to_move root) v)) is_root
+              ∙ ap (λ at. follow_named ms holder root at (lines_in (pieces rest)) (named_for holder (side_to_move root) v))
+              (let same : at + 1 - 1 ≡ at = omega arith in same),
+        ),
       ))
 
       pub proof_right : AreKept t ms → IsRightProof root ms v

@@ -19,7 +19,7 @@ use Rattle.run_proof.specs.Whole.{most_lines_read}
 use Rattle.run_proof.specs.declared.stop.ProofStop.{ProofStop}
 use Rattle.run_proof.specs.declared.stop.ProofStop.TheVariants as proofs
 use Rattle.run_turns.specs.Games.{of_turns}
-use Rattle.run_turns.specs.Inputs.{end_by, lines_besides, IsWaiting, StopsPlay, Starts, StopsBefore}
+use Rattle.run_turns.specs.Inputs.{end_by, lines_besides, opened_by, IsWaiting, StopsPlay, Starts, StopsBefore}
 use Rattle.run_turns.specs.declared.game_end.GameStop.{GameStop}
 use Rattle.run_turns.specs.declared.game_end.GameStop.TheVariants as stops
 use Rattle.run_turns.specs.declared.turn_stop.TurnStop.{TurnStop}
@@ -28,7 +28,7 @@ use Rattle.run_turns.proofs.Behind.{nothing_begun}
 use Rattle.run_turns.proofs.Stopped.{ends_behind}
 use Rattle.run_follow.specs.Follows.{follow_form, stop_status_of, IsKept, IsWithin}
 use Rattle.run_follow.specs.Opening.{PutsFirst, StopsFirst}
-use Rattle.run_follow.specs.Reading.{StopsReading, IsToVerdict}
+use Rattle.run_follow.specs.Reading.{StopsProof, IsToVerdict}
 use Rattle.run_follow.specs.Turns.{follow_stands, player_turn}
 use Rattle.run_follow.specs.declared.not_followed.NotFollowed.{NotFollowed}
 use Rattle.run_follow.specs.declared.not_followed.NotFollowed.TheVariants.{Proof, NoClaim}
@@ -38,30 +38,29 @@ use Rattle.run_follow.proofs.First.{turns_by_proof}
 
 -- what stops the reading of the proof stops play, and nothing is written
 pub proof_stops : (holder : Side) (a b : Pending) (old : Option (List ℕ)) (before after : ℕ) (stop : ProofStop)
-    → Reads a b (λ bytes rest. PassesLines (lines_read_until stop) bytes rest × StopsReading (λ holder. follow_of holder bytes) before after stop)
+    → Reads a b (λ bytes rest. PassesLines (lines_read_until stop) bytes rest × StopsProof bytes rest before after stop)
     → StopsBefore (follow_form holder 3 0) a b old old (stops.Head (Proof stop))
 proof_stops holder a b old before after stop reads = nothing_begun (follow_form holder 3 0) a b old (stops.Head (Proof stop)) tt
-    (Reads_more a b _ _ reads (λ bytes rest h. (h.0, by_stop bytes stop h.1)))
+    (Reads_more a b _ _ reads (λ bytes rest h. (h.0, by_stop bytes rest stop h.1)))
   where
-    by_stop : (bytes : List ℕ) (stop : ProofStop) → StopsReading (λ holder. follow_of holder bytes) before after stop
+    by_stop : (bytes rest : List ℕ) (stop : ProofStop) → StopsProof bytes rest before after stop
         → StopsPlay (follow_form holder 3 0) (follow_of holder bytes) [] (stops.Head (Proof stop))
-    by_stop bytes (proofs.Input (inputs.NoGame fault)) is = is holder
-    by_stop bytes (proofs.Input inputs.Read) is = (follow_of holder bytes, refl)
-    by_stop bytes (proofs.Refused r) is = is holder
-    by_stop bytes proofs.Memory is = (follow_of holder bytes, refl)
+    by_stop bytes rest (proofs.Input (inputs.NoGame fault)) is = is holder
+    by_stop bytes rest (proofs.Input inputs.Read) is = (follow_of holder bytes, refl)
+    by_stop bytes rest (proofs.Refused r) is = is holder
+    by_stop bytes rest proofs.Memory is = (follow_of holder bytes, refl)
 
 -- the source failed, where its count rose
 pub proof_caused : (a b : Pending) (before after : ℕ) (stop : ProofStop)
-    → Reads a b (λ bytes rest. PassesLines (lines_read_until stop) bytes rest × StopsReading (λ holder. follow_of holder bytes) before after stop)
+    → Reads a b (λ bytes rest. PassesLines (lines_read_until stop) bytes rest × StopsProof bytes rest before after stop)
     → stop_status_of (stops.Head (Proof stop)) ≡ 6 → Rose before after
-proof_caused a b before after stop reads = by_stop _ stop (reads.fact [] (λ _. refl)).1
+proof_caused a b before after stop reads = by_stop _ _ stop (reads.fact [] (λ _. refl)).1
   where
-    by_stop : (bytes : List ℕ) (stop : ProofStop) → StopsReading (λ holder. follow_of holder bytes) before after stop
-        → stop_status stop ≡ 6 → Rose before after
-    by_stop bytes (proofs.Input (inputs.NoGame fault)) is status = absurd (cc status)
-    by_stop bytes (proofs.Input inputs.Read) is status = is
-    by_stop bytes (proofs.Refused r) is status = absurd (cc status)
-    by_stop bytes proofs.Memory is status = absurd (cc status)
+    by_stop : (bytes rest : List ℕ) (stop : ProofStop) → StopsProof bytes rest before after stop → stop_status stop ≡ 6 → Rose before after
+    by_stop bytes rest (proofs.Input (inputs.NoGame fault)) is status = absurd (cc status)
+    by_stop bytes rest (proofs.Input inputs.Read) is status = is.0
+    by_stop bytes rest (proofs.Refused r) is status = absurd (cc status)
+    by_stop bytes rest proofs.Memory is status = absurd (cc status)
 
 pub proof_unwritten : (before after : ℕ) (stop : ProofStop) → stop_status_of (stops.Head (Proof stop)) ≡ 7 → Rose before after
 proof_unwritten before after (proofs.Input (inputs.NoGame fault)) status = absurd (cc status)
@@ -83,7 +82,7 @@ module _ (holder : Side) (a b : Pending) (root : Position) (v : Verdict) (at : �
     written = puts.written;
     reads = Reads_more a b _ _ reads (λ bytes rest h. (
       h.0,
-      h.1 holder ∙ puts.goes (lines_in (pieces rest)) ∙ ap (behind puts.lines) (sym (turns_by_proof s (at + 1) rest)),
+      h.1.1 holder ∙ puts.goes (lines_in (pieces rest)) ∙ ap (behind puts.lines) (sym (turns_by_proof s (at + 1) rest)),
     ));
   }
 
@@ -92,16 +91,22 @@ module _ (holder : Side) (a b : Pending) (root : Position) (v : Verdict) (at : �
       → StopsBefore (follow_form holder at (length puts.lines)) a b old new stop
   begin_stops stop before after puts why = record {
     lines = puts.lines;
-    few = omega arith;
+    few = opened stop why;
     written = puts.written;
     waits = waits stop why;
     reads = Reads_more a b _ _ reads (λ bytes rest h. (
       passes_most at (lines_besides (follow_form holder at (length puts.lines)) stop) bytes rest (besides stop why) h.0,
       ends_behind (follow_of holder bytes) (follow_named ls holder root at (lines_in (pieces rest)) (named_for holder (side_to_move root) v)) [] puts.lines
-          (end_by (follow_form holder at (length puts.lines)) stop) (h.1 holder) (puts.goes (lines_in (pieces rest))),
+          (end_by (follow_form holder at (length puts.lines)) stop) (h.1.1 holder) (puts.goes (lines_in (pieces rest))),
     ));
   }
     where
+      opened : (stop : GameStop NotFollowed) → StopsFirst at before after stop → length puts.lines ≤ opened_by (follow_form holder at (length puts.lines)) stop
+      opened (stops.Head h) why = omega arith
+      opened stops.Write why = omega arith
+      opened (stops.Input input) why = absurd why
+      opened (stops.NoMove fault) why = absurd why
+
       waits : (stop : GameStop NotFollowed) → StopsFirst at before after stop → IsWaiting b.ahead stop
       waits (stops.Head (NoClaim n)) why = tt
       waits (stops.Head (Proof stop)) why = absurd why

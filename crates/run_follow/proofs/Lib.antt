@@ -5,3 +5,4 @@ pub mod First
 pub mod Ends
 pub mod Judged
 pub mod Lines
+pub mod Begins

@@ -1,6 +1,6 @@
 -- What each step of the reading up to the verdict says of the bytes: what comes of them goes on, or how it ends.
-use Rattle.std.proofs.Common.{◌≡◌, ℕ, ◌+◌, ◌≤◌, Bool, List, [], ◌∷◌, ◌++◌, Some, None, Result, Ok, Err, MatchResult, IfErr, OnOk, refl, sym, ap, ◌∙◌, subst}
-use Rattle.std.proofs.Common.{inr, arith}
+use Rattle.std.proofs.Common.{◌≡◌, ℕ, ◌+◌, ◌<◌, ◌≤◌, Bool, List, [], ◌∷◌, ◌++◌, length, Some, None, Result, Ok, Err, MatchResult, IfErr, OnOk, refl, sym, ap, ◌∙◌, subst}
+use Rattle.std.proofs.Common.{inl, inr, arith}
 use Rattle.device_rules.specs.Devices.{Rose}
 use Rattle.game_rules.specs.Position.{board_of}
 use Rattle.io_ports.specs.Lines.{Gives}
@@ -10,7 +10,8 @@ use Rattle.io_ports.specs.Reading.{Pending, Reads, PassesLines}
 use Rattle.proof_text.specs.Checked.{CheckerState, line_refusal, with_line, lemmas_in}
 use Rattle.proof_text.specs.Lemma.{Lemma, Line as Said, ALemma, ARemark, AVerdict}
 use Rattle.proof_text.specs.Right.{IsVerdict}
-use Rattle.proof_text.specs.Texts.{pieces, lines_in, lemmas_said, with_said, with_bytes}
+use Rattle.proof_text.specs.Texts.{pieces, lines_in, lemmas_said, with_said, with_bytes, line_answer, check_from, verdict_answer, Accepted, Refused}
+use Rattle.proof_text.specs.declared.Verdict.{Verdict}
 use Rattle.proof_text.specs.declared.Version.{Version}
 use Rattle.proof_text.specs.declared.Why.TheVariants.{BadLine, EndedEarly}
 use Rattle.proof_text.proofs.Accepted.{with_bytes_root}
@@ -26,13 +27,13 @@ use Rattle.follow_text.proofs.Judged.{judged_ended, judged_refused, judged_step}
 use Rattle.run_frame.specs.declared.game_input.InputStop.TheVariants as inputs
 use Rattle.run_frame.proofs.Cuts.{line_first, long_first, none_left}
 use Rattle.run_frame.proofs.GameRead.{by_line}
-use Rattle.run_proof.specs.Steps.{IsAccepted, AcceptsNext, StopsAtLine, StopsAtGot, lines_read_until}
+use Rattle.run_proof.specs.Steps.{ReachLemma, IsAccepted, AcceptsNext, StopsAtLine, StopsAtGot, lines_read_until}
 use Rattle.run_proof.specs.Taken.{Gains, InStep}
 use Rattle.run_proof.specs.Whole.{most_lines_read}
 use Rattle.run_proof.specs.declared.stop.ProofStop.{ProofStop}
 use Rattle.run_proof.specs.declared.stop.ProofStop.TheVariants as stops
 use Rattle.run_proof.proofs.Known.{not_refused, next_lemma}
-use Rattle.run_follow.specs.Reading.{judged_by, AreKept, KeepsLine, GoesTo, StopsReading}
+use Rattle.run_follow.specs.Reading.{judged_by, AreKept, KeepsLine, GoesTo, EndsLater, StopsLines}
 
 -- ---- a line
 
@@ -70,29 +71,73 @@ line_keeps version s t ls ms at bytes line kept is more =
 
 -- ---- the next line
 
+-- a proof ends in a verdict, so it has a line where none stands
+proof_goes : (version : Version) (s : CheckerState) (at : ℕ) (v : Verdict) (count : ℕ) → s.verdict ≡ None → check_from version s at [] ≡ Accepted v count → ⊥
+proof_goes version s at v count free is = let never : Refused at EndedEarly ≡ Accepted v count = sym (ap (verdict_answer at (length s.known)) free) ∙ is in cc never
+
+-- no verdict was passed, where none stands and no line was passed
+pub verdict_ahead : (version : Version) (s : CheckerState) (at : ℕ) (bytes rest : List ℕ) → s.verdict ≡ None → rest ≡ bytes → EndsLater version s at bytes rest
+verdict_ahead version s at bytes rest free same = (0, (0, omega arith, same), λ proof moves v count cut is. of_proof proof v count is)
+  where
+    of_proof : (proof : List (List ℕ)) (v : Verdict) (count : ℕ) → check_from version s at proof ≡ Accepted v count → 0 < length proof
+    of_proof [] v count is = absurd (proof_goes version s at v count free is)
+    of_proof (line ∷ proof) v count is = omega arith
+
 module _ (a b : Pending) (text : List ℕ) (fed : Bool) (version : Version) (s : CheckerState) (ls : List Lemma) (at : ℕ) (free : s.verdict ≡ None) where
+  -- a line that isn't refused is passed
+  line_passed : (t : CheckerState) (ms : List Lemma) (bytes rest : List ℕ) → lines_in (pieces bytes) ≡ text ∷ lines_in (pieces rest)
+      → KeepsLine version s t ls ms at text → GoesTo version s t ls ms at (at + 1) bytes rest
+  unfolding judged_by
+  line_passed t ms bytes rest lines keeps =
+      let goes : (more : List (List ℕ)) → check_from version s at (text ∷ more) ≡ check_from version t (at + 1) more = λ more.
+      ap (λ refusal. line_answer refusal at (check_from version (with_bytes version s text) (at + 1) more)) keeps.stands
+      ∙ ap (λ t. check_from version t (at + 1) more) (sym keeps.next) in
+      record {
+        passed = text ∷ [];
+        lines = lines;
+        number = omega arith;
+        root = keeps.root;
+        says = keeps.says;
+        answer = goes;
+        reaches = λ more reach. inr (keeps.stands, subst (λ t. ReachLemma version t (at + 1) more) keeps.next reach);
+        later = λ proof moves v count cut is. of_proof proof moves v count goes (sym lines ∙ cut) is;
+        judged = λ holder.
+            ap (judged_from holder version s ls at) lines
+            ∙ judged_step holder version s ls at text (lines_in (pieces rest)) free keeps.stands
+            ∙ ap (λ t. judged_from holder version t (ls ++ lemmas_said version (board_of s.root) (text ∷ [])) (at + 1) (lines_in (pieces rest))) (sym keeps.next)
+            ∙ ap (λ ms. judged_from holder version t ms (at + 1) (lines_in (pieces rest))) (sym keeps.says);
+      }
+    where
+      of_proof : (proof moves : List (List ℕ)) (v : Verdict) (count : ℕ)
+          → ((more : List (List ℕ)) → check_from version s at (text ∷ more) ≡ check_from version t (at + 1) more)
+          → text ∷ lines_in (pieces rest) ≡ proof ++ moves → check_from version s at proof ≡ Accepted v count
+          → (left : List (List ℕ)) × (length proof ≡ 1 + length left) × (lines_in (pieces rest) ≡ left ++ moves)
+          × (check_from version t (at + 1) left ≡ Accepted v count)
+      of_proof [] moves v count goes cut is = absurd (proof_goes version s at v count free is)
+      of_proof (line ∷ proof) moves v count goes cut is =
+          let same : text ≡ line = cc cut in
+          let rest_is : lines_in (pieces rest) ≡ proof ++ moves = cc cut in
+          (proof, omega arith, rest_is, sym (goes proof) ∙ ap (λ line. check_from version s at (line ∷ proof)) same ∙ is)
+
   pub next_goes : (t : CheckerState) (ms : List Lemma) → Reads a b (λ bytes rest. Gives bytes rest Line text fed) → KeepsLine version s t ls ms at text
       → Reads a b (λ bytes rest. PassesLines 1 bytes rest × GoesTo version s t ls ms at (at + 1) bytes rest)
-  unfolding judged_by
-  next_goes t ms gives keeps = by_line a b Line text fed gives _ (λ bytes rest is holder.
-      ap (judged_from holder version s ls at) (line_first bytes (record { got = Line; text = text; fed = fed; rest = rest }) is refl)
-      ∙ judged_step holder version s ls at text (lines_in (pieces rest)) free keeps.stands
-      ∙ ap (λ t. judged_from holder version t (ls ++ lemmas_said version (board_of s.root) (text ∷ [])) (at + 1) (lines_in (pieces rest))) (sym keeps.next)
-      ∙ ap (λ ms. judged_from holder version t ms (at + 1) (lines_in (pieces rest))) (sym keeps.says))
+  next_goes t ms gives keeps = by_line a b Line text fed gives _ (λ bytes rest is.
+      line_passed t ms bytes rest (line_first bytes (record { got = Line; text = text; fed = fed; rest = rest }) is refl) keeps)
 
   pub next_stops : (before after : ℕ) (stop : ProofStop) → Reads a b (λ bytes rest. Gives bytes rest Line text fed) → StopsAtLine version s at text stop
-      → Reads a b (λ bytes rest. PassesLines 1 bytes rest × StopsReading (λ holder. judged_by holder version s ls at bytes) before after stop)
+      → Reads a b (λ bytes rest. PassesLines 1 bytes rest × StopsLines version s ls at bytes rest before after stop)
   unfolding judged_by
   next_stops before after (stops.Refused r) gives stopped = by_line a b Line text fed gives _ (λ bytes rest is holder.
       ap (judged_from holder version s ls at) (line_first bytes (record { got = Line; text = text; fed = fed; rest = rest }) is refl)
       ∙ judged_refused holder version s ls at text (lines_in (pieces rest)) (why_of r.why) free stopped.0
       ∙ ap (λ at. ended (ends.Refused at (why_of r.why))) (sym stopped.1))
-  next_stops before after stops.Memory gives stopped = by_line a b Line text fed gives _ (λ bytes rest is. tt)
+  next_stops before after stops.Memory gives stopped = by_line a b Line text fed gives _ (λ bytes rest is.
+      subst (ReachLemma version s at) (sym (line_first bytes (record { got = Line; text = text; fed = fed; rest = rest }) is refl)) (inl stopped))
   next_stops before after (stops.Input why) gives stopped = absurd stopped
 
   pub next_long : (before after : ℕ) → Reads a b (λ bytes rest. Gives bytes rest Long text fed)
       → Reads a b (λ bytes rest. PassesLines 1 bytes rest
-      × StopsReading (λ holder. judged_by holder version s ls at bytes) before after (stops.Refused (record { at = at; why = BadLine })))
+      × StopsLines version s ls at bytes rest before after (stops.Refused (record { at = at; why = BadLine })))
   unfolding judged_by
   next_long before after gives = by_line a b Long text fed gives _ (λ bytes rest is holder.
       let some = long_first bytes (record { got = Long; text = text; fed = fed; rest = rest }) is refl in
@@ -101,21 +146,20 @@ module _ (a b : Pending) (text : List ℕ) (fed : Bool) (version : Version) (s :
 
   pub next_none : (before after : ℕ) → Reads a b (λ bytes rest. Gives bytes rest Done text fed)
       → Reads a b (λ bytes rest. PassesLines 1 bytes rest
-      × StopsReading (λ holder. judged_by holder version s ls at bytes) before after (stops.Refused (record { at = at; why = EndedEarly })))
+      × StopsLines version s ls at bytes rest before after (stops.Refused (record { at = at; why = EndedEarly })))
   unfolding judged_by
   next_none before after gives = by_line a b Done text fed gives _ (λ bytes rest is holder.
       ap (judged_from holder version s ls at) (none_left bytes (record { got = Done; text = text; fed = fed; rest = rest }) is refl).0
       ∙ judged_ended holder version s ls at free)
 
   pub next_unread : (before after : ℕ) → Reads a b (λ bytes rest. Gives bytes rest Failed text fed) → Rose before after
-      → Reads a b (λ bytes rest. PassesLines 1 bytes rest
-      × StopsReading (λ holder. judged_by holder version s ls at bytes) before after (stops.Input inputs.Read))
-  next_unread before after gives rose = by_line a b Failed text fed gives _ (λ bytes rest is. rose)
+      → Reads a b (λ bytes rest. PassesLines 1 bytes rest × StopsLines version s ls at bytes rest before after (stops.Input inputs.Read))
+  next_unread before after gives rose = by_line a b Failed text fed gives _ (λ bytes rest is. (rose, verdict_ahead version s at bytes rest free is))
 
   -- what stops the reading, whatever was got
   pub next_got : (before after : ℕ) (stop : ProofStop) (got : LineGot) → Reads a b (λ bytes rest. Gives bytes rest got text fed)
       → StopsAtGot version s at before after text stop got
-      → Reads a b (λ bytes rest. PassesLines 1 bytes rest × StopsReading (λ holder. judged_by holder version s ls at bytes) before after stop)
+      → Reads a b (λ bytes rest. PassesLines 1 bytes rest × StopsLines version s ls at bytes rest before after stop)
   next_got before after stop Line gives stopped = next_stops before after stop gives stopped
   next_got before after stop Long gives stopped = rw stopped (next_long before after gives)
   next_got before after stop Done gives stopped = absurd stopped
@@ -126,7 +170,7 @@ module _ (a b : Pending) (text : List ℕ) (fed : Bool) (version : Version) (s :
       → Reads a b (λ bytes rest. Gives bytes rest Line text fed)
       → MatchResult result (λ _. KeepsLine version s t ls ms at text) (StopsAtLine version s at text)
       → Reads a b (λ bytes rest. PassesLines 1 bytes rest × MatchResult result (λ _. GoesTo version s t ls ms at (at + 1) bytes rest)
-      (StopsReading (λ holder. judged_by holder version s ls at bytes) before after))
+      (StopsLines version s ls at bytes rest before after))
   next_read t ms before after (Ok x) gives keeps = next_goes t ms gives keeps
   next_read t ms before after (Err stop) gives stopped = next_stops before after stop gives stopped
 

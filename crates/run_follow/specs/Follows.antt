@@ -1,21 +1,25 @@
 -- How `follow` ends, and what it promises of the bytes that it took and of its sink, by its end.
-use Rattle.std.specs.Prelude.{◌≡◌, ◌⊎◌, ◌≤◌, ℕ, ◌+◌, List, ◌++◌, Option, Some, None, IfSome, IfErr, Result, codes, decimal, ⊤}
-use Rattle.std.specs.Io.KnownBytes.{Keeps}
+use Rattle.std.specs.Prelude.{◌≡◌, ◌⊎◌, ◌<◌, ◌≤◌, ℕ, ◌+◌, List, ◌++◌, Option, Some, None, IfSome, IfErr, Result, codes, decimal, ⊤}
+use Rattle.std.specs.Io.KnownBytes.{Keeps, Consumes}
+use Rattle.game_rules.specs.Position.{Position}
 use Rattle.game_rules.specs.declared.Side.{Side}
+use Rattle.proof_text.specs.Lemma.{Lemma}
 use Rattle.proof_text.specs.Spelling.{as_line}
+use Rattle.proof_text.specs.declared.Verdict.{Verdict}
 use Rattle.run_proof.specs.Checking.{why_of}
 use Rattle.play_text.specs.Play as ends
 use Rattle.play_text.specs.Play.{PlayEnd}
 use Rattle.follow_text.specs.Follow.{follow_of}
 use Rattle.follow_text.specs.Told.{IsTold}
 use Rattle.run_frame.specs.Ended.{EndsBy}
-use Rattle.run_frame.specs.Streams.{Streams}
+use Rattle.run_frame.specs.Streams.{Streams, TakesLines}
 use Rattle.run_frame.specs.declared.game_input.InputStop.TheVariants.{NoGame, Read}
 use Rattle.run_proof.specs.Stops.{stop_status, stop_text}
 use Rattle.run_proof.specs.Steps.{lines_read_until}
-use Rattle.run_proof.specs.Whole.{most_lines_read}
+use Rattle.run_proof.specs.Whole.{BeginsProof, most_lines_read}
+use Rattle.run_proof.specs.declared.stop.ProofStop.{ProofStop}
 use Rattle.run_proof.specs.declared.stop.ProofStop.TheVariants.{Input, Refused, Memory}
-use Rattle.run_turns.specs.Games.{GameForm, GamePlays, ending_status, ending_text}
+use Rattle.run_turns.specs.Games.{GameForm, GamePlays, ending_of, ending_status, ending_text}
 use Rattle.run_turns.specs.Games.{stop_status as game_stop_status}
 use Rattle.run_turns.specs.Inputs.{PlaysInput}
 use Rattle.run_turns.specs.declared.game_end.GameStop.{GameStop}
@@ -23,6 +27,7 @@ use Rattle.run_turns.specs.declared.game_end.GameStop.TheVariants.{Head, NoMove,
 use Rattle.run_turns.specs.declared.game_end.GameStop.TheVariants.{Input as GameInput}
 use Rattle.run_turns.specs.declared.game_end.GameEnding.{GameEnding}
 use Rattle.run_turns.specs.declared.game_end.GameEnding.TheVariants.{Done, Stopped}
+use Rattle.run_follow.specs.Begun.{HasVerdict, BeginsGame}
 use Rattle.run_follow.specs.declared.not_followed.NotFollowed.{NotFollowed}
 use Rattle.run_follow.specs.declared.not_followed.NotFollowed.TheVariants.{Proof, NoClaim}
 
@@ -68,7 +73,8 @@ head_until (NoClaim at) = at
 -- Behind so many lines, the last of which is the verdict's, stands a line for each move of the other side's; and a line is written
 -- for the holder's first move, where it has one, and then one for each.
 abbrev pub follow_form : Side → ℕ → ℕ → GameForm NotFollowed
-follow_form holder head opening = record { given = follow_of holder; head = head; opening = opening; end_of = head_end; until = head_until }
+follow_form holder head opening =
+    record { given = follow_of holder; head = head; opening = opening; unread = 0; end_of = head_end; until = head_until }
 
 -- what stops a run before the moves comes with nothing written
 abbrev pub IsKept : Option (List ℕ) → Option (List ℕ) → GameStop NotFollowed → Type 0
@@ -84,6 +90,30 @@ IsWithin (GameInput why) = ⊤
 IsWithin (NoMove fault) = ⊤
 IsWithin Write = ⊤
 
+-- What the bytes that were taken tell where no line of the other side's was come to. Memory runs out only at a lemma that isn't
+-- refused, behind lines that aren't; and where the source failed, no more was taken than lines in front of the verdict's, if they
+-- have one, and what came with them.
+abbrev pub EndsProof : (taken : List ℕ) (input : Option (List ℕ)) (last_read : ℕ) → ProofStop → Type 0
+EndsProof taken input last_read Memory = BeginsProof None taken × IfSome input (BeginsProof None)
+EndsProof taken input last_read (Input Read) =
+    (root : Position) (ls : List Lemma) (v : Verdict) (at : ℕ) (moves : List (List ℕ)) → HasVerdict taken root ls v at moves
+    → (n : ℕ) × (n < at) × TakesLines n last_read taken
+EndsProof taken input last_read (Input (NoGame fault)) = ⊤
+EndsProof taken input last_read (Refused r) = ⊤
+
+-- And where one was, or the holder's own move, the verdict's line has this number, and so many lines are written before the answers.
+abbrev pub BeginsBy : (holder : Side) (head opening : ℕ) (taken : List ℕ) (input : Option (List ℕ)) (last_read : ℕ) → GameEnding NotFollowed → Type 0
+BeginsBy holder head opening taken input last_read (Stopped (Head (Proof stop))) = EndsProof taken input last_read stop
+BeginsBy holder head opening taken input last_read (Stopped (Head (NoClaim at))) = ⊤
+BeginsBy holder head opening taken input last_read (Stopped (GameInput why)) = BeginsGame holder taken head opening
+BeginsBy holder head opening taken input last_read (Stopped (NoMove fault)) = BeginsGame holder taken head opening
+BeginsBy holder head opening taken input last_read (Stopped Write) = BeginsGame holder taken head opening
+BeginsBy holder head opening taken input last_read Done = BeginsGame holder taken head opening
+
+abbrev pub Begins : (holder : Side) (head opening : ℕ) (input left : Option (List ℕ)) (last_read : ℕ) → GameEnding NotFollowed → Type 0
+Begins holder head opening input left last_read end =
+    (taken : List ℕ) × Consumes input left taken × BeginsBy holder head opening taken input last_read end
+
 -- How a game goes through an input behind a proof: the verdict's line has this number, and so many lines are written before the
 -- answers.
 pub record FollowsInput (holder : Side) (input left : Option (List ℕ)) (last_read : ℕ) (old new : Option (List ℕ))
@@ -94,6 +124,7 @@ pub record FollowsInput (holder : Side) (input left : Option (List ℕ)) (last_r
   pub few : head + 1 ≤ most_lines_read
   pub one : opening ≤ 1
   pub plays : PlaysInput (follow_form holder head opening) input left last_read old new result
+  pub begins : Begins holder head opening input left last_read (ending_of result)
   pub kept : IfErr result (IsKept old new)
   pub within : IfErr result IsWithin
 
@@ -115,6 +146,7 @@ pub record Follows (holder : Side) (s : Streams) (end : GameEnding NotFollowed) 
   pub few : head + 1 ≤ most_lines_read
   pub one : opening ≤ 1
   pub plays : GamePlays (follow_form holder head opening) (IsTold holder) most_follow_lines s end
+  pub begins : Begins holder head opening s.input s.left s.last_read end
   pub kept : HeadKept s.old s.new end
 
 -- the same, as a caller of `run` sees it

@@ -1,3 +1,4 @@
+pub mod Begun
 pub mod Follows
 pub mod Turns
 pub mod Opening

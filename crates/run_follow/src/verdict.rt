@@ -3,12 +3,11 @@ ghost use Rattle.std.specs.Prelude.{◌≡◌, ◌+◌, ◌-◌, ◌≤◌, ◌<
 ghost use Rattle.game_rules.specs.Position.{board_of};
 ghost use Rattle.io_ports.specs.Reading.{pending, Reads, PassesLines};
 ghost use Rattle.proof_text.specs.Texts.{first_number, start};
-ghost use Rattle.follow_text.specs.Follow.{follow_of};
 ghost use Rattle.run_proof.specs.Steps.{lines_read_until};
 ghost use Rattle.run_proof.specs.Whole.{most_lines_read};
 ghost use Rattle.run_proof.specs.declared.stop.ProofStop.TheVariants as stops;
 ghost use Rattle.proof_text.specs.declared.Why.TheVariants as whys;
-ghost use Rattle.run_follow.specs.Reading.{judged_by, AreKept, GoesTo, StopsReading, IsToVerdict, IsRightProof};
+ghost use Rattle.run_follow.specs.Reading.{AreKept, GoesTo, StopsLines, StopsProof, IsToVerdict, IsRightProof};
 
 use board_bits::{Position, Size};
 use cert_format::{LineBuffer, Verdict, Version};
@@ -38,8 +37,7 @@ pub(crate) fn read_to_verdict<S: Source>(
     ensures answer { Reads (pending lines.old (S.left source.old) (S.last_read source.old))
         (pending lines.new (S.left source.new) (S.last_read source.new))
         (λ bytes rest. MatchResult result (λ proof. PassesLines proof.at bytes rest × IsToVerdict proof book.new bytes rest)
-        (λ stop. PassesLines (lines_read_until stop) bytes rest
-        × StopsReading (λ holder. follow_of holder bytes) (S.faults source.old) (S.faults source.new) stop)) }
+        (λ stop. PassesLines (lines_read_until stop) bytes rest × StopsProof bytes rest (S.faults source.old) (S.faults source.new) stop)) }
     ensures right { IfOk result (λ proof. IsRightProof proof.root book.new proof.verdict) }
     ensures few { MatchResult result (λ proof. (3 ≤ proof.at) × (proof.at + 1 ≤ most_lines_read)) (λ stop. lines_read_until stop ≤ most_lines_read) }
     ensures later { S.faults source.old ≤ S.faults source.new }
@@ -71,7 +69,7 @@ fn add_lines<S: Source>(
         (λ bytes rest. MatchResult result
         (λ end. PassesLines (end.1 - 3) bytes rest × GoesTo version checker.old.stands checker.new.stands book.old book.new first_number (end.1 + 1) bytes rest)
         (λ stop. PassesLines (lines_read_until stop - 3) bytes rest
-        × StopsReading (λ holder. judged_by holder version checker.old.stands book.old first_number bytes) (S.faults source.old) (S.faults source.new) stop)) }
+        × StopsLines version checker.old.stands book.old first_number bytes rest (S.faults source.old) (S.faults source.new) stop)) }
     ensures kept { OnOk result (AreKept checker.new.stands book.new) }
     ensures verdict { IfOk result (λ end. checker.new.stands.verdict ≡ Some end.0) }
     ensures root { OnOk result (checker.new.stands.root ≡ checker.old.stands.root) }
@@ -107,7 +105,7 @@ fn add_next<S: Source>(
         (pending lines.new (S.left source.new) (S.last_read source.new))
         (λ bytes rest. PassesLines 1 bytes rest × MatchResult result
         (λ _. GoesTo version checker.old.stands checker.new.stands book.old book.new at (at + 1) bytes rest)
-        (StopsReading (λ holder. judged_by holder version checker.old.stands book.old at bytes) (S.faults source.old) (S.faults source.new))) }
+        (StopsLines version checker.old.stands book.old at bytes rest (S.faults source.old) (S.faults source.new))) }
     ensures kept { OnOk result (AreKept checker.new.stands book.new) }
     ensures root { OnOk result (checker.new.stands.root ≡ checker.old.stands.root) }
     ensures few { OnOk result (at < most_lines_read) }

@@ -30,6 +30,8 @@ pub fn read_game_lines<S: Source>(lines: &mut Lines, source: &mut S) -> Result<P
         (λ bytes rest. PassesLines 2 bytes rest × MatchResult result
         (λ root. (game_at (game_of (pieces bytes)) ≡ Ok root) × (behind_game (pieces bytes) ≡ lines_in (pieces rest)))
         (StopsGame (game_at (game_of (pieces bytes))) (S.faults source.old) (S.faults source.new))) }
+    ensures unread { result ≡ Err stops.Read → Reads (pending lines.old (S.left source.old) (S.last_read source.old))
+        (pending lines.new (S.left source.new) (S.last_read source.new)) (PassesLines 1) }
     ensures waiting { result ≡ Err stops.Read → IsUndecided lines.new.ahead }
     ensures later { S.faults source.old ≤ S.faults source.new }
 {
@@ -46,6 +48,8 @@ pub fn read_played_game<S: Source>(lines: &mut Lines, source: &mut S) -> Result<
         (λ bytes rest. PassesLines 2 bytes rest × MatchResult result
         (λ game. IsTextOf (game_of (pieces bytes)) game × (behind_game (pieces bytes) ≡ lines_in (pieces rest)))
         (StopsGame (game_at (game_of (pieces bytes))) (S.faults source.old) (S.faults source.new))) }
+    ensures unread { result ≡ Err stops.Read → Reads (pending lines.old (S.left source.old) (S.last_read source.old))
+        (pending lines.new (S.left source.new) (S.last_read source.new)) (PassesLines 1) }
     ensures waiting { result ≡ Err stops.Read → IsUndecided lines.new.ahead }
     ensures later { S.faults source.old ≤ S.faults source.new }
 {
@@ -68,6 +72,8 @@ fn keep_line<S: Source>(
     ensures kept { Reads (pending lines.old (S.left source.old) (S.last_read source.old))
         (pending lines.new (S.left source.new) (S.last_read source.new))
         (λ bytes rest. PassesLines 1 bytes rest × IfOk result (λ _. KeepsLine text.old.items text.new.items bytes rest)) }
+    ensures unread { IfErr result (λ _. Reads (pending lines.old (S.left source.old) (S.last_read source.old))
+        (pending lines.new (S.left source.new) (S.last_read source.new)) (PassesLines 0)) }
     ensures waiting { IfErr result (λ _. IsUndecided lines.new.ahead) }
     ensures failed { IfErr result (λ stop. (stop ≡ stops.Read) × Rose (S.faults source.old) (S.faults source.new)) }
     ensures bound { array_vec_len text.new ≤ array_vec_len text.old + GAME_PREFIX + 1 }

@@ -18,6 +18,7 @@ pub play_laws : HasLaws play_form IsTold most_play_lines
 play_laws = record {
   told = play_is_told;
   head = omega arith;
+  unread = omega arith;
   room = omega arith;
 }
 

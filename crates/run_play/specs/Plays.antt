@@ -46,7 +46,7 @@ head_end (Refused fault) = Some (ends.NoPlan (fault_of fault))
 
 -- Behind three lines, those of the game and the plan's, stands a line for each of White's moves; and a line is written for each.
 abbrev pub play_form : GameForm NoPlan
-play_form = record { given = play_of; head = 3; opening = 0; end_of = head_end; until = λ none. 3 }
+play_form = record { given = play_of; head = 3; opening = 0; unread = 3; end_of = head_end; until = λ none. 3 }
 
 -- how many lines are read at most: White makes at most 50 moves
 abbrev pub most_play_lines : ℕ

@@ -104,6 +104,7 @@ module _ (version : Version) (nodes reach : ℕ) (slots : Option ℕ) (bytes : L
           game = game;
           stands = proof_stands version p the_head proof_text v is_proof;
           remarked = inr (asks.white_remarked, asks.black_remarked);
+          both_remarked = inr (v, refl, both);
           planned = (asks.white_planned, asks.black_planned);
           few = asks.few;
           short = λ unknown. short (unknown_line v unknown);
@@ -122,6 +123,7 @@ module _ (version : Version) (nodes reach : ℕ) (slots : Option ℕ) (bytes : L
       game = game;
       stands = head_stands version p the_head;
       remarked = inl refl;
+      both_remarked = inl refl;
       planned = (tt, tt);
       few = omega arith;
       short = λ none. absurd (some_line none);
@@ -143,6 +145,7 @@ module _ (version : Version) (nodes reach : ℕ) (slots : Option ℕ) (bytes : L
               asks.white_sided asks.black_sided
               (in_turn slots reach p asks.mid asks.black_remark asks.black asks.black_remarked) asks.white_line asks.black_line refl;
           remarked = inr (asks.white_remarked, asks.black_remarked);
+          both_remarked = inl refl;
           planned = (asks.white_planned, asks.black_planned);
           few = asks.few;
           short = λ none. absurd (some_line none);

@@ -1,5 +1,5 @@
 -- What `prove` writes: the text of a proof, whole, or a prefix of one.
-use Rattle.std.specs.Prelude.{◌≡◌, ◌⊎◌, ◌<◌, ◌≤◌, ℕ, false, List, Option, Result, Ok, Err, length}
+use Rattle.std.specs.Prelude.{◌≡◌, ◌⊎◌, ◌<◌, ◌≤◌, ℕ, false, List, [], Option, Result, Ok, Err, length}
 use Rattle.std.specs.Io.KnownBytes.{Appends}
 use Rattle.device_rules.specs.Devices.{AppendsPrefix}
 use Rattle.game_rules.specs.Cost.{cost}
@@ -39,12 +39,14 @@ pub record IsProofOf (version : Version) (nodes reach : ℕ) (slots : Option ℕ
   pub accepted : check_of text ≡ Accepted v (length proof.after)
   pub says : IsTrueVerdict p v
 
--- A text that may stand while such a proof is written: its head alone, or more. Its verdict, if it has one, is unknown only
--- where the number of nodes is below the position's cost.
+-- A text that may stand while such a proof is written: its head alone, or more. Its verdict, if it has one, stands behind both
+-- remarks, as that of a whole proof does, and is unknown only where the number of nodes is below the position's cost.
 pub record MayStandFor (version : Version) (nodes reach : ℕ) (slots : Option ℕ) (bytes : List ℕ) (p : Position) (text : List ℕ) : Type 0 where
   pub game : IsGameText bytes p
   pub stands : MayStand version p (head_of version game.board game.columns) text
   pub remarked : (text ≡ head_of version game.board game.columns) ⊎ AreRemarked slots reach p stands.written
+  pub both_remarked : (stands.last ≡ []) ⊎ ((v : Verdict) × (stands.last ≡ verdict_line v)
+      × HasBothRemarks slots nodes reach p stands.written.mid stands.written.black_remark v)
   pub planned : IsPlannedText reach p stands.written
   pub few : length stands.after ≤ nodes
   pub short : stands.last ≡ verdict_line Unknown → nodes < cost (solved_within reach) p

@@ -31,6 +31,8 @@ use Rattle.deep_search.specs.Tables.{FitsTable}
 use Rattle.deep_search.proofs.Below.{none_here}
 use Rattle.deep_search.proofs.Tables.{fits_if_empty}
 use Rattle.deep_search.proofs.Cut.{lemmas_prefix}
+use Rattle.proof_text.specs.declared.Version.TheVariants.{One}
+use Rattle.run_questions.specs.Found.{HasFound}
 use Rattle.run_questions.specs.SizedFronts.{LeavesRemark}
 use Rattle.run_questions.specs.Questions.{AsksSide, is_whole_verdict, won_by, IsRemarkedInTurn, HasBothRemarks, verdict_told, Asks}
 use Rattle.deep_search.specs.declared.solving.Answer.{Answer}
@@ -311,3 +313,23 @@ pub told_unknown : (version : Version) (p : Position) (nodes reach : ℕ) (old n
 told_unknown version p nodes reach old new (Ok v) asks short never unknown = absurd (asks.verdict.1 unknown)
 told_unknown version p nodes reach old new (Err Spent) asks short never unknown = short refl
 told_unknown version p nodes reach old new (Err WriteFault) asks short never unknown = absurd (never refl)
+
+-- and a value that they tell was found within the budget
+pub told_found : (p : Position) (nodes reach : ℕ) (old new : Option (List ℕ)) (asked : Result Verdict SearchStop) → Asks One p nodes reach None old new asked
+    → result_unwrap_or asked Unknown ≢ Unknown → HasFound nodes reach p (result_unwrap_or asked Unknown)
+told_found p nodes reach old new (Err stop) asks known = absurd (known refl)
+told_found p nodes reach old new (Ok v) asks known = record {
+  white = asks.white;
+  mid = asks.mid;
+  black = asks.black;
+  after = asks.after;
+  white_right = asks.white_right;
+  black_right = asks.black_right;
+  white_sided = asks.white_sided;
+  black_sided = asks.black_sided;
+  white_planned = asks.white_planned;
+  black_planned = asks.black_planned;
+  verdict = asks.verdict.0;
+  known = asks.verdict.1;
+  few = asks.few;
+}

@@ -74,7 +74,7 @@ impl Source for Player<'_> {
 /// The status of a run whose source gives these lines, how many bytes were shown at each call, and how many calls came. It
 /// is written out in each test, since the borrow checker doesn't follow it as a function.
 macro_rules! shown_by {
-    ($rt:expr, $word:expr, $lines:expr) => {{
+    ($rt:expr, $words:expr, $lines:expr) => {{
         let screen = Screen {
             held: Cell::new(0),
             shown: Cell::new(0),
@@ -87,7 +87,7 @@ macro_rules! shown_by {
             last_read: 0,
         };
         let mut out = Printer { screen: &screen };
-        let words = words_of($rt.alloc(), &[$word])?;
+        let words = words_of($rt.alloc(), &$words)?;
         let status = run(
             $rt.alloc(),
             &words,
@@ -110,7 +110,7 @@ fn each_answer_of_play_is_flushed_before_the_next_line_is_read(
         b"a\n",
         b"b\n",
     ];
-    let (status, seen, asked) = shown_by!(rt, "play", lines);
+    let (status, seen, asked) = shown_by!(rt, ["play"], lines);
     assert_eq!(rt; status, 0);
     // The answers are `a1 a2` and `b1 b2 won`, each with its line feed; the last call finds the end of the input.
     assert_eq!(rt; seen, [0, 0, 0, 0, 6, 16]);
@@ -123,7 +123,7 @@ fn each_line_of_threat_is_flushed_before_the_next_line_is_read(
     rt: HostRuntime,
 ) -> Result<(), Fail> {
     let lines: [&[u8]; 5] = [b"board 4 4\n", b"moves dccbbdbaddc\n", b"c\n", b"a\n", b""];
-    let (status, seen, asked) = shown_by!(rt, "threat", lines);
+    let (status, seen, asked) = shown_by!(rt, ["threat"], lines);
     assert_eq!(rt; status, 0);
     // First comes `threat a3h BI:b4,c4`, then `c4 b4` and `a2 a3 won`; the last call finds the end of the input.
     assert_eq!(rt; seen, [0, 0, 20, 26, 36, 0]);
@@ -134,9 +134,28 @@ fn each_line_of_threat_is_flushed_before_the_next_line_is_read(
 #[test]
 fn no_line_is_asked_for_where_there_is_no_threat(rt: HostRuntime) -> Result<(), Fail> {
     let lines: [&[u8]; 5] = [b"board 4 4\n", b"moves -\n", b"a\n", b"b\n", b""];
-    let (status, seen, asked) = shown_by!(rt, "threat", lines);
+    let (status, seen, asked) = shown_by!(rt, ["threat"], lines);
     assert_eq!(rt; status, 5);
     assert_eq!(rt; seen, [0; 6]);
     assert_eq!(rt; asked, 2);
+    Ok(())
+}
+
+#[test]
+fn each_line_of_follow_is_flushed_before_the_next_line_is_read(
+    rt: HostRuntime,
+) -> Result<(), Fail> {
+    let lines: [&[u8]; 5] = [
+        b"victor 1\nboard 4 4\nmoves dccbbdbbddcc\n",
+        b"1 aaa W+ end\n2 aa W+ one a 1\n3 a W+ all a:2\n",
+        b"4 - W+ one a 3\nvalue win 4\n",
+        b"a\n",
+        b"",
+    ];
+    let (status, seen, asked) = shown_by!(rt, ["follow", "white"], lines);
+    assert_eq!(rt; status, 0);
+    // First comes `- a1`, then `a2 a3 won`; the last call finds the end of the input.
+    assert_eq!(rt; seen, [0, 0, 0, 5, 15, 0]);
+    assert_eq!(rt; asked, 5);
     Ok(())
 }

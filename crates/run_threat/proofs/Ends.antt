@@ -18,6 +18,7 @@ pub threat_laws : HasLaws threat_form IsTold most_threat_lines
 threat_laws = record {
   told = threat_is_told;
   head = omega arith;
+  unread = omega arith;
   room = omega arith;
 }
 

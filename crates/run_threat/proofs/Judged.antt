@@ -9,7 +9,7 @@ use Rattle.io_ports.proofs.Reading.{Reads_more, passes_most}
 use Rattle.proof_text.specs.Texts.{pieces, lines_in, game_of, behind_game}
 use Rattle.play_text.specs.Play.{behind}
 use Rattle.threat_text.specs.Threats.{threat_of, first_move}
-use Rattle.run_turns.specs.Inputs.{end_by, lines_besides, stop_whole, StopsOpening, Starts, StopsBefore}
+use Rattle.run_turns.specs.Inputs.{end_by, lines_besides, opened_by, stop_whole, StopsOpening, Starts, StopsBefore}
 use Rattle.run_turns.specs.declared.game_end.GameStop.{GameStop}
 use Rattle.run_turns.specs.declared.game_end.GameStop.TheVariants as stops
 use Rattle.run_turns.proofs.Stopped.{ends_behind, opening_waits}
@@ -43,7 +43,7 @@ module _ (a b : Pending) (root : Position)
   unfolding played_at
   head_stops stop before after head why = record {
     lines = head.line ∷ [];
-    few = omega arith;
+    few = opened stop why;
     written = subst (AppendsPrefix (stop_whole stop) old new) (sym (append-nil head.line)) head.written;
     waits = opening_waits b.ahead before after stop why;
     reads = Reads_more a b _ _ game
@@ -54,6 +54,12 @@ module _ (a b : Pending) (root : Position)
         ));
   }
     where
+      opened : (stop : GameStop NoThreat) → StopsOpening before after stop → 1 ≤ opened_by threat_form stop
+      opened (stops.Head none) why = omega arith
+      opened stops.Write why = omega arith
+      opened (stops.Input input) why = absurd why
+      opened (stops.NoMove fault) why = absurd why
+
       besides : (stop : GameStop NoThreat) → StopsOpening before after stop → 2 ≤ lines_besides threat_form stop
       besides (stops.Head none) why = omega arith
       besides stops.Write why = omega arith

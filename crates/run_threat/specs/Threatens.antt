@@ -31,7 +31,7 @@ head_end none = Some ends.NoThreat
 -- Behind the two lines of the game stands a line for each of Black's moves; and a line is written for the threat, or that there is
 -- none, and then one for each.
 abbrev pub threat_form : GameForm NoThreat
-threat_form = record { given = threat_of; head = 2; opening = 1; end_of = head_end; until = λ none. 2 }
+threat_form = record { given = threat_of; head = 2; opening = 1; unread = 1; end_of = head_end; until = λ none. 2 }
 
 -- how many lines are read at most: Black makes at most 50 moves
 abbrev pub most_threat_lines : ℕ

@@ -1,14 +1,15 @@
 -- How a run ends that plays an input line by line.
+use Rattle.std.proofs.Common.{inl, inr}
 use Rattle.std.proofs.Common.{◌≡◌, ℕ, ◌+◌, ◌≤◌, List, Option, Some, None, Result, Ok, Err, IfSome, refl, sym, ap, ◌∙◌, subst, arith}
 use Rattle.std.specs.Io.KnownBytes.{Appends}
 use Rattle.io_ports.specs.declared.line_reader.LineGot.TheVariants.{Failed}
 use Rattle.play_text.specs.Play as ends
 use Rattle.play_text.specs.Play.{PlayEnd, Played, behind, text_of}
-use Rattle.run_frame.specs.Streams.{Streams, TakesLines, StillHolds}
+use Rattle.run_frame.specs.Streams.{Streams, TakesLines, WaitsBehind, StillHolds}
 use Rattle.run_frame.specs.declared.game_input.InputStop.TheVariants as inputs
 use Rattle.run_frame.proofs.Inputs.{IfSome_more, appended_still, cut_still}
 use Rattle.run_frame.proofs.Passing.{takes_bytes}
-use Rattle.run_turns.specs.Games.{GameForm, BeginsPlay, HasBegun, answers, Ended, EndedBefore, GameFrom, GamePlays, ending_status, ending_of}
+use Rattle.run_turns.specs.Games.{GameForm, BeginsPlay, HasBegun, answers, Awaits, Ended, EndedBefore, GameFrom, GamePlays, ending_status, ending_of}
 use Rattle.run_turns.specs.Inputs.{EndsSo, end_given, PlaysInput}
 use Rattle.run_turns.specs.declared.game_end.GameStop.{GameStop}
 use Rattle.run_turns.specs.declared.game_end.GameStop.TheVariants as stops
@@ -19,6 +20,7 @@ use Rattle.run_turns.specs.declared.game_end.GameEnding.TheVariants.{Done, Stopp
 pub record HasLaws {H : Type 0} (form : GameForm H) (Told : List ℕ → List (List ℕ) → PlayEnd → Type 0) (most : ℕ) : Type 0 where
   pub told : (bytes : List ℕ) → Told bytes (form.given bytes).lines (form.given bytes).end
   pub head : 2 ≤ form.head
+  pub unread : form.unread ≤ form.head
   pub room : form.head + 51 ≤ most
 
 module _ {H : Type 0} (form : GameForm H) (Told : List ℕ → List (List ℕ) → PlayEnd → Type 0) (most : ℕ) (laws : HasLaws form Told most) where
@@ -29,6 +31,16 @@ module _ {H : Type 0} (form : GameForm H) (Told : List ℕ → List (List ℕ) �
   -- what would have gone on
   begun : (bytes : List ℕ) (lines : List (List ℕ)) → (later : Played) × (form.given bytes ≡ behind lines later) → BeginsPlay form lines bytes
   begun bytes lines (later, is) = (later.lines, ap (λ played. played.lines) is)
+
+  -- where the source failed, few bytes stand behind the lines that were answered
+  awaited : (last_read : ℕ) (taken : List ℕ) (lines : List (List ℕ)) → Awaits form lines taken → TakesLines (form.head + answers form lines) last_read taken
+  awaited last_read taken lines waits = elim waits [
+    | inl behind ↦ of_waiting (form.head + behind.0) (omega (arith, behind.1)) behind.2
+    | inr before ↦ of_waiting form.unread (omega (arith, laws.unread)) before.1
+  ]
+    where
+      of_waiting : (most : ℕ) → most ≤ form.head + answers form lines → WaitsBehind most taken → TakesLines (form.head + answers form lines) last_read taken
+      of_waiting most few waits = (waits.0, omega (arith, waits.1, few), (Failed, waits.2), omega (arith, waits.2.1))
 
   module _ {X : Type 0} (s : Streams) (result : Result X (GameStop H)) (input : PlaysInput form s.input s.left s.last_read s.old s.new result) where
     took : (end : GameEnding H) (besides : ℕ) → besides + 50 ≤ most → TakesLines (besides + answers form input.lines) s.last_read input.taken
@@ -64,7 +76,7 @@ module _ {H : Type 0} (form : GameForm H) (Told : List ℕ → List (List ℕ) �
       (ended_so s (Err (stops.Input (inputs.NoGame fault))) input (ends.NoGame fault) 2 input.played.0 input.played.1 input.written input.passed)
   game_plays s (Err (stops.Input inputs.Read)) input within =
       took s (Err (stops.Input inputs.Read)) input (Stopped (stops.Input inputs.Read)) form.head (omega (arith, laws.room))
-      (input.passed.0, input.passed.1, (Failed, input.passed.2), omega (arith, input.passed.2.1))
+      (awaited s.last_read input.taken input.lines input.passed)
       (input.lines, has_begun s (Err (stops.Input inputs.Read)) input input.played.0 input.played.1, input.written, input.passed)
   game_plays s (Err (stops.Head h)) input within =
       took s (Err (stops.Head h)) input (Stopped (stops.Head h)) (form.until h) (within h refl) input.passed

@@ -1,5 +1,6 @@
 -- What stops a game that is played behind a head.
-use Rattle.std.proofs.Common.{◌≡◌, ℕ, ◌+◌, ◌≤◌, List, [], ◌++◌, Option, Some, None, Result, Err, refl, ap, ◌∙◌, arith}
+use Rattle.std.proofs.Common.{inl, inr}
+use Rattle.std.proofs.Common.{◌≡◌, ℕ, ◌+◌, ◌≤◌, List, [], ◌∷◌, ◌++◌, length, Option, Some, None, Result, Err, refl, ap, ◌∙◌, arith}
 use Rattle.std.specs.Bool.{⊤}
 use Rattle.device_rules.specs.Devices.{Rose}
 use Rattle.device_rules.proofs.DeviceLaws.{Rose_before}
@@ -17,7 +18,7 @@ use Rattle.run_frame.specs.Reading.{StopsGame}
 use Rattle.run_frame.specs.declared.game_input.InputStop.{InputStop}
 use Rattle.run_frame.specs.declared.game_input.InputStop.TheVariants as inputs
 use Rattle.run_turns.specs.Games.{GameForm, of_turns}
-use Rattle.run_turns.specs.Inputs.{EndsSo, StopsPlay, lines_besides, IsWaiting, stop_whole, IsCaused, StopsReading, StopsOpening}
+use Rattle.run_turns.specs.Inputs.{EndsSo, StopsPlay, lines_besides, IsWaiting, PassesUntil, opened_by, stop_whole, IsCaused, StopsReading, StopsOpening}
 use Rattle.run_turns.specs.Steps.{StopsTurns, passed_by, is_whole}
 use Rattle.run_turns.specs.declared.turn_stop.TurnStop.{TurnStop}
 use Rattle.run_turns.specs.declared.turn_stop.TurnStop.TheVariants as turns
@@ -32,23 +33,21 @@ ends_behind played later lines more None goes (rest, is) = (rest, goes ∙ ap (b
 
 -- ---- the game of an input
 
-module _ {H : Type 0} (form : GameForm H) (head : 2 ≤ form.head)
+module _ {H : Type 0} (form : GameForm H) (unread : 1 ≤ form.unread)
     (none : (bytes : List ℕ) (fault : InputFault) → game_at (game_of (pieces bytes)) ≡ Err fault → form.given bytes ≡ ended (ends.NoGame fault)) where
   -- what stops the reading of the game stops play
   pub game_stops : (a b : Pending) (before after : ℕ) (why : InputStop)
       → Reads a b (λ bytes rest. PassesLines 2 bytes rest × StopsGame (game_at (game_of (pieces bytes))) before after why)
+      → (why ≡ inputs.Read → Reads a b (PassesLines 1))
       → Reads a b (λ bytes rest. PassesLines (lines_besides form (stops.Input why)) bytes rest × StopsPlay form (form.given bytes) [] (stops.Input why))
-  game_stops a b before after why game =
-      Reads_more a b _ _ game (λ bytes rest h. (passes_most 2 (lines_besides form (stops.Input why)) bytes rest (besides why) h.0, by_game bytes why h.1))
-    where
-      besides : (why : InputStop) → 2 ≤ lines_besides form (stops.Input why)
-      besides (inputs.NoGame fault) = omega arith
-      besides inputs.Read = head
+  game_stops a b before after (inputs.NoGame fault) game short = Reads_more a b _ _ game (λ bytes rest h. (h.0, none bytes fault h.1))
+  game_stops a b before after inputs.Read game short =
+      Reads_more a b _ _ (short refl) (λ bytes rest passes. (passes_most 1 form.unread bytes rest unread passes, (form.given bytes, refl)))
 
-      by_game : (bytes : List ℕ) (why : InputStop) → StopsGame (game_at (game_of (pieces bytes))) before after why
-          → StopsPlay form (form.given bytes) [] (stops.Input why)
-      by_game bytes (inputs.NoGame fault) h = none bytes fault h
-      by_game bytes inputs.Read h = (form.given bytes, refl)
+-- the same by the result of the reading
+pub game_short : (a b : Pending) (game : Result Position InputStop) (why : InputStop) → game ≡ Err why → (game ≡ Err inputs.Read → Reads a b (PassesLines 1))
+    → why ≡ inputs.Read → Reads a b (PassesLines 1)
+game_short a b game why is short read = short (is ∙ ap Err read)
 
 pub game_waits : (H : Type 0) (ahead : List ℕ) (game : Result Position InputStop) (why : InputStop) → game ≡ Err why
     → (game ≡ Err inputs.Read → IsUndecided ahead) → IsWaiting {H = H} ahead (stops.Input why)
@@ -107,11 +106,24 @@ turns_stop form played lines (turns.NoMove fault) stops = stops
 turns_stop form played lines turns.Read stops = stops
 turns_stop form played lines turns.Write stops = stops
 
-pub turns_passed : {H : Type 0} (form : GameForm H) (stop : TurnStop) (begun : ℕ)
-    → form.head + passed_by stop begun ≡ lines_besides form (of_turns stop) + begun
-turns_passed form (turns.NoMove fault) begun = omega arith
-turns_passed form turns.Read begun = omega arith
-turns_passed form turns.Write begun = omega arith
+pub turns_passed : {H : Type 0} (form : GameForm H) (stop : TurnStop) (lines : List (List ℕ)) (begun : ℕ) → length lines ≡ form.opening + begun
+    → PassesUntil form (of_turns stop) lines (form.head + passed_by stop begun)
+turns_passed form (turns.NoMove fault) lines begun is = omega (arith, is)
+turns_passed form turns.Read lines begun is = inl (begun, is, omega arith)
+turns_passed form turns.Write lines begun is = omega (arith, is)
+
+-- what stops a game before the moves
+pub begun_passed : {H : Type 0} (form : GameForm H) (stop : GameStop H) (lines : List (List ℕ)) → length lines ≤ opened_by form stop
+    → PassesUntil form stop lines (lines_besides form stop)
+begun_passed form (stops.Input (inputs.NoGame fault)) lines few = omega arith
+begun_passed form (stops.Input inputs.Read) lines few = inr (nothing lines few, omega arith)
+  where
+    nothing : (lines : List (List ℕ)) → length lines ≤ 0 → lines ≡ []
+    nothing [] few = refl
+    nothing (line ∷ lines) few = absurd (omega (arith, few))
+begun_passed form (stops.Head h) lines few = omega arith
+begun_passed form (stops.NoMove fault) lines few = omega arith
+begun_passed form stops.Write lines few = omega arith
 
 pub turns_whole : (H : Type 0) (stop : TurnStop) → is_whole {T = ⊤} (Err stop) ≡ stop_whole {H = H} (of_turns stop)
 turns_whole H (turns.NoMove fault) = refl

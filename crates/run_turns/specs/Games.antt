@@ -1,7 +1,7 @@
 -- What is promised of a command that plays an input line by line: a head of so many lines, which the command reads itself, and
 -- then a line for each move of one side. What a command says that stops it before the moves is `H`. What is said of what a sink
 -- holds is said of a sink that tells it.
-use Rattle.std.specs.Prelude.{◌≡◌, ℕ, ◌+◌, ◌-◌, ◌*◌, Bool, true, false, List, [], ◌++◌, length, Option, Some, None, IfSome, Result, Ok, Err}
+use Rattle.std.specs.Prelude.{◌≡◌, ◌⊎◌, ℕ, ◌+◌, ◌-◌, ◌*◌, Bool, true, false, List, [], ◌++◌, length, Option, Some, None, IfSome, Result, Ok, Err}
 use Rattle.std.specs.Io.KnownBytes.{Appends, IsAtEnd}
 use Rattle.device_rules.specs.Devices.{AppendsPrefix}
 use Rattle.io_ports.specs.Lines.{most_held}
@@ -20,13 +20,15 @@ use Rattle.run_turns.specs.declared.game_end.GameStop.TheVariants.{Input, Head, 
 use Rattle.run_turns.specs.declared.game_end.GameEnding.{GameEnding}
 use Rattle.run_turns.specs.declared.game_end.GameEnding.TheVariants.{Done, Stopped}
 
--- A game as one command plays it: what comes of an input; how many lines of an input stand before the moves, and how many lines
--- are written before the answers to them; and for what stops the command before the moves, which end it is, or none, where the
--- game would have gone on, and how many lines are read by then at most.
+-- A game as one command plays it: what comes of an input; how many lines of an input stand before the moves, how many lines are
+-- written before the answers to them, and how many were read at most where the source failed before that; and for what stops the
+-- command before the moves, which end it is, or none, where the game would have gone on, and how many lines are read by then at
+-- most.
 pub record GameForm (H : Type 0) : Type 0 where
   pub given : List ℕ → Played
   pub head : ℕ
   pub opening : ℕ
+  pub unread : ℕ
   pub end_of : H → Option PlayEnd
   pub until : H → ℕ
 
@@ -102,6 +104,12 @@ abbrev pub EndedBefore : {H : Type 0} → GameForm H → (List ℕ → List (Lis
 EndedBefore form Told taken s (Some end) besides = Ended form Told taken s end besides
 EndedBefore form Told taken s None besides = CutShort form taken s true besides
 
+-- Where the source failed, the lines before the answers and so many answers were written, and no whole line of the other side's
+-- was taken without its answer; or nothing was written, and no more lines were read than may be by then.
+abbrev pub Awaits : {H : Type 0} → GameForm H → List (List ℕ) → List ℕ → Type 0
+Awaits form lines taken =
+    ((n : ℕ) × (length lines ≡ form.opening + n) × WaitsBehind (form.head + n) taken) ⊎ ((lines ≡ []) × WaitsBehind form.unread taken)
+
 -- From the bytes that it took, by its end. No more was taken than the lines before the moves, a line for each answer and the one
 -- that is no move, and what came with them. Where the source failed, each whole line of the other side's that was taken by then
 -- has its answer.
@@ -111,7 +119,7 @@ GameFrom form Told taken s (Stopped (NoMove fault)) = Ended form Told taken s (e
 GameFrom form Told taken s (Stopped (Input (NoGame fault))) = Ended form Told taken s (ends.NoGame fault) 2
 GameFrom form Told taken s (Stopped (Head h)) = EndedBefore form Told taken s (form.end_of h) (form.until h)
 GameFrom form Told taken s (Stopped (Input Read)) =
-    (lines : List (List ℕ)) × HasBegun form taken s.input lines × Appends s.old s.new (text_of lines) × WaitsBehind (form.head + answers form lines) taken
+    (lines : List (List ℕ)) × HasBegun form taken s.input lines × Appends s.old s.new (text_of lines) × Awaits form lines taken
 GameFrom form Told taken s (Stopped Write) = CutShort form taken s false form.head
 
 -- a command that takes so many lines with their line feeds at most, and what comes with the last of them

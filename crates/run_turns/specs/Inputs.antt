@@ -1,6 +1,6 @@
 -- How a game that is played behind a head goes through an input: what stands where the moves begin, what stops it before that,
 -- and what was played of all that was taken.
-use Rattle.std.specs.Prelude.{◌≡◌, ◌≤◌, ℕ, ◌+◌, Bool, true, false, List, length, Option, Some, None, IfSome, MatchResult, ⊤, Result, Ok, Err}
+use Rattle.std.specs.Prelude.{◌≡◌, ◌⊎◌, ◌≤◌, ℕ, ◌+◌, Bool, true, false, List, [], length, Option, Some, None, IfSome, MatchResult, ⊤, Result, Ok, Err}
 use Rattle.std.specs.Io.KnownBytes.{Consumes, Appends, IsAtEnd}
 use Rattle.device_rules.specs.Devices.{Rose, AppendsPrefix}
 use Rattle.io_ports.specs.Lines.{IsUndecided}
@@ -8,9 +8,9 @@ use Rattle.io_ports.specs.Reading.{Pending, Reads, PassesLines}
 use Rattle.game_rules.specs.Position.{Position}
 use Rattle.play_text.specs.Play as ends
 use Rattle.play_text.specs.Play.{PlayEnd, Played, Turn, behind, text_of}
-use Rattle.run_frame.specs.Streams.{TakesLines, WaitsBehind}
+use Rattle.run_frame.specs.Streams.{TakesLines}
 use Rattle.run_frame.specs.declared.game_input.InputStop.TheVariants.{NoGame, Read}
-use Rattle.run_turns.specs.Games.{GameForm, answers}
+use Rattle.run_turns.specs.Games.{GameForm, answers, Awaits}
 use Rattle.run_turns.specs.Steps.{turns_by}
 use Rattle.run_turns.specs.declared.game_end.GameEnding.{GameEnding}
 use Rattle.run_turns.specs.declared.game_end.GameEnding.TheVariants.{Done, Stopped}
@@ -40,10 +40,10 @@ abbrev pub StopsPlay : {H : Type 0} → GameForm H → Played → List (List ℕ
 StopsPlay form played lines stop = EndsSo played lines (end_by form stop)
 
 -- how many lines are read at most besides one for each answer that is begun, by what stops the game: the line that is no move
--- is one
+-- is one; a source that failed did so before the moves
 abbrev pub lines_besides : {H : Type 0} → GameForm H → GameStop H → ℕ
 lines_besides form (Input (NoGame fault)) = 2
-lines_besides form (Input Read) = form.head
+lines_besides form (Input Read) = form.unread
 lines_besides form (Head h) = form.until h
 lines_besides form (NoMove fault) = form.head + 1
 lines_besides form Write = form.head
@@ -56,13 +56,28 @@ IsWaiting ahead (Head h) = ⊤
 IsWaiting ahead (NoMove fault) = ⊤
 IsWaiting ahead Write = ⊤
 
--- what was taken in all, where so many answers were begun
-abbrev pub TakesUntil : {H : Type 0} → GameForm H → GameStop H → ℕ → ℕ → List ℕ → Type 0
-TakesUntil form (Input Read) begun last_read taken = WaitsBehind (form.head + begun) taken
-TakesUntil form (Input (NoGame fault)) begun last_read taken = TakesLines (2 + begun) last_read taken
-TakesUntil form (Head h) begun last_read taken = TakesLines (form.until h + begun) last_read taken
-TakesUntil form (NoMove fault) begun last_read taken = TakesLines (form.head + 1 + begun) last_read taken
-TakesUntil form Write begun last_read taken = TakesLines (form.head + begun) last_read taken
+-- what was taken in all, where these lines were begun
+abbrev pub TakesUntil : {H : Type 0} → GameForm H → GameStop H → List (List ℕ) → ℕ → List ℕ → Type 0
+TakesUntil form (Input Read) lines last_read taken = Awaits form lines taken
+TakesUntil form (Input (NoGame fault)) lines last_read taken = TakesLines (2 + answers form lines) last_read taken
+TakesUntil form (Head h) lines last_read taken = TakesLines (form.until h + answers form lines) last_read taken
+TakesUntil form (NoMove fault) lines last_read taken = TakesLines (form.head + 1 + answers form lines) last_read taken
+TakesUntil form Write lines last_read taken = TakesLines (form.head + answers form lines) last_read taken
+
+-- so many lines were passed, where these were begun
+abbrev pub PassesUntil : {H : Type 0} → GameForm H → GameStop H → List (List ℕ) → ℕ → Type 0
+PassesUntil form (Input Read) lines passed = ((n : ℕ) × (length lines ≡ form.opening + n) × (passed ≤ form.head + n)) ⊎ ((lines ≡ []) × (passed ≤ form.unread))
+PassesUntil form (Input (NoGame fault)) lines passed = passed ≤ 2 + answers form lines
+PassesUntil form (Head h) lines passed = passed ≤ form.until h + answers form lines
+PassesUntil form (NoMove fault) lines passed = passed ≤ form.head + 1 + answers form lines
+PassesUntil form Write lines passed = passed ≤ form.head + answers form lines
+
+-- how many lines may be begun before the answers: none, while the input is read
+abbrev pub opened_by : {H : Type 0} → GameForm H → GameStop H → ℕ
+opened_by form (Input why) = 0
+opened_by form (Head h) = form.opening
+opened_by form (NoMove fault) = form.opening
+opened_by form Write = form.opening
 
 -- whether the last line that was begun stands whole
 abbrev pub stop_whole : {H : Type 0} → GameStop H → Bool
@@ -112,7 +127,7 @@ pub record Starts {H X : Type 0} (form : GameForm H) (stands : X → Position) (
 -- What stopped the game before the moves.
 pub record StopsBefore {H : Type 0} (form : GameForm H) (a b : Pending) (old new : Option (List ℕ)) (stop : GameStop H) : Type 0 where
   pub lines : List (List ℕ)
-  pub few : length lines ≤ form.opening
+  pub few : length lines ≤ opened_by form stop
   pub written : AppendsPrefix (stop_whole stop) old new (text_of lines)
   pub waits : IsWaiting b.ahead stop
   pub reads : Reads a b (λ bytes rest. PassesLines (lines_besides form stop) bytes rest × StopsPlay form (form.given bytes) lines stop)
@@ -129,4 +144,4 @@ pub record PlaysInput {H X : Type 0} (form : GameForm H) (input left : Option (L
   pub written : AppendsPrefix (game_whole result) old new (text_of lines)
   pub played : MatchResult result (λ x. (form.given taken ≡ record { lines = lines; end = ends.AllPlayed }) × IfSome input (λ bytes. form.given bytes ≡ record { lines = lines; end = ends.AllPlayed }) × IsAtEnd left)
       (λ stop. StopsPlay form (form.given taken) lines stop × IfSome input (λ bytes. StopsPlay form (form.given bytes) lines stop))
-  pub passed : MatchResult result (λ x. TakesLines (form.head + 1 + answers form lines) last_read taken) (λ stop. TakesUntil form stop (answers form lines) last_read taken)
+  pub passed : MatchResult result (λ x. TakesLines (form.head + 1 + answers form lines) last_read taken) (λ stop. TakesUntil form stop lines last_read taken)

@@ -37,7 +37,7 @@ use Rattle.run_proof.specs.declared.stop.ProofStop.TheVariants as stops
 use Rattle.run_proof.proofs.Judging.{goes_then, stops_earlier, stop_at, first_stop, game_goes}
 use Rattle.run_proof.proofs.Known.{right_input}
 use Rattle.run_upgrade.specs.Steps.{said, Begins, ReadsBeginning, Wrote, AreAll, Passes, StopsBehind, WritesLines, SourceRose}
-use Rattle.run_upgrade.specs.Upgrades.{upgrade_status, HasLines, HasWritten, StopsWriting, UpgradesFrom, Upgrades, UpgradeCompletes}
+use Rattle.run_upgrade.specs.Upgrades.{upgrade_status, NoneRefused, HasLines, HasWritten, StopsWriting, UpgradesFrom, Upgrades, UpgradeCompletes}
 use Rattle.run_upgrade.specs.declared.upgraded.UpgradeEnd.{UpgradeEnd}
 use Rattle.run_upgrade.specs.declared.upgraded.UpgradeEnd.TheVariants.{Done, Stopped}
 use Rattle.run_upgrade.specs.declared.upgraded.UpgradeStop.{UpgradeStop}
@@ -129,8 +129,8 @@ module _ (input : Option (List ℕ)) (begun : ℕ) (game : Game) (mid : Pending)
   head_text = head_of Two (board_played game) game.moves
 
   has_lines : (bytes rest : List ℕ) (at : ℕ) (lines more : List (List ℕ)) → Begins game bytes rest → lines_in (pieces rest) ≡ lines ++ more
-      → length lines + first_number ≡ at → HasLines bytes game at (said game.position lines)
-  has_lines bytes rest at lines more begins cut counted = record {
+      → length lines + first_number ≡ at → NoneRefused (start game.position) first_number lines → HasLines bytes game at (said game.position lines)
+  has_lines bytes rest at lines more begins cut counted stand = record {
     more = begins.more;
     cut = begins.cut;
     text = begins.text;
@@ -138,20 +138,23 @@ module _ (input : Option (List ℕ)) (begun : ℕ) (game : Game) (mid : Pending)
     rest = more;
     all = begins.behind ∙ cut;
     counted = counted;
+    stand = stand;
     say = refl;
   }
 
   has_written : (whole : Bool) (bytes rest : List ℕ) (at : ℕ) (shown : List Shown) (lines more : List (List ℕ)) → Begins game bytes rest
-      → lines_in (pieces rest) ≡ lines ++ more → length lines + first_number ≡ at → AreRight game.position [] (said game.position lines) shown
+      → lines_in (pieces rest) ≡ lines ++ more → length lines + first_number ≡ at → NoneRefused (start game.position) first_number lines
+      → AreRight game.position [] (said game.position lines) shown
       → AppendsPrefix whole old new (head_text ++ (lines_of (upgraded game.position [] (said game.position lines)) ++ []))
       → HasWritten whole bytes at [] old new
-  has_written whole bytes rest at shown lines more begins cut counted right put = record {
+  has_written whole bytes rest at shown lines more begins cut counted stand right put = record {
     game = game;
     lemmas = said game.position lines;
     shown = shown;
-    lines = has_lines bytes rest at lines more begins cut counted;
+    lines = has_lines bytes rest at lines more begins cut counted stand;
     right = right;
     ends = inl refl;
+    verdict = inl refl;
     written = put;
   }
 
@@ -165,9 +168,10 @@ module _ (input : Option (List ℕ)) (begun : ℕ) (game : Game) (mid : Pending)
           game = game;
           lemmas = [];
           shown = [];
-          lines = has_lines bytes rest first_number [] (lines_in (pieces rest)) p.1 refl (omega arith);
+          lines = has_lines bytes rest first_number [] (lines_in (pieces rest)) p.1 refl (omega arith) tt;
           right = refl;
           ends = inl refl;
+          verdict = inl refl;
           written = AppendsPrefix_take old new head_text [] put;
         },
       )))
@@ -192,7 +196,7 @@ module _ (input : Option (List ℕ)) (begun : ℕ) (game : Game) (mid : Pending)
           passes_most (3 + (at - 3)) at bytes rest (omega (arith, wrote.counted)) (passes_then 3 (at - 3) bytes m rest p.0 q.few),
           (
             stops_earlier _ _ bytes m [] first before after stop p.1.goes later q.stopped,
-            has_written true bytes m at shown wrote.lines q.begins.0 p.1 q.begins.1 wrote.counted wrote.right
+            has_written true bytes m at shown wrote.lines q.begins.0 p.1 q.begins.1 wrote.counted wrote.stand wrote.right
                 (subst (λ more. Appends old new (head_text ++ more)) (sym (append-nil text))
                 (Appends-trans old held new head_text text put wrote.written)),
           ),
@@ -211,7 +215,7 @@ module _ (input : Option (List ℕ)) (begun : ℕ) (game : Game) (mid : Pending)
         took input begun last old new at (λ bytes. HasWritten false bytes at [] old new) (Stopped Write) few
         (Reads_then _ _ _ _ _ _ head wrote.reads (λ bytes m rest p q. (
           passes_most (3 + (at - 3)) at bytes rest (omega (arith, wrote.counted)) (passes_then 3 (at - 3) bytes m rest p.0 q.0),
-          has_written false bytes m at shown wrote.lines q.1.0 p.1 q.1.1 wrote.counted wrote.right
+          has_written false bytes m at shown wrote.lines q.1.0 p.1 q.1.1 wrote.counted wrote.stand wrote.right
               (AppendsPrefix_more false old held new head_text (text ++ []) put (AppendsPrefix_take held new text [] wrote.written)),
         )))
         (λ taken here all lines. (at, [], here))
@@ -238,6 +242,7 @@ module _ (input : Option (List ℕ)) (begun : ℕ) (game : Game) (mid : Pending)
         let stopped : Wrote true game.position t.known at mid last held new (StopsBehind game.position before after (stops.Refused r) at) = record {
           lines = wrote.lines;
           counted = wrote.counted;
+          stand = wrote.stand;
           right = wrote.right;
           written = wrote.written;
           reads = Reads_more _ _ _ _ wrote.reads (λ bytes rest p. record {
@@ -283,7 +288,7 @@ module _ (input : Option (List ℕ)) (begun : ℕ) (game : Game) (mid : Pending)
           record {
             accepted = p.1.goes.answer ∙ answer;
             says = p.1.goes.says ∙ says_lines m q.cut;
-            has = has_lines bytes m at wrote.lines [] p.1 (q.cut ∙ sym (append-nil wrote.lines)) wrote.counted;
+            has = has_lines bytes m at wrote.lines [] p.1 (q.cut ∙ sym (append-nil wrote.lines)) wrote.counted wrote.stand;
             ends = (accepted.after, right_all game wrote.lines right.verdict right.lemmas accepted, inr (right.verdict, accepted.verdict_right, refl));
             upgrade = upgraded_all game wrote.lines right.verdict right.lemmas accepted (game_of p.1.more) p.1.text;
           },
@@ -322,6 +327,7 @@ module _ (input : Option (List ℕ)) (begun : ℕ) (game : Game) (mid : Pending)
             lines = here.has;
             right = here.ends.1;
             ends = here.ends.2;
+            verdict = inr (right.verdict, right.lemmas, here.accepted, refl);
             written = AppendsPrefix_more false old held new head_text (text ++ verdict_line right.verdict) put
                 (AppendsPrefix_more false held all new text (verdict_line right.verdict) wrote.written cut);
           },

@@ -18,7 +18,7 @@ use Rattle.proof_text.specs.Checked.{CheckerState, with_line, lemmas_in}
 use Rattle.proof_text.specs.Lemma.{Line as Said, ALemma, ARemark, AVerdict}
 use Rattle.proof_text.specs.Right.{Shown, AreRight}
 use Rattle.proof_text.specs.Spelling.{lines_of}
-use Rattle.proof_text.specs.Texts.{most_lines, pieces, lines_in, first_number, with_said, start, verdict_answer}
+use Rattle.proof_text.specs.Texts.{most_lines, pieces, lines_in, first_number, bytes_refusal, with_said, with_bytes, start, verdict_answer}
 use Rattle.proof_text.specs.Upgrade.{upgraded}
 use Rattle.proof_text.specs.declared.Version.TheVariants.{One}
 use Rattle.proof_text.specs.declared.Why.TheVariants.{BadLine}
@@ -36,7 +36,8 @@ use Rattle.run_proof.proofs.Judging.{goes_then, stops_earlier}
 use Rattle.run_proof.proofs.Known.{line_goes, line_stops, long_stops, unread_stops}
 use Rattle.run_proof.proofs.Lines.{none_got}
 use Rattle.run_upgrade.specs.Steps.{said, text_behind, IsAdded, InStep, WritesLine, PassesLine, AddsNext, LeavesNone, StopsNext, WritesNext}
-use Rattle.run_upgrade.specs.Steps.{Wrote, IsBehind, AreAll, Passes, StopsBehind, WritesLines, SourceRose, SinkRose}
+use Rattle.run_upgrade.specs.Upgrades.{NoneRefused}
+use Rattle.run_upgrade.specs.Steps.{behind_added, Wrote, IsBehind, AreAll, Passes, StopsBehind, WritesLines, SourceRose, SinkRose}
 use Rattle.run_upgrade.specs.declared.upgraded.UpgradeStop.{UpgradeStop}
 use Rattle.run_upgrade.specs.declared.upgraded.UpgradeStop.TheVariants.{Proof, Write}
 use Rattle.run_upgrade.proofs.Written.{line_says, bare_written}
@@ -132,15 +133,34 @@ said_more root (first ∷ lines) line =
     ∙ sym (append_assoc (said root (first ∷ [])) (said root lines) (said root (line ∷ [])))
     ∙ ap (λ ls. ls ++ said root (line ∷ [])) (sym (said_first One (board_of root) first lines))
 
+-- one line more is added, and none of them is refused
+added_more : (s : CheckerState) (lines : List (List ℕ)) (line : List ℕ) → behind_added s (lines ++ line ∷ []) ≡ with_bytes One (behind_added s lines) line
+added_more s [] line = refl
+added_more s (first ∷ lines) line = added_more (with_bytes One s first) lines line
+
+stand_more : (s : CheckerState) (at : ℕ) (lines : List (List ℕ)) (line : List ℕ) → NoneRefused s at lines
+    → bytes_refusal One (behind_added s lines) (length lines + at) line ≡ None → NoneRefused s at (lines ++ line ∷ [])
+stand_more s at [] line stand here =
+    let first : length {A = List ℕ} [] + at ≡ at = omega arith in
+    (subst (λ n. bytes_refusal One s n line ≡ None) first here, tt)
+stand_more s at (first ∷ lines) line stand here =
+    let moved : length (first ∷ lines) + at ≡ length lines + (at + 1) = omega arith in (
+      stand.0,
+      stand_more (with_bytes One s first) (at + 1) lines line stand.1
+          (subst (λ n. bytes_refusal One (behind_added (with_bytes One s first) lines) n line ≡ None) moved here),
+    )
+
 -- before the first line nothing was written
 pub wrote_none : (s : CheckerState) (a : Pending) (old : Option (List ℕ)) → s ≡ start s.root
     → Wrote true s.root s.known first_number a a old old (IsBehind s.root s first_number)
 wrote_none s a old begins = record {
   lines = [];
   counted = omega arith;
+  stand = tt;
   right = ap (λ s. s.known) begins;
   written = Appends-nil old;
   reads = Reads_start a _ (λ bytes. record {
+    state = begins;
     few = passes_none bytes;
     goes = subst (λ t. GoesOn (AtLine One (start s.root) first_number) bytes (AtLine One t first_number) bytes []) (sym begins)
         (record { answer = refl; reaches = λ reach. reach; says = refl });
@@ -153,6 +173,10 @@ module _ (s : CheckerState) (at : ℕ) (a b c : Pending) (old mid new : Option (
   -- no proof has more lines
   within : (t : CheckerState) (line : List ℕ) → IsAdded s t at line → at + 1 ≤ most_lines_read
   within t line added = omega (arith, leb-true at most_lines (bytes_of_none One s at line added.0).3)
+
+  -- what stands behind them
+  stands_behind : s ≡ behind_added (start s.root) wrote.lines
+  stands_behind = (wrote.reads.fact [] (λ _. refl)).state
 
   lines_more : (whole : Bool) (t : CheckerState) → AddsNext whole b c s t at mid new
       → Wrote whole s.root t.known (at + 1) a c old new (IsBehind s.root t (at + 1))
@@ -170,11 +194,15 @@ module _ (s : CheckerState) (at : ℕ) (a b c : Pending) (old mid new : Option (
       record {
         lines = wrote.lines ++ next.line ∷ [];
         counted = omega (arith, length-append wrote.lines (next.line ∷ []), wrote.counted);
+        stand = stand_more (start s.root) first_number wrote.lines next.line wrote.stand
+            (subst (λ n. bytes_refusal One (behind_added (start s.root) wrote.lines) n next.line ≡ None) (sym wrote.counted)
+            (subst (λ s. bytes_refusal One s at next.line ≡ None) stands_behind next.added.0));
         right = subst (λ ls. AreRight s.root [] ls t.known) (sym more)
             (subst (λ t. AreRight s.root [] (ls ++ lemmas_in (found.0 ∷ [])) t.known) (sym stands) (right_line s ls found.0 wrote.right found.2));
         written = subst (AppendsPrefix whole old new) (sym text)
             (AppendsPrefix_more whole old mid new (lines_of (upgraded s.root [] ls)) (text_behind s (next.line ∷ [])) wrote.written next.written);
         reads = Reads_then a b c _ _ _ wrote.reads next.reads (λ bytes m rest p q. record {
+          state = next.added.1 ∙ ap (λ s. with_bytes One s next.line) stands_behind ∙ sym (added_more (start s.root) wrote.lines next.line);
           few = passes_most (at - first_number + 1) (at + 1 - first_number) bytes rest (omega (arith, wrote.counted))
               (passes_then (at - first_number) 1 bytes m rest p.few q.0);
           goes = subst (GoesOn (AtLine One (start s.root) first_number) bytes (AtLine One t (at + 1)) rest) (sym (said_more s.root wrote.lines next.line))
@@ -196,6 +224,7 @@ module _ (s : CheckerState) (at : ℕ) (a b c : Pending) (old mid new : Option (
   all_lines t none = record {
     lines = wrote.lines;
     counted = wrote.counted;
+    stand = wrote.stand;
     right = subst (λ t. AreRight s.root [] (said s.root wrote.lines) t.known) (sym none.same) wrote.right;
     written = Appends-kept old mid new (lines_of (upgraded s.root [] (said s.root wrote.lines))) wrote.written none.kept;
     reads = Reads_then a b c _ _ _ wrote.reads none.reads (λ bytes m rest p q. record {
@@ -225,6 +254,7 @@ module _ (s : CheckerState) (at : ℕ) (a b c : Pending) (old mid new : Option (
           record {
             lines = more.lines;
             counted = more.counted;
+            stand = more.stand;
             right = more.right;
             written = more.written;
             reads = Reads_more a c _ _ more.reads (λ bytes rest p.
@@ -241,6 +271,7 @@ module _ (s : CheckerState) (at : ℕ) (a b c : Pending) (old mid new : Option (
       record {
         lines = wrote.lines;
         counted = wrote.counted;
+        stand = wrote.stand;
         right = wrote.right;
         written = Appends-kept old mid new (lines_of (upgraded s.root [] (said s.root wrote.lines))) wrote.written next.kept;
         reads = Reads_then a b c _ _ _ wrote.reads next.reads (λ bytes m rest p q. record {
@@ -267,6 +298,7 @@ module _ (root : Position) (a b : Pending) (old new sent : Option (List ℕ)) (k
   wrote_sent shown at Fact wrote = record {
     lines = wrote.lines;
     counted = wrote.counted;
+    stand = wrote.stand;
     right = wrote.right;
     written = Appends-kept old new sent (lines_of (upgraded root [] (said root wrote.lines))) wrote.written kept;
     reads = wrote.reads;
@@ -281,6 +313,7 @@ module _ (root : Position) (a b : Pending) (old new sent : Option (List ℕ)) (k
       record {
         lines = wrote.lines;
         counted = wrote.counted;
+        stand = wrote.stand;
         right = wrote.right;
         written = AppendsPrefix_all false old sent text (Appends-kept old new sent text wrote.written kept);
         reads = Reads_more a b _ _ wrote.reads (more wrote.lines);

@@ -21,6 +21,7 @@ use Rattle.run_proof.specs.Taken.{lemmas_said}
 use Rattle.run_proof.specs.Whole.{most_lines_read}
 use Rattle.run_proof.specs.declared.stop.ProofStop.{ProofStop}
 use Rattle.run_proof.specs.declared.stop.ProofStop.TheVariants as stops
+use Rattle.run_upgrade.specs.Upgrades.{NoneRefused}
 use Rattle.run_upgrade.specs.declared.upgraded.UpgradeEnd.{UpgradeEnd}
 use Rattle.run_upgrade.specs.declared.upgraded.UpgradeEnd.TheVariants.{Done, Stopped}
 use Rattle.run_upgrade.specs.declared.upgraded.UpgradeStop.{UpgradeStop}
@@ -134,12 +135,18 @@ WritesNext a b s t at before after old new (Err (Proof stop)) = StopsNext a b s 
 
 -- ---- further lines
 
+-- what stands behind lines that were added
+abbrev pub behind_added : CheckerState → List (List ℕ) → CheckerState
+behind_added s [] = s
+behind_added s (line ∷ lines) = behind_added (with_bytes One s line) lines
+
 -- Of the lines behind a game those up to the one with this number were added, and show this; what becomes of them was written, or
 -- a prefix of that. A fact of them holds of the bytes that were left before them and of those that are left.
 pub record Wrote (whole : Bool) (root : Position) (shown : List Shown) (at : ℕ) (a b : Pending) (old new : Option (List ℕ))
     (Fact : List (List ℕ) → List ℕ → List ℕ → Type 0) : Type 0 where
   pub lines : List (List ℕ)
   pub counted : length lines + first_number ≡ at
+  pub stand : NoneRefused (start root) first_number lines
   pub right : AreRight root [] (said root lines) shown
   pub written : AppendsPrefix whole old new (lines_of (upgraded root [] (said root lines)))
   pub reads : Reads a b (Fact lines)
@@ -150,6 +157,7 @@ BeginWith lines bytes = (rest : List (List ℕ)) × (lines_in (pieces bytes) ≡
 
 -- they were passed, and behind them stands this
 pub record IsBehind (root : Position) (s : CheckerState) (at : ℕ) (lines : List (List ℕ)) (bytes rest : List ℕ) : Type 0 where
+  pub state : s ≡ behind_added (start root) lines
   pub few : PassesLines (at - first_number) bytes rest
   pub goes : GoesOn (AtLine One (start root) first_number) bytes (AtLine One s at) rest (said root lines)
   pub cut : lines_in (pieces bytes) ≡ lines ++ lines_in (pieces rest)

@@ -1,14 +1,15 @@
 -- How `upgrade` ends, what it writes, and what it promises of the bytes that it took and of its sink, by its end. What is said
 -- of what a sink holds is said of a sink that tells it.
-use Rattle.std.specs.Prelude.{◌≡◌, ◌⊎◌, ℕ, ◌+◌, Bool, true, false, List, [], ◌∷◌, ◌++◌, length, Option, Some, IfSome}
+use Rattle.std.specs.Prelude.{◌≡◌, ◌⊎◌, ℕ, ◌+◌, Bool, true, false, List, [], ◌∷◌, ◌++◌, length, Option, Some, None, IfSome, ⊤}
 use Rattle.std.specs.Io.KnownBytes.{Keeps, Appends}
 use Rattle.device_rules.specs.Devices.{AppendsPrefix}
 use Rattle.game_rules.specs.Game.{Game, board_played, IsTextOf}
 use Rattle.proof_text.specs.Lemma.{Lemma}
 use Rattle.proof_text.specs.Right.{Shown, AreRight}
-use Rattle.proof_text.specs.Spelling.{lines_of}
+use Rattle.proof_text.specs.Checked.{CheckerState}
+use Rattle.proof_text.specs.Spelling.{lines_of, verdict_line}
 use Rattle.proof_text.specs.Texts as answers
-use Rattle.proof_text.specs.Texts.{pieces, game_of, behind_game, first_number, first_line, head_of, check_in, IsRightText}
+use Rattle.proof_text.specs.Texts.{pieces, game_of, behind_game, first_number, first_line, head_of, bytes_refusal, with_bytes, start, check_in, IsRightText}
 use Rattle.proof_text.specs.Upgrade.{upgraded, upgraded_text}
 use Rattle.proof_text.specs.Written.{IsLastLine}
 use Rattle.proof_text.specs.declared.Verdict.{Verdict}
@@ -39,8 +40,13 @@ upgrade_text (Stopped Write) = write_line
 
 -- ---- what is read
 
+-- Behind what stands none of the lines is refused; the first has this number.
+abbrev pub NoneRefused : CheckerState → ℕ → List (List ℕ) → Type 0
+NoneRefused s at [] = ⊤
+NoneRefused s at (line ∷ lines) = (bytes_refusal One s at line ≡ None) × NoneRefused (with_bytes One s line) (at + 1) lines
+
 -- The bytes begin with the line that names the first version and with the text of this game, and the lines behind it, up to
--- the one with this number, say these lemmas.
+-- the one with this number, say these lemmas. None of them is refused.
 pub record HasLines (bytes : List ℕ) (game : Game) (at : ℕ) (lemmas : List Lemma) : Type 0 where
   pub more : List (List ℕ)
   pub cut : pieces bytes ≡ first_line One ∷ more
@@ -49,12 +55,18 @@ pub record HasLines (bytes : List ℕ) (game : Game) (at : ℕ) (lemmas : List L
   pub rest : List (List ℕ)
   pub all : behind_game more ≡ lines ++ rest
   pub counted : length lines + first_number ≡ at
+  pub stand : NoneRefused (start game.position) first_number lines
   pub say : lemmas_said One (board_played game) lines ≡ lemmas
 
 -- ---- what is written
 
+-- no line, or that of the verdict with which the bytes are accepted
+abbrev pub IsToldVerdict : List ℕ → List ℕ → Type 0
+IsToldVerdict bytes last = (last ≡ []) ⊎ ((v : Verdict) × (count : ℕ) × (check_in One bytes ≡ answers.Accepted v count) × (last ≡ verdict_line v))
+
 -- While a proof is upgraded, behind the bytes that were there stands the head of its game in the second version, what
--- becomes of the lemmas before a line, all of them right, and then nothing more or a right verdict; or a prefix of that.
+-- becomes of the lemmas before a line, all of them right, and then nothing more, or the verdict with which the bytes are a proof
+-- that is accepted; or a prefix of that.
 pub record HasWritten (whole : Bool) (bytes : List ℕ) (at : ℕ) (last : List ℕ) (old new : Option (List ℕ)) : Type 0 where
   pub game : Game
   pub lemmas : List Lemma
@@ -62,6 +74,7 @@ pub record HasWritten (whole : Bool) (bytes : List ℕ) (at : ℕ) (last : List 
   pub lines : HasLines bytes game at lemmas
   pub right : AreRight game.position [] lemmas shown
   pub ends : IsLastLine game.position shown last
+  pub verdict : IsToldVerdict bytes last
   pub written : AppendsPrefix whole old new (head_of Two (board_played game) game.moves ++ (lines_of (upgraded game.position [] lemmas) ++ last))
 
 -- The bytes are a right proof of the first version. What was written is the text that becomes of its game, of its lemmas and

@@ -1,5 +1,5 @@
 //! Whom the marks of a game's moves ask, and how often.
-ghost use Rattle.std.specs.Prelude.{true};
+ghost use Rattle.std.specs.Prelude.{◌≡◌, false};
 
 use board_bits::{End, Position, read_game_moves};
 use proof_tools::{Mark, Valuer, annotate};
@@ -18,7 +18,7 @@ struct KnowsNothing {
 }
 
 impl Valuer for KnowsNothing {
-    ghost short = { λ nobody. λ p. true };
+    ghost holds = { λ nobody. λ p. λ found. found ≡ false };
 
     fn value_of(&mut self, _p: &Position) -> Result<Option<End>, AllocError> {
         self.asked = self.asked.saturating_add(1);

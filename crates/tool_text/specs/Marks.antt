@@ -1,5 +1,5 @@
 -- Which moves of a game are mistakes: the value before and after each of them, to the side that moves.
-use Rattle.std.specs.Prelude.{◌≡◌, ◌<◌, ℕ, ◌+◌, ◌-◌, Bool, true, ◌||◌, if◌then◌else◌, List, [], ◌∷◌, ◌++◌, length, take, drop, Some, codes, decimal, ⊤}
+use Rattle.std.specs.Prelude.{◌≡◌, ◌⊎◌, ◌<◌, ℕ, ◌+◌, ◌-◌, Bool, true, false, if◌then◌else◌, List, [], ◌∷◌, ◌++◌, length, take, drop, Some, codes, decimal, ⊤}
 use Rattle.game_rules.specs.Board.{Board}
 use Rattle.game_rules.specs.Position.{Position, side_to_move, height, after_move, empty_position, played}
 use Rattle.game_rules.specs.Value.{win_of, same_end, value}
@@ -15,28 +15,28 @@ use Rattle.tool_text.specs.declared.Mark.TheVariants.{Fine, Bad, Open}
 abbrev pub worth : Side → End → ℕ
 worth side end = if same_end (win_of side) end then 2 else (if same_end ends.Draw end then 1 else 0)
 
--- What a mark says of the move from one position to another. It may be left open only where the value of one of them may
--- be wanting.
-abbrev pub Says : (Position → Bool) → Position → Position → Mark → Type 0
-Says may_want p q Fine = value q ≡ value p
-Says may_want p q Bad = worth (side_to_move p) (value q) < worth (side_to_move p) (value p)
-Says may_want p q Open = (may_want p || may_want q) ≡ true
+-- What a mark says of the move from one position to another, where this holds of a position whose value was found, and of one
+-- where it is wanting. It is left open where the value of one of them is wanting, and else both were found.
+abbrev pub Says : (Position → Bool → Type 0) → Position → Position → Mark → Type 0
+Says Holds p q Fine = Holds p true × Holds q true × (value q ≡ value p)
+Says Holds p q Bad = Holds p true × Holds q true × (worth (side_to_move p) (value q) < worth (side_to_move p) (value p))
+Says Holds p q Open = Holds p false ⊎ Holds q false
 
 -- each move has its mark, from a position on
-abbrev pub AreMarks : (Position → Bool) → Position → List ℕ → List Mark → Type 0
-AreMarks may_want p [] [] = ⊤
-AreMarks may_want p [] (mark ∷ marks) = ⊥
-AreMarks may_want p (column ∷ columns) [] = ⊥
-AreMarks may_want p (column ∷ columns) (mark ∷ marks) = Says may_want p (after_move p column) mark × AreMarks may_want (after_move p column) columns marks
+abbrev pub AreMarks : (Position → Bool → Type 0) → Position → List ℕ → List Mark → Type 0
+AreMarks Holds p [] [] = ⊤
+AreMarks Holds p [] (mark ∷ marks) = ⊥
+AreMarks Holds p (column ∷ columns) [] = ⊥
+AreMarks Holds p (column ∷ columns) (mark ∷ marks) = Says Holds p (after_move p column) mark × AreMarks Holds (after_move p column) columns marks
 
 -- the last moves of a game, of which so many are left out before them, have their marks
-abbrev pub AreMarksBehind : (Position → Bool) → Board → List ℕ → ℕ → List Mark → Type 0
-AreMarksBehind may_want board columns first marks =
-    (p : Position) → played (empty_position board) (take first columns) ≡ Some p → AreMarks may_want p (drop first columns) marks
+abbrev pub AreMarksBehind : (Position → Bool → Type 0) → Board → List ℕ → ℕ → List Mark → Type 0
+AreMarksBehind Holds board columns first marks =
+    (p : Position) → played (empty_position board) (take first columns) ≡ Some p → AreMarks Holds p (drop first columns) marks
 
 -- the same of the last so many moves, or of all where there are fewer
-abbrev pub AreLastMarks : (Position → Bool) → Board → List ℕ → ℕ → List Mark → Type 0
-AreLastMarks may_want board columns last marks = AreMarksBehind may_want board columns (length columns - last) marks
+abbrev pub AreLastMarks : (Position → Bool → Type 0) → Board → List ℕ → ℕ → List Mark → Type 0
+AreLastMarks Holds board columns last marks = AreMarksBehind Holds board columns (length columns - last) marks
 
 -- ---- what is written of them
 

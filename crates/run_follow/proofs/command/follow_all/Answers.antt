@@ -8,6 +8,7 @@ use Rattle.run_follow.specs.Turns.{follow_stands, player_turn}
 use Rattle.run_follow.specs.declared.not_followed.NotFollowed.TheVariants.{Proof}
 use Rattle.run_follow.proofs.Judged.{proof_stops, proof_caused, proof_unwritten, begin_starts, begin_stops, first_within, first_unread, first_unwritten}
 use Rattle.run_follow.proofs.Judged.{turns_kept, turns_within, turns_unread, turns_unwritten}
+use Rattle.run_follow.proofs.Begins.{proof_begins, first_begins, moves_begin, turns_begin}
 use Rattle.run_follow.proofs.command.follow_all.Goals as goal
 
 -- ---- the proof stopped the run
@@ -21,6 +22,7 @@ returns-in-Err-clause-plays g c = record {
   one = omega arith;
   plays = head_stopped (follow_form c.args.holder 3 0) _ _ _ _ _ _ (stops.Head (Proof c.in-Err.stop)) c.new-lines.ensures
       (proof_stops c.args.holder _ _ _ _ _ c.in-Err.stop c.in-Err.ensures.answer);
+  begins = proof_begins _ _ _ _ c.new-lines.ensures c.args.holder _ _ c.in-Err.stop c.in-Err.ensures.answer;
   kept = Keeps-refl _;
   within = c.in-Err.ensures.few;
 }
@@ -47,6 +49,8 @@ returns-in_err-player-clause-plays g c =
       one = puts.few;
       plays = head_stopped (follow_form c.args.holder proof.at (length puts.lines)) _ _ _ _ _ _ stop c.new-lines.ensures
           (begin_stops c.args.holder _ _ proof.root proof.verdict proof.at _ c.in-Ok.ensures.answer _ _ stop _ _ puts c.in_err-player.ensures.stops);
+      begins = first_begins _ _ _ _ c.new-lines.ensures c.args.holder proof.root proof.verdict proof.at _ c.in-Ok.ensures.answer _ _ _ _ stop puts
+          c.in_err-player.ensures.stops;
       kept = c.in_err-player.ensures.kept;
       within = first_within proof.at _ _ stop c.in-Ok.ensures.few.1 c.in_err-player.ensures.stops;
     })
@@ -83,6 +87,9 @@ returns-in_err-play_turns-clause-plays g c =
           _ _ _ _ _ _ _ _ _ _ begun.ensures.few c.new-lines.ensures
           (begin_starts c.args.holder _ _ proof.root proof.verdict proof.at _ c.in-Ok.ensures.answer _ _ begun.player puts) c.play_turns.result
           stopped.field-0.0 stopped.was stopped.ensures.plays c.play_turns.ensures.waiting;
+      begins = turns_begin c.args.holder proof.at (length puts.lines) _ _ _ stopped.field-0.0
+          (moves_begin _ _ _ _ c.new-lines.ensures c.args.holder _ proof.root proof.verdict proof.at (length puts.lines) _ c.in-Ok.ensures.answer _ puts.opens
+          stopped.ensures.plays.reads);
       kept = turns_kept _ _ stopped.field-0.0;
       within = turns_within stopped.field-0.0;
     })
@@ -114,6 +121,8 @@ returns-clause-plays g c =
           _ _ _ _ _ _ _ _ _ _ begun.ensures.few c.new-lines.ensures
           (begin_starts c.args.holder _ _ proof.root proof.verdict proof.at _ c.in-Ok.ensures.answer _ _ begun.player puts)
           c.in_ok-play_turns.ensures.plays c.in_ok-play_turns.ensures.ended;
+      begins = moves_begin _ _ _ _ c.new-lines.ensures c.args.holder _ proof.root proof.verdict proof.at (length puts.lines) _ c.in-Ok.ensures.answer _ puts.opens
+          c.in_ok-play_turns.ensures.plays.reads;
       kept = tt;
       within = tt;
     }

@@ -7,7 +7,7 @@ use Rattle.game_rules.specs.Position.{Position, board_of}
 use Rattle.proof_player.specs.Playing.{FollowState}
 use Rattle.run_follow.specs.Opening.{PutsFirst}
 use Rattle.run_follow.specs.Turns.{CanReply, first_line, turns_left}
-use Rattle.run_follow.proofs.First.{none_goes, first_goes, first_can, few_turns, put_begun, put_cut}
+use Rattle.run_follow.proofs.First.{none_goes, first_goes, none_opens, first_opens, first_can, few_turns, put_begun, put_cut}
 use Rattle.run_follow.proofs.opening.put_first.Goals as goal
 
 pub first_line-line-requires : goal.first_line-line-requires
@@ -25,7 +25,7 @@ returns-in-Ok-clause-head g c = λ n is.
     let put : Appends old new (first_line s.now c.in-Some.reply) = subst (Appends old new) line_is c.in-Ok.ensures.written in
     subst (λ (t : FollowState). PutsFirst s.lemmas s.holder s.now c.args.at (Some n) old new (Ok t)) (sym c.new.ensures)
     (put_begun s t n is c.args.at (first_line s.now c.in-Some.reply ∷ []) old new (omega arith)
-    (first_goes s t n is c.args.at c.in-Some.reply c.in-Some.ensures.value) (subst (Appends old new) (sym (append-nil (first_line s.now c.in-Some.reply))) put))
+    (first_opens s t n is c.in-Some.reply c.in-Some.ensures.value) (first_goes s t n is c.args.at c.in-Some.reply c.in-Some.ensures.value) (subst (Appends old new) (sym (append-nil (first_line s.now c.in-Some.reply))) put))
 
 pub returns-in-Ok-clause-few : goal.returns-in-Ok-clause-few
 returns-in-Ok-clause-few g c =
@@ -41,7 +41,7 @@ returns-in-Err-clause-head g c = λ n is.
     let old = g.O.Sink.written c.args.out.now in
     let new = g.O.Sink.written c.put_line.new.out in
     let line_is = c.as_slice.ensures.value ∙ c.first_line-line.ensures ∙ ap (λ (now : Position). first_line now c.in-Some.reply) c.now.ensures in
-    put_cut s t n is c.args.at (first_line s.now c.in-Some.reply) old new (first_goes s t n is c.args.at c.in-Some.reply c.in-Some.ensures.value)
+    put_cut s t n is c.args.at (first_line s.now c.in-Some.reply) old new (first_opens s t n is c.in-Some.reply c.in-Some.ensures.value) (first_goes s t n is c.args.at c.in-Some.reply c.in-Some.ensures.value)
     (subst (AppendsPrefix false old new) line_is c.in-Err.ensures.written)
 
 pub returns-in-None-clause-head : goal.returns-in-None-clause-head
@@ -50,7 +50,7 @@ returns-in-None-clause-head g c = λ n is.
     let t = c.first.new.self in
     let old = g.O.Sink.written c.args.out.now in
     subst (λ (t : FollowState). PutsFirst s.lemmas s.holder s.now c.args.at (Some n) old old (Ok t)) (sym c.new-in-None.ensures)
-    (put_begun s t n is c.args.at [] old old (omega arith) (none_goes s t n is c.args.at c.in-None.ensures.value) (Appends-nil old))
+    (put_begun s t n is c.args.at [] old old (omega arith) (none_opens s t n is c.in-None.ensures.value) (none_goes s t n is c.args.at c.in-None.ensures.value) (Appends-nil old))
 
 pub returns-in-None-clause-few : goal.returns-in-None-clause-few
 returns-in-None-clause-few g c =

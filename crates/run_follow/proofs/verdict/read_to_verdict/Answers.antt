@@ -6,7 +6,7 @@ use Rattle.proof_text.specs.Checked.{CheckerState}
 use Rattle.proof_text.specs.Lemma.{Lemma}
 use Rattle.proof_text.specs.Texts.{first_number}
 use Rattle.run_proof.specs.Steps.{IsNamed, lines_read_until}
-use Rattle.run_follow.specs.Reading.{judged_by, AreKept, GoesTo, StopsReading}
+use Rattle.run_follow.specs.Reading.{AreKept, GoesTo, StopsLines}
 use Rattle.run_follow.proofs.Heads.{head_stopped, game_stopped, lines_stopped, lines_gone, proof_right, first_most, game_most, start_kept}
 use Rattle.run_follow.proofs.verdict.read_to_verdict.Goals as goal
 
@@ -56,8 +56,7 @@ returns-in_err-end-clause-answer g c =
     let added = c.add_lines.new in
     let d = pending added.lines (g.S.Source.left added.source) (g.S.Source.last_read added.source) in
     let P : CheckerState → List Lemma → Type 0 = λ s ls. Reads b d (λ bytes rest. PassesLines (lines_read_until stop - 3) bytes rest
-    × StopsReading (λ holder. judged_by holder c.in_ok-version.version s ls first_number bytes) (g.S.Source.faults game_lines.source)
-    (g.S.Source.faults added.source) stop) in
+    × StopsLines c.in_ok-version.version s ls first_number bytes rest (g.S.Source.faults game_lines.source) (g.S.Source.faults added.source) stop) in
     let stopped = subst (λ s. P s []) (ap (λ s. s.stands) c.new-checker.ensures)
     (subst (P c.new-checker.result.stands) c.requires c.in_err-end.ensures.answer) in
     rw (same.1, same.2) (lines_stopped _ _ _ c.in_ok-version.version first _ c.in_ok-root.root c.in_ok-root.ensures.answer _ _ _ stop

@@ -6,7 +6,7 @@ use Rattle.game_rules.specs.Text.{game_at}
 use Rattle.io_ports.specs.Reading.{pending, Reads, PassesLines}
 use Rattle.run_frame.specs.Reading.{KeepsLine}
 use Rattle.run_frame.proofs.GameRead.{game_known, game_stops, game_unread}
-use Rattle.io_ports.proofs.Reading.{Reads_then, passes_then}
+use Rattle.io_ports.proofs.Reading.{Reads_more, Reads_then, passes_then, passes_most}
 use Rattle.run_frame.proofs.game_lines.read_played_game.Goals as goal
 
 pub returns-in_err-keep_line-clause-answer : goal.returns-in_err-keep_line-clause-answer
@@ -40,3 +40,11 @@ returns-in-Err-clause-answer g c =
     let P : List ℕ → Type 0 = λ text. Reads a b (λ bytes rest. PassesLines 1 bytes rest × KeepsLine text one bytes rest) in
     game_stops a b _ one c.keep_line-2.new.text.items (subst P c.new-text.ensures c.in_ok-keep_line.ensures.kept) c.in_ok-keep_line-2.ensures.kept
     c.in-Err.fault (ap game_at (sym c.as_slice.ensures.value) ∙ c.in-Err.ensures.position)
+
+pub returns-in_err-keep_line-clause-unread : goal.returns-in_err-keep_line-clause-unread
+returns-in_err-keep_line-clause-unread g c = λ read. Reads_more _ _ _ _ c.in_err-keep_line.ensures.unread
+    (λ bytes rest passes. passes_most 0 1 bytes rest (omega arith) passes)
+
+pub returns-in_err-keep_line-2-clause-unread : goal.returns-in_err-keep_line-2-clause-unread
+returns-in_err-keep_line-2-clause-unread g c = λ read. Reads_then _ _ _ _ _ _ c.in_ok-keep_line.ensures.kept c.in_err-keep_line-2.ensures.unread
+    (λ bytes mid rest p q. passes_then 1 0 bytes mid rest p.0 q)

@@ -1,6 +1,6 @@
 use Rattle.std.proofs.Common.{arith}
 use Rattle.std.proofs.lemmas.Result.{err_from_is_err_and}
-use Rattle.run_turns.proofs.Stopped.{game_stops, game_waits, game_caused, caused_before}
+use Rattle.run_turns.proofs.Stopped.{game_stops, game_short, game_waits, game_caused, caused_before}
 use Rattle.run_play.specs.Plays.{play_form}
 use Rattle.run_play.specs.declared.no_plan.NoPlan.{NoPlan}
 use Rattle.run_play.proofs.Read.{game_none}
@@ -10,7 +10,8 @@ use Rattle.run_play.proofs.head.read_player.Goals as goal
 pub returns-in_err-root-clause-answer : goal.returns-in_err-root-clause-answer
 returns-in_err-root-clause-answer g c =
     let same = err_from_is_err_and c.from_residual.result c.from_residual.ensures.1 in
-    rw (same.1, same.2) (game_stops play_form (omega arith) game_none _ _ _ _ c.in_err-root.field-0.0 c.in_err-root.ensures.answer)
+    rw (same.1, same.2) (game_stops play_form (omega arith) game_none _ _ _ _ c.in_err-root.field-0.0 c.in_err-root.ensures.answer
+    (game_short _ _ c.read_game_lines.result c.in_err-root.field-0.0 c.in_err-root.was c.read_game_lines.ensures.unread))
 
 pub returns-in_err-root-clause-waiting : goal.returns-in_err-root-clause-waiting
 returns-in_err-root-clause-waiting g c =

@@ -1,7 +1,7 @@
 use Rattle.std.proofs.Common.{arith}
 use Rattle.std.proofs.lemmas.Result.{err_from_is_err_and}
 use Rattle.run_turns.specs.declared.game_end.GameStop.TheVariants as stops
-use Rattle.run_turns.proofs.Stopped.{game_stops, game_waits, game_caused, reading_caused, opening_caused, turns_caused}
+use Rattle.run_turns.proofs.Stopped.{game_stops, game_short, game_waits, game_caused, reading_caused, opening_caused, turns_caused}
 use Rattle.run_turns.proofs.Behind.{head_stopped, all_stopped, all_played, nothing_begun}
 use Rattle.threat_text.specs.Threats.{first_move}
 use Rattle.run_threat.specs.Threatens.{threat_form}
@@ -19,7 +19,8 @@ returns-in_err-root-clause-plays g c =
     let why = c.in_err-root.field-0.0 in
     rw (same.1, same.2) (head_stopped threat_form _ _ _ _ _ _ _ c.new-lines.ensures
     (nothing_begun threat_form _ _ _ _ (game_waits NoThreat _ c.read_game_lines.result why c.in_err-root.was c.read_game_lines.ensures.waiting)
-    (game_stops threat_form (omega arith) game_none _ _ _ _ why c.in_err-root.ensures.answer)))
+    (game_stops threat_form (omega arith) game_none _ _ _ _ why c.in_err-root.ensures.answer
+    (game_short _ _ c.read_game_lines.result why c.in_err-root.was c.read_game_lines.ensures.unread))))
 
 pub returns-in_err-root-clause-cause : goal.returns-in_err-root-clause-cause
 returns-in_err-root-clause-cause g c =

@@ -43,6 +43,7 @@ returns-clause-kept c =
     ∙ ap (shown_in a.size (all ++ men ∷ [])) c.push_reserved-2.ensures.items
     ∙ shown_more a.size all claims men c.args.claim c.self.invariant.same_length
     ∙ ap (λ q. shown_in a.size all claims ++ (q, c.args.claim) ∷ []) read in
-    let of : ℕ → List Shown → AllShown = λ left shown. record { board = a.size; shown = shown; spare = left } in
-    let more : ℕ → AllShown → AllShown = λ left s. record { board = s.board; shown = s.shown ++ (p, c.args.claim) ∷ []; spare = left } in
-    ap (of _) shown ∙ ap (more _) same
+    let of : ℕ → ℕ × ℕ → List Shown → AllShown = λ left memory shown. record { board = a.size; shown = shown; spare = left; memory = memory } in
+    let more : ℕ → ℕ × ℕ → AllShown → AllShown =
+    λ left memory s. record { board = s.board; shown = s.shown ++ (p, c.args.claim) ∷ []; spare = left; memory = memory } in
+    ap (of _ _) shown ∙ ap (more _ _) same

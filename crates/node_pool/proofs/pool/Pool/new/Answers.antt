@@ -4,7 +4,7 @@ use Rattle.node_pool.proofs.pool.Pool.new.Goals as goal
 pub invariant_of-result : goal.invariant_of-result
 invariant_of-result g c =
     rw (c.in_ok-with_capacity.ensures.items, c.in_ok-with_capacity-2.ensures.items)
-    (new_kept g.row.T.Denot c.args.slots _ _ c.requires.few c.in_ok-with_capacity.ensures.capacity c.in_ok-with_capacity-2.ensures.capacity)
+    (new_kept g.row.T.Denot c.args.slots _ _ c.requires.few c.in_ok-with_capacity.ensures.exact c.in_ok-with_capacity-2.ensures.exact)
 
 pub returns-clause-empty : goal.returns-clause-empty
 returns-clause-empty g c =
