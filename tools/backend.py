@@ -9,6 +9,7 @@ import zipfile
 from typing import Optional
 
 HERE = pathlib.Path(__file__).resolve().parent
+SUFFIXES = (".py", ".html", ".css", ".js", ".typed")
 WHEEL = "Wheel-Version: 1.0\nGenerator: victor\nRoot-Is-Purelib: true\nTag: py3-none-any\n"
 
 
@@ -21,7 +22,7 @@ def table(name: str) -> dict[str, str]:
 
 def contents(project: dict[str, str], info: str) -> dict[str, bytes]:
     """The files of the wheel by their names."""
-    found = [path for path in sorted((HERE / "victor").rglob("*")) if path.suffix in (".py", ".html", ".typed")]
+    found = [path for path in sorted((HERE / "victor").rglob("*")) if path.suffix in SUFFIXES]
     files = {path.relative_to(HERE).as_posix(): path.read_bytes() for path in found}
     files["victor_check.py"] = (HERE / "check.py").read_bytes()
     metadata = {"Metadata-Version": "2.1", "Name": project["name"], "Version": project["version"]}

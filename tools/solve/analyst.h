@@ -40,9 +40,9 @@ class Analyst {
   public:
     Analyst(const Board<ROWS>& board, Scorer<ROWS>& scorer) : board_(board), scorer_(scorer), openings_(board) {}
 
-    // Reads a table of openings. How many positions it has.
-    size_t read_table(const std::string& name) {
-        openings_.read(name);
+    // Reads a table of openings from files. How many positions it has.
+    size_t read_table(const std::vector<std::string>& names) {
+        openings_.read(names);
         opened_.clear();
         return openings_.size();
     }
@@ -54,7 +54,14 @@ class Analyst {
         settle_values(at, moves, say);
     }
 
-    // The same, and then the moves to the end.
+    // The value of a position, without those of its moves.
+    const char* value(Position at) {
+        if (board_.is_ended(at)) return board_.is_won(at) ? "loss" : "draw";
+        int value = count_of(at.men) <= openings_.men() ? opened(at) : searched(at);
+        return value_of({value, value});
+    }
+
+    // The values of all, and then the moves to the end.
     void scores(Position at, const Say& say) {
         if (says_end(at, say)) return;
         std::vector<Prospect> moves = prospects(at);

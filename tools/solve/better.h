@@ -14,8 +14,7 @@ class Bettered : public Strategy<ROWS> {
 
     // The first strategy, by orders.
     void build(Position root) {
-        root_ = standing(root);
-        grow(options_.order < 4 ? options_.order : 2, NO_LIMIT);
+        add(root);
         if (options_.order == 4 && !progress.is_late(options_.seconds)) {
             std::vector<Moved> moves;
             uint64_t size = drop_noted(root_, moves);
@@ -24,6 +23,15 @@ class Bettered : public Strategy<ROWS> {
         }
         report();
     }
+
+    // The first strategy of one position more.
+    void add(Position root) {
+        root_ = standing(root);
+        grow(options_.order < 4 ? options_.order : 2, NO_LIMIT);
+    }
+
+    // Leaves out the one that was added last.
+    void take_back() { drop(root_); }
 
     // Moves that are taken when a position comes again.
     void keep(const std::vector<Moved>& moves) {

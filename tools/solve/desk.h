@@ -12,12 +12,12 @@ class Desk {
   public:
     virtual ~Desk() = default;
 
-    // Answers `value`, `score`, `line`, or `proof` with the words behind the moves.
+    // Answers `value`, `outcome`, `score`, `line`, or `proof` with the words behind the moves.
     virtual void answer(const std::string& kind, const Game& game, const std::vector<std::string>& words,
                         Answer& answer) = 0;
 
-    // Reads a table of openings. How many positions it has.
-    virtual size_t read_table(const std::string& name) = 0;
+    // Reads a table of openings from files. How many positions it has.
+    virtual size_t read_table(const std::vector<std::string>& names) = 0;
 };
 
 template <int ROWS>
@@ -35,6 +35,7 @@ class DeskOf : public Desk {
         try {
             answer.look();
             if (kind == "value") analyst_.values(at, say);
+            else if (kind == "outcome") say(0, analyst_.value(at), -1);
             else if (kind == "score") analyst_.scores(at, say);
             else if (kind == "line") say_line(at, answer);
             else prove(game, words, answer);
@@ -44,7 +45,7 @@ class DeskOf : public Desk {
         answer.nodes += scorer_.nodes - before;
     }
 
-    size_t read_table(const std::string& name) override { return analyst_.read_table(name); }
+    size_t read_table(const std::vector<std::string>& names) override { return analyst_.read_table(names); }
 
   private:
     Board<ROWS> board_;

@@ -8,8 +8,8 @@
 static const char usage[] =
     "usage: engine\n"
     "Reads requests from standard input, one a line, and writes objects in JSON to standard output, one a line:\n"
-    "value MOVES, score MOVES, line MOVES, proof MOVES FILE [OPTION]..., stop, board C R [5], limits SECONDS MIB,\n"
-    "table FILE and new. docs/ENGINE.md says more.\n";
+    "value MOVES, outcome MOVES, score MOVES, line MOVES, proof MOVES FILE [OPTION]..., stop, board C R [5],\n"
+    "limits SECONDS MIB, table FILE... and new. docs/ENGINE.md says more.\n";
 
 class Engine {
   public:
@@ -48,22 +48,22 @@ class Engine {
     void respond(Words words, Answer& answer) {
         std::string kind = words.empty() ? "" : words[0];
         if (!words.empty()) words.erase(words.begin());
-        if (kind == "value" || kind == "score" || kind == "line") {
+        if (kind == "value" || kind == "outcome" || kind == "score" || kind == "line") {
             needs(words.size() == 1, kind + " takes moves, as dcd, or - for none");
             ask(kind, words, answer);
         } else if (kind == "proof") {
             needs(words.size() >= 2 && !words[1].empty(), "proof takes moves, a file, and options of solve");
             ask(kind, words, answer);
         } else if (kind == "table") {
-            needs(words.size() == 1, "table takes the name of a file");
-            answer.object().add("positions", uint64_t(desk().read_table(words[0]))).write();
+            needs(!words.empty(), "table takes names of files");
+            answer.object().add("positions", uint64_t(desk().read_table(words))).write();
         } else if (kind == "board") {
             set_board(words);
         } else if (kind == "limits") {
             set_limits(words);
         } else {
             needs(kind == "new" || kind == "stop",
-                  "a request is value, score, line, proof, stop, board, limits, table or new");
+                  "a request is value, outcome, score, line, proof, stop, board, limits, table or new");
             needs(words.empty(), kind + " takes nothing behind it");
             if (kind == "new") forget();
         }

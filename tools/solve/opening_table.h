@@ -76,22 +76,12 @@ class OpeningTable {
   public:
     explicit OpeningTable(const Board<ROWS>& board) : board_(board) {}
 
-    // Reads a file of lines `moves,value` behind one that says so. All have as many moves, and the value is that for the
-    // side to move.
-    void read(const std::string& name) {
-        TableText text(name);
+    // Reads files of lines `moves,value`, each behind one that says so. All have as many moves, and the value is that for
+    // the side to move.
+    void read(const std::vector<std::string>& names) {
         std::vector<Entry> entries;
-        std::string line;
-        size_t men = 0, number = 1;
-        bool is_right = text.read(line) && line == "moves,value";
-        while (is_right && text.read(line)) {
-            if (++number == 2) men = line.find(',');
-            is_right = reads(line, men, entries);
-        }
-        text.finish();
-        if (!is_right || entries.empty()) {
-            throw Fault(name + " is no table of this board: line " + std::to_string(number));
-        }
+        size_t men = std::string::npos;
+        for (const std::string& name : names) read_file(name, men, entries);
         std::sort(entries.begin(), entries.end());
         entries_.swap(entries);
         men_ = int(men);
@@ -124,6 +114,22 @@ class OpeningTable {
     const Board<ROWS>& board_;
     std::vector<Entry> entries_;  // in order
     int men_ = -1;
+
+    // Adds the entries of a file, which tells how many men there are where none did before.
+    void read_file(const std::string& name, size_t& men, std::vector<Entry>& entries) const {
+        TableText text(name);
+        std::string line;
+        size_t number = 1;
+        bool is_right = text.read(line) && line == "moves,value";
+        while (is_right && text.read(line)) {
+            if (++number == 2 && men == std::string::npos) men = line.find(',');
+            is_right = reads(line, men, entries);
+        }
+        text.finish();
+        if (!is_right || number == 1) {
+            throw Fault(name + " is no table of this board: line " + std::to_string(number));
+        }
+    }
 
     bool reads(const std::string& line, size_t men, std::vector<Entry>& entries) const {
         size_t comma = line.find(',');

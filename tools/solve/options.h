@@ -55,7 +55,7 @@ inline const std::vector<Option>& all_options() {
          "the file that the proof is written to; without it, standard output",
          [](Request& asked, Values values) { asked.output = values[0]; }},
         {"--memory", "MIB",
-         "memory for the tables, of which the search takes up to a third, and 264 MiB at most behind the first "
+         "memory for the tables, of which the search takes up to a third, and 264 MiB at most after the first "
          "moves",
          number("--memory", 1, 1 << 20, &Options::memory, 20), default_of(&Options::memory, 20)},
         {"--lemmas", "N",
@@ -99,7 +99,7 @@ inline const std::vector<Option>& all_options() {
          "at most N rounds of better choices",
          number("--rounds", 0, 1000, &Options::rounds), default_of(&Options::rounds)},
         {"--sweeps", "N",
-         "behind them at most N sweeps, each with many renewals; three that bring nothing are the last",
+         "after them at most N sweeps, each with many renewals; three that bring nothing are the last",
          number("--sweeps", 0, 1'000'000'000, &Options::sweeps), default_of(&Options::sweeps)},
         {"--nodes", "N",
          "nodes that may be spent to see whether another move wins",
@@ -118,16 +118,16 @@ inline const std::vector<Option>& all_options() {
          "the moves of this proof are the first strategy, and its value is taken without a search",
          text(&Options::start)},
         {"--also", "FILE",
-         "the moves of this proof are what an order chooses behind it; may stand more than once",
+         "the moves of this proof are what an order chooses after it; may stand more than once",
          [](Request& asked, Values values) { asked.options.also.push_back(values[0]); }},
         {"--changes", "OLD NEW",
-         "behind `--start`: where the proof NEW has another move than the proof OLD, it is taken over; may"
+         "after `--start`: where the proof NEW has another move than the proof OLD, it is taken over; may"
          " stand more than once",
          [](Request& asked, Values values) {
              for (const std::string& value : values) asked.options.changes.push_back(value);
          }},
         {"--below", "MOVES",
-         "only what comes from the position behind these moves alone is swept and renewed, in a graph too;"
+         "only what comes from the position after these moves alone is swept and renewed, in a graph too;"
          " may stand more than once",
          [](Request& asked, Values values) { asked.options.below.emplace_back().moves = values[0]; }},
         {"--beside", "",
@@ -138,13 +138,20 @@ inline const std::vector<Option>& all_options() {
          "none",
          number("--graph", 0, 1 << 20, &Options::graph, 20), default_of(&Options::graph, 20)},
         {"--heat", "N",
-         "in the graph a change may make it larger by a number drawn at random, N hundredths on an "
+         "in the graph a change may make it larger by a number drawn at random, N hundredths on "
          "average, and less and less until `--seconds` are over",
          number("--heat", 0, 10'000, &Options::heat), default_of(&Options::heat)},
         {"--seconds", "N",
-         "no choice is bettered after N seconds of processor time, but in the first strategy, nor is "
+         "no choice is bettered after N CPU seconds, but in the first strategy, nor is "
          "another one taken in",
          number("--seconds", 0, 1'000'000'000, &Options::seconds)},
+        {"--roots", "FILE INDEX",
+         "lemmas for the values of the positions in FILE, each a line of moves that begins with the game's, in "
+         "one text, as many as `--lemmas` allows; INDEX says which lemma shows the value of which",
+         [](Request& asked, Values values) {
+             asked.options.roots = values[0];
+             asked.options.index = values[1];
+         }},
         {"--quiet", "",
          "nothing is said but a fault",
          [](Request&, Values) { progress.is_quiet = true; }},

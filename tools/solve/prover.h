@@ -75,7 +75,7 @@ class Prover {
     std::string prove_claim(const Claim& claim, const std::string& name) {
         Output out(name);
         out.write(head_of(game_, options_.format));
-        if (!holds(claim)) throw Fault("the claim " + claim.text() + " is false here");
+        if (!holds(claim, root_)) throw Fault("the claim " + claim.text() + " is false here");
         uint32_t lemma = prove(claim, out);
         return finish(claim.wins ? verdict_of(claim.asker, lemma) : "value unknown", out);
     }
@@ -83,7 +83,7 @@ class Prover {
     uint32_t lemmas() const { return written_; }
     uint64_t nodes() const { return nodes_; }
 
-  private:
+  protected:
     const Game& game_;
     const Options& options_;
     Board<ROWS> board_;
@@ -112,20 +112,24 @@ class Prover {
     // The side that wins, or -1. What a proof says is taken, since without it there is none to be written.
     int winner_of() {
         if (start_) return start_->value == "draw" ? -1 : (count_of(root_.men) & 1) ^ (start_->value != "win");
+        return winner_at(root_);
+    }
+
+    int winner_at(Position at) {
         for (int asker : {0, 1}) {
-            if (holds({asker, true})) return asker;
+            if (holds({asker, true}, at)) return asker;
         }
         return -1;
     }
 
-    bool holds(const Claim& claim) {
-        if (board_.is_ended(root_)) {
-            return (board_.is_won(root_) && (count_of(root_.men) & 1) != claim.asker) == claim.wins;
+    bool holds(const Claim& claim, Position at) {
+        if (board_.is_ended(at)) {
+            return (board_.is_won(at) && (count_of(at.men) & 1) != claim.asker) == claim.wins;
         }
         progress.stage = claim.asker ? "does Black win" : "does White win";
-        Search<ROWS> search(board_, tables_, claim.asker, root_);
-        bool is_mover = (count_of(root_.men) & 1) == claim.asker;
-        bool wins = search.reaches(root_, ~uint64_t(0)) == is_mover;
+        Search<ROWS> search(board_, tables_, claim.asker, at);
+        bool is_mover = (count_of(at.men) & 1) == claim.asker;
+        bool wins = search.reaches(at, ~uint64_t(0)) == is_mover;
         progress.line(search.nodes());
         nodes_ += search.nodes();
         return wins == claim.wins;
@@ -151,11 +155,13 @@ class Prover {
         for (size_t n = 0; n < also_.size(); ++n) strategy.offer(also_[n].of(asker, wins), int(n % 4));
         better(strategy, search);
         nodes_ += search.nodes();
-        if (written_ + strategy.size() > options_.lemmas) {
-            throw Fault("the proof would have " + std::to_string(written_ + strategy.size()) + " lemmas, more than " +
-                        std::to_string(options_.lemmas));
-        }
+        if (written_ + strategy.size() > options_.lemmas) throw too_many(written_ + strategy.size());
         return Writer(board_, strategy, " " + claim.text() + " ", options_.format == 2, out, written_).write(root_);
+    }
+
+    Fault too_many(uint64_t lemmas) const {
+        return Fault("the proof would have " + std::to_string(lemmas) + " lemmas, more than " +
+                     std::to_string(options_.lemmas));
     }
 
     // Positions that renewals take in between two sweeps. By a small strategy's hundredfold alone the last of three

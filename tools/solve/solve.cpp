@@ -3,7 +3,7 @@
 
 #include "game.h"
 #include "options.h"
-#include "prover.h"
+#include "roots.h"
 
 static void run(int count, char** words) {
     Request asked = read_words(count, words);
@@ -12,7 +12,8 @@ static void run(int count, char** words) {
     Game game = game_of(asked.input);
     with_board(game, [&](const auto& board) {
         BoundTables tables = tables_for(board, game, asked.options);
-        Prover(board, game, asked.options, tables).prove_value(asked.output);
+        if (asked.options.roots.empty()) Prover(board, game, asked.options, tables).prove_value(asked.output);
+        else RootsProver(board, game, asked.options, tables).prove(asked.output);
     });
 }
 

@@ -27,6 +27,7 @@ struct Options {
     uint64_t nodes = 20'000;  // so many nodes may be spent to see whether another move wins
     std::string book;     // a file with moves that are taken where they win
     std::string start;    // a proof whose moves are the first strategy
+    std::string roots, index;  // files: positions that one text is about, and where they stand in it
     std::vector<Game> below;  // what comes from these positions alone is swept and renewed; all where there are none
     bool beside = false;      // or all but that
     uint64_t graph = 0;       // bytes of a graph in which the strategy is made smaller
@@ -69,7 +70,8 @@ class Strategy {
              uint64_t bytes)
         : board_(board), search_(search), prover_(prover), wins_(search.asker() == prover), book_(book),
           options_(options), table_(bytes), closure_(board, wins_), plans_(board, options.reach),
-          has_plans_(options.reach && prover && !wins_), folds_(options.format == 2), lives_(size_t(1) << LIVES_BITS) {}
+          has_plans_(options.reach && prover && !wins_), folds_(options.format == 2),
+          lives_(size_t(1) << LEAST_LIVES_BITS) {}
 
     virtual ~Strategy() = default;
 
@@ -90,7 +92,7 @@ class Strategy {
 
   protected:
     static constexpr uint64_t NO_LIMIT = ~uint64_t(0);  // of nodes, or of positions
-    static constexpr int LIVES_BITS = 24;
+    static constexpr int LEAST_LIVES_BITS = 20, MOST_LIVES_BITS = 24;
 
     // How positions are taken in and dropped.
     struct Mode {
@@ -120,6 +122,7 @@ class Strategy {
     bool folds_;      // a position and its image are one
     uint64_t live_ = 0;
     uint64_t work_ = 0;  // how often a position was taken in
+    int lives_bits_ = LEAST_LIVES_BITS;
     std::vector<uint8_t> lives_;  // how many positions of the set have numbers that come here: mostly none
     uint64_t random_ = options_.seed;
     Mode mode_;
@@ -159,7 +162,16 @@ class Strategy {
 
     Word winning(Position at) const { return board_.playable(at.men) & board_.wins(at.own, at.men); }
 
-    uint8_t& lives_near(Word key) { return lives_[(key * 0x9e3779b97f4a7c15u) >> (64 - LIVES_BITS)]; }
+    uint8_t& lives_near(Word key) { return lives_[(key * 0x9e3779b97f4a7c15u) >> (64 - lives_bits_)]; }
+
+    // Makes room for the counts of a set that has grown.
+    void spread_lives() {
+        lives_bits_ = std::min(lives_bits_ + 2, MOST_LIVES_BITS);
+        lives_.assign(size_t(1) << lives_bits_, 0);
+        for (const Node& node : table_.slots()) {
+            if (node.key && node.refs) ++lives_near(node.key - 1);
+        }
+    }
 
     bool is_live(Position at) {
         Word key = board_.key(at);
@@ -223,6 +235,7 @@ class Strategy {
         node.refs = 1;
         ++lives_near(board_.key(at));
         if ((++live_ & 0xffff) == 0) report();
+        if (live_ > lives_.size() / 2 && lives_bits_ < MOST_LIVES_BITS) spread_lives();
         if (is_ended || closes(at)) return true;
         bool is_start = mode_.grows && options_.starts && count_of(at.men) / 2 == options_.starts / 2;
         if (proves(at) ? is_start ? take_best(at) : take_one(at) : take_all(at)) return true;

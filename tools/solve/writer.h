@@ -16,6 +16,12 @@ class Writer {
         numbers_.reserve(strategy.size());
     }
 
+    // As `write`, of the position after these moves from the game's.
+    uint32_t write_after(const std::string& moves, Position at) {
+        path_ = moves;
+        return write(at);
+    }
+
     // Writes what shows the claim at a position, and isn't written. The number of the lemma there.
     uint32_t write(Position at) {
         Word key = board_.key(at);

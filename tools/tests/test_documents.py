@@ -20,7 +20,7 @@ from victor._commands import COMMANDS
 
 DOCUMENTS = ("README.md",) + tuple(
     "docs/%s.md" % name
-    for name in ("USE", "TOOLS", "PLAYING", "CHOOSER", "FRONT", "SOLVED", "TEACH", "PROOFS", "RULES")
+    for name in ("USE", "TOOLS", "PLAYING", "CHOOSER", "FRONT", "SOLVED", "OPENINGS", "TEACH", "PROOFS", "RULES")
 )
 COMMAND = re.compile(r"(tools/|LAB=|pip |\./victor|printf|echo|make|moves=|tr |set -o|python3|apt-get|\.ci/) *")
 # The beginning of a command, and why it isn't run.
@@ -35,9 +35,14 @@ LEFT_OUT = {
     "tools/check.py usual-board.txt": "the same, and takes a minute",
     "tools/lab batch": "test_batch.py runs it, and Slurm is elsewhere",
     "LAB=": "the same",
+    "tools/lab openings values": "it takes hours; test_openings.py runs it on a small board",
+    "tools/lab openings prove": "the same",
+    "tools/lab openings ask": "the same",
     "tools/lab parts": "test_parts.py runs it, and it takes tools/solve",
+    "tools/lab sheet --make": "it takes the engine, which isn't copied there; test_sheet.py tries the same",
     "tools/lab sheet 434343 efbaebdcfcee": "it takes tools/solve, which isn't copied there",
     "tools/lab ask --scores": "it takes the engine, which isn't copied there; test_warm.py tries the same",
+    "tools/lab annotate": "it takes the engine, which isn't copied there; test_annotate.py tries the same",
     "tools/lab board": "it serves until it is interrupted; test_board.py asks it",
     "tools/lab play": "it asks a person; test_play.py plays it",
     "./victor play": "it asks a person; a test below plays it",

@@ -188,6 +188,7 @@ class EngineTest(unittest.TestCase):
             {move: value for move, (value, _) in outcomes.items()},
             moves,
         )
+        self.assertEqual(by_moves(engine.ask("outcome " + moves)), {"": (outcomes[""][0], None)}, moves)
 
     def test_lines(self):
         """A best line has as many moves as the game goes on for, and each of them keeps the outcome."""
@@ -288,6 +289,8 @@ class EngineTest(unittest.TestCase):
             "limits 1 100 1",
             "table",
             "table /no/such/file",
+            "outcome",
+            "outcome dcd c",
             "table " + HERE,
             "new now",
             "stop now",
@@ -453,6 +456,10 @@ class EngineTest(unittest.TestCase):
                 self.assertLess(said[-1]["seconds"], 0.02)
                 image = by_moves(engine.ask("value dddddde"))
                 self.assertEqual(image, {self.mirrored(move): one for move, one in value.items()})
+        halves = [self.file(f"{n}.csv", "moves,value\n" + "".join(lines[n::2])) for n in (0, 1)]
+        with Engine() as engine:
+            self.assertEqual(engine.ask('table "%s" "%s"' % tuple(halves))[0]["positions"], len(lines))
+            self.assertEqual(by_moves(engine.ask("outcome ddddddc")), {"": value[""]})
         # What it says is taken as it stands.
         wrong = "".join(re.sub(",.*", ",win", line) for line in lines)
         with Engine('table "%s"' % self.file("wrong.csv", "moves,value\n" + wrong)) as engine:

@@ -10,7 +10,23 @@ import xml.etree.ElementTree
 from common import ToolTest, example, program, read, tool, write
 import mutants
 from test_ask import worth
-from victor._games import LETTERS
+from victor._games import LETTERS, Game
+from victor._programs import engine_path
+
+
+def wins_within(game, plies):
+    """Whoever has just moved has a line, or makes one within so many moves, whatever the other plays: counted move by
+    move, with no search of the tools."""
+    if game.line:
+        return True
+    if plies <= 0 or game.is_over:
+        return False
+    answers = [game.after(i) for i in game.open_columns()]
+    return all(
+        not after.line and any(wins_within(after.after(i), plies - 2) for i in after.open_columns())
+        for after in answers
+    )
+
 
 SVG = "{http://www.w3.org/2000/svg}"
 
@@ -77,7 +93,7 @@ class SheetTest(ToolTest):
         asked, answered, out = self.page("board 4 4\nmoves cccdcd\n", words=["--colours", "red-yellow"])
         self.assertNotIn("White", out)
         self.assertNotIn("Black", out)
-        self.assertEqual(asked[0][0], "Which move is best for Red?")
+        self.assertEqual(asked[0][0], "Has Red a move that doesn't lose?")
         self.assertIn("Yellow takes a2.", answered[0][1])
         for fill in ("#cc2222", "#ffd83d"):
             self.assertEqual(out.count('r="12" fill="%s"' % fill), 6)  # three men on two boards
@@ -99,10 +115,30 @@ class SheetTest(ToolTest):
             self.assertEqual(re.findall("[a-d]", named.group(1).replace(" and ", " ")), best, game.letters())
             self.assertEqual({"win": 1, "draw": 0, "lose": -1}[named.group(2)], max(values.values()), game.letters())
 
+    @unittest.skipUnless(engine_path(), "the engine isn't built: make -C tools/solve engine")
+    def test_made(self):
+        """Positions that are made: one move wins in three, and no other as soon; the same seed makes the same."""
+        words = ["--board", "4x4", "--make", "3", "--plies", "3", "--ask", "move", "--victor", program()]
+        status, out, err = tool("sheet", *words, "--seed", "5")
+        self.assertEqual((status, err), (0, ""))
+        self.assertEqual(len(re.findall("Which move is best for (?:White|Black)", out)), 3)
+        for letters, best in re.findall(
+            r"after ([a-d]+) on 4 by 4.*?<li>([a-d]) wins in 3 moves, as searched\.", out, re.S
+        ):
+            game = Game.read(letters, (4, 4))
+            wins = [i for i in game.open_columns() if wins_within(game.after(i), 2)]
+            self.assertEqual([LETTERS[i] for i in wins], [best], letters)
+        self.assertEqual(out.count("wins in 3 moves, as searched."), 3)
+        self.assertEqual(tool("sheet", *words, "--seed", "5")[1], out)
+        status, out, err = tool("sheet", *words, "--plan", "--ask", "zone")
+        self.assertEqual((status, err, out.count("Black plays by a plan")), (0, "", 3))
+
     def test_faults(self):
         self.helps("sheet")
         for words, said in (
-            ([], "the following arguments are required"),
+            ([], "name positions, or --make some"),
+            (["--make", "41"], "--make takes up to 40"),
+            (["--make", "1", "--plies", "2"], "--plies 1, 3, 5, 7 or 9"),
             (["/no/such/file"], "there is no file"),
             ([example("full-board.txt")], "the game has ended"),
             (["--ask", "why", "x"], "--ask takes some of move"),

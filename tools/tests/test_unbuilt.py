@@ -114,7 +114,7 @@ class UnbuiltTest(ToolTest):
             (["--help"], ""),
         ):
             self.assertEqual(self.lab(*words, text=text)[::2], (0, ""), words)
-        for command in ("ask", "game", "draw", "words", "sheet", "play", "board", "batch", "parts"):
+        for command in ("ask", "game", "draw", "words", "sheet", "play", "board", "batch", "parts", "openings"):
             status, out, err = self.lab(command, "--help")
             self.assertEqual((status, err), (0, ""))
             self.assertIn("example:\n  ", out)

@@ -24,8 +24,9 @@ ENGINE = programs.engine_path()
 needs_engine = unittest.skipUnless(ENGINE, "the engine isn't built: make -C tools/solve engine")
 HARD = Game.read("-")  # takes far longer than any test
 OWNER = """
-import sys, victor
-engine = victor.Engine(memory=64)
+import signal, sys, victor
+signal.signal(signal.SIGINT, signal.default_int_handler)  # also where whoever began this ignores it
+engine = victor.Engine(memory=64, openings=False)
 print(next(engine.values(victor.Game.read("434343"))).value, engine._process.pid, flush=True)
 engine.search(victor.Game.read("-"))
 """
@@ -74,7 +75,7 @@ def is_running(pid):
 @needs_engine
 class EngineTest(ToolTest):
     def setUp(self):
-        self.engine = victor.Engine(memory=64)
+        self.engine = victor.Engine(memory=64, openings=False)
         self.addCleanup(self.engine.close)
 
     def games(self):
@@ -196,7 +197,7 @@ class StandInTest(ToolTest):
             ("read line; echo hello; cat", "this is no answer: hello"),
         ):
             path = write(os.path.join(self.folder_for(), "engine"), f"#!/bin/bash\n{script}\n", True)
-            with victor.Engine(path) as engine:
+            with victor.Engine(path, openings=False) as engine:
                 self.assertRaisesRegex(victor.Failed, said, engine.search, HARD)
         self.assertRaisesRegex(victor.Fault, "is no program", victor.Engine, "/no/such")
         self.assertRaisesRegex(victor.Fault, "MiB", victor.Engine, path, memory=3)
@@ -283,7 +284,8 @@ class AskTest(ToolTest):
 @needs_engine
 class BoardTest(ToolTest):
     def test_moves(self):
-        """The page gets each move as soon as it is known, an object a line, with the moves to the end at last."""
+        """The page gets each move as soon as it is known, an object a line, and so the position, with the moves to the
+        end at last."""
         words = command_of("board", "--port", "0", "--victor", program(), "--memory", "200")
         server = subprocess.Popen(words, stdout=subprocess.PIPE, stdin=subprocess.DEVNULL, text=True)
         self.addCleanup(server.stdout.close)
@@ -299,10 +301,10 @@ class BoardTest(ToolTest):
             return answer.status, [json.loads(one) for one in answer.read().splitlines()]
 
         status, said = call(page="page0001", size="4x4", moves="ababa")
-        self.assertEqual((status, len(said)), (200, 8))
-        self.assertEqual({one["searched"] for one in said if one["move"] == "a"}, {"draw"})
-        ends = {one["move"]: one["moves_to_end"] for one in said[4:]}
-        self.assertEqual(ends, {"a": 11, "b": 2, "c": 2, "d": 2})
+        self.assertEqual((status, len(said)), (200, 10))
+        self.assertEqual({one["searched"] for one in said if one["move"] in ("a", None)}, {"draw"})
+        ends = {one["move"]: one["moves_to_end"] for one in said if one["moves_to_end"]}
+        self.assertEqual(ends, {"a": 11, "b": 2, "c": 2, "d": 2, None: 11})
         self.assertEqual(call(page="page0001", size="10x10", moves="")[1], [])
         self.assertEqual(call(page="page0001", size="4x4", moves="zz")[0], 400)
         self.assertEqual(call(page="x", size="4x4", moves="")[0], 400)

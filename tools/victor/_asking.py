@@ -345,13 +345,31 @@ class Known:
                 raise Unproved(f"{self.name} has no proof of {game.letters()}: {fault}") from fault
             return self.proof(game, into)
 
+    def claims_of(self, game: Game) -> list[str]:
+        """What lemmas claim at the position, as `W-`, where the checker accepts the proof."""
+        if not self.is_for(game):
+            return []
+        claims = self.found_claims(game)
+        if claims and not self.is_checked and not self.is_accepted():
+            claims = self.found_claims(game)
+        return [claim.decode() for claim in claims] if self.is_checked else []
+
     def value_of(self, game: Game) -> tuple[str, tuple[proofs.Place, ...]]:
         """The value that lemmas show, and which they are."""
-        self.path = self.path or proofs.unpacked(self.given, self.asker.folder, is_kept=self.is_shipped)
-        claims = proofs.claims_below(self.path, game)
+        return proofs.value_of(self.found_claims(game), game.side)
+
+    def found_claims(self, game: Game) -> proofs.Claims:
+        """The claims at the position, with the lemmas that claim them."""
+        path = self.plain_path()
+        claims = proofs.claims_below(path, game)
         if not claims and not self.is_shipped:
-            claims = proofs.claims_at(self.path, game)  # those on which the verdict doesn't rest
-        return proofs.value_of(claims, game.side)
+            claims = proofs.claims_at(path, game)  # those on which the verdict doesn't rest
+        return claims
+
+    def plain_path(self) -> Path:
+        """The path of the proof's plain text, which is unpacked once."""
+        self.path = self.path or proofs.unpacked(self.given, self.asker.folder, is_kept=self.is_shipped)
+        return self.path
 
     def is_accepted(self) -> bool:
         """The checker accepts the proof. False where it does so only once the text is unpacked again."""

@@ -1,8 +1,7 @@
-"""Many positions, each proved into a file of a folder: NAME.proof, .work/NAME.row with what was found out about it, and
-in .work the commands and what runs them. make, GNU parallel or Slurm run them, and what is done isn't done again."""
+"""Many positions, each proved into a file of a folder: NAME.proof, and .work/NAME.row with what was found out about it.
+What is done isn't done again."""
 
 import csv
-import fcntl
 import functools
 import hashlib
 import importlib.util
@@ -12,35 +11,26 @@ import os
 import pathlib
 import re
 import shlex
-import shutil
-import subprocess
 import sys
-import threading
 import time
 from collections.abc import Iterable, Mapping, Sequence
 from dataclasses import dataclass
 from types import ModuleType
-from typing import IO, Any, Optional
+from typing import Any, Optional
 
 from . import _programs as programs, _prover as prover
 from ._asking import MEMORY, SECONDS, Asker, Means
 from ._engine import LEAST_MEMORY, Engine, is_searchable
-from ._faults import Failed, Fault, Unproved, files_told
+from ._faults import Failed, Fault, Unproved
 from ._files import write_text
 from ._games import Game, Size
+from ._jobs import Interrupted, Jobs, require_engine
 from ._notation import read_moves
-from ._processes import apart
 
 HEAD = ("position", "value", "lemmas", "bytes", "seconds", "by", "sha256", "accepted")
 SEARCHED = "searched"  # the last column: what the engine says of a position whose value no proof shows
-MOST_TASKS = 1000  # of an array job; each has its share of the commands
-TOLD = 5.0  # seconds between two looks at how far it is
 VALUES = {1: "win", 0: "draw", -1: "loss"}
 Row = dict[str, Any]
-
-
-class Interrupted(KeyboardInterrupt):
-    """An interrupt, with what stands of the work."""
 
 
 # One position.
@@ -236,27 +226,16 @@ def all_positions(size: Size, count: int) -> list[str]:
 
 
 @dataclass
-class Batch:
-    """A folder of proofs for one board, and how they are made."""
+class Batch(Jobs):
+    """A folder of proofs, and how they are made."""
 
-    prog: str
-    place: str
-    size: Size
     means: Means
-    engine: str
-    jobs: int
-    out: IO[str]  # where it is said what is done
 
     def __post_init__(self) -> None:
-        self.folder = pathlib.Path(self.place).absolute()
-        self.work, self.table = self.folder / ".work", self.folder / "positions.csv"
-        self.lock: Optional[IO[str]] = None
+        super().__post_init__()
+        self.table = self.folder / "positions.csv"
         self.counts: dict[str, int] = {}
         self.searched: list[str] = []
-
-    def say(self, message: str, out: Optional[IO[str]] = None) -> None:
-        """Says something in one line."""
-        print(f"{self.prog}: {message}", file=out or sys.stderr, flush=True)
 
     def prove(self, names: Mapping[str, Optional[str]], only_write: bool = False) -> int:
         """Proves the positions of a list, writes the table, and gives the status."""
@@ -266,13 +245,13 @@ class Batch:
             program = programs.find_program(self.means.program) if missing else ""
             if missing and self.means.by != "prove" and not programs.engine_path(self.means.solver):
                 self.say(programs.MAKE_ENGINE)
-        self.write_files(missing)
+        self.write_files({name: f'"$LAB" batch --step {name} {self.options()} .' for name in missing})
         self.say(f"{len(names)} positions, {len(names) - len(missing)} done before, {len(missing)} to prove", self.out)
         if only_write:
             self.say(f"the commands stand in {self.work / 'commands'}", self.out)
             return 0
         try:
-            status = self.run_engine(missing, program) if missing else 0
+            status = self.run_engine(missing, VICTOR=program) if missing else 0
         except KeyboardInterrupt:
             self.write_table(names)
             done = len(names) - len(self.missing_of(names))
@@ -281,39 +260,18 @@ class Batch:
 
     def begin(self, names: Mapping[str, Optional[str]]) -> list[str]:
         """Makes the folder ready, and gives the positions that are to be run."""
-        if "\n" in str(self.folder) or len(max(names, key=len)) > 200:
+        if len(max(names, key=len)) > 200:
             raise Fault("a file can't have that name")
-        with files_told(self.folder):
-            self.work.mkdir(parents=True, exist_ok=True)
-            self.take_lock()
-            self.require_board()
-            # What a killed run left behind is dropped; it has no final name.
-            for part in (*self.folder.glob("*.part"), *self.work.glob("*.part")):
-                part.unlink(missing_ok=True)
+        self.open()
         return self.missing_of(names)
 
-    def take_lock(self) -> None:
-        """One batch at a time works in a folder."""
-        if self.lock:
-            return
-        self.lock = open(self.work / "lock", "w", encoding="ascii")
-        try:
-            fcntl.flock(self.lock, fcntl.LOCK_EX | fcntl.LOCK_NB)
-        except BlockingIOError as fault:
-            raise Fault("another batch works in this folder") from fault
+    def mark_of(self, name: str) -> pathlib.Path:
+        """The row of a position."""
+        return row_of(self.folder, name)
 
     def missing_of(self, names: Iterable[str]) -> list[str]:
         """The positions that aren't done."""
         return [name for name in names if not is_done(read_row(self.folder, name), budget_of(self.means))]
-
-    def require_board(self) -> None:
-        """A folder is for one board, as its files' names don't say which."""
-        path = self.work / "board"
-        if not path.exists():
-            write_text(path, self.size.word + "\n")
-        other = path.read_text(encoding="ascii").strip()
-        if other != self.size.word:
-            raise Fault(f"the folder is for positions of the board {other}")
 
     def options(self) -> str:
         """The words of a command that say how a position is proved."""
@@ -323,79 +281,6 @@ class Batch:
         options += prover.options_of(seconds=means.seconds, clock=means.clock, memory=means.memory)
         options += prover.options_of(solver=means.solver and os.path.abspath(means.solver), **{"from": known})
         return shlex.join(options + ["--small"] * means.small)
-
-    def write_files(self, names: Sequence[str]) -> None:
-        """The commands, one a position and line, and for each of the three what runs them. They are run in the folder,
-        and name no other place: LAB is the command of these tools, and VICTOR the program.
-        """
-        commands = [f'"$LAB" batch --step {name} {self.options()} .' for name in names]
-        write_text(self.work / "commands", "".join(line + "\n" for line in commands))
-        rules = f"all: {' '.join(names)}\n.PHONY: all {' '.join(names)}\n"
-        for name, line in zip(names, commands):
-            rules += f"{name}:\n\t@{line.replace('$', '$$')}\n"
-        write_text(self.work / "Makefile", rules)
-        tasks = max(min(len(names), MOST_TASKS), 1)
-        lines = (
-            "#!/bin/bash",
-            f"#SBATCH --job-name={self.job_name()}",
-            f"#SBATCH --array=1-{tasks}%{self.jobs}",
-            "#SBATCH --ntasks=1",
-            "#SBATCH --output=.work/slurm-%A-%a.out",
-            f"# Task T runs the commands T, T + {tasks}, and so on.",
-            "status=0",
-            "while IFS= read -r command; do",
-            '    bash -c "$command" </dev/null || status=1',
-            f'done < <(sed -n "${{SLURM_ARRAY_TASK_ID}}~{tasks}p" .work/commands)',
-            'exit "$status"',
-        )
-        write_text(self.work / "array.sh", "\n".join(lines) + "\n")
-
-    def job_name(self) -> str:
-        """The name of the job at Slurm, which no other folder's has."""
-        return f"victor-{hashlib.sha256(str(self.folder).encode()).hexdigest()[:8]}"
-
-    def engine_words(self) -> list[str]:
-        """The words that run the commands."""
-        return {
-            "make": ["make", "-s", "-k", "-j", str(self.jobs), "-f", ".work/Makefile", "all"],
-            "parallel": ["parallel", "-j", str(self.jobs), "-a", ".work/commands"],
-            "slurm": ["sbatch", "--wait", ".work/array.sh"],
-        }[self.engine]
-
-    def run_engine(self, names: Sequence[str], program: str) -> int:
-        """Runs all commands, and says now and then how many are done. It gives the status of what ran them."""
-        environment = {**os.environ, "LAB": lab_path(), "VICTOR": program}
-        with apart(self.engine_words(), cwd=self.folder, env=environment, stderr=subprocess.PIPE) as process:
-            over = threading.Event()
-            copier = threading.Thread(target=copy_lines, args=(process.stderr, over), daemon=True)
-            teller = threading.Thread(target=self.tell, args=(names, over), daemon=True)
-            copier.start()
-            teller.start()
-            try:
-                status = process.wait()
-                copier.join()
-                return status
-            except KeyboardInterrupt:
-                over.set()
-                self.cancel()
-                raise
-            finally:
-                over.set()
-                teller.join()
-
-    def cancel(self) -> None:
-        """Slurm's tasks are ended by a command of its own."""
-        if self.engine == "slurm" and shutil.which("scancel"):
-            subprocess.run(["scancel", "--name", self.job_name()], stderr=subprocess.DEVNULL)
-
-    def tell(self, names: Sequence[str], over: threading.Event) -> None:
-        """Says how many of the positions are done, whenever it is more than it was, until it is over."""
-        begin, before = time.time(), 0
-        while not over.wait(TOLD):
-            done = sum(is_new(row_of(self.folder, name), begin) for name in names)
-            if done > before:
-                self.say(f"{done} of {len(names)} done")
-            before = done
 
     def told(self, names: Mapping[str, Optional[str]]) -> bool:
         """Writes the table, and says how many positions have each value. True where one has no proof, or another value
@@ -437,36 +322,3 @@ class Batch:
         """The values of positions, as proofs say that both checkers accept."""
         rows = {name: read_row(self.folder, name) for name in names}
         return {name: row["value"] for name, row in rows.items() if row and row["accepted"] == "both"}
-
-
-def copy_lines(lines: IO[bytes], over: threading.Event) -> None:
-    """Copies what is said, until it is over."""
-    for line in lines:
-        if not over.is_set():
-            sys.stderr.write(line.decode("utf-8", "replace"))
-            sys.stderr.flush()
-
-
-def is_new(path: pathlib.Path, begin: float) -> bool:
-    """A file was written since a time."""
-    try:
-        return path.stat().st_mtime >= begin - 1
-    except OSError:
-        return False
-
-
-def lab_path() -> str:
-    """The command of these tools."""
-    beside = programs.HERE.parent / "lab"
-    return str(beside) if beside.is_file() else os.path.abspath(sys.argv[0])
-
-
-def require_engine(engine: str) -> None:
-    """What runs the commands is there."""
-    name = "sbatch" if engine == "slurm" else engine
-    if not shutil.which(name):
-        raise Fault(f"there is no {name} on the path")
-    if engine == "parallel":
-        said = subprocess.run([name, "--version"], stdin=subprocess.DEVNULL, capture_output=True)
-        if not said.stdout.startswith(b"GNU parallel"):
-            raise Fault("the parallel on the path isn't GNU parallel")

@@ -20,7 +20,7 @@ from ._faults import Failed, Fault, Gone, OutOfTime, Refused, files_told
 from ._files import Path
 from ._games import Game, Size, columns_of, require_game
 from ._processes import Limits
-from ._programs import find_engine
+from ._programs import find_engine, shipped_openings
 from ._prover import Proof
 
 NAME = "the engine"
@@ -74,13 +74,14 @@ class Engine:
     Each question takes by keyword `seconds` of processor time, `clock`, seconds by the clock, `tell`, which is called
     with the seconds that are spent, now and then from two on, `note`, which is told at the end what was spent, and
     `is_wanted`, by which a question is ended that nobody waits for. What was found when the time is over stands. A
-    process that is dead is a `Failed`, and the next question starts another.
+    process that is dead is a `Failed`, and the next question starts another. The table of openings that comes with the
+    program answers for its board, unless `openings` is false.
     """
 
-    def __init__(self, program: Optional[Path] = None, *, memory: int = MEMORY) -> None:
+    def __init__(self, program: Optional[Path] = None, *, memory: int = MEMORY, openings: bool = True) -> None:
         if not LEAST_MEMORY <= memory <= MOST_MEMORY:
             raise Fault(f"the engine takes from {LEAST_MEMORY} to {MOST_MEMORY} MiB of memory")
-        self.program, self.memory = find_engine(program), memory
+        self.program, self.memory, self.openings = find_engine(program), memory, openings
         self._process: Optional[Process] = None
         self._turn, self._owner = threading.Lock(), 0
         self._hand = threading.Lock()  # what is written, is written whole
@@ -105,6 +106,11 @@ class Engine:
     def values(self, game: Game, **limits: Any) -> Generator[Found, None, None]:
         """The value of each move, as soon as it is known, and of the position."""
         return self._found("value", game, Limits(**limits))
+
+    def outcome(self, game: Game, **limits: Any) -> str:
+        """The value of the position alone, which takes less; `unknown` where the time was over before."""
+        values = [found.value for found in self._found("outcome", game, Limits(**limits))]
+        return values[0] if values else "unknown"
 
     def scores(self, game: Game, **limits: Any) -> Generator[Found, None, None]:
         """The same, and then of each move and the position in how many moves the game ends."""
@@ -200,6 +206,16 @@ class Engine:
                 for _ in self._answers(process, request, None):
                     pass
                 process.told[kind] = request
+                if kind == "board" and self.openings:
+                    self._read_openings(process, size)
+
+    def _read_openings(self, process: "Process", size: Size) -> None:
+        """Has the shipped table read, where it is for this board. Where it can't be, the engine searches as without."""
+        files = shipped_openings(size.word)
+        if files and all(name.isascii() for name in files):
+            with contextlib.suppress(Refused):
+                for _ in self._answers(process, " ".join(["table", *map(quoted, files)]), None):
+                    pass
 
     def _answers(self, process: "Process", request: str, watch: Optional["Watch"]) -> Iterator[Object]:
         """What is said to a request, but for the last object. A question that isn't read to its end is stopped, so that

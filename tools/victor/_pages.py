@@ -1,9 +1,10 @@
-"""The page of a proof, which stands alone. It isn't checked."""
+"""The pages: of a proof, which isn't checked, to play on, and of the rules. Each stands alone in one file."""
 
+import html
 import json
 import pathlib
 import re
-from collections.abc import Sequence
+from collections.abc import Iterator, Sequence
 from typing import Union
 
 from ._drawing import COLOURS
@@ -11,6 +12,7 @@ from ._faults import Fault
 from ._games import Game
 from ._notation import read_game
 from ._plans import RULES, STANDING, zone_of
+from ._programs import document
 from ._prover import FORMATS
 
 MOST_SHOWN = 20_000
@@ -18,6 +20,10 @@ LEMMA = re.compile(
     r"([1-9][0-9]*) (-|[a-j]+) ([WB][+-]) "
     r"(end|one [a-j] [0-9]+|all(?: [a-j]:[0-9]+)+|plan(?: [!-~]+)+|mirror [0-9]+)"
 )
+# The scripts of the page to play on, each behind those that it imports from.
+SCRIPTS = ("game", "values", "search", "picture", "plans", "shelf", "server", "players", "history", "page")
+TEXTS = ("rules", "strategy")  # documents that are pages too
+PAGE = pathlib.Path(__file__).parent / "page"
 Numbers = Union[range, Sequence[int]]
 
 
@@ -27,6 +33,92 @@ def page_of(name: str, **data: object) -> str:
     for word, value in data.items():
         page = page.replace(word, json.dumps(value, separators=(",", ":")).replace("<", "\\u003c"), 1)
     return page
+
+
+def board_page(**data: object) -> str:
+    """The page to play on, with its style and scripts in it, and data for them."""
+    told: dict[str, object] = {"rules": RULES, "colours": zone_colours(), **data}
+    page = (PAGE / "board.html").read_text(encoding="utf-8")
+    pieces = {
+        "STYLE": (PAGE / "board.css").read_text(encoding="utf-8"),
+        "DATA": json.dumps(told, separators=(",", ":")).replace("<", "\\u003c"),
+        "SCRIPT": "\n".join(script(name) for name in SCRIPTS),
+    }
+    return re.sub("|".join(pieces), lambda found: pieces[found.group()], page)
+
+
+def script(name: str) -> str:
+    """A script as a part of one: its names are those of all, so it imports and exports nothing."""
+    lines = (PAGE / f"{name}.js").read_text(encoding="utf-8").splitlines()
+    return "\n".join(line.removeprefix("export ") for line in lines if not line.startswith("import "))
+
+
+def text_page(name: str) -> str:
+    """A document as a page, `rules` or `strategy`."""
+    style = (PAGE / "board.css").read_text(encoding="utf-8")
+    text = "\n".join(elements_of(text_of(name).split("\n")))
+    return (
+        f'<!DOCTYPE html>\n<html lang="en"><head><meta charset="utf-8"><title>{name.capitalize()}</title>'
+        '<meta name="viewport" content="width=device-width, initial-scale=1">'
+        f'<style>{style}</style></head><body class="text">\n{text}\n</body></html>\n'
+    )
+
+
+def text_of(name: str) -> str:
+    """The text of a document."""
+    path = document(f"{name.upper()}.md")
+    if name not in TEXTS or not path:
+        raise Fault(f"the document {name} isn't installed")
+    return path.read_text(encoding="utf-8")
+
+
+def pictures() -> dict[str, pathlib.Path]:
+    """The pictures of the documents that are pages, by their names: there are no others to be read."""
+    names = {name for text in TEXTS for name in re.findall(r"\]\(img/([a-z0-9-]+\.png)\)", text_of(text))}
+    paths = {name: document(f"img/{name}") for name in names}
+    return {name: path for name, path in sorted(paths.items()) if path}
+
+
+def elements_of(lines: Sequence[str]) -> Iterator[str]:
+    """The elements of a document: headings, which have their words as names, paragraphs, lists, tables and blocks."""
+    block: list[str] = []
+    kind = "p"
+    for line in [*lines, ""]:
+        made = "pre" if line.startswith("    ") else "table" if line.startswith("|") else "p"
+        begins = line.startswith("#") or re.match(r"([-*]|\d+\.) ", line) or made != kind and line.strip()
+        if block and (begins or not line.strip() and kind != "pre"):
+            yield element_of(kind, block)
+            block = []
+        if line.startswith("#"):
+            mark, words = line.split(" ", 1)
+            yield f'<h{len(mark)} id="{re.sub("[^a-z]+", "-", words.lower())}">{spans_of(words)}</h{len(mark)}>'
+        elif line.strip() or block:
+            block, kind = [*block, line], made if line.strip() else kind
+    if block:
+        yield element_of(kind, block)
+
+
+def element_of(kind: str, lines: Sequence[str]) -> str:
+    """An element from its lines."""
+    if kind == "table":
+        rows = [line.strip("|").split("|") for line in lines if not set(line) <= set("|- ")]
+        return (
+            "<table>"
+            + "".join(f"<tr>{''.join(f'<td>{spans_of(c)}</td>' for c in row)}</tr>" for row in rows)
+            + "</table>"
+        )
+    if kind == "pre":
+        return f"<pre>{html.escape(chr(10).join(line[4:] for line in lines).rstrip())}</pre>"
+    return f"<p>{spans_of(' '.join(lines))}</p>"
+
+
+def spans_of(text: str) -> str:
+    """Words with what is emphasised; a link is left as its words."""
+    told = html.escape(text.strip())
+    told = re.sub(r"!\[([^]]*)\]\((img/[a-z0-9-]+\.png)\)", r'<img src="\2" alt="\1">', told)
+    told = re.sub(r"`([^`]+)`", r"<code>\1</code>", told)
+    told = re.sub(r"\[([^]]+)\]\([^)]+\)", r"\1", told)
+    return re.sub(r"\*\*?([^*]+)\*\*?", r"<em>\1</em>", told)
 
 
 def zone_colours() -> dict[str, str]:

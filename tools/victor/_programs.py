@@ -21,6 +21,7 @@ is_current && exit
 read -r _ _ seconds < <(outlook $(kept_crates)) && minutes "$seconds"
 exit 1
 """
+OPENINGS, OPENINGS_BOARD = "openings-8*.csv.xz", "7x6"
 ASK_SOLVER = "--by both"
 MAKE_SOLVER = "tools/solve, which decides many more positions (make -C tools/solve)"
 MAKE_ENGINE = "the engine isn't built, so nothing is searched beside the proofs: `make -C tools/solve engine` builds it"
@@ -123,9 +124,26 @@ def runnable(path: Path) -> str:
     return os.path.abspath(path)
 
 
+def shipped_openings(board: str) -> list[str]:
+    """The files of the table of openings that comes with the program, where it is of this board."""
+    folder = shipped_folder() if board == OPENINGS_BOARD else None
+    return sorted(str(path) for path in folder.glob(OPENINGS)) if folder else []
+
+
 def shipped_folder() -> Optional[pathlib.Path]:
     """The folder of the proofs that come with the program: of the checkout, or of what is installed."""
     places = [HERE.parent.parent / "proofs"]
-    near = [*HERE.parents, *pathlib.Path(sys.argv[0]).resolve().parents, pathlib.Path(sys.prefix)]
-    places += [parent / "share" / "victor" / "proofs" for parent in near]
+    places += [parent / "share" / "victor" / "proofs" for parent in parents()]
     return next((place for place in places if (place / "boards.csv").is_file()), None)
+
+
+def document(name: str) -> Optional[pathlib.Path]:
+    """A document that comes with the program: of the checkout, or of what is installed; or None."""
+    places = [HERE.parent.parent / "docs"]
+    places += [parent / "share" / "doc" / "victor" / "docs" for parent in parents()]
+    return next((place / name for place in places if (place / name).is_file()), None)
+
+
+def parents() -> list[pathlib.Path]:
+    """The folders in which a share may be."""
+    return [*HERE.parents, *pathlib.Path(sys.argv[0]).resolve().parents, pathlib.Path(sys.prefix)]

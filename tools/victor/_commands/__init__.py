@@ -8,6 +8,8 @@ COMMANDS = {
     "sheet": "makes a page to print, with questions and answers",
     "play": "plays with you in a terminal, against a plan or a whole proof",
     "board": "serves a page to play on, with the value of each move",
+    "annotate": "says of each move of a game what it was worth, and which was best",
     "batch": "proves a list of positions into a folder, and resumes",
+    "openings": "makes the table of openings, with a value and a proof of each",
     "parts": "proves a position from the proofs of positions some moves later",
 }

@@ -49,8 +49,6 @@ def run(words: argparse.Namespace) -> int:
     size, means = size_of(words) or USUAL, means_of(words)
     if words.step:
         return step(words)
-    if words.jobs < 1:
-        raise Fault("-j takes a number from 1")
     if words.all is not None:
         if not 0 <= words.all <= 12:
             raise Fault("--all takes a number from 0 to 12")
@@ -64,7 +62,7 @@ def run(words: argparse.Namespace) -> int:
     if not names:
         return 2
     out = sys.stderr if words.json else sys.stdout
-    batch = Batch(words.prog, words.folder, size, means, words.engine, words.jobs, out)
+    batch = Batch(words.prog, words.folder, size, words.engine, words.jobs, out, means)
     status = batch.prove(names, only_write=words.write)
     if words.json:
         write(json.dumps({"positions": len(names), **batch.counts, "table": str(batch.table)}) + "\n")

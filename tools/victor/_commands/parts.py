@@ -216,7 +216,7 @@ def run(words: argparse.Namespace) -> int:
     if words.write:
         sys.stdout.write("".join(game.digits() + "\n" for game in tree.parts()))
         return 0
-    batch = Batch(words.prog, words.folder, words.game.size, means, words.engine, words.jobs, sys.stderr)
+    batch = Batch(words.prog, words.folder, words.game.size, words.engine, words.jobs, sys.stderr, means)
     is_won = settle(words, tree, batch)
     path = words.out or os.path.join(words.folder, "whole.txt")
     count = 0

@@ -1,24 +1,26 @@
-"""Makes one HTML page to print from positions: boards with questions, and behind them the answers. Each answer is
-from proofs that victor check accepted, or from a plan that victor explain wrote; a move that has no proof is said to be
-searched only. move: which move is best. line: can White get a line. zone: in whose zone of a plan a square is, and what
-Black answers."""
+"""Makes one HTML page to print from positions, which are named or made by chance: boards with questions, and behind
+them the answers. Each answer is from proofs that victor check accepted, or from a plan that victor explain wrote; what
+has no proof is said to be searched only. move: which move is best, the quickest win or the longest loss where the
+engine is there, or which moves win where several are as good. line: can White get a line. zone: in whose zone of a plan
+a square is, and what Black answers."""
 
 import argparse
 import contextlib
 import html
+import random
 import re
 import tempfile
 from collections.abc import Sequence
 from dataclasses import dataclass
 from typing import Optional
 
-from .. import _prover as prover, _sentences as sentences
-from .._answers import each_value
+from .. import _programs as programs, _prover as prover, _sentences as sentences
+from .._answers import VERBS, each_value
 from .._asking import Answer, Asker
 from .._drawing import draw_for_paper
 from .._faults import Fault
-from .._engine import Searched
-from .._games import LETTERS, SIDES, Game, Size, name_of
+from .._engine import Found, Searched
+from .._games import LETTERS, SIDES, USUAL, Game, Size, name_of
 from .._notation import asked_game
 from .._plans import RULES, Plan
 from .options import SEARCH, Parser, engine_of, means_of, say, say_lost, size_of, write
@@ -31,6 +33,8 @@ STATUS = (
 )
 EXAMPLE = "tools/lab sheet 434343 efbaebdcfcee --out sheet.html"
 KINDS = ("move", "line", "zone")
+PLIES = (1, 3, 5, 7, 9)  # to a win of the side to move
+MOST_MADE, MOST_TRIES = 40, 20_000
 # The names of the sides, and the colours of their men.
 COLOURS = {
     "white-black": ("White", "#ffffff", "Black", "#333333"),
@@ -51,7 +55,13 @@ p { margin: 4px 0; } .room { height: 52px; border-bottom: 1px dotted #999; } .so
 
 def add_options(parser: Parser) -> None:
     """The options of this subcommand alone."""
-    parser.add_argument("positions", nargs="+", metavar="POSITION", help="as ask reads one; - is standard input")
+    parser.add_argument("positions", nargs="*", metavar="POSITION", help="as ask reads one; - is standard input")
+    parser.add_argument("--make", type=int, default=0, metavar="N", help="make so many positions, by chance")
+    parser.add_argument("--seed", type=int, default=1, metavar="S", help="of what is made by chance (%(default)s)")
+    parser.add_argument(
+        "--plies", type=int, default=3, metavar="P", help="one move wins there in P moves (%(default)s)"
+    )
+    parser.add_argument("--plan", action="store_true", help="make positions instead in which Black has a plan")
     parser.add_argument("--ask", default=",".join(KINDS), metavar="KINDS", help="which questions (%(default)s)")
     parser.add_argument(
         "--colours",
@@ -92,7 +102,9 @@ class Questions:
         return answer
 
     def ask_move(self) -> Optional[Question]:
-        """Which move is best."""
+        """Which move is best. Where the engine is there, it says how soon each wins and how late it loses."""
+        if self.asker.engine:
+            self.asker.search(self.game, scores=True)
         after = dict(self.asker.after_moves(self.game))
         self.unknown = next((answer for answer in after.values() if answer.value == "unknown"), self.unknown)
         proved = {column: sentences.TURNED[answer.value] for column, answer in after.items()}
@@ -104,7 +116,15 @@ class Questions:
         best, *others = each_value(moves)
         said = f"{best}; {', '.join(others)}." if others else f"{best}."
         source = source_of(list(after.values()), [LETTERS[column] for column in searched])
-        return Question(f"Which move is best for {SIDES[self.game.side]}?", said, source)
+        value = next(word for word in VERBS if word in values)
+        equal = [column for column, one in moves if one == value]
+        quickest = quickest_of([self.found.moves.get(column) for column in equal], value)
+        if quickest:
+            equal = [found.column or 0 for found in quickest]
+            letters, many = [LETTERS[i] for i in equal], sentences.count_of(quickest[0].moves_to_end or 0, "move")
+            verb = VERBS[value][len(letters) > 1]
+            said = f"{sentences.joined(letters)} {verb} in {many}, as searched. {said}"
+        return Question(asked_of(value, len(equal), SIDES[self.game.side], bool(quickest)), said, source)
 
     @property
     def found(self) -> Searched:
@@ -142,6 +162,56 @@ class Questions:
             "Whose zone is it, and what does Black take?"
         )
         return Question(asked, "By the numbers on the board:", "victor play", tuple(lines))
+
+
+def quickest_of(moves: Sequence[Optional[Found]], value: str) -> list[Found]:
+    """Of moves of one value those that win soonest or lose latest, where that is known of each; of draws none."""
+    known = [found for found in moves if found and found.value == value and found.moves_to_end is not None]
+    if value == "draw" or len(known) < len(moves):
+        return []
+    ends = [found.moves_to_end or 0 for found in known]
+    best = min(ends) if value == "win" else max(ends)
+    return [found for found, end in zip(known, ends) if end == best]
+
+
+def asked_of(value: str, count: int, side: str, has_ends: bool) -> str:
+    """The question that has one answer: for the best move, or for several that are as good."""
+    if count == 1:
+        return f"Which move is best for {side}?"
+    if value == "loss":
+        return f"Which moves hold out longest for {side}?" if has_ends else f"Has {side} a move that doesn't lose?"
+    return f"Which moves {value} for {side}?"
+
+
+def made_games(words: argparse.Namespace, asker: Asker) -> list[Game]:
+    """Positions by chance: in which one move wins in so many moves and none sooner, or in which Black has a plan."""
+    chance, size = random.Random(words.seed), size_of(words) or USUAL
+    games: list[Game] = []
+    for _ in range(MOST_TRIES):
+        if len(games) == words.make:
+            break
+        game = Game(size)
+        for _ in range(chance.randrange(size.cols * size.rows // 3, size.cols * size.rows - words.plies)):
+            game = game if game.is_over else game.after(chance.choice(game.open_columns()))
+        is_right = has_plan if words.plan else is_won_in
+        if not game.is_over and game not in games and is_right(asker, game, words.plies):
+            games.append(game)
+    if len(games) < words.make:
+        say(words.prog, f"only {len(games)} of {words.make} positions were found by this seed")
+    return games
+
+
+def is_won_in(asker: Asker, game: Game, plies: int) -> bool:
+    """The side to move wins in so many moves, by one move alone."""
+    found = asker.search(game, scores=True)
+    ends = [one.moves_to_end for one in found.moves.values() if one.value == "win"]
+    is_known = found.position is not None and found.position.moves_to_end == plies
+    return is_known and found.value == "win" and ends.count(plies) == 1
+
+
+def has_plan(asker: Asker, game: Game, _: int) -> bool:
+    """White is to move, and Black has a plan."""
+    return game.side == "W" and bool(prover.explain(game, reach=asker.means.reach, program=asker.program).plan)
 
 
 def lines_of(plan: Plan) -> list[str]:
@@ -224,15 +294,27 @@ def game_of(name: str, size: Optional[Size]) -> Game:
     return game
 
 
+def require_made(words: argparse.Namespace) -> None:
+    """There are positions, and what is made can be."""
+    if not words.positions and not words.make:
+        raise Fault("name positions, or --make some")
+    if not 0 <= words.make <= MOST_MADE or words.plies not in PLIES:
+        raise Fault(f"--make takes up to {MOST_MADE}, and --plies {sentences.joined(list(map(str, PLIES)), 'or')}")
+
+
 def run(words: argparse.Namespace) -> int:
     """Writes the page."""
     kinds, means = kinds_of(words.ask), means_of(words)
     games = [game_of(name, size_of(words)) for name in words.positions]
+    require_made(words)
     page, left = Page(words.title, COLOURS[words.colours]), []
-    engines = engine_of(words) if "move" in kinds else contextlib.nullcontext()
+    engines = engine_of(words) if "move" in kinds or words.make else contextlib.nullcontext()
     with tempfile.TemporaryDirectory(prefix="sheet-") as folder, engines as engine:
         asker = Asker(means, folder, engine)
-        for name, game in zip(words.positions, games):
+        if words.make and not words.plan and not engine:
+            raise Fault(programs.MAKE_ENGINE)
+        games += made_games(words, asker)
+        for name, game in zip([*words.positions, *(game.letters() for game in games[len(words.positions) :])], games):
             questions = Questions(asker, game, kinds)
             if questions.all:
                 page.add(game, questions)
