@@ -16,7 +16,7 @@ search = tools/solve
 # What the documents speak of, but for the sources and what is made.
 texts = README.md CHANGELOG.md CONTRIBUTING.md examples/runs $(wildcard docs/*.md docs/img/*.png examples/*.* \
     examples/*/*.* examples/*/*/*.* tools/solve/Makefile tools/solve/usual.book tools/solve/*.h tools/solve/*.cpp)
-package = $(wildcard tools/victor/*.py tools/victor/*.html tools/victor/py.typed tools/victor/_commands/*.py)
+package = $(wildcard tools/victor/*.py tools/victor/*.html tools/victor/py.typed tools/victor/_commands/*.py tools/victor/page/*)
 
 all:
 	./victor check <examples/usual-board.proof >/dev/null
