@@ -35,9 +35,9 @@ class AnnotateTest(ToolTest):
         self.assertEqual(read(graph).count('fill="#b01818"'), mistakes)
 
     def test_time(self):
-        """What wasn't searched in time is said, with status 5."""
-        out = self.annotate("d", "--seconds", "0.01", status=5)
-        self.assertEqual(out, "1. d1   not searched in time\n")
+        """What wasn't searched in time is said, with status 5; no machine searches 9 by 6 so soon."""
+        out = self.annotate("--board", "9x6", "e", "--seconds", "0.01", status=5)
+        self.assertEqual(out, "1. e1   not searched in time\n")
 
     def test_words(self):
         self.helps("annotate")
