@@ -46,7 +46,7 @@ class Scorer {
         Word moves = board_.safe_moves(at);
         if (!moves) return men == squares_ ? 0 : -soonest(men + 1);
         Child root = {at, moves, key_of(at, men), 0};
-        int most_here = ceiling(at, men, alpha);
+        int most_here = ceiling(at, men, alpha, board_.wins(at.own ^ at.men, at.men));
         return most_here <= alpha ? most_here : visit(root, men, alpha);
     }
 
@@ -114,26 +114,52 @@ class Scorer {
         if (look) look();
     }
 
-    // The most that the side to move can reach, as far as open lines show it and alpha asks for it.
-    int ceiling(Position at, int men, int alpha) const {
-        if (alpha < -1) return squares_;
-        Word theirs = at.own ^ at.men;
-        if (men % 2 == 0) {
-            if (int most = followed(at, alpha); most <= alpha) return most;
-        }
-        return alpha < 0 || board_.has_line(board_.full & ~theirs) ? squares_ : 0;
+    // The most that the side to move can reach, as far as alpha asks for it and it is seen at once: by the squares on
+    // which the other side threatens to make a line, and by the lines that are open.
+    int ceiling(Position at, int men, int alpha, Word threats) const {
+        bool is_white = men % 2 == 0;
+        threats &= is_white ? ~odd_rows_ : odd_rows_;
+        if (alpha < -1 && !threats) return squares_;
+        if (int most = is_white ? followed(at, alpha, threats) : led(at, threats); most <= alpha) return most;
+        return alpha < 0 || board_.has_line(board_.full & ~(at.own ^ at.men)) ? squares_ : 0;
     }
 
-    // What White reaches at most where Black follows. Black answers each man on an odd row above it; of the columns in
-    // which an even row is next there is an even number, and a man there Black answers in another of these. So White
-    // gets no other square of an even row, and Black each of them.
-    int followed(Position at, int alpha) const {
+    // What White reaches at most where Black follows, who has these threats on even rows. Black answers each man on an
+    // odd row above it; of the columns in which an even row is next there is an even number, and a man there Black
+    // answers in another of these. So White gets no other square of an even row, and Black each of them.
+    int followed(Position at, int alpha, Word threats) const {
         Word empty = board_.full & ~at.men;
         Word shared = board_.playable(at.men) & ~odd_rows_;
         if (board_.has_line(at.own | (empty & odd_rows_) | shared)) return squares_;
         if (alpha >= 0) return 0;
+        int most = 0;
+        for (Word rest = threats & ~shared; rest; rest &= rest - 1) {
+            most = std::min(most, lost_at(__builtin_ctzll(rest)));
+        }
+        if (most < 0 || alpha < -1) return most;
         return board_.has_line((at.own ^ at.men) | (empty & ~odd_rows_ & ~shared)) ? -1 : 0;
     }
+
+    // What Black reaches at most where White, who has these threats on odd rows, follows. In the column of one of them
+    // an even row is next, and White answers there above each man too. So Black has to begin it once the other columns
+    // are full, and White gets the threat's square; of its column Black gets even rows below that alone.
+    int led(Position at, Word threats) const {
+        Word empty = board_.full & ~at.men;
+        Word shared = board_.playable(at.men) & ~odd_rows_;
+        int most = squares_;
+        for (Word rest = threats; rest; rest &= rest - 1) {
+            int place = __builtin_ctzll(rest);
+            Word column = board_.column(place / board_.HEIGHT);
+            Word below = column & ((Word(1) << place) - 1);
+            Word here = below & empty & ~odd_rows_, elsewhere = ((empty & odd_rows_) | shared) & ~column;
+            if ((shared & below) && !board_.has_line(at.own | here | elsewhere)) most = std::min(most, lost_at(place));
+        }
+        return most;
+    }
+
+    // The score of the side to move where the other side gets a square on which it threatens to make a line at the
+    // latest once all other columns are full.
+    int lost_at(int place) const { return -((ROWS - place % board_.HEIGHT + 1) / 2); }
 
     // As `bound`. The table is asked unless there is but one move.
     int visit(const Child& node, int men, int alpha) {
@@ -181,7 +207,7 @@ class Scorer {
             Word threats = board_.wins(node.at.own | square, next.men);
             Word moves = board_.unforced(next.men, threats);
             if (!moves) return soonest(men + 2);
-            if (int most = ceiling(next, men + 1, -alpha - 1); most < -alpha) return -most;
+            if (int most = ceiling(next, men + 1, -alpha - 1, threats); most < -alpha) return -most;
             Child child = {next, moves, key_of(next, men + 1), weight_of(threats, square)};
             if (is_kept(child, men + 1)) table.prefetch(child.key);
             int n = count++;
