@@ -13,7 +13,7 @@ use crate::known::Known;
 use crate::reasons::{check_reason, verdict_stands};
 use crate::stops::{Accepted, AddStop, Refusal, Why};
 use crate::trail::Trail;
-use board_bits::{Column, MOST_SQUARES, Position};
+use board_bits::Position;
 use cert_format::{LemmaView, Line, LineView};
 use proof_text::Verdict;
 use std::alloc::{AllocError, Global};
@@ -97,20 +97,6 @@ impl Checker {
         ensures { result ≡ is_some self.now.stands.verdict }
     {
         self.verdict.is_some()
-    }
-
-    /// The position that a path leads to from the root, where each of its moves is legal at its turn. For the path of the
-    /// last lemma no move is made again.
-    pub fn position_after(&mut self, path: &[Column]) -> Option<Position>
-        requires { length path.now ≤ MOST_SQUARES }
-        ensures position { result ≡ played self.old.stands.root path.now }
-        ensures same { self.new ≡ record self.old { path = self.new.path } }
-    {
-        if self.trail.follow(path) {
-            Some(*self.trail.last().position())
-        } else {
-            None
-        }
     }
 
     /// Adds the line that stands at this line number. It is refused exactly where the definitions refuse it, by the
