@@ -31,7 +31,8 @@ use Rattle.follow_text.proofs.Judged.{headed, judged_whole}
 use Rattle.run_frame.specs.Reading.{StopsGame}
 use Rattle.run_frame.specs.declared.game_input.InputStop.{InputStop}
 use Rattle.run_frame.specs.declared.game_input.InputStop.TheVariants as inputs
-use Rattle.run_proof.specs.Steps.{AtHead, IsNamed, IsFirstStop, StopsBy, ReachLemma, lines_read_until}
+use Rattle.run_proof.specs.Heads.{IsNamed, IsFirstStop, StopsBy}
+use Rattle.run_proof.specs.Steps.{ReachLemma, lines_read_until}
 use Rattle.run_proof.specs.Whole.{version_named, BeginsProof, most_lines_read}
 use Rattle.run_proof.proofs.Begun.{begins_proof}
 use Rattle.run_proof.specs.declared.stop.ProofStop.{ProofStop}
@@ -135,7 +136,7 @@ module _ (version : Version) (root : Position) (bytes rest : List ℕ) (lines : 
       named Two = refl
 
 head_stops : (bytes rest : List ℕ) (before after : ℕ) (stop : ProofStop) → IsFirstStop stop → PassesLines 1 bytes rest
-    → StopsBy (AtHead None) bytes before after stop → StopsProof bytes rest before after stop
+    → StopsBy None bytes before after stop → StopsProof bytes rest before after stop
 head_stops bytes rest before after (stops.Input (inputs.NoGame fault)) first passes is = λ holder. no_game holder bytes fault is
 head_stops bytes rest before after (stops.Input inputs.Read) first passes is =
     (is, (1, passes, λ root ls v at moves has. omega (arith, first_lines bytes root ls v at moves has)))
@@ -145,7 +146,7 @@ head_stops bytes rest before after stops.Memory first passes is = absurd first
 -- ---- step after step
 
 -- what comes of the bytes behind the first line, and of those behind the game
-behind_first : (holder : Side) (version : Version) (bytes rest : List ℕ) → IsNamed version bytes rest
+behind_first : (holder : Side) (version : Version) (bytes rest : List ℕ) → IsNamed None version bytes rest
     → follow_of holder bytes ≡ follow_game holder version (game_at (game_of (pieces rest))) (behind_game (pieces rest))
 behind_first holder version bytes rest named =
     headed holder version bytes named.more named.cut
@@ -179,14 +180,14 @@ stops_behind comes others ahead still reaches there before mid after (stops.Refu
 stops_behind comes others ahead still reaches there before mid after stops.Memory later same waits goes is = goes is
 
 pub head_stopped : (a b : Pending) (before after : ℕ) (stop : ProofStop) → IsFirstStop stop
-    → Reads a b (λ bytes rest. PassesLines 1 bytes rest × StopsBy (AtHead None) bytes before after stop)
+    → Reads a b (λ bytes rest. PassesLines 1 bytes rest × StopsBy None bytes before after stop)
     → Reads a b (λ bytes rest. PassesLines (lines_read_until stop) bytes rest × StopsProof bytes rest before after stop)
 head_stopped a b before after stop first reads = Reads_more a b _ _ reads (λ bytes rest h. (
   passes_most 1 (lines_read_until stop) bytes rest (until_at stop first) h.0,
   head_stops bytes rest before after stop first h.0 h.1,
 ))
 
-module _ (a b c : Pending) (version : Version) (first : Reads a b (λ bytes rest. PassesLines 1 bytes rest × IsNamed version bytes rest)) where
+module _ (a b c : Pending) (version : Version) (first : Reads a b (λ bytes rest. PassesLines 1 bytes rest × IsNamed None version bytes rest)) where
   pub game_stopped : (before mid after : ℕ) (why : InputStop) → before ≤ mid
       → Reads b c (λ bytes rest. PassesLines 2 bytes rest × StopsGame (game_at (game_of (pieces bytes))) mid after why)
       → Reads a c (λ bytes rest. PassesLines (lines_read_until (stops.Input why)) bytes rest × StopsProof bytes rest before after (stops.Input why))
@@ -199,7 +200,7 @@ module _ (a b c : Pending) (version : Version) (first : Reads a b (λ bytes rest
       few (inputs.NoGame fault) = omega arith
       few inputs.Read = omega arith
 
-      by_why : (bytes m rest : List ℕ) (why : InputStop) → IsNamed version bytes m → PassesLines 3 bytes rest
+      by_why : (bytes m rest : List ℕ) (why : InputStop) → IsNamed None version bytes m → PassesLines 3 bytes rest
           → StopsGame (game_at (game_of (pieces m))) mid after why → StopsProof bytes rest before after (stops.Input why)
       by_why bytes m rest (inputs.NoGame fault) named passes is = λ holder.
           behind_first holder version bytes m named ∙ ap (λ game. follow_game holder version game (behind_game (pieces m))) is

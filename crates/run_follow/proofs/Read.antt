@@ -28,7 +28,7 @@ use Rattle.run_frame.specs.declared.game_input.InputStop.TheVariants as inputs
 use Rattle.run_frame.proofs.Cuts.{line_first, long_first, none_left}
 use Rattle.run_frame.proofs.GameRead.{by_line}
 use Rattle.run_proof.specs.Steps.{ReachLemma, IsAccepted, AcceptsNext, StopsAtLine, StopsAtGot, lines_read_until}
-use Rattle.run_proof.specs.Taken.{Gains, InStep}
+use Rattle.run_proof.specs.Told.{Gains, InStep}
 use Rattle.run_proof.specs.Whole.{most_lines_read}
 use Rattle.run_proof.specs.declared.stop.ProofStop.{ProofStop}
 use Rattle.run_proof.specs.declared.stop.ProofStop.TheVariants as stops

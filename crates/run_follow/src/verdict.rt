@@ -14,7 +14,7 @@ use cert_format::{LineBuffer, Verdict, Version};
 use io_ports::{Lines, Source};
 use run_frame::read_game_lines;
 use run_proof::{
-    Book, Checker, FIRST_NUMBER, ProofStop, Refusal, Why, accept_next, hand_on, read_head,
+    Book, Checker, FIRST_NUMBER, ProofStop, Refusal, Why, accept_next, hand_on, read_version,
 };
 use std::alloc::Global;
 
@@ -42,7 +42,7 @@ pub(crate) fn read_to_verdict<S: Source>(
     ensures few { MatchResult result (λ proof. (3 ≤ proof.at) × (proof.at + 1 ≤ most_lines_read)) (λ stop. lines_read_until stop ≤ most_lines_read) }
     ensures later { S.faults source.old ≤ S.faults source.new }
 {
-    let version = read_head(None, lines, source)?;
+    let version = read_version(None, lines, source)?;
     let root = read_game_lines(lines, source)?;
     let mut checker = Checker::new(alloc, root);
     let end = add_lines(&mut checker, book, root.size(), version, lines, source)?;

@@ -10,6 +10,8 @@ use Rattle.run_frame.specs.Streams.{Streams, TakesLines}
 use Rattle.run_frame.specs.Texts as inputs
 use Rattle.run_frame.specs.Texts.{memory_line}
 use Rattle.run_frame.specs.declared.game_input.InputStop.TheVariants.{NoGame, Read}
+use Rattle.run_frame.specs.declared.run_stop.RunStop.{RunStop}
+use Rattle.run_frame.specs.declared.run_stop.RunStop.TheVariants.{Own, Write}
 use Rattle.run_proof.specs.Whole.{IsAnswer, BeginsProof}
 use Rattle.run_proof.specs.declared.stop.ProofStop.{ProofStop}
 use Rattle.run_proof.specs.declared.stop.ProofStop.TheVariants.{Input, Refused, Memory}
@@ -36,3 +38,11 @@ IsStopped asked taken s (Input (NoGame fault)) = IsAnswer asked taken s.input (a
 IsStopped asked taken s (Input Read) = ⊤
 IsStopped asked taken s (Refused r) = IsAnswer asked taken s.input (answers.Refused r.at (why_of r.why)) × TakesLines r.at s.last_read taken
 IsStopped asked taken s Memory = BeginsProof asked taken × IfSome s.input (BeginsProof asked)
+
+-- a fault comes only where the stream's count of faults rose
+abbrev pub IsCausedBy : (unread unwritten : Type 0) → RunStop ProofStop → Type 0
+IsCausedBy unread unwritten (Own (Input Read)) = unread
+IsCausedBy unread unwritten (Own (Input (NoGame fault))) = ⊤
+IsCausedBy unread unwritten (Own (Refused r)) = ⊤
+IsCausedBy unread unwritten (Own Memory) = ⊤
+IsCausedBy unread unwritten Write = unwritten

@@ -2,7 +2,7 @@ use Rattle.std.proofs.Common.{Some}
 use Rattle.std.proofs.lemmas.Option.{MatchOption-at_some, MatchOption-at_none}
 use Rattle.game_rules.specs.Position.{board_of}
 use Rattle.cert_format.specs.Shape.{viewed}
-use Rattle.run_proof.proofs.Taking.{may_hand_on}
+use Rattle.run_proof.proofs.Handing.{may_hand_on}
 use Rattle.run_follow.proofs.Read.{next_read, next_got, next_none, next_step, next_kept, read_kept}
 use Rattle.run_follow.proofs.verdict.add_next.Goals as goal
 

@@ -1,11 +1,10 @@
 use Rattle.std.proofs.Common.{◌+◌, ◌-◌, List, [], sym, ap, ◌∙◌, subst, arith}
 use Rattle.std.proofs.lemmas.Result.{err_from_is_err_and}
 use Rattle.io_ports.specs.Reading.{pending, Reads, PassesLines}
-use Rattle.io_ports.proofs.Reading.{Reads_more}
 use Rattle.proof_text.specs.Checked.{CheckerState}
 use Rattle.proof_text.specs.Lemma.{Lemma}
 use Rattle.proof_text.specs.Texts.{first_number}
-use Rattle.run_proof.specs.Steps.{IsNamed, lines_read_until}
+use Rattle.run_proof.specs.Steps.{lines_read_until}
 use Rattle.run_follow.specs.Reading.{AreKept, GoesTo, StopsLines}
 use Rattle.run_follow.proofs.Heads.{head_stopped, game_stopped, lines_stopped, lines_gone, proof_right, first_most, game_most, start_kept}
 use Rattle.run_follow.proofs.verdict.read_to_verdict.Goals as goal
@@ -28,8 +27,7 @@ returns-in_err-version-clause-few g c =
 pub returns-in_err-root-clause-answer : goal.returns-in_err-root-clause-answer
 returns-in_err-root-clause-answer g c =
     let same = err_from_is_err_and c.from_residual-in_err-root.result c.from_residual-in_err-root.ensures.1 in
-    let first = Reads_more _ _ _ (λ bytes rest. PassesLines 1 bytes rest × IsNamed c.in_ok-version.version bytes rest) c.in_ok-version.ensures.answer
-    (λ bytes rest h. (h.0, h.1.1)) in
+    let first = c.in_ok-version.ensures.answer in
     rw (same.1, same.2) (game_stopped _ _ _ c.in_ok-version.version first _ _ _ c.in_err-root.field-0.0 c.in_ok-version.ensures.later
     c.in_err-root.ensures.answer)
 
@@ -49,8 +47,7 @@ pub returns-in_err-end-clause-answer : goal.returns-in_err-end-clause-answer
 returns-in_err-end-clause-answer g c =
     let same = err_from_is_err_and c.from_residual-in_err-end.result c.from_residual-in_err-end.ensures.1 in
     let stop = c.in_err-end.field-0.0 in
-    let first = Reads_more _ _ _ (λ bytes rest. PassesLines 1 bytes rest × IsNamed c.in_ok-version.version bytes rest) c.in_ok-version.ensures.answer
-    (λ bytes rest h. (h.0, h.1.1)) in
+    let first = c.in_ok-version.ensures.answer in
     let game_lines = c.read_game_lines.new in
     let b = pending game_lines.lines (g.S.Source.left game_lines.source) (g.S.Source.last_read game_lines.source) in
     let added = c.add_lines.new in
@@ -70,8 +67,7 @@ returns-in_err-end-clause-few g c =
 pub returns-clause-answer : goal.returns-clause-answer
 returns-clause-answer g c =
     let end = c.in_ok-end.end in
-    let first = Reads_more _ _ _ (λ bytes rest. PassesLines 1 bytes rest × IsNamed c.in_ok-version.version bytes rest) c.in_ok-version.ensures.answer
-    (λ bytes rest h. (h.0, h.1.1)) in
+    let first = c.in_ok-version.ensures.answer in
     let game_lines = c.read_game_lines.new in
     let b = pending game_lines.lines (g.S.Source.left game_lines.source) (g.S.Source.last_read game_lines.source) in
     let added = c.add_lines.new in
@@ -86,8 +82,7 @@ returns-clause-answer g c =
 pub returns-clause-right : goal.returns-clause-right
 returns-clause-right g c =
     let end = c.in_ok-end.end in
-    let first = Reads_more _ _ _ (λ bytes rest. PassesLines 1 bytes rest × IsNamed c.in_ok-version.version bytes rest) c.in_ok-version.ensures.answer
-    (λ bytes rest h. (h.0, h.1.1)) in
+    let first = c.in_ok-version.ensures.answer in
     let added = c.add_lines.new in
     proof_right _ _ _ c.in_ok-version.version first (pending added.lines (g.S.Source.left added.source) (g.S.Source.last_read added.source)) c.in_ok-root.root
     c.in_ok-root.ensures.answer added.checker.stands added.book end.0 end.1
