@@ -3,6 +3,7 @@ use Rattle.std.proofs.Common.{◌≡◌, ℕ, ◌+◌, ◌≤◌, true, false, L
 use Rattle.std.proofs.Common.{append-nil, is_some, if◌then◌else◌}
 use Rattle.std.proofs.KnownBytes.{Appends-nil}
 use Rattle.device_rules.specs.Devices.{AppendsPrefix}
+use Rattle.io_ports.specs.declared.ports.Failed.{Failed}
 use Rattle.game_rules.specs.Board.{is_board}
 use Rattle.game_rules.specs.Position.{Position, board_of, empty_count, end_of, after_move}
 use Rattle.game_rules.specs.declared.Side.{Side}
@@ -18,11 +19,9 @@ use Rattle.follow_text.specs.Follow.{first_text, follow_turn, follow_from, begin
 use Rattle.proof_player.specs.Playing.{FollowState, reply_for, first_in, first_move, HasBegun}
 use Rattle.proof_player.specs.declared.follow.FollowReply.{FollowReply}
 use Rattle.run_turns.specs.Steps.{turns_by}
-use Rattle.run_turns.specs.declared.game_end.GameStop.TheVariants as stops
 use Rattle.run_follow.specs.Begun.{OpensWith}
 use Rattle.run_follow.specs.Opening.{PutsFirst}
 use Rattle.run_follow.specs.Turns.{CanReply, first_line, follow_stands, turned_to, player_turn, turns_left}
-use Rattle.run_follow.specs.declared.not_followed.NotFollowed.TheVariants.{NoClaim}
 use Rattle.run_follow.proofs.Turn.{can_reply, first_said, left_by}
 
 -- what is played by the turns of a player by a proof is what is played by the proof
@@ -144,27 +143,16 @@ few_turns s t reply board has = of_first (first_move s) has
 
 -- a player who has begun, behind lines that were written
 pub put_begun : (s t : FollowState) (n : ℕ) (is : s.at ≡ at_lemma n false) (at : ℕ) (lines : List (List ℕ)) (old new : Option (List ℕ)) → length lines ≤ 1
-    → OpensWith s.lemmas s.now (Some n) (length lines) → Goes s t n is at lines → AppendsPrefix true old new (text_of lines) → PutsFirst s.lemmas s.holder s.now at (Some n) old new (Ok t)
+    → OpensWith s.lemmas s.now (Some n) (length lines) → Goes s t n is at lines → AppendsPrefix true old new (text_of lines) → PutsFirst s n at old new (Ok t)
 put_begun s t n is at lines old new few opens goes put = record { lines = lines; few = few; written = put; opens = opens; goes = goes }
 
 -- the line of the first move may be cut
-pub put_cut : (s t : FollowState) (n : ℕ) (is : s.at ≡ at_lemma n false) (at : ℕ) (line : List ℕ) (old new : Option (List ℕ))
-    → OpensWith s.lemmas s.now (Some n) 1 → Goes s t n is at (line ∷ []) → AppendsPrefix false old new line → PutsFirst s.lemmas s.holder s.now at (Some n) old new (Err stops.Write)
-put_cut s t n is at line old new opens goes put = record {
+pub put_cut : (s t : FollowState) (n : ℕ) (is : s.at ≡ at_lemma n false) (at : ℕ) (line : List ℕ) (old new : Option (List ℕ)) (failed : Failed)
+    → OpensWith s.lemmas s.now (Some n) 1 → Goes s t n is at (line ∷ []) → AppendsPrefix false old new line → PutsFirst s n at old new (Err failed)
+put_cut s t n is at line old new failed opens goes put = record {
   lines = line ∷ [];
   few = omega arith;
   written = subst (AppendsPrefix false old new) (sym (append-nil line)) put;
   opens = opens;
   goes = λ more. (follow_from t.lemmas t.holder t.at t.now (at + 1) more, goes more);
-}
-
--- no lemma is named
-pub put_none : (ls : List Lemma) (holder : Side) (root : Position) (at : ℕ) (named : Option ℕ) (old : Option (List ℕ)) → named ≡ None
-    → PutsFirst ls holder root at named old old (Err (stops.Head (NoClaim at)))
-put_none ls holder root at named old none = record {
-  lines = [];
-  few = omega arith;
-  written = Appends-nil old;
-  opens = tt;
-  goes = λ more. ap (follow_named ls holder root at more) none;
 }

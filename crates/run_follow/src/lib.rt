@@ -12,4 +12,4 @@ mod turn_text;
 mod verdict;
 
 pub use command::follow;
-pub use not_followed::{FollowEnding, FollowStop, NotFollowed};
+pub use not_followed::{FollowEnd, NotFollowed};

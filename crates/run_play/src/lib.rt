@@ -11,4 +11,4 @@ mod plan_player;
 mod turn_text;
 
 pub use command::play;
-pub use no_plan::{NoPlan, PlayEnding, PlayStop};
+pub use no_plan::{NoPlan, PlayEnd};

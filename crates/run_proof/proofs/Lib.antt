@@ -5,4 +5,5 @@ pub mod Taking
 pub mod Known
 pub mod Judging
 pub mod Named
+pub mod Statuses
 pub use Rattle.cert_checker.proofs.Follows

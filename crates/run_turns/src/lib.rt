@@ -6,10 +6,8 @@
 
 mod game_end;
 mod player;
-mod turn_stop;
 mod turns;
 
-pub use game_end::{GameEnding, GameStop};
+pub use game_end::{GameEnd, GameStop};
 pub use player::Player;
-pub use turn_stop::{TurnStop, move_fault_text};
 pub use turns::play_turns;
