@@ -196,7 +196,7 @@ module _ (asked : Option Version) (Holds : Position → List Lemma → Type 0) (
     pub judged_stop : (stop : RunStop ProofStop) (before after : ℕ) (X : Type 0)
         → ReadsLines End head.version (Holds head.game.position) puts head.game.position mid last last.ended old new (Err stop)
         → IsCausedBy (Rose before after) X stop → Judges asked Holds (over input last old new) (Err stop)
-    judged_stop (Own stop) before after X (t, going, has) cause =
+    judged_stop (Own stop) before after X (t, going, got, has) cause =
         let read = stop_read asked head puts (fresh input begun) mid last old new first t true before after X stop has cause in
         took input begun last old new read.0 _ _ read.2 read.3 (λ taken here all lines. (
           is_stopped input begun last old new asked stop read.0 before after taken here.0 (IfSome_more input _ _ all (λ bytes h. h.0)) read.1 lines,

@@ -228,7 +228,7 @@ module _ (input : Option (List ℕ)) (begun : ℕ) (head : Head) (mid last : Pen
         let P : RunStop ProofStop → Type 0 = λ found. ReadsLines End head.version Holds upgraded_line head.game.position mid last ended held sent (Err found) in
         let own : P (Own stop) = subst P is read in
         let caused : IsCausedBy (Rose before after) X (Own stop) = subst (IsCausedBy (Rose before after) X) is cause in
-        (ends_stop put own.0 sent before after X stop own.2 caused kept, ends_unsent put own.0 sent before after X stop own.2 caused kept)
+        (ends_stop put own.0 sent before after X stop own.3 caused kept, ends_unsent put own.0 sent before after X stop own.3 caused kept)
 
     -- the sink did
     pub ends_write : found ≡ Write → ReadsLines End head.version Holds upgraded_line head.game.position mid last ended held new (Err found)
