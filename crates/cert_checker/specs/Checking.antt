@@ -37,12 +37,19 @@ IsLemma (ALemma l) = ⊤
 IsLemma ARemark = ⊥
 IsLemma (AVerdict v) = ⊥
 
--- what stands after the lines so far, how many lemma lines can be added without taking memory, and for how many in all
--- each of the lists that they are kept in has memory
+-- what stands after the lines so far, how many lemma lines can be added without taking memory, for how many in all each of
+-- the lists that they are kept in has memory, and the path whose position is at hand
 pub record Checking : Type 0 where
   pub stands : CheckerState
   pub spare : ℕ
   pub memory : ℕ × ℕ
+  pub path : List ℕ
+
+-- behind a lemma that is its own
+abbrev pub IsAt : Line → List ℕ → Type 0
+IsAt (ALemma l) path = path ≡ l.path
+IsAt ARemark path = ⊤
+IsAt (AVerdict v) path = ⊤
 
 -- An accepted lemma uses up room for one lemma at most, and takes memory only where there was no room. Any other line uses
 -- up no room and takes no memory.
@@ -51,10 +58,11 @@ LeavesSpare (ALemma l) old new = (old.spare ≤ new.spare + 1) × (0 < old.spare
 LeavesSpare ARemark old new = (new.spare ≡ old.spare) × (new.memory ≡ old.memory)
 LeavesSpare (AVerdict v) old new = (new.spare ≡ old.spare) × (new.memory ≡ old.memory)
 
--- A line that is refused leaves all as it was. Where no memory was found, one of the lists may have got more.
+-- A line that is refused leaves all as it was, but for the path. Where no memory was found, one of the lists may have got
+-- more.
 abbrev pub StaysAs : Checking → Checking → AddStop → Type 0
-StaysAs old new (Refused refused) = new ≡ old
-StaysAs old new (Memory e) = new ≡ record old { memory = new.memory }
+StaysAs old new (Refused refused) = new ≡ record old { path = new.path }
+StaysAs old new (Memory e) = new ≡ record old { memory = new.memory; path = new.path }
 
 -- A line is refused by the name that the definitions give it, with its number; or, being a lemma that isn't refused and for
 -- which there was no room, found no memory.

@@ -1,27 +1,26 @@
 //! The checker: what stands after the lines so far, and the tests of the next.
-ghost use Rattle.std.specs.Prelude.{◌≡◌, ◌+◌, ◌^◌, ◌<◌, ◌≤◌, [], ◌∷◌, ◌++◌, Some, None, map, length, MatchResult, IfOk, OnOk, OnErr, IfErr};
+ghost use Rattle.std.specs.Prelude.{◌≡◌, ◌+◌, ◌^◌, ◌<◌, ◌≤◌, [], ◌∷◌, ◌++◌, Some, None, is_some, map, length, MatchResult, IfOk, OnOk, OnErr, IfErr};
 ghost use Rattle.game_rules.specs.Position.{board_of, played};
 ghost use Rattle.proof_text.specs.Lemma.{ALemma, AVerdict};
 ghost use Rattle.proof_text.specs.Checked.{lemma_refusal, line_refusal, with_line};
 ghost use Rattle.proof_text.specs.Texts.{start};
 ghost use Rattle.proof_text.specs.declared.Why.TheVariants.{EndedEarly};
 ghost use Rattle.cert_format.specs.Shape.{lemma_viewed, line_of, viewed};
-ghost use Rattle.cert_checker.specs.Checking.{Finds, LeavesSpare, StaysAs, StopsAt};
+ghost use Rattle.cert_checker.specs.Checking.{Finds, IsAt, LeavesSpare, StaysAs, StopsAt};
 ghost use Rattle.cert_checker.specs.declared.stops.AddStop.TheVariants.{Refused};
 
 use crate::known::Known;
 use crate::reasons::{check_reason, verdict_stands};
 use crate::stops::{Accepted, AddStop, Refusal, Why};
 use crate::trail::Trail;
-use board_bits::{Column, MOST_SQUARES, Position};
+use board_bits::Position;
 use cert_format::{LemmaView, Line, LineView};
 use proof_text::Verdict;
 use std::alloc::{AllocError, Global};
 use std::marker::Model;
 
 /// What stands after the lines of a proof that were added: the root, what each lemma shows, and the verdict if there
-/// was one; and room for more lemmas. The path of the last lemma is kept with its positions; none of what a contract sees
-/// depends on it.
+/// was one; and room for more lemmas. The path of the last lemma is kept with its positions.
 #[derive(Drop)]
 pub struct Checker {
     trail: Trail,
@@ -40,6 +39,7 @@ impl Model for Checker {
       stands = record { root = a.trail.root; known = a.known.shown; verdict = a.verdict };
       spare = a.known.spare;
       memory = a.known.memory;
+      path = a.trail.path;
     } };
 
     ghost invariant = { λ a. board_of a.trail.root ≡ a.known.board };
@@ -48,7 +48,7 @@ impl Model for Checker {
 impl Checker {
     /// A checker to which no line was added. No memory is taken.
     pub fn new(alloc: Global, root: Position) -> Checker
-        ensures { result ≡ record { stands = start root; spare = 0; memory = (0, 0) } }
+        ensures { result ≡ record { stands = start root; spare = 0; memory = (0, 0); path = [] } }
     {
         Checker {
             trail: Trail::new(root),
@@ -84,18 +84,19 @@ impl Checker {
         self.known.reserve(lemmas)
     }
 
-    /// The position that a path leads to from the root, where each of its moves is legal at its turn. For the path of the
-    /// last lemma no move is made again.
-    pub fn position_after(&mut self, path: &[Column]) -> Option<Position>
-        requires { length path.now ≤ MOST_SQUARES }
-        ensures position { result ≡ played self.old.stands.root path.now }
-        ensures same { self.new ≡ self.old }
+    /// The position of the last lemma that was added, or the root where none was; behind a lemma that is refused, one on the
+    /// way to its position.
+    pub fn position(&self) -> &Position
+        ensures { played self.now.stands.root self.now.path ≡ Some result.now }
     {
-        if self.trail.follow(path) {
-            Some(*self.trail.last().position())
-        } else {
-            None
-        }
+        self.trail.last().position()
+    }
+
+    /// Whether a verdict was added.
+    pub fn has_verdict(&self) -> bool
+        ensures { result ≡ is_some self.now.stands.verdict }
+    {
+        self.verdict.is_some()
     }
 
     /// Adds the line that stands at this line number. It is refused exactly where the definitions refuse it, by the
@@ -104,6 +105,7 @@ impl Checker {
     /// is room.
     pub fn add(&mut self, at: u64, line: &Line) -> Result<(), AddStop>
         ensures accepted { OnOk result ((line_refusal self.old.stands (line_of line.now) ≡ None) × (self.new.stands ≡ with_line self.old.stands (line_of line.now))) }
+        ensures path { OnOk result (IsAt (line_of line.now) self.new.path) }
         ensures spare { OnOk result (LeavesSpare (line_of line.now) self.old self.new) }
         ensures kept { IfErr result (StaysAs self.old self.new) }
         ensures cause { IfErr result (λ stop. StopsAt self.old.spare at stop (line_refusal self.old.stands (line_of line.now)) (line_of line.now)) }
@@ -120,6 +122,7 @@ impl Checker {
     #[inline(always)]
     pub fn add_view(&mut self, at: u64, line: &LineView<'_>) -> Result<(), AddStop>
         ensures accepted { OnOk result ((line_refusal self.old.stands (viewed line.now) ≡ None) × (self.new.stands ≡ with_line self.old.stands (viewed line.now))) }
+        ensures path { OnOk result (IsAt (viewed line.now) self.new.path) }
         ensures spare { OnOk result (LeavesSpare (viewed line.now) self.old self.new) }
         ensures kept { IfErr result (StaysAs self.old self.new) }
         ensures cause { IfErr result (λ stop. StopsAt self.old.spare at stop (line_refusal self.old.stands (viewed line.now)) (viewed line.now)) }
@@ -138,6 +141,7 @@ impl Checker {
     fn add_lemma(&mut self, at: u64, lemma: &LemmaView<'_>) -> Result<(), AddStop>
         requires { self.old.stands.verdict ≡ None }
         ensures accepted { OnOk result ((line_refusal self.old.stands (ALemma (lemma_viewed lemma.now)) ≡ None) × (self.new.stands ≡ with_line self.old.stands (ALemma (lemma_viewed lemma.now)))) }
+        ensures path { OnOk result (self.new.path ≡ lemma.now.path.now.items) }
         ensures spare { OnOk result (LeavesSpare (ALemma (lemma_viewed lemma.now)) self.old self.new) }
         ensures kept { IfErr result (StaysAs self.old self.new) }
         ensures cause { IfErr result (λ stop. StopsAt self.old.spare at stop (line_refusal self.old.stands (ALemma (lemma_viewed lemma.now))) (ALemma (lemma_viewed lemma.now))) }

@@ -1,46 +1,42 @@
 -- How a run of `check` ends.
-use Rattle.std.proofs.Common.{◌≡◌, ℕ, false, List, Option, None, Ok, Err, refl, sym, ◌∙◌, inl, inr}
-use Rattle.std.specs.Io.KnownBytes.{Keeps, Appends}
+use Rattle.std.specs.Bool.{⊤}
+use Rattle.std.proofs.Common.{◌≡◌, ℕ, true, false, List, Option, None, Ok, Err, refl, sym, ◌∙◌, inl, inr}
 use Rattle.device_rules.specs.Devices.{AppendsPrefix}
-use Rattle.proof_text.specs.Lemma.{Lemma}
-use Rattle.run_proof.specs.Accepted.{Accepted as Right}
 use Rattle.run_frame.specs.Streams.{Streams, StillHolds}
 use Rattle.run_frame.specs.declared.game_input.InputStop.TheVariants as inputs
+use Rattle.run_frame.specs.declared.run_stop.RunStop.{RunStop}
 use Rattle.run_frame.specs.declared.run_stop.RunStop.TheVariants.{Own, Write}
 use Rattle.run_frame.proofs.Owed.{owed}
 use Rattle.run_frame.proofs.Inputs.{of_each, IfSome_more, kept_still, appended_still, cut_still}
-use Rattle.run_proof.specs.Steps.{Judges}
+use Rattle.run_proof.specs.Judged.{Judges}
+use Rattle.run_proof.specs.declared.reading.ProofRead.{ProofRead}
 use Rattle.run_proof.specs.declared.stop.ProofStop.{ProofStop}
 use Rattle.run_proof.specs.declared.stop.ProofStop.TheVariants as stops
-use Rattle.run_proof.proofs.Judging.{stopped, judged_few}
+use Rattle.run_proof.proofs.Judging.{put_behind}
 use Rattle.run_check.specs.Checks.{accepted_line, Checked, checked_status, Checks, CheckCompletes, CheckOwes}
 
-module _ (s : Streams) (before after : ℕ) (had has : Option (List Lemma)) where
-  pub checks_done : (accepted : Right) → Judges None s.input s.left s.last_read before after had has (Ok accepted)
-      → Appends s.old s.new (accepted_line accepted.verdict accepted.lemmas) → Checks s (Ok tt)
-  checks_done accepted judged put = record {
+module _ (s : Streams) where
+  pub checks_done : (mid : Option (List ℕ)) (proof : ProofRead) → Judges None (λ root ls. ⊤) (record s { new = mid }) (Ok proof)
+      → AppendsPrefix true mid s.new (accepted_line proof.accepted.verdict proof.accepted.lemmas) → Checks s (Ok tt)
+  checks_done mid proof judged put = record {
     taken = judged.taken;
     gave = judged.gave;
-    few = judged_few None s before after had has (Ok accepted) judged;
-    holds = ((accepted.verdict, accepted.lemmas, judged.answer, put), judged.lines);
+    few = judged.few;
+    holds = ((proof.accepted.verdict, proof.accepted.lemmas, judged.holds.0.0.0, put_behind true s.old mid s.new _ judged.holds.0.1 put), judged.holds.1);
   }
 
-  pub checks_cut : (accepted : Right) → Judges None s.input s.left s.last_read before after had has (Ok accepted)
-      → AppendsPrefix false s.old s.new (accepted_line accepted.verdict accepted.lemmas) → Checks s (Err Write)
-  checks_cut accepted judged put = record {
+  pub checks_cut : (mid : Option (List ℕ)) (proof : ProofRead) → Judges None (λ root ls. ⊤) (record s { new = mid }) (Ok proof)
+      → AppendsPrefix false mid s.new (accepted_line proof.accepted.verdict proof.accepted.lemmas) → Checks s (Err Write)
+  checks_cut mid proof judged put = record {
     taken = judged.taken;
     gave = judged.gave;
-    few = judged_few None s before after had has (Ok accepted) judged;
-    holds = ((accepted.verdict, accepted.lemmas, judged.answer, put), judged.lines);
+    few = judged.few;
+    holds = ((proof.accepted.verdict, proof.accepted.lemmas, judged.holds.0.0.0, put_behind false s.old mid s.new _ judged.holds.0.1 put), judged.holds.1);
   }
 
-  pub checks_stop : (stop : ProofStop) → Judges None s.input s.left s.last_read before after had has (Err stop) → Keeps s.old s.new → Checks s (Err (Own stop))
-  checks_stop stop judged kept = record {
-    taken = judged.taken;
-    gave = judged.gave;
-    few = judged_few None s before after had has (Err stop) judged;
-    holds = ((stopped None s before after had has stop judged, kept), judged.lines);
-  }
+  pub checks_stop : (stop : RunStop ProofStop) → Judges None (λ root ls. ⊤) s (Err stop) → Checks s (Err stop)
+  checks_stop (Own stop) judged = record { taken = judged.taken; gave = judged.gave; few = judged.few; holds = judged.holds }
+  checks_stop Write judged = absurd judged.holds.0.0
 
 pub check_completes : (s : Streams) (end : Checked) → Checks s end → (checked_status end ≡ 6 → ⊥) → (checked_status end ≡ 7 → ⊥)
     → CheckCompletes s.input (checked_status end)

@@ -6,7 +6,7 @@ ghost use Rattle.run_frame.specs.Streams.{streams};
 
 use crate::checked::Checked;
 use io_ports::{Failed, Sink, Source};
-use run_frame::{RunStop, put_line};
+use run_frame::put_line;
 use run_proof::{Accepted, KeepsNone, read_proof};
 use std::alloc::Global;
 use text_words::{LineText, push_number, push_text};
@@ -17,13 +17,9 @@ pub fn check<S: Source, O: Sink>(alloc: Global, source: &mut S, out: &mut O) -> 
     ensures { CheckOwes (streams S.left S.last_read O.written source.old source.new out.old out.new)
         (Rose (S.faults source.old) (S.faults source.new)) (Rose (O.faults out.old) (O.faults out.new)) result }
 {
-    match read_proof(alloc, None, source, &mut KeepsNone) {
-        Ok(accepted) => match put_accepted(out, accepted) {
-            Ok(()) => Ok(()),
-            Err(Failed) => Err(RunStop::Write),
-        },
-        Err(stop) => Err(RunStop::Own(stop)),
-    }
+    let proof = read_proof(alloc, None, source, &mut KeepsNone, out)?;
+    put_accepted(out, proof.accepted)?;
+    Ok(())
 }
 
 /// Writes that a proof is accepted.

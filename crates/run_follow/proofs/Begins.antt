@@ -1,10 +1,9 @@
 -- What an input of `follow` begins with, by all that was taken of it.
-use Rattle.std.proofs.Common.{◌≡◌, ℕ, ◌+◌, ◌<◌, ◌≤◌, false, List, [], ◌++◌, length, Option, None, IfSome, Ok, Err, refl, ap, subst, arith, append-nil}
-use Rattle.std.specs.Io.KnownBytes.{Consumes}
-use Rattle.std.proofs.KnownBytes.{Keeps-refl}
+use Rattle.std.proofs.Common.{◌≡◌, ℕ, ◌<◌, false, List, [], ◌++◌, length, Option, None, Ok, Err, refl, ap, subst, arith, append-nil}
+use Rattle.std.specs.Io.KnownBytes.{Keeps, Consumes}
 use Rattle.game_rules.specs.Position.{Position, side_to_move}
 use Rattle.game_rules.specs.declared.Side.{Side}
-use Rattle.io_ports.specs.Lines.{Cutting, HoldsFew, behind_lines}
+use Rattle.io_ports.specs.Lines.{Cutting, HoldsFew}
 use Rattle.io_ports.specs.declared.line_reader.LineGot.TheVariants.{Done as DoneLines}
 use Rattle.io_ports.specs.Reading.{Pending, pending, Reads, PassesLines}
 use Rattle.io_ports.proofs.Reading.{Reads_more, Reads_then}
@@ -26,7 +25,7 @@ use Rattle.run_turns.specs.Steps.{is_whole, TurnStep, PlaysTurns}
 use Rattle.run_turns.specs.declared.game_end.GameStop.TheVariants as stops
 use Rattle.run_turns.proofs.Plays.{over}
 use Rattle.run_follow.specs.Begun.{HasVerdict, OpensWith, BeginsGame}
-use Rattle.run_follow.specs.Follows.{EndsProof, Begins}
+use Rattle.run_follow.specs.Follows.{Begins}
 use Rattle.run_follow.specs.Reading.{VerdictLater, StopsProof, IsToVerdict}
 use Rattle.run_follow.specs.declared.not_followed.NotFollowed.{NotFollowed}
 use Rattle.run_follow.specs.declared.not_followed.NotFollowed.TheVariants.{Proof}
@@ -57,25 +56,25 @@ module _ (old : Option (List ℕ)) (begun : ℕ) (reader : Cutting) (last : Pend
         ),
       )
 
-  module _ (o : Option (List ℕ)) (holder : Side) (before after : ℕ) where
+  module _ (o n : Option (List ℕ)) (kept : Keeps o n) (holder : Side) (before after : ℕ) where
     proof_ends : (stop : ProofStop)
         → Reads (fresh old begun) last (λ bytes rest. PassesLines (lines_read_until stop) bytes rest × StopsProof bytes rest before after stop)
-        → Begins holder 3 0 (over old last o o) (Err (Own (stops.Head (Proof stop))))
-    proof_ends (proofs.Input (inputs.NoGame fault)) reads = (reads.taken, reads.gave, (tt, Keeps-refl o))
+        → Begins holder 3 0 (over old last o n) (Err (Own (stops.Head (Proof stop))))
+    proof_ends (proofs.Input (inputs.NoGame fault)) reads = (reads.taken, reads.gave, (tt, kept))
     proof_ends (proofs.Input inputs.Read) reads =
         let ahead : Reads (fresh old begun) last VerdictLater = Reads_more _ _ _ VerdictLater reads (λ bytes rest h. h.1.1) in
-        (ahead.taken, ahead.gave, (ahead_taken ahead, Keeps-refl o))
-    proof_ends (proofs.Refused r) reads = (reads.taken, reads.gave, (tt, Keeps-refl o))
+        (ahead.taken, ahead.gave, (ahead_taken ahead, kept))
+    proof_ends (proofs.Refused r) reads = (reads.taken, reads.gave, (tt, kept))
     proof_ends proofs.Memory reads =
         let most = lines_read_until proofs.Memory in (
           reads.taken,
           reads.gave,
-          ((of_taken old begun last most most (BeginsProof None) reads, of_input old begun last most most (BeginsProof None) reads), Keeps-refl o),
+          ((of_taken old begun last most most (BeginsProof None) reads, of_input old begun last most most (BeginsProof None) reads), kept),
         )
 
     pub proof_begins : (stop : ProofStop)
         → Reads (pending reader old begun) last (λ bytes rest. PassesLines (lines_read_until stop) bytes rest × StopsProof bytes rest before after stop)
-        → Begins holder 3 0 (over old last o o) (Err (Own (stops.Head (Proof stop))))
+        → Begins holder 3 0 (over old last o n) (Err (Own (stops.Head (Proof stop))))
     proof_begins stop reads = proof_ends stop (from_fresh old begun reader last _ new reads)
 
   -- ---- behind the verdict

@@ -1,5 +1,5 @@
 -- How a run of `follow` ends.
-use Rattle.std.proofs.Common.{◌≡◌, ◌⊎◌, ℕ, ◌+◌, ◌≤◌, Some, None, Err, refl, sym, ap, ◌∙◌, inl, inr, arith}
+use Rattle.std.proofs.Common.{◌≡◌, ◌⊎◌, ℕ, ◌+◌, ◌≤◌, Some, None, refl, ap, ◌∙◌, inl, inr, arith}
 use Rattle.std.proofs.lemmas.Bool.{cases_eq}
 use Rattle.game_rules.specs.declared.Side.{Side}
 use Rattle.play_text.specs.Play as ends
@@ -7,13 +7,11 @@ use Rattle.follow_text.specs.Told.{IsTold}
 use Rattle.follow_text.proofs.Tells.{follow_is_told}
 use Rattle.run_frame.specs.Streams.{Streams}
 use Rattle.run_frame.specs.declared.game_input.InputStop.TheVariants as inputs
-use Rattle.run_frame.specs.declared.run_stop.RunStop.TheVariants.{Own}
 use Rattle.run_frame.proofs.Inputs.{of_each, IfSome_more}
 use Rattle.run_frame.proofs.Owed.{owed}
 use Rattle.run_proof.specs.Whole.{most_lines_read}
 use Rattle.run_proof.specs.declared.stop.ProofStop.TheVariants.{Input, Refused, Memory}
 use Rattle.run_turns.specs.Games.{GameEnd}
-use Rattle.run_turns.specs.declared.game_end.GameStop.TheVariants as stops
 use Rattle.run_turns.proofs.Plays.{HasLaws, ends_as, all_done, game_held}
 use Rattle.run_follow.specs.Follows.{head_status, head_end, follow_form, most_follow_lines, follow_status, Follows, FollowCompletes, FollowOwes}
 use Rattle.run_follow.specs.declared.not_followed.NotFollowed.{NotFollowed}

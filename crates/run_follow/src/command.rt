@@ -3,8 +3,9 @@ ghost use Rattle.device_rules.specs.Devices.{Rose};
 ghost use Rattle.run_frame.specs.Streams.{streams};
 ghost use Rattle.run_follow.specs.Follows.{FollowOwes};
 
-use crate::not_followed::{FollowEnd, NotFollowed};
-use crate::opening::{begin, named_for};
+use crate::follow_player::FollowPlayer;
+use crate::not_followed::{FollowEnd, NotFollowed, proof_stop};
+use crate::opening::{named_for, put_first};
 use crate::verdict::read_to_verdict;
 use board_bits::Side;
 use io_ports::{Lines, Sink, Source};
@@ -28,13 +29,15 @@ pub fn follow<S: Source, O: Sink>(
 {
     let mut lines = Lines::new();
     let mut book = Book::new(alloc);
-    let proof = match read_to_verdict(alloc, &mut book, &mut lines, source) {
+    let proof = match read_to_verdict(alloc, &mut book, &mut lines, source, out) {
         Ok(proof) => proof,
-        Err(stop) => return Err(RunStop::Own(GameStop::Head(NotFollowed::Proof(stop)))),
+        Err(stop) => return Err(proof_stop(stop)),
     };
     let Some(lemma) = named_for(holder, proof.root.to_move(), proof.verdict) else {
         return Err(RunStop::Own(GameStop::Head(NotFollowed::NoClaim(proof.at))));
     };
-    let mut player = begin(Follow::new(&book, &proof.root, holder, lemma), out)?;
+    let (follow, first) = Follow::begin(&book, &proof.root, holder, lemma);
+    put_first(&proof.root, first, out)?;
+    let mut player = FollowPlayer::new(follow);
     play_turns(&mut player, proof.at + 1, &mut lines, source, out)
 }

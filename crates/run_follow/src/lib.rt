@@ -8,7 +8,6 @@ mod command;
 mod follow_player;
 mod not_followed;
 mod opening;
-mod turn_text;
 mod verdict;
 
 pub use command::follow;

@@ -1,10 +1,11 @@
 //! What `follow` says where there is no lemma to play by.
 ghost use Rattle.std.specs.Prelude.{◌≡◌, ◌++◌};
 ghost use Rattle.run_follow.specs.Follows.{no_claim_line};
+ghost use Rattle.run_follow.specs.Reading.{proof_stop};
 
-use run_frame::{Ending, begin_refusal};
+use run_frame::{Ending, RunStop, begin_refusal};
 use run_proof::ProofStop;
-use run_turns::GameEnd;
+use run_turns::{GameEnd, GameStop};
 use text_words::{LineText, push_text};
 
 /// Why the holder doesn't play.
@@ -38,6 +39,16 @@ impl Ending for NotFollowed {
             NotFollowed::Proof(stop) => stop.text(),
             NotFollowed::NoClaim(at) => no_claim_text(*at),
         }
+    }
+}
+
+/// What stops the reading of the proof stops the run.
+pub(crate) fn proof_stop(stop: RunStop<ProofStop>) -> RunStop<GameStop<NotFollowed>>
+    ensures { result ≡ proof_stop stop }
+{
+    match stop {
+        RunStop::Own(stop) => RunStop::Own(GameStop::Head(NotFollowed::Proof(stop))),
+        RunStop::Write => RunStop::Write,
     }
 }
 

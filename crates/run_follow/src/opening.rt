@@ -1,37 +1,32 @@
 //! The line that is written first: the holder's first move, where it has one.
-ghost use Rattle.std.specs.Prelude.{◌≡◌, ◌≤◌, ℕ, false, IfOk};
-ghost use Rattle.follow_text.specs.Following.{at_lemma};
+ghost use Rattle.std.specs.Prelude.{◌≡◌, is_ok, IfSome};
+ghost use Rattle.device_rules.specs.Devices.{HasCause, AppendsPrefix};
 ghost use Rattle.follow_text.specs.Follow.{named_for};
-ghost use Rattle.device_rules.specs.Devices.{HasCause};
-ghost use Rattle.run_follow.specs.Opening.{PutsFirst};
-ghost use Rattle.run_follow.specs.Turns.{turns_left};
+ghost use Rattle.play_text.specs.Play.{text_of};
+ghost use Rattle.run_turns.specs.Turns.{HasRoom};
+ghost use Rattle.run_follow.specs.Turns.{man_of, first_lines};
 
-use crate::follow_player::FollowPlayer;
-use crate::turn_text::first_line;
-use board_bits::Side;
+use crate::follow_player::turn_of;
+use board_bits::{Position, Side};
 use cert_format::Verdict;
 use io_ports::{Failed, Sink};
-use proof_player::Follow;
+use proof_player::FollowReply;
 use run_frame::put_line;
+use run_turns::turn_line;
 
-/// Plays the holder's first move, where it has one, and writes its line.
-pub(crate) fn begin<'a, O: Sink>(
-    mut follow: Follow<'a>,
+/// Writes the line of the holder's first move at the root, where it has one.
+pub(crate) fn put_first<O: Sink>(
+    root: &Position,
+    first: Option<FollowReply>,
     out: &mut O,
-) -> Result<FollowPlayer<'a>, Failed>
-    requires fresh { follow.begun ≡ false }
-    ensures head { (n at : ℕ) → follow.entry.at ≡ at_lemma n false → PutsFirst follow.entry n at (O.written out.old) (O.written out.new) result }
-    ensures few { IfOk result (λ player. turns_left player ≤ 50) }
+) -> Result<(), Failed>
+    requires { IfSome first (λ reply. HasRoom root.now (man_of reply).0) }
+    ensures written { AppendsPrefix (is_ok result) (O.written out.old) (O.written out.new) (text_of (first_lines root.now first)) }
     ensures cause { HasCause (O.faults out.old) (O.faults out.new) result }
 {
-    let root = *follow.now();
-    root.has_a_board();
-    match follow.first() {
-        Some(reply) => {
-            put_line(out, first_line(&root, reply).as_slice())?;
-            Ok(FollowPlayer::new(follow))
-        }
-        None => Ok(FollowPlayer::new(follow)),
+    match first {
+        Some(reply) => put_line(out, turn_line(&turn_of(root, None, reply)).as_slice()),
+        None => Ok(()),
     }
 }
 

@@ -1,257 +1,230 @@
--- All that was read of a proof: from the first step on, what was taken, and how `check` answers it.
-use Rattle.std.proofs.Common.{◌≡◌, ℕ, ◌+◌, ◌-◌, ◌≤◌, Bool, true, List, [], ◌++◌, length, Option, Result, Ok, Err}
-use Rattle.std.proofs.Common.{refl, sym, ap, ◌∙◌, subst, arith, append_assoc, append-nil}
+-- A whole proof: what was taken of it from the first step on, and how it is judged.
+use Rattle.std.proofs.Common.{◌≡◌, ℕ, ◌+◌, ◌≤◌, Bool, true, List, [], length, Option, Some, None, IfSome, Ok, Err}
+use Rattle.std.proofs.Common.{refl, sym, ap, ◌∙◌, subst, arith, append-nil}
+use Rattle.std.specs.Io.KnownBytes.{Keeps, Appends}
+use Rattle.std.proofs.KnownBytes.{Appends-nil, Appends-kept}
+use Rattle.device_rules.specs.Devices.{AppendsPrefix, Rose}
+use Rattle.device_rules.proofs.DeviceLaws.{AppendsPrefix_more}
 use Rattle.game_rules.specs.Position.{Position}
-use Rattle.game_rules.specs.Game.{Game, IsTextOf}
-use Rattle.game_rules.specs.Text.{game_at}
-use Rattle.game_rules.proofs.Games.{game_is_read}
-use Rattle.proof_text.specs.Checked.{CheckerState}
+use Rattle.io_ports.specs.Reading.{Pending, Reads, PassesLines}
+use Rattle.io_ports.proofs.Reading.{Reads_then, passes_then, passes_most}
 use Rattle.proof_text.specs.Lemma.{Lemma}
 use Rattle.proof_text.specs.Texts as answers
-use Rattle.proof_text.specs.Texts.{pieces, lines_in, game_of, behind_game, first_number, start, CheckAnswer, verdict_answer}
-use Rattle.cert_checker.specs.Checking.{why_of}
-use Rattle.cert_checker.specs.declared.stops.Accepted.{Accepted}
-use Rattle.cert_checker.specs.declared.stops.Refusal.{Refusal}
+use Rattle.proof_text.specs.Texts.{first_number, start, verdict_answer}
 use Rattle.proof_text.specs.declared.Version.{Version}
-use Rattle.run_proof.specs.Whole.{judged, most_lines_read, most_taken}
-use Rattle.run_proof.specs.Stops.{IsStopped}
-use Rattle.run_frame.specs.Streams.{Streams}
-use Rattle.run_proof.specs.Taken.{text_lemmas, Gains, BeginWith}
-use Rattle.run_proof.specs.Steps.{Adds, IsFirstStop, IsNamed, IsStopAt, StopsBy, StopsWith}
-use Rattle.run_proof.specs.Steps.{Judges, Place, AtHead, AtGame, AtLine, GoesOn, Gets, lines_from, lemmas_at, lines_read_until}
-use Rattle.run_proof.specs.Heads.{HasHead, JudgesWhole}
-use Rattle.run_proof.specs.declared.reading.ProofRead.{ProofRead}
-use Rattle.io_ports.specs.Reading.{Pending, Reads, PassesLines}
-use Rattle.run_frame.specs.Reading.{StopsGame}
-use Rattle.run_frame.specs.declared.game_input.InputStop.{InputStop}
+use Rattle.run_frame.specs.Streams.{Streams, TakesLines}
+use Rattle.run_frame.specs.Stops.{run_stop_status}
 use Rattle.run_frame.specs.declared.game_input.InputStop.TheVariants as inputs
+use Rattle.run_frame.specs.declared.run_stop.RunStop.{RunStop}
+use Rattle.run_frame.specs.declared.run_stop.RunStop.TheVariants.{Own, Write}
+use Rattle.run_frame.proofs.Inputs.{IfSome_more}
+use Rattle.run_frame.proofs.Owed.{unwritten_status}
+use Rattle.run_frame.proofs.Passing.{takes_bytes}
+use Rattle.run_frame.proofs.Taken.{fresh, of_taken, of_input, of_lines}
+use Rattle.run_proof.specs.Heads.{Begins, StopsBy, IsFirstStop, head_lines}
+use Rattle.run_proof.specs.Judged.{TookLines, Judges}
+use Rattle.run_proof.specs.Lines.{Progress, begin, HasLines, HasRead, Cuts, AreAll, StopsIn, StopsBehind, passed_until, ReadsLines}
+use Rattle.run_proof.specs.Steps.{lines_read_until}
+use Rattle.run_proof.specs.Stops.{stop_status, IsStopped, IsCausedBy}
+use Rattle.run_proof.specs.Whole.{judged, most_lines_read}
+use Rattle.run_proof.specs.declared.head.Head.{Head}
+use Rattle.run_proof.specs.declared.lines.LinesRead.{LinesRead}
+use Rattle.run_proof.specs.declared.lines.Until.TheVariants.{End}
 use Rattle.run_proof.specs.declared.stop.ProofStop.{ProofStop}
 use Rattle.run_proof.specs.declared.stop.ProofStop.TheVariants as stops
-use Rattle.run_proof.proofs.Lines.{game_says, game_read, game_reaches, game_fault}
-use Rattle.run_proof.proofs.Taking.{stops_bare}
+use Rattle.run_proof.proofs.Heads.{lines_behind, judged_behind, stops_behind, says_all}
 use Rattle.run_proof.proofs.Known.{right_input}
-use Rattle.run_frame.proofs.Inputs.{IfSome_more}
-use Rattle.run_frame.proofs.Passing.{takes_bytes}
-use Rattle.io_ports.proofs.Reading.{Reads_more, Reads_then, passes_then, passes_most}
-use Rattle.run_frame.proofs.Taken.{fresh, of_taken, of_input, of_lines}
+use Rattle.run_proof.proofs.Stand.{stand_few, put_none}
 
--- from one place to the next but one
-pub goes_then : (one two three : Place) (bytes mid rest : List ℕ) (ls ms : List Lemma) → GoesOn one bytes two mid ls → GoesOn two mid three rest ms
-    → GoesOn one bytes three rest (ls ++ ms)
-goes_then one two three bytes mid rest ls ms first next = record {
-  answer = first.answer ∙ next.answer;
-  reaches = λ reach. first.reaches (next.reaches reach);
-  says = first.says ∙ ap (λ rest. ls ++ rest) next.says ∙ sym (append_assoc ls ms (lemmas_at three rest));
-}
+-- ---- what was taken
 
--- the next line was added, or there was none
-abbrev pub AddsLine : Version → Pending → Pending → Option (List Lemma) → Option (List Lemma) → CheckerState → CheckerState → ℕ → Bool → Type 0
-AddsLine version a b had has s t at more = Gets a b had has (λ lemmas bytes rest. PassesLines 1 bytes rest × Adds version s t at more lemmas bytes rest)
+abbrev pub over : Option (List ℕ) → Pending → Option (List ℕ) → Option (List ℕ) → Streams
+over input last old new = record { input = input; left = last.left; last_read = last.last_read; old = old; new = new }
 
--- the lemmas of the rest begin with some, so those of all begin with those passed and these
-pub begin_earlier : (one two : Place) (bytes mid : List ℕ) (ls ms : List Lemma) → GoesOn one bytes two mid ls → BeginWith (lemmas_at two mid) ms
-    → BeginWith (lemmas_at one bytes) (ls ++ ms)
-begin_earlier one two bytes mid ls ms goes (more, is) = (more, goes.says ∙ ap (λ rest. ls ++ rest) is ∙ sym (append_assoc ls ms more))
+takes_most : (m n last_read : ℕ) (taken : List ℕ) → m ≤ n → TakesLines m last_read taken → TakesLines n last_read taken
+takes_most m n last_read taken few takes = (takes.0, omega (arith, takes.1, few), takes.2, takes.3)
 
--- what stops a later step stops all steps
-pub stops_earlier : (one two : Place) (bytes mid : List ℕ) (ls : List Lemma) (a b c : ℕ) (stop : ProofStop) → GoesOn one bytes two mid ls
-    → a ≤ b → StopsBy two mid b c stop → StopsBy one bytes a c stop
-stops_earlier one two bytes mid ls a b c (stops.Input (inputs.NoGame fault)) goes later h = goes.answer ∙ h
-stops_earlier one two bytes mid ls a b c (stops.Input inputs.Read) goes later h = omega (arith, later, h)
-stops_earlier one two bytes mid ls a b c (stops.Refused r) goes later h = goes.answer ∙ h
-stops_earlier one two bytes mid ls a b c stops.Memory goes later h = goes.reaches h
+module _ (input : Option (List ℕ)) (begun : ℕ) (last : Pending) (old new : Option (List ℕ)) where
+  pub took : (n : ℕ) (Holds P : List ℕ → Type 0) → n ≤ most_lines_read → Reads (fresh input begun) last (λ bytes rest. PassesLines n bytes rest × Holds bytes)
+      → ((taken : List ℕ) → Holds taken → IfSome input Holds → TakesLines n last.last_read taken → P taken) → TookLines (over input last old new) P
+  took n Holds P few reads from =
+      let lines = of_lines input begun last n most_lines_read Holds reads few in
+      record {
+        taken = reads.taken;
+        gave = reads.gave;
+        few = takes_bytes most_lines_read last.last_read reads.taken lines;
+        holds = (
+          from reads.taken (of_taken input begun last n most_lines_read Holds reads) (of_input input begun last n most_lines_read Holds reads)
+              (of_lines input begun last n n Holds reads (omega arith)),
+          lines,
+        );
+      }
 
--- it is a later line than those that were read
-pub stop_at : (at : ℕ) (stop : ProofStop) → at ≤ most_lines_read → IsStopAt at stop → (at ≤ lines_read_until stop) × (lines_read_until stop ≤ most_lines_read)
-stop_at at (stops.Refused r) few here = (omega (arith, here), omega (arith, here, few))
-stop_at at (stops.Input (inputs.NoGame fault)) few here = absurd here
-stop_at at (stops.Input inputs.Read) few here = (few, omega arith)
-stop_at at stops.Memory few here = (few, omega arith)
+  -- where the reading was stopped
+  pub is_stopped : (asked : Option Version) (stop : ProofStop) (n before after : ℕ) (taken : List ℕ) → StopsBy asked taken before after stop
+      → IfSome input (λ bytes. StopsBy asked bytes before after stop) → n ≤ lines_read_until stop → TakesLines n last.last_read taken
+      → IsStopped asked taken (over input last old new) stop
+  is_stopped asked (stops.Input (inputs.NoGame fault)) n before after taken here all few lines = ((here, all), takes_most n 3 last.last_read taken few lines)
+  is_stopped asked (stops.Input inputs.Read) n before after taken here all few lines = tt
+  is_stopped asked (stops.Refused r) n before after taken here all few lines = ((here, all), takes_most n r.at last.last_read taken few lines)
+  is_stopped asked stops.Memory n before after taken here all few lines = (here, all)
 
-pub first_stop : (stop : ProofStop) → IsFirstStop stop → (1 ≤ lines_read_until stop) × (lines_read_until stop ≤ most_lines_read)
-first_stop (stops.Refused r) first = (omega (arith, first), omega (arith, first))
-first_stop (stops.Input (inputs.NoGame fault)) first = (omega arith, omega arith)
-first_stop (stops.Input inputs.Read) first = (omega arith, omega arith)
-first_stop stops.Memory first = absurd first
+pub first_few : (stop : ProofStop) → IsFirstStop stop → (head_lines stop ≤ lines_read_until stop) × (head_lines stop ≤ most_lines_read)
+first_few (stops.Refused r) first = (omega arith, omega (arith, first))
+first_few (stops.Input (inputs.NoGame fault)) first = (omega arith, omega arith)
+first_few (stops.Input inputs.Read) first = (omega arith, omega arith)
+first_few stops.Memory first = absurd first
 
--- behind the game its lines are gone through
-pub game_goes : (version : Version) (bytes rest : List ℕ) (root : Position) → game_at (game_of (pieces bytes)) ≡ Ok root
-    → behind_game (pieces bytes) ≡ lines_in (pieces rest) → GoesOn (AtGame version) bytes (AtLine version (start root) first_number) rest []
-game_goes version bytes rest root game behind = record {
-  answer = game_read version bytes rest root game behind;
-  reaches = game_reaches version bytes rest root game behind;
-  says = game_says version bytes rest root game behind;
-}
+pub first_caused : (asked : Option Version) (a b : Pending) (n before after : ℕ) (X : Type 0) (stop : ProofStop)
+    → Reads a b (λ bytes rest. PassesLines n bytes rest × StopsBy asked bytes before after stop) → IsCausedBy (Rose before after) X (Own stop)
+first_caused asked a b n before after X stop reads = by stop _ (reads.fact [] (λ _. refl)).1
+  where
+    by : (stop : ProofStop) (bytes : List ℕ) → StopsBy asked bytes before after stop → IsCausedBy (Rose before after) X (Own stop)
+    by (stops.Input (inputs.NoGame fault)) bytes h = tt
+    by (stops.Input inputs.Read) bytes h = h
+    by (stops.Refused r) bytes h = tt
+    by stops.Memory bytes h = tt
 
--- what the line that names the version decides, without the line itself
-pub head_goes : (asked : Option Version) (version : Version) (a b : Pending)
-    → Reads a b (λ bytes rest. PassesLines 1 bytes rest × (GoesOn (AtHead asked) bytes (AtGame version) rest [] × IsNamed version bytes rest))
-    → Reads a b (λ bytes rest. PassesLines 1 bytes rest × GoesOn (AtHead asked) bytes (AtGame version) rest [])
-head_goes asked version a b head = Reads_more a b _ _ head (λ bytes rest p. (p.0, p.1.0))
+-- ---- the lines behind the head
 
--- the head and the game
-pub game_headed : (asked : Option Version) (version : Version) (a b c : Pending) (game : Game)
-    → Reads a b (λ bytes rest. PassesLines 1 bytes rest × (GoesOn (AtHead asked) bytes (AtGame version) rest [] × IsNamed version bytes rest))
-    → Reads b c (λ bytes rest. PassesLines 2 bytes rest × (IsTextOf (game_of (pieces bytes)) game × (behind_game (pieces bytes) ≡ lines_in (pieces rest))))
-    → Reads a c (λ bytes rest. PassesLines 3 bytes rest
-    × (GoesOn (AtHead asked) bytes (AtLine version (start game.position) first_number) rest [] × HasHead bytes version game))
-game_headed asked version a b c game head read =
-    Reads_then a b c _ _ _ head read (λ bytes mid rest p q. (
-      passes_then 1 2 bytes mid rest p.0 q.0,
-      (
-        goes_then (AtHead asked) (AtGame version) _ bytes mid rest [] [] p.1.0
-            (game_goes version mid rest game.position (game_is_read (game_of (pieces mid)) game q.1.0) q.1.1),
-        record { more = p.1.1.more; cut = p.1.1.cut; text = subst (λ text. IsTextOf text game) (sym p.1.1.game) q.1.0 },
-      ),
-    ))
+module _ (asked : Option Version) (head : Head) (puts : Position → List Lemma → Lemma → List ℕ) (a b c : Pending) (old new : Option (List ℕ))
+    (first : Reads a b (λ bytes rest. PassesLines 3 bytes rest × Begins asked head bytes rest)) (t : Progress) where
+  abbrev Read : Bool → (List (List ℕ) → List ℕ → List ℕ → Type 0) → Type 0
+  Read whole Ends = HasRead head.version puts whole (begin head.game.position) t b c old new Ends
 
-module _ (asked : Option Version) (version : Version) (a b c : Pending)
-    (head : Reads a b (λ bytes rest. PassesLines 1 bytes rest × GoesOn (AtHead asked) bytes (AtGame version) rest [])) where
-  pub game_stops : (before mid after : ℕ) (why : InputStop) → before ≤ mid
-      → Reads b c (λ bytes rest. PassesLines 2 bytes rest × StopsGame (game_at (game_of (pieces bytes))) mid after why)
-      → Reads a c (λ bytes rest. PassesLines 3 bytes rest × StopsBy (AtHead asked) bytes before after (stops.Input why))
-  game_stops before mid after why later game =
-      Reads_then a b c _ _ _ head game (λ bytes m rest p q. (
-        passes_then 1 2 bytes m rest p.0 q.0,
-        stops_earlier (AtHead asked) (AtGame version) bytes m [] before mid after (stops.Input why) p.1 later (by_game m mid after why q.1),
-      ))
+  few_lines : (whole : Bool) (Ends : List (List ℕ) → List ℕ → List ℕ → Type 0) (read : Read whole Ends) → (t.next ≡ 4 + length read.lines)
+      × (t.next ≤ most_lines_read)
+  few_lines whole Ends read =
+      let few = stand_few head.version (start head.game.position) t.stands first_number read.lines (omega arith) read.passes.stand in
+      (read.passes.counted, omega (arith, few, read.passes.counted))
+
+  -- they are all that there are
+  pub all_read : (whole : Bool) → Read whole AreAll → (t.next ≤ most_lines_read)
+      × Reads a c (λ bytes rest. PassesLines t.next bytes rest × HasLines asked head t bytes [])
+  all_read whole read =
+      let few = few_lines whole AreAll read in (
+        few.1,
+        Reads_then a b c _ _ _ first read.reads (λ bytes m rest p q. (
+          passes_most (3 + (length read.lines + 1)) t.next bytes rest (omega (arith, few.0))
+              (passes_then 3 (length read.lines + 1) bytes m rest p.0 q.0),
+          lines_behind asked head t bytes m read.lines [] p.1 read.passes (q.1 ∙ sym (append-nil read.lines)),
+        )),
+      )
+
+  -- there may be more
+  pub some_read : (whole : Bool) → Read whole Cuts → (t.next ≤ most_lines_read)
+      × Reads a c (λ bytes rest. PassesLines t.next bytes rest × ((more : List (List ℕ)) × HasLines asked head t bytes more))
+  some_read whole read =
+      let few = few_lines whole Cuts read in (
+        few.1,
+        Reads_then a b c _ _ _ first read.reads (λ bytes m rest p q. (
+          passes_most (3 + length read.lines) t.next bytes rest (omega (arith, few.0)) (passes_then 3 (length read.lines) bytes m rest p.0 q.0),
+          (_, lines_behind asked head t bytes m read.lines _ p.1 read.passes q.1),
+        )),
+      )
+
+  -- and the next stops the reading
+  pub stop_read : (whole : Bool) (before after : ℕ) (X : Type 0) (stop : ProofStop) → Read whole (StopsBehind head.version t stop)
+      → IsCausedBy (Rose before after) X (Own stop)
+      → (n : ℕ) × (n ≤ lines_read_until stop) × (n ≤ most_lines_read) × Reads a c (λ bytes rest. PassesLines n bytes rest
+      × (StopsBy asked bytes before after stop × ((more : List (List ℕ)) × HasLines asked head t bytes more × StopsIn head.version t.stands t.next more stop)))
+  stop_read whole before after X stop read cause =
+      let few = few_lines whole (StopsBehind head.version t stop) read in
+      let here = read.reads.fact [] (λ _. refl) in
+      let until = by stop (omega (arith, few.0)) few.1 here.more here.stops in (
+        3 + passed_until stop (length read.lines),
+        until.0,
+        until.1,
+        Reads_then a b c _ _ _ first read.reads (λ bytes m rest p q.
+            let has = lines_behind asked head t bytes m read.lines q.more p.1 read.passes q.cut in (
+              passes_then 3 (passed_until stop (length read.lines)) bytes m rest p.0 q.few,
+              (stops_behind asked head t bytes q.more has before after X stop q.stops cause, (q.more, has, q.stops)),
+            )),
+      )
     where
-      by_game : (bytes : List ℕ) (before after : ℕ) (why : InputStop) → StopsGame (game_at (game_of (pieces bytes))) before after why
-          → StopsBy (AtGame version) bytes before after (stops.Input why)
-      by_game bytes before after (inputs.NoGame fault) h = game_fault version bytes fault h
-      by_game bytes before after inputs.Read h = h
+      by : (stop : ProofStop) → t.next ≡ 4 + length read.lines → t.next ≤ most_lines_read → (more : List (List ℕ))
+          → StopsIn head.version t.stands t.next more stop
+          → (3 + passed_until stop (length read.lines) ≤ lines_read_until stop) × (3 + passed_until stop (length read.lines) ≤ most_lines_read)
+      by (stops.Refused r) counted few more stopped = (omega (arith, counted, stopped.0), omega (arith, counted, few))
+      by stops.Memory counted few more stopped = (omega (arith, counted, few), omega (arith, counted, few))
+      by (stops.Input inputs.Read) counted few more stopped = (omega (arith, counted, few), omega (arith, counted, few))
+      by (stops.Input (inputs.NoGame fault)) counted few more stopped = absurd stopped
 
--- the game is what three lines end
-pub game_lines : (why : InputStop) → 3 ≤ lines_read_until (stops.Input why)
-game_lines (inputs.NoGame fault) = omega arith
-game_lines inputs.Read = omega arith
+-- ---- where nothing is put
 
--- and the lines behind them
-module _ (asked : Option Version) (version : Version) (a b c : Pending) (x y : Option (List Lemma)) (root : Position) (s t : CheckerState)
-    (began : s ≡ start root) (Head : List ℕ → Type 0)
-    (game : Reads a b (λ bytes rest. PassesLines 3 bytes rest
-    × (GoesOn (AtHead asked) bytes (AtLine version (start root) first_number) rest [] × Head bytes))) where
-  gets_behind : (P Q : List Lemma → List ℕ → List ℕ → Type 0)
-      → ((ls : List Lemma) (bytes mid rest : List ℕ) → PassesLines 3 bytes mid
-      × (GoesOn (AtHead asked) bytes (AtLine version (start root) first_number) mid [] × Head bytes) → P ls mid rest
-      → Q ls bytes rest)
-      → Gets b c x y P → Gets a c x y Q
-  gets_behind P Q more lines = record { lemmas = lines.lemmas; gains = lines.gains; reads = Reads_then a b c _ _ _ game lines.reads (more lines.lemmas) }
+-- what is written behind a sink that was kept
+pub put_behind : (ok : Bool) (old mid new : Option (List ℕ)) (text : List ℕ) → Keeps old mid → AppendsPrefix ok mid new text → AppendsPrefix ok old new text
+put_behind ok old mid new text kept put = AppendsPrefix_more ok old mid new [] text (Appends-kept old old mid [] (Appends-nil old) kept) put
 
-  pub lines_stop : (n before mid after : ℕ) (stop : ProofStop) → before ≤ mid → 3 ≤ n
-      → Gets b c x y (λ ls bytes rest. PassesLines (n - 3) bytes rest × StopsWith (AtLine version s first_number) ls bytes mid after stop)
-      → Gets a c x y (λ ls bytes rest. PassesLines n bytes rest × StopsWith (AtHead asked) ls bytes before after stop)
-  lines_stop n before mid after stop later from lines =
-      gets_behind _ _ (λ ls bytes m rest p q.
-      let goes = subst (λ s. GoesOn (AtHead asked) bytes (AtLine version s first_number) m []) (sym began) p.1.0 in (
-        passes_most (3 + (n - 3)) n bytes rest (omega (arith, from)) (passes_then 3 (n - 3) bytes m rest p.0 q.0),
-        (
-          stops_earlier (AtHead asked) (AtLine version s first_number) bytes m [] before mid after stop goes later q.1.0,
-          begin_earlier (AtHead asked) (AtLine version s first_number) bytes m [] ls goes q.1.1,
-        ),
-      )) lines
+pub appended_none : (old new : Option (List ℕ)) → Appends old new [] → Keeps old new
+appended_none None new put = tt
+appended_none (Some x) None put = put
+appended_none (Some x) (Some y) put = put ∙ append-nil x
 
-  pub lines_known : (end : ℕ) → 3 ≤ end
-      → Gets b c x y (λ ls bytes rest. PassesLines (end - 3) bytes rest
-      × ((lines_from version s first_number bytes ≡ verdict_answer end (length t.known) t.verdict) × (lemmas_at (AtLine version s first_number) bytes ≡ ls)))
-      → (answer : CheckAnswer) → verdict_answer end (length t.known) t.verdict ≡ answer
-      → Gets a c x y (λ ls bytes rest. PassesLines end bytes rest × (((judged asked bytes ≡ answer) × (text_lemmas asked bytes ≡ ls)) × Head bytes))
-  lines_known end from lines answer is =
-      gets_behind _ _ (λ ls bytes m rest p q. (
-        passes_most (3 + (end - 3)) end bytes rest (omega (arith, from)) (passes_then 3 (end - 3) bytes m rest p.0 q.0),
-        (
+module _ (asked : Option Version) (Holds : Position → List Lemma → Type 0) (puts : Position → List Lemma → Lemma → List ℕ)
+    (silent : (root : Position) (ls : List Lemma) (l : Lemma) → puts root ls l ≡ []) (input : Option (List ℕ)) (begun : ℕ) (old new : Option (List ℕ))
+    (last : Pending) where
+  -- it stopped in the head
+  pub judged_head : (stop : ProofStop) (before after : ℕ) → IsFirstStop stop
+      → Reads (fresh input begun) last (λ bytes rest. PassesLines (head_lines stop) bytes rest × StopsBy asked bytes before after stop)
+      → Keeps old new → Judges asked Holds (over input last old new) (Err (Own stop))
+  judged_head stop before after first reads kept =
+      took input begun last old new (head_lines stop) (λ bytes. StopsBy asked bytes before after stop) _ (first_few stop first).1 reads
+      (λ taken here all lines. (is_stopped input begun last old new asked stop (head_lines stop) before after taken here all (first_few stop first).0 lines, kept))
+
+  module _ (head : Head) (mid : Pending) (first : Reads (fresh input begun) mid (λ bytes rest. PassesLines 3 bytes rest × Begins asked head bytes rest)) where
+    silent_text : (s t : Progress) (Ends : List (List ℕ) → List ℕ → List ℕ → Type 0) → HasRead head.version puts true s t mid last old new Ends → Keeps old new
+    silent_text s t Ends read = appended_none old new
+        (subst (Appends old new) (put_none puts s.stands.root (silent s.stands.root) s.lemmas _) read.written)
+
+    -- the proof is right
+    pub judged_right : (read : LinesRead) → ReadsLines End head.version (Holds head.game.position) puts head.game.position mid last last.ended old new (Ok read)
+        → Judges asked Holds (over input last old new) (Ok (record { head = head; accepted = read.accepted }))
+    judged_right read (t, says, got, ended, has) =
+        let all = all_read asked head puts (fresh input begun) mid last old new first t true has in
+        took input begun last old new t.next (λ bytes. HasLines asked head t bytes []) _ all.0 all.1 (λ taken here everywhere lines.
+        let answer : judged asked taken ≡ answers.Accepted read.accepted.verdict read.accepted.lemmas =
+        judged_behind asked head t taken [] here ∙ ap (verdict_answer t.next (length t.stands.known)) says.1
+        ∙ ap (answers.Accepted read.accepted.verdict) (sym says.2) in (
           (
-            p.1.0.answer ∙ ap (λ s. lines_from version s first_number m) (sym began) ∙ q.1.0 ∙ is,
-            p.1.0.says ∙ ap (λ s. lemmas_at (AtLine version s first_number) m) (sym began) ∙ q.1.1,
+            right_input asked taken last.left read.accepted.verdict read.accepted.lemmas answer (all.1.last (λ never. absurd (cc never)) ended),
+            record { more = here.more; cut = here.cut; text = here.text },
+            subst (Holds head.game.position) (sym (says_all asked head t taken here)) got,
           ),
-          p.1.1,
-        ),
-      )) lines
+          silent_text (begin head.game.position) t AreAll has,
+        ))
 
--- without what is known of the head
-pub gets_bare : (a c : Pending) (x y : Option (List Lemma)) (P Q : List Lemma → List ℕ → List ℕ → Type 0) (Head : List ℕ → Type 0)
-    → Gets a c x y (λ ls bytes rest. P ls bytes rest × (Q ls bytes rest × Head bytes)) → Gets a c x y (λ ls bytes rest. P ls bytes rest × Q ls bytes rest)
-gets_bare a c x y P Q Head gets =
-    record { lemmas = gets.lemmas; gains = gets.gains; reads = Reads_more a c _ _ gets.reads (λ bytes rest p. (p.0, p.1.0)) }
+    -- or something stopped it
+    pub judged_stop : (stop : RunStop ProofStop) (before after : ℕ) (X : Type 0)
+        → ReadsLines End head.version (Holds head.game.position) puts head.game.position mid last last.ended old new (Err stop)
+        → IsCausedBy (Rose before after) X stop → Judges asked Holds (over input last old new) (Err stop)
+    judged_stop (Own stop) before after X (t, going, got, has) cause =
+        let read = stop_read asked head puts (fresh input begun) mid last old new first t true before after X stop has cause in
+        took input begun last old new read.0 _ _ read.2 read.3 (λ taken here all lines. (
+          is_stopped input begun last old new asked stop read.0 before after taken here.0 (IfSome_more input _ _ all (λ bytes h. h.0)) read.1 lines,
+          silent_text (begin head.game.position) t (StopsBehind head.version t stop) has,
+        ))
+    judged_stop Write before after X (t, has) cause =
+        absurd (has.some refl (put_none puts head.game.position (silent head.game.position) [] _))
 
--- ---- how it was judged
+-- ---- causes
 
-pub judged_stop : (asked : Option Version) (old : Option (List ℕ)) (begun : ℕ) (last : Pending) (had has : Option (List Lemma)) (n before after : ℕ)
-    (stop : ProofStop)
-    → Gets (fresh old begun) last had has (λ ls bytes rest. PassesLines n bytes rest × StopsWith (AtHead asked) ls bytes before after stop)
-    → n ≤ lines_read_until stop → n ≤ most_lines_read → Judges asked old last.left last.last_read before after had has (Err stop)
-judged_stop asked old begun last had has n before after stop gets few all =
-    let Stopped : List ℕ → Type 0 = λ bytes. StopsWith (AtHead asked) gets.lemmas bytes before after stop in
-    let taken = of_taken old begun last n most_lines_read Stopped gets.reads in
-    record {
-      taken = gets.reads.taken;
-      gave = gets.reads.gave;
-      answer = (
-        taken.0,
-        IfSome_more old _ _ (of_input old begun last n most_lines_read Stopped gets.reads) (λ bytes stopped. stopped.0),
-        of_lines old begun last n (lines_read_until stop) Stopped gets.reads few,
-      );
-      lemmas = (gets.lemmas, gets.gains, taken.1);
-      lines = of_lines old begun last n most_lines_read Stopped gets.reads all;
-    }
+pub caused_read : (unread unwritten : Type 0) (stop : RunStop ProofStop) → IsCausedBy unread unwritten stop → run_stop_status stop_status stop ≡ 6 → unread
+caused_read unread unwritten (Own (stops.Input inputs.Read)) cause is = cause
+caused_read unread unwritten (Own (stops.Input (inputs.NoGame fault))) cause is = absurd (cc is)
+caused_read unread unwritten (Own (stops.Refused r)) cause is = absurd (cc is)
+caused_read unread unwritten (Own stops.Memory) cause is = absurd (cc is)
+caused_read unread unwritten Write cause is = absurd (cc is)
 
--- it stopped before the first lemma
-pub judged_bare : (asked : Option Version) (old : Option (List ℕ)) (begun : ℕ) (last : Pending) (told : Option (List Lemma)) (n before after : ℕ)
-    (stop : ProofStop)
-    → Reads (fresh old begun) last (λ bytes rest. PassesLines n bytes rest × StopsBy (AtHead asked) bytes before after stop)
-    → n ≤ lines_read_until stop → n ≤ most_lines_read → Judges asked old last.left last.last_read before after told told (Err stop)
-judged_bare asked old begun last told n before after stop reads few all =
-    judged_stop asked old begun last told told n before after stop
-    (stops_bare (fresh old begun) last told told (AtHead asked) n before after stop refl reads) few all
+pub caused_write : (unread unwritten : Type 0) (stop : RunStop ProofStop) → IsCausedBy unread unwritten stop → run_stop_status stop_status stop ≡ 7 → unwritten
+caused_write unread unwritten Write cause is = cause
+caused_write unread unwritten (Own (stops.Input inputs.Read)) cause is = absurd (cc is)
+caused_write unread unwritten (Own (stops.Input (inputs.NoGame fault))) cause is = absurd (cc is)
+caused_write unread unwritten (Own (stops.Refused r)) cause is = absurd (cc is)
+caused_write unread unwritten (Own stops.Memory) cause is = absurd (cc is)
 
--- no line is left, and there was no verdict
-pub judged_unended : (asked : Option Version) (old : Option (List ℕ)) (begun : ℕ) (last : Pending) (had has : Option (List Lemma)) (n before after : ℕ)
-    (r : Refusal)
-    → Gets (fresh old begun) last had has
-    (λ ls bytes rest. PassesLines n bytes rest × ((judged asked bytes ≡ answers.Refused r.at (why_of r.why)) × (text_lemmas asked bytes ≡ ls)))
-    → n ≤ r.at → n ≤ most_lines_read → Judges asked old last.left last.last_read before after had has (Err (stops.Refused r))
-judged_unended asked old begun last had has n before after r gets few all =
-    let stopped : Gets (fresh old begun) last had has (λ ls bytes rest. PassesLines n bytes rest
-    × StopsWith (AtHead asked) ls bytes before after (stops.Refused r)) =
-    record {
-      lemmas = gets.lemmas;
-      gains = gets.gains;
-      reads = Reads_more _ _ _ _ gets.reads (λ bytes rest p. (p.0, (p.1.0, ([], p.1.1 ∙ sym (append-nil gets.lemmas)))));
-    } in
-    judged_stop asked old begun last had has n before after (stops.Refused r) stopped few all
-
-pub judged_whole : (asked : Option Version) (old : Option (List ℕ)) (begun : ℕ) (last : Pending) (had has : Option (List Lemma)) (n before after : ℕ)
-    (proof : ProofRead)
-    → Gets (fresh old begun) last had has (λ ls bytes rest. PassesLines n bytes rest
-    × (((judged asked bytes ≡ answers.Accepted proof.accepted.verdict proof.accepted.lemmas) × (text_lemmas asked bytes ≡ ls))
-    × HasHead bytes proof.version proof.game))
-    → last.ended ≡ true → n ≤ most_lines_read → JudgesWhole asked old last.left last.last_read before after had has (Ok proof)
-judged_whole asked old begun last had has n before after proof gets ended all =
-    let verdict = proof.accepted.verdict in
-    let count = proof.accepted.lemmas in
-    let Right : List ℕ → Type 0 = λ bytes. ((judged asked bytes ≡ answers.Accepted verdict count) × (text_lemmas asked bytes ≡ gets.lemmas))
-    × HasHead bytes proof.version proof.game in
-    let taken = of_taken old begun last n most_lines_read Right gets.reads in
-    record {
-      judged = record {
-        taken = gets.reads.taken;
-        gave = gets.reads.gave;
-        answer = right_input asked gets.reads.taken last.left verdict count taken.0.0 (gets.reads.last (λ never. absurd (cc never)) ended);
-        lemmas = subst (Gains had has) (sym taken.0.1) gets.gains;
-        lines = of_lines old begun last n most_lines_read Right gets.reads all;
-      };
-      head = taken.1;
-    }
-
--- what stopped the reading is what is said of it
-pub stopped : (asked : Option Version) (s : Streams) (before after : ℕ) (had has : Option (List Lemma)) (stop : ProofStop)
-    → (judged : Judges asked s.input s.left s.last_read before after had has (Err stop)) → IsStopped asked judged.taken s stop
-stopped asked s before after had has (stops.Input (inputs.NoGame fault)) judged = ((judged.answer.0, judged.answer.1), judged.answer.2)
-stopped asked s before after had has (stops.Input inputs.Read) judged = tt
-stopped asked s before after had has (stops.Refused r) judged = ((judged.answer.0, judged.answer.1), judged.answer.2)
-stopped asked s before after had has stops.Memory judged = (judged.answer.0, judged.answer.1)
-
--- no more was taken than the lines that a proof may have, and what came with the last of them
-pub judged_few : (asked : Option Version) (s : Streams) (before after : ℕ) (had has : Option (List Lemma)) (result : Result Accepted ProofStop)
-    → (judged : Judges asked s.input s.left s.last_read before after had has result) → length judged.taken ≤ most_taken
-judged_few asked s before after had has result judged = takes_bytes most_lines_read s.last_read judged.taken judged.lines
+-- where a line or the source stopped it, the sink didn't
+pub stop_unwritten : (stop : ProofStop) → stop_status stop ≡ 7 → ⊥
+stop_unwritten (stops.Input why) is = unwritten_status why is
+stop_unwritten (stops.Refused r) is = cc is
+stop_unwritten stops.Memory is = cc is

@@ -1,93 +1,57 @@
--- What a taker of lemmas has got after one step and after two, and that the next lemma may be handed to it.
-use Rattle.std.proofs.Common.{◌≡◌, ℕ, ◌+◌, List, [], ◌∷◌, ◌++◌, length, Option, Some, None, option_map, refl, sym, ap, ◌∙◌, append_assoc, append-nil, arith}
-use Rattle.std.proofs.lemmas.List.{length-append}
-use Rattle.game_rules.specs.Board.{Board}
-use Rattle.game_rules.specs.Position.{board_of, played}
-use Rattle.proof_text.specs.Checked.{CheckerState, line_refusal, shown_at}
-use Rattle.proof_text.specs.Lemma.{Lemma, Line as Said, ALemma, ARemark, AVerdict}
-use Rattle.proof_text.specs.Reading.{read_line}
-use Rattle.proof_text.specs.Texts.{bytes_refusal, with_bytes}
+-- A line that was accepted is handed to the taker.
+use Rattle.std.proofs.Common.{◌≡◌, ◌≢◌, ℕ, List, [], ◌∷◌, ◌++◌, length, Option, Some, false, sym, ap, ◌∙◌, subst, append-nil, arith}
+use Rattle.std.specs.Io.KnownBytes.{Appends}
+use Rattle.device_rules.specs.Devices.{AppendsPrefix}
+use Rattle.game_rules.specs.Position.{Position, board_of, played}
+use Rattle.proof_text.specs.Checked.{CheckerState}
+use Rattle.proof_text.specs.Lemma.{Lemma, Line, ALemma, ARemark, AVerdict}
 use Rattle.proof_text.specs.declared.Version.{Version}
-use Rattle.proof_text.proofs.Fold.{bytes_of_none}
 use Rattle.proof_text.proofs.Refusals.{right_of_none, line_of_none}
 use Rattle.proof_text.proofs.Spelled.{line_read}
-use Rattle.io_ports.specs.Reading.{Pending, Reads, PassesLines}
-use Rattle.io_ports.proofs.Reading.{Reads_more, Reads_then}
-use Rattle.run_proof.specs.Taken.{lemmas_said, Gains, IsNext, MayHandOn, InStep, HasNone}
-use Rattle.run_proof.specs.Steps.{Place, Gets, StopsBy, StopsWith, lemmas_at}
-use Rattle.run_proof.specs.declared.stop.ProofStop.{ProofStop}
+use Rattle.cert_checker.specs.Checking.{IsAt}
+use Rattle.run_proof.specs.Lines.{InStep}
+use Rattle.run_proof.specs.Steps.{IsAccepted}
+use Rattle.run_proof.specs.Taken.{IsBehind, put_for, MayTake, IsLineBehind}
 
--- ---- what was got
+-- ---- it may be, being behind the others
 
-pub gains_none : (told : Option (List Lemma)) → Gains told told []
-gains_none None = refl
-gains_none (Some ls) = ap (λ ls. Some ls) (sym (append-nil ls))
+module _ (version : Version) (s t : CheckerState) (at : ℕ) (text : List ℕ) (path : List ℕ) (p : Position) (along : played t.root path ≡ Some p) where
+  lemma_behind : (l : Lemma) → IsAccepted version s t at text (ALemma l) → path ≡ l.path → (ls : List Lemma) → length ls ≡ length s.known
+      → IsBehind s.root ls l p
+  lemma_behind l is there ls many = (
+    omega (arith, (right_of_none s.root s.known l (line_of_none s (ALemma l) is.stands).1).1.next, many),
+    ap (played s.root) (sym there) ∙ ap (λ root. played root path) (sym (ap (λ t. t.root) is.next)) ∙ along,
+  )
 
-pub gains_then : (a b c : Option (List Lemma)) (ls ms : List Lemma) → Gains a b ls → Gains b c ms → Gains a c (ls ++ ms)
-gains_then None b c ls ms p q = q ∙ ap (option_map (λ got. got ++ ms)) p
-gains_then (Some xs) b c ls ms p q = q ∙ ap (option_map (λ got. got ++ ms)) p ∙ ap (λ ls. Some ls) (append_assoc xs ls ms)
+  pub line_behind : (line : Line) → IsAccepted version s t at text line → IsAt line path → (ls : List Lemma) → length ls ≡ length s.known
+      → IsLineBehind s.root ls line p
+  line_behind (ALemma l) is there ls many = lemma_behind l is there ls many
+  line_behind ARemark is there ls many = tt
+  line_behind (AVerdict v) is there ls many = tt
 
--- one step after another, with what both gave the taker
-pub gets_then : (a b c : Pending) (x y z : Option (List Lemma)) (P Q R : List Lemma → List ℕ → List ℕ → Type 0) → Gets a b x y P → Gets b c y z Q
-    → ((ls ms : List Lemma) (bytes mid rest : List ℕ) → P ls bytes mid → Q ms mid rest → R (ls ++ ms) bytes rest) → Gets a c x z R
-gets_then a b c x y z P Q R first next more = record {
-  lemmas = first.lemmas ++ next.lemmas;
-  gains = gains_then x y z first.lemmas next.lemmas first.gains next.gains;
-  reads = Reads_then a b c _ _ _ first.reads next.reads (more first.lemmas next.lemmas);
-}
+  pub may_take : (Holds : Position → List Lemma → Type 0) (line : Line) → IsAccepted version s t at text line → IsAt line path → InStep Holds s
+      → MayTake Holds line p
+  may_take Holds (ALemma l) is there step = record {
+    root = s.root;
+    lemmas = step.lemmas;
+    got = step.got;
+    behind = lemma_behind l is there step.lemmas step.many;
+    spelled = (board_of s.root, (line_read version (board_of s.root) text (ALemma l) is.said).1.0);
+  }
+  may_take Holds ARemark is there step = tt
+  may_take Holds (AVerdict v) is there step = tt
 
--- a step that stops and hands on none
-pub stops_bare : (a b : Pending) (had has : Option (List Lemma)) (place : Place) (n before after : ℕ) (stop : ProofStop) → has ≡ had
-    → Reads a b (λ bytes rest. PassesLines n bytes rest × StopsBy place bytes before after stop)
-    → Gets a b had has (λ ls bytes rest. PassesLines n bytes rest × StopsWith place ls bytes before after stop)
-stops_bare a b had has place n before after stop same reads = record {
-  lemmas = [];
-  gains = same ∙ gains_none had;
-  reads = Reads_more a b _ _ reads (λ bytes rest p. (p.0, (p.1, (lemmas_at place bytes, refl))));
-}
+-- ---- and what it puts is what is put for the lemma that the line says
 
--- ---- the next lemma
+module _ (Holds : Position → List Lemma → Type 0) (puts : Position → List Lemma → Lemma → List ℕ) (root : Position) (ls : List Lemma)
+    (old new : Option (List ℕ)) where
+  same_text : (l : Lemma) → puts root ls l ≡ put_for puts root ls (l ∷ [])
+  same_text l = sym (append-nil (puts root ls l))
 
-module _ (version : Version) (s : CheckerState) (bytes : List ℕ) where
-  -- a line that isn't refused may be handed on
-  pub may_hand_on : (size : Board) (line : Said) (told : Option (List Lemma)) → InStep told s → read_line version size bytes ≡ Some line
-      → line_refusal s line ≡ None
-      → MayHandOn told line
-  may_hand_on size ARemark told step said stands = tt
-  may_hand_on size (AVerdict v) told step said stands = tt
-  may_hand_on size (ALemma l) told step said stands =
-      let right = right_of_none s.root s.known l (line_of_none s (ALemma l) stands).1 in
-      (by told step right.1.next, (size, (line_read version size bytes (ALemma l) said).1.0))
-    where
-      by : (told : Option (List Lemma)) → InStep told s → l.number ≡ length s.known + 1 → IsNext told l
-      by None step next = tt
-      by (Some got) step next = omega (arith, step, next)
+  pub lemma_taken : (l : Lemma) → Holds root (ls ++ l ∷ []) × Appends old new (puts root ls l)
+      → Holds root (ls ++ l ∷ []) × Appends old new (put_for puts root ls (l ∷ []))
+  lemma_taken l taken = (taken.0, subst (Appends old new) (same_text l) taken.1)
 
-  -- as many lemmas stand more as it says
-  known_more : (at : ℕ) → bytes_refusal version s at bytes ≡ None
-      → length (with_bytes version s bytes).known ≡ length s.known + length (lemmas_said version (board_of s.root) (bytes ∷ []))
-  known_more at stands = let found = bytes_of_none version s at bytes stands in of_line found.0 found.1 found.2
-    where
-      of_line : (line : Said) → read_line version (board_of s.root) bytes ≡ Some line → line_refusal s line ≡ None
-          → length (with_bytes version s bytes).known ≡ length s.known + length (lemmas_said version (board_of s.root) (bytes ∷ []))
-      of_line ARemark e stands = rw e (omega arith)
-      of_line (AVerdict v) e stands = rw e (omega arith)
-      of_line (ALemma l) e stands =
-          let right = right_of_none s.root s.known l (line_of_none s (ALemma l) stands).1 in
-          rw e (length-append s.known (shown_at l.claim (played s.root l.path)) ∙ ap (λ p. length s.known + length (shown_at l.claim p)) right.1.along)
-
-  -- the taker stays in step
-  pub step_more : (at : ℕ) (t : CheckerState) (had has : Option (List Lemma)) → bytes_refusal version s at bytes ≡ None
-      → t ≡ with_bytes version s bytes → InStep had s
-      → Gains had has (lemmas_said version (board_of s.root) (bytes ∷ [])) → InStep has t
-  step_more at t had has stands next step gains = rw (gains, next) (by had step)
-    where
-      by : (had : Option (List Lemma)) → InStep had s → InStep (option_map (λ got. got ++ lemmas_said version (board_of s.root) (bytes ∷ [])) had)
-          (with_bytes version s bytes)
-      by None step = tt
-      by (Some got) step = omega (arith, step, known_more at stands, length-append got (lemmas_said version (board_of s.root) (bytes ∷ [])))
-
--- behind nothing, where none was got
-pub step_none : (told : Option (List Lemma)) (s : CheckerState) → HasNone told → s.known ≡ [] → InStep told s
-step_none None s none bare = tt
-step_none (Some got) s none bare = omega (arith, ap length none, ap length bare)
+  pub lemma_cut : (l : Lemma) → AppendsPrefix false old new (puts root ls l) × (puts root ls l ≢ [])
+      → AppendsPrefix false old new (put_for puts root ls (l ∷ [])) × (put_for puts root ls (l ∷ []) ≢ [])
+  lemma_cut l cut = (subst (AppendsPrefix false old new) (same_text l) cut.0, subst (λ text. text ≢ []) (same_text l) cut.1)

@@ -1,6 +1,8 @@
 pub mod Whole
 pub mod Stops
 pub mod Taken
+pub mod Lines
+pub mod Judged
 pub mod Steps
 pub mod Heads
 pub use Rattle.cert_checker.specs.Checking

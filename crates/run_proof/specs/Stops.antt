@@ -1,5 +1,5 @@
 -- What stops the reading of a proof: its exit status, its text for the error stream, and what holds of the bytes then.
-use Rattle.std.specs.Prelude.{ℕ, ⊤, List, ◌++◌, Option, IfSome, codes, decimal}
+use Rattle.std.specs.Prelude.{ℕ, ⊤, List, ◌++◌, Option, IfSome}
 use Rattle.proof_text.specs.Spelling.{as_line}
 use Rattle.proof_text.specs.Texts as answers
 use Rattle.proof_text.specs.Words.{why_text}
@@ -8,15 +8,17 @@ use Rattle.cert_checker.specs.Checking.{why_of}
 use Rattle.cert_checker.specs.declared.stops.Refusal.{Refusal}
 use Rattle.run_frame.specs.Streams.{Streams, TakesLines}
 use Rattle.run_frame.specs.Texts as inputs
-use Rattle.run_frame.specs.Texts.{memory_line}
+use Rattle.run_frame.specs.Texts.{refusal_begun, memory_line}
 use Rattle.run_frame.specs.declared.game_input.InputStop.TheVariants.{NoGame, Read}
+use Rattle.run_frame.specs.declared.run_stop.RunStop.{RunStop}
+use Rattle.run_frame.specs.declared.run_stop.RunStop.TheVariants.{Own, Write}
 use Rattle.run_proof.specs.Whole.{IsAnswer, BeginsProof}
 use Rattle.run_proof.specs.declared.stop.ProofStop.{ProofStop}
 use Rattle.run_proof.specs.declared.stop.ProofStop.TheVariants.{Input, Refused, Memory}
 
 -- the number of the line that is refused, and why
 abbrev pub refusal_line : Refusal → List ℕ
-refusal_line refusal = as_line (codes "refused line " ++ decimal refusal.at ++ codes ": " ++ why_text (why_of refusal.why))
+refusal_line refusal = as_line (refusal_begun refusal.at ++ why_text (why_of refusal.why))
 
 abbrev pub stop_status : ProofStop → ℕ
 stop_status (Input why) = inputs.stop_status why
@@ -36,3 +38,11 @@ IsStopped asked taken s (Input (NoGame fault)) = IsAnswer asked taken s.input (a
 IsStopped asked taken s (Input Read) = ⊤
 IsStopped asked taken s (Refused r) = IsAnswer asked taken s.input (answers.Refused r.at (why_of r.why)) × TakesLines r.at s.last_read taken
 IsStopped asked taken s Memory = BeginsProof asked taken × IfSome s.input (BeginsProof asked)
+
+-- a fault comes only where the stream's count of faults rose
+abbrev pub IsCausedBy : (unread unwritten : Type 0) → RunStop ProofStop → Type 0
+IsCausedBy unread unwritten (Own (Input Read)) = unread
+IsCausedBy unread unwritten (Own (Input (NoGame fault))) = ⊤
+IsCausedBy unread unwritten (Own (Refused r)) = ⊤
+IsCausedBy unread unwritten (Own Memory) = ⊤
+IsCausedBy unread unwritten Write = unwritten

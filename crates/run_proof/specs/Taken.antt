@@ -1,16 +1,27 @@
--- The lemmas that the text of a proof says, and those that a taker of lemmas has got.
-use Rattle.std.specs.Prelude.{◌≡◌, ℕ, ◌+◌, List, [], ◌∷◌, ◌++◌, length, Option, Some, None, option_map, IfSome, Result, Ok, Err, ⊤}
+-- The lemmas that the text of a proof says, and what a taker does with each.
+use Rattle.std.specs.Prelude.{◌≡◌, ◌≢◌, ℕ, ◌+◌, false, List, [], ◌∷◌, ◌++◌, length, Option, Some, None, Result, Ok, Err, ⊤}
+use Rattle.std.specs.Io.KnownBytes.{Keeps, Appends}
+use Rattle.device_rules.specs.Devices.{AppendsPrefix}
 use Rattle.game_rules.specs.Board.{Board}
-use Rattle.game_rules.specs.Position.{Position, board_of}
+use Rattle.game_rules.specs.Position.{Position, board_of, played}
 use Rattle.game_rules.specs.Text.{game_at}
 use Rattle.game_rules.specs.declared.InputFault.{InputFault}
-use Rattle.proof_text.specs.Checked.{CheckerState}
+use Rattle.proof_text.specs.Checked.{lemmas_in}
 use Rattle.proof_text.specs.Lemma.{Lemma, Line, ALemma, ARemark, AVerdict}
 use Rattle.proof_text.specs.Spelling.{Fits}
-use Rattle.proof_text.specs.Texts.{pieces, lines_in, game_of, behind_game}
+use Rattle.proof_text.specs.Texts.{pieces, game_of, behind_game}
 pub use Rattle.proof_text.specs.Texts.{lemmas_said}
 use Rattle.proof_text.specs.declared.Version.{Version}
+use Rattle.cert_checker.specs.Checking.{IsLemma}
+use Rattle.run_frame.specs.declared.run_stop.RunStop.{RunStop}
+use Rattle.run_frame.specs.declared.run_stop.RunStop.TheVariants as runs
 use Rattle.run_proof.specs.Whole.{version_named}
+use Rattle.run_proof.specs.declared.stop.ProofStop.{ProofStop}
+use Rattle.run_proof.specs.declared.stop.ProofStop.TheVariants as stops
+use Rattle.run_proof.specs.declared.taker.NotTaken.{NotTaken}
+use Rattle.run_proof.specs.declared.taker.NotTaken.TheVariants as untaken
+
+-- ---- what is said
 
 -- those that the lines behind a game say; where there is no game, there is none
 abbrev pub game_lemmas : Version → Result Position InputFault → List (List ℕ) → List Lemma
@@ -29,38 +40,52 @@ pieces_lemmas asked (first ∷ more) = version_lemmas (version_named asked first
 unfoldable pub text_lemmas : Option Version → List ℕ → List Lemma
 text_lemmas asked bytes = pieces_lemmas asked (pieces bytes)
 
--- the same of the bytes behind the first line
-unfoldable pub lemmas_from_game : Version → List ℕ → List Lemma
-lemmas_from_game version bytes = game_lemmas version (game_at (game_of (pieces bytes))) (behind_game (pieces bytes))
+-- ---- what is taken
 
--- and of those behind the game, or behind some lines
-unfoldable pub lemmas_from_lines : Version → Board → List ℕ → List Lemma
-lemmas_from_lines version board bytes = lemmas_said version board (lines_in (pieces bytes))
-
--- a taker that tells its lemmas has these behind those that it had
-abbrev pub Gains : Option (List Lemma) → Option (List Lemma) → List Lemma → Type 0
-Gains had has lemmas = has ≡ option_map (λ got. got ++ lemmas) had
-
--- the lemma has the number behind those that the taker has got
-abbrev pub IsNext : Option (List Lemma) → Lemma → Type 0
-IsNext told l = IfSome told (λ got. l.number ≡ length got + 1)
+-- the lemma has the number behind these, and stands at this position
+abbrev pub IsBehind : Position → List Lemma → Lemma → Position → Type 0
+IsBehind root ls l p = (l.number ≡ length ls + 1) × (played root l.path ≡ Some p)
 
 abbrev pub IsSpelled : Lemma → Type 0
 IsSpelled l = (board : Board) × Fits board l
 
--- a line that may be handed on
-abbrev pub MayHandOn : Option (List Lemma) → Line → Type 0
-MayHandOn told (ALemma l) = IsNext told l × IsSpelled l
-MayHandOn told ARemark = ⊤
-MayHandOn told (AVerdict v) = ⊤
+-- it may be taken: it is behind those that the taker has got of some game, and has a spelling
+pub record IsNext (Holds : Position → List Lemma → Type 0) (l : Lemma) (p : Position) : Type 0 where
+  pub root : Position
+  pub lemmas : List Lemma
+  pub got : Holds root lemmas
+  pub behind : IsBehind root lemmas l p
+  pub spelled : IsSpelled l
 
--- the taker has got as many lemmas as stand
-abbrev pub InStep : Option (List Lemma) → CheckerState → Type 0
-InStep told s = IfSome told (λ got. length got ≡ length s.known)
+-- The lemma was taken, and what is put for it was put; or memory ran out, and all stays as it was; or the sink failed, and a prefix
+-- of that was put, which isn't nothing.
+abbrev pub Takes : (Position → List Lemma → Type 0) → (Position → List Lemma → Lemma → List ℕ) → Position → List Lemma → Lemma
+    → Option (List ℕ) → Option (List ℕ) → {X : Type 0} → Result X NotTaken → Type 0
+Takes Holds puts root ls l old new (Ok x) = Holds root (ls ++ l ∷ []) × Appends old new (puts root ls l)
+Takes Holds puts root ls l old new (Err untaken.Memory) = Holds root ls × Keeps old new
+Takes Holds puts root ls l old new (Err untaken.Write) = AppendsPrefix false old new (puts root ls l) × (puts root ls l ≢ [])
 
-abbrev pub HasNone : Option (List Lemma) → Type 0
-HasNone told = IfSome told (λ got. got ≡ [])
+-- what is put for further lemmas, one behind the other
+abbrev pub put_for : (Position → List Lemma → Lemma → List ℕ) → Position → List Lemma → List Lemma → List ℕ
+put_for puts root ls [] = []
+put_for puts root ls (l ∷ more) = puts root ls l ++ put_for puts root (ls ++ l ∷ []) more
 
--- the lemmas begin with these
-abbrev pub BeginWith : List Lemma → List Lemma → Type 0
-BeginWith all first = (more : List Lemma) × (all ≡ first ++ more)
+-- ---- the same of any line that was accepted
+
+abbrev pub MayTake : (Position → List Lemma → Type 0) → Line → Position → Type 0
+MayTake Holds (ALemma l) p = IsNext Holds l p
+MayTake Holds ARemark p = ⊤
+MayTake Holds (AVerdict v) p = ⊤
+
+abbrev pub IsLineBehind : Position → List Lemma → Line → Position → Type 0
+IsLineBehind root ls (ALemma l) p = IsBehind root ls l p
+IsLineBehind root ls ARemark p = ⊤
+IsLineBehind root ls (AVerdict v) p = ⊤
+
+abbrev pub TakesLine : (Position → List Lemma → Type 0) → (Position → List Lemma → Lemma → List ℕ) → Position → List Lemma → Line
+    → Option (List ℕ) → Option (List ℕ) → {X : Type 0} → Result X (RunStop ProofStop) → Type 0
+TakesLine Holds puts root ls line old new (Ok x) =
+    Holds root (ls ++ lemmas_in (line ∷ [])) × Appends old new (put_for puts root ls (lemmas_in (line ∷ [])))
+TakesLine Holds puts root ls line old new (Err (runs.Own stop)) = (stop ≡ stops.Memory) × IsLemma line × Holds root ls × Keeps old new
+TakesLine Holds puts root ls line old new (Err runs.Write) =
+    AppendsPrefix false old new (put_for puts root ls (lemmas_in (line ∷ []))) × (put_for puts root ls (lemmas_in (line ∷ [])) ≢ [])

@@ -2,12 +2,13 @@
 ghost use Rattle.std.specs.Prelude.{◌≡◌, ◌++◌};
 ghost use Rattle.arrayvec.specs.ArrayVec.{array_vec_len};
 ghost use Rattle.run_proof.specs.Stops.{refusal_line};
+ghost use Rattle.proof_text.specs.declared.Why.TheVariants as whys;
+ghost use Rattle.run_frame.specs.declared.run_stop.RunStop.TheVariants as run_stops;
 ghost use Rattle.run_proof.specs.declared.stop.ProofStop.TheVariants as stops;
 
 use cert_checker::{Refusal, Why};
-use itoa::Buffer;
 use proof_book::push_plan_fault;
-use run_frame::{Ending, InputStop, memory_text};
+use run_frame::{Ending, InputStop, RunStop, begin_refusal, memory_text};
 use text_words::{LineText, push_text};
 
 /// What stops the reading of a proof before its end.
@@ -17,7 +18,7 @@ pub enum ProofStop {
     Input(InputStop),
     /// A line is refused, the first that fails, by the first name that holds there: status 4.
     Refused(Refusal),
-    /// Memory ran out at a lemma that isn't refused, or the taker didn't take it: status 8.
+    /// Memory ran out at a lemma that isn't refused, to keep what it shows or to take it: status 8.
     Memory,
 }
 
@@ -26,6 +27,14 @@ impl From<InputStop> for ProofStop {
 
     fn from(why: InputStop) -> ProofStop {
         ProofStop::Input(why)
+    }
+}
+
+impl From<ProofStop> for RunStop<ProofStop> {
+    ghost from_gives = { λ why stop. stop ≡ run_stops.Own why };
+
+    fn from(why: ProofStop) -> RunStop<ProofStop> {
+        RunStop::Own(why)
     }
 }
 
@@ -57,11 +66,7 @@ impl Ending for ProofStop {
 fn refusal_text(refusal: &Refusal) -> LineText
     ensures { result.items ≡ refusal_line refusal.now }
 {
-    let mut text = LineText::new();
-    let mut digits = Buffer::new();
-    push_text(&mut text, b"refused line ");
-    push_text(&mut text, digits.format(refusal.at).as_bytes());
-    push_text(&mut text, b": ");
+    let mut text = begin_refusal(refusal.at);
     push_text(&mut text, refusal.why.word());
     if let Why::BadPlan(fault) = &refusal.why {
         text.push(b' ');
@@ -69,4 +74,14 @@ fn refusal_text(refusal: &Refusal) -> LineText
     }
     text.push(b'\n');
     text
+}
+
+/// The line at this number is none of a proof.
+pub(crate) fn bad_line(at: u64) -> ProofStop
+    ensures { result ≡ stops.Refused (record { at = at; why = whys.BadLine }) }
+{
+    ProofStop::Refused(Refusal {
+        at,
+        why: Why::BadLine,
+    })
 }

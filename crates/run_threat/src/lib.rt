@@ -8,7 +8,6 @@ mod command;
 mod no_threat;
 mod threat_line;
 mod threat_player;
-mod turn_text;
 
 pub use command::threat;
 pub use no_threat::{NoThreat, ThreatEnd};

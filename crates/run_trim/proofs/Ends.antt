@@ -1,6 +1,7 @@
 -- How a run of `trim` ends.
-use Rattle.std.proofs.Common.{◌≡◌, ℕ, List, [], ◌++◌, length, Option, Some, None, Ok, Err, refl, sym, ap, ◌∙◌, subst, inl, inr}
-use Rattle.std.specs.Io.KnownBytes.{Keeps}
+use Rattle.std.proofs.Common.{◌≡◌, ℕ, true, false, List, ◌++◌, length, Option, None, Ok, Err, refl, sym, ap, ◌∙◌, subst, inl, inr}
+use Rattle.std.proofs.KnownBytes.{Keeps-trans}
+use Rattle.game_rules.specs.Position.{Position}
 use Rattle.game_rules.specs.Game.{board_played}
 use Rattle.proof_text.specs.Lemma.{Lemma}
 use Rattle.proof_text.specs.Texts.{lemmas_among, head_of, IsRightText}
@@ -9,78 +10,69 @@ use Rattle.proof_tools.specs.Reach.{AreWithin}
 use Rattle.run_frame.specs.Streams.{Streams, StillHolds}
 use Rattle.run_frame.specs.declared.game_input.InputStop.TheVariants as inputs
 use Rattle.run_frame.specs.declared.run_stop.MemoryStop.TheVariants.{Input, Memory}
+use Rattle.run_frame.specs.declared.run_stop.RunStop.{RunStop}
 use Rattle.run_frame.specs.declared.run_stop.RunStop.TheVariants.{Own, Write}
 use Rattle.run_frame.proofs.Owed.{owed}
 use Rattle.run_frame.proofs.Inputs.{of_each, IfSome_more, kept_still, appended_still, cut_still}
-use Rattle.run_proof.specs.Heads.{JudgesWhole}
-use Rattle.run_proof.specs.Taken.{text_lemmas}
+use Rattle.run_proof.specs.Judged.{Judges}
+use Rattle.run_proof.specs.Whole.{IsRightInput}
 use Rattle.run_proof.specs.declared.reading.ProofRead.{ProofRead}
 use Rattle.run_proof.specs.declared.stop.ProofStop.{ProofStop}
 use Rattle.run_proof.specs.declared.stop.ProofStop.TheVariants as stops
-use Rattle.run_proof.proofs.Judging.{stopped, judged_few}
+use Rattle.run_proof.proofs.Judging.{put_behind}
 use Rattle.run_trim.specs.Trims.{IsTrimmed, PutsTrimmed, Trimmed, trimmed_status, TrimsFrom, Trims, TrimCompletes, TrimOwes}
-use Rattle.run_trim.proofs.Texts.{text_read, head_read, lemmas_read}
+use Rattle.run_proof.proofs.Texts.{version_first, text_read, head_read, lemmas_read}
 use Rattle.run_trim.proofs.Trimming.{lemmas_ordered, verdict_within, trims}
 
 -- a book that had no lemma has those that the text says
-module _ (input left : Option (List ℕ)) (last_read before after : ℕ) (book ls : List Lemma) (none : book ≡ []) (proof : ProofRead)
-    (whole : JudgesWhole None input left last_read before after (Some book) (Some ls) (Ok proof)) where
-  text : IsRightText proof.version whole.judged.taken proof.accepted.verdict proof.accepted.lemmas
-  text = text_read whole.judged.taken proof.version proof.game whole.head proof.accepted.verdict proof.accepted.lemmas whole.judged.answer.accepted
+module _ (s : Streams) (mid : Option (List ℕ)) (book : List Lemma) (proof : ProofRead)
+    (judged : Judges None (λ root ls. book ≡ ls) (record s { new = mid }) (Ok proof)) where
+  abbrev right : IsRightInput None judged.taken s.left proof.accepted.verdict proof.accepted.lemmas
+  right = judged.holds.0.0.0
 
-  book_is : ls ≡ lemmas_among text.entries
+  text : IsRightText proof.head.version judged.taken proof.accepted.verdict proof.accepted.lemmas
+  text = text_read None judged.taken proof.head.version proof.head.game (version_first proof.head.version) judged.holds.0.0.1 proof.accepted.verdict proof.accepted.lemmas right.accepted
+
+  book_is : book ≡ lemmas_among text.entries
   unfolding text
-  book_is =
-      let gained : ls ≡ book ++ text_lemmas None whole.judged.taken = cc (whole.judged.lemmas) in
-      gained ∙ ap (λ first. first ++ text_lemmas None whole.judged.taken) none
-      ∙ lemmas_read whole.judged.taken proof.version proof.game whole.head proof.accepted.verdict proof.accepted.lemmas whole.judged.answer.accepted
+  book_is = judged.holds.0.0.2
+      ∙ lemmas_read None judged.taken proof.head.version proof.head.game (version_first proof.head.version) judged.holds.0.0.1 proof.accepted.verdict proof.accepted.lemmas right.accepted
 
-  head_is : head_of proof.version (board_played proof.game) proof.game.moves ≡ head_of proof.version text.board text.columns
+  abbrev head_text : List ℕ
+  head_text = head_of proof.head.version (board_played proof.head.game) proof.head.game.moves
+
+  head_is : head_text ≡ head_of proof.head.version text.board text.columns
   unfolding text
-  head_is = head_read whole.judged.taken proof.version proof.game whole.head proof.accepted.verdict proof.accepted.lemmas whole.judged.answer.accepted
+  head_is = head_read None judged.taken proof.head.version proof.head.game (version_first proof.head.version) judged.holds.0.0.1 proof.accepted.verdict proof.accepted.lemmas right.accepted
 
-  pub book_ordered : CitesEarlier 1 ls
-  book_ordered = subst (CitesEarlier 1) (sym book_is) (lemmas_ordered proof.version whole.judged.taken proof.accepted.verdict proof.accepted.lemmas text)
+  pub book_ordered : CitesEarlier 1 book
+  book_ordered = subst (CitesEarlier 1) (sym book_is)
+      (lemmas_ordered proof.head.version judged.taken proof.accepted.verdict proof.accepted.lemmas text)
 
-  pub book_named : AreWithin (length ls) (numbers_named proof.accepted.verdict)
+  pub book_named : AreWithin (length book) (numbers_named proof.accepted.verdict)
   book_named = subst (λ ls. AreWithin (length ls) (numbers_named proof.accepted.verdict)) (sym book_is)
-      (verdict_within proof.version whole.judged.taken proof.accepted.verdict proof.accepted.lemmas text)
+      (verdict_within proof.head.version judged.taken proof.accepted.verdict proof.accepted.lemmas text)
 
-  module _ (old new : Option (List ℕ)) where
-    abbrev streams : Streams
-    streams = record { input = input; left = left; last_read = last_read; old = old; new = new }
+  is : IsTrimmed judged.taken (head_text ++ trimmed_lines book proof.accepted.verdict)
+  is = trims proof.head.version judged.taken proof.accepted.verdict proof.accepted.lemmas text (head_text ++ trimmed_lines book proof.accepted.verdict)
+      (ap (λ ls. head_text ++ trimmed_lines ls proof.accepted.verdict) book_is
+      ∙ ap (λ head. head ++ trimmed_lines (lemmas_among text.entries) proof.accepted.verdict) head_is)
 
-    abbrev written : List ℕ
-    written = head_of proof.version (board_played proof.game) proof.game.moves ++ trimmed_lines ls proof.accepted.verdict
+  pub trims_read : (end : Trimmed) → PutsTrimmed proof.head.version proof.head.game book proof.accepted.verdict mid s.new end → Trims s end
+  trims_read end puts = record { taken = judged.taken; gave = judged.gave; few = judged.few; holds = (of end puts, judged.holds.1) }
+    where
+      of : (end : Trimmed) → PutsTrimmed proof.head.version proof.head.game book proof.accepted.verdict mid s.new end → TrimsFrom judged.taken s end
+      of (Ok done) puts = record { text = _; is = is; all = right.whole; written = put_behind true s.old mid s.new _ judged.holds.0.1 puts }
+      of (Err Write) puts = record { text = _; is = is; all = right.whole; written = put_behind false s.old mid s.new _ judged.holds.0.1 puts }
+      of (Err (Own Memory)) kept = ((proof.accepted.verdict, proof.accepted.lemmas, right), Keeps-trans s.old mid s.new judged.holds.0.1 kept)
+      of (Err (Own (Input stop))) never = absurd never
 
-    is : IsTrimmed whole.judged.taken written
-    is = trims proof.version whole.judged.taken proof.accepted.verdict proof.accepted.lemmas text written
-        (ap (λ ls. head_of proof.version (board_played proof.game) proof.game.moves ++ trimmed_lines ls proof.accepted.verdict) book_is
-        ∙ ap (λ head. head ++ trimmed_lines (lemmas_among text.entries) proof.accepted.verdict) head_is)
-
-    pub trims_read : (end : Trimmed) → PutsTrimmed proof.version proof.game ls proof.accepted.verdict old new end
-        → Trims (record { input = input; left = left; last_read = last_read; old = old; new = new }) end
-    trims_read end puts = record {
-      taken = whole.judged.taken;
-      gave = whole.judged.gave;
-      few = judged_few None streams before after (Some book) (Some ls) (Ok proof.accepted) whole.judged;
-      holds = (of end puts, whole.judged.lines);
-    }
-      where
-        of : (end : Trimmed) → PutsTrimmed proof.version proof.game ls proof.accepted.verdict old new end → TrimsFrom whole.judged.taken streams end
-        of (Ok done) puts = record { text = written; is = is; all = whole.judged.answer.whole; written = puts }
-        of (Err Write) puts = record { text = written; is = is; all = whole.judged.answer.whole; written = puts }
-        of (Err (Own Memory)) kept = ((proof.accepted.verdict, proof.accepted.lemmas, whole.judged.answer), kept)
-        of (Err (Own (Input stop))) never = absurd never
-
-pub trims_stop : (s : Streams) (before after : ℕ) (had has : Option (List Lemma)) (stop : ProofStop)
-    → JudgesWhole None s.input s.left s.last_read before after had has (Err stop) → Keeps s.old s.new → Trims s (Err (Own (Input stop)))
-trims_stop s before after had has stop whole kept = record {
-  taken = whole.judged.taken;
-  gave = whole.judged.gave;
-  few = judged_few None s before after had has (Err stop) whole.judged;
-  holds = ((stopped None s before after had has stop whole.judged, kept), whole.judged.lines);
-}
+pub trims_stop : (Holds : Position → List Lemma → Type 0) (s : Streams) (found : RunStop ProofStop) (stop : ProofStop) → found ≡ Own stop
+    → Judges None Holds s (Err found) → Trims s (Err (Own (Input stop)))
+trims_stop Holds s found stop is given =
+    let P : RunStop ProofStop → Type 0 = λ found. Judges None Holds s (Err found) in
+    let judged : P (Own stop) = subst P is given in
+    record { taken = judged.taken; gave = judged.gave; few = judged.few; holds = judged.holds }
 
 pub trim_completes : (s : Streams) (end : Trimmed) → Trims s end → (trimmed_status end ≡ 6 → ⊥)
     → (trimmed_status end ≡ 7 → ⊥)

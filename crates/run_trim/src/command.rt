@@ -11,7 +11,7 @@ use crate::writing::write_trimmed;
 use io_ports::{Failed, Sink, Source};
 use proof_tools::reached;
 use run_frame::{MemoryStop, RunStop};
-use run_proof::{Book, ProofRead, read_whole_proof};
+use run_proof::{Book, ProofRead, read_proof};
 use std::alloc::Global;
 
 /// Reads a proof of either version, and writes it in the same version with those lemmas alone on which its verdict rests. What is
@@ -21,9 +21,10 @@ pub fn trim<S: Source, O: Sink>(alloc: Global, source: &mut S, out: &mut O) -> T
         (Rose (S.faults source.old) (S.faults source.new)) (Rose (O.faults out.old) (O.faults out.new)) result }
 {
     let mut book = Book::new(alloc);
-    match read_whole_proof(alloc, None, source, &mut book) {
+    match read_proof(alloc, None, source, &mut book, out) {
         Ok(proof) => trim_proof(alloc, &proof, &book, out),
-        Err(stop) => Err(RunStop::Own(MemoryStop::Input(stop))),
+        Err(RunStop::Own(stop)) => Err(RunStop::Own(MemoryStop::Input(stop))),
+        Err(RunStop::Write) => Err(RunStop::Write),
     }
 }
 
@@ -31,7 +32,7 @@ pub fn trim<S: Source, O: Sink>(alloc: Global, source: &mut S, out: &mut O) -> T
 fn trim_proof<O: Sink>(alloc: Global, proof: &ProofRead, book: &Book, out: &mut O) -> Trimmed
     requires earlier { CitesEarlier 1 book.now }
     requires named { AreWithin (length book.now) (numbers_named proof.now.accepted.verdict) }
-    ensures puts { PutsTrimmed proof.now.version proof.now.game book.now proof.now.accepted.verdict (O.written out.old) (O.written out.new) result }
+    ensures puts { PutsTrimmed proof.now.head.version proof.now.head.game book.now proof.now.accepted.verdict (O.written out.old) (O.written out.new) result }
     ensures read { trimmed_status result ≡ 6 → ⊥ }
     ensures write_fault { trimmed_status result ≡ 7 → Rose (O.faults out.old) (O.faults out.new) }
 {
@@ -39,7 +40,14 @@ fn trim_proof<O: Sink>(alloc: Global, proof: &ProofRead, book: &Book, out: &mut 
     let Ok(reach) = reached(alloc, book, &verdict) else {
         return Err(RunStop::Own(MemoryStop::Memory));
     };
-    match write_trimmed(proof.version, &proof.game, book, &reach, &verdict, out) {
+    match write_trimmed(
+        proof.head.version,
+        &proof.head.game,
+        book,
+        &reach,
+        &verdict,
+        out,
+    ) {
         Ok(()) => Ok(()),
         Err(Failed) => Err(RunStop::Write),
     }

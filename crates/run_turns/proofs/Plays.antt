@@ -3,7 +3,6 @@ use Rattle.std.proofs.Common.{inl, inr}
 use Rattle.std.proofs.Common.{◌≡◌, ℕ, ◌+◌, ◌*◌, ◌≤◌, Bool, true, false, List, [], ◌++◌, length, Option, Some, None, Ok, Err, IfSome, OnOk}
 use Rattle.std.proofs.Common.{refl, sym, ap, ◌∙◌, subst, arith, length-append}
 use Rattle.std.specs.Io.KnownBytes.{Appends, IsAtEnd}
-use Rattle.std.proofs.KnownBytes.{Appends-nil}
 use Rattle.std.proofs.lemmas.Grind.{flat_map-append}
 use Rattle.device_rules.specs.Devices.{AppendsPrefix}
 use Rattle.device_rules.proofs.DeviceLaws.{AppendsPrefix_more}
@@ -21,7 +20,7 @@ use Rattle.run_frame.proofs.Inputs.{IfSome_more, appended_still, cut_still}
 use Rattle.run_frame.proofs.Owed.{read_status, unwritten_status}
 use Rattle.run_frame.proofs.Passing.{takes_bytes}
 use Rattle.run_frame.proofs.Taken.{fresh, from_fresh, of_taken, of_input, of_lines, of_waiting}
-use Rattle.run_turns.specs.Games.{GameForm, GameEnd, stop_status, end_status, BeginsPlay, HasBegun, answers, Awaits, Ended, CutShort, EndedBefore, GameFrom, GamePlays}
+use Rattle.run_turns.specs.Games.{GameForm, GameEnd, stop_status, end_status, BeginsPlay, HasBegun, answers, Ended, EndedBefore, GamePlays}
 use Rattle.run_turns.specs.Inputs.{end_by, EndsSo, StopsPlay, lines_until, Starts}
 use Rattle.run_turns.specs.Steps.{GoesOn, turns_by, is_whole, TurnStep, PlaysTurns}
 use Rattle.run_turns.specs.declared.game_end.GameStop.{GameStop}

@@ -13,10 +13,9 @@ use Rattle.play_text.specs.Play.{Turn, ended}
 use Rattle.run_frame.specs.Reading.{StopsGame}
 use Rattle.run_frame.specs.declared.game_input.InputStop.{InputStop}
 use Rattle.run_frame.specs.declared.game_input.InputStop.TheVariants as inputs
-use Rattle.run_turns.specs.Games.{GameForm, stop_status}
+use Rattle.run_turns.specs.Games.{GameForm}
 use Rattle.run_turns.specs.Inputs.{StopsPlay, lines_until, Starts}
 use Rattle.run_turns.specs.Steps.{turns_by}
-use Rattle.run_turns.specs.declared.game_end.GameStop.{GameStop}
 use Rattle.run_turns.specs.declared.game_end.GameStop.TheVariants as stops
 
 module _ {H : Type 0} (form : GameForm H) (unread : 1 ≤ form.unread)

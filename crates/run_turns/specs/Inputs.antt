@@ -1,5 +1,5 @@
 -- How a game that is played behind a head goes through an input: what stands where the moves begin, and what stops it before that.
-use Rattle.std.specs.Prelude.{◌≡◌, ◌≤◌, ℕ, ◌+◌, List, [], length, Option, Some, None}
+use Rattle.std.specs.Prelude.{◌≡◌, ℕ, ◌+◌, List, [], length, Option, Some, None}
 use Rattle.std.specs.Io.KnownBytes.{Appends}
 use Rattle.io_ports.specs.Reading.{Pending, Reads, PassesLines}
 use Rattle.game_rules.specs.Position.{Position}

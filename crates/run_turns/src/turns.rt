@@ -13,6 +13,7 @@ ghost use Rattle.run_turns.specs.declared.game_end.GameStop.TheVariants as stops
 
 use crate::game_end::{GameEnd, GameStop};
 use crate::player::Player;
+use crate::turn::turn_line;
 use board_bits::{Column, MoveFault, Size};
 use io_ports::{LineGot, Lines, Sink, Source};
 use play_text::{PlayFault, PlayKind};
@@ -91,7 +92,7 @@ fn play_line<P: Player>(player: &mut P, at: u64, bytes: &[u8]) -> Result<LineTex
         return Err(no_move(PlayKind::BadMove, at));
     };
     match player.answer(column) {
-        Ok(line) => Ok(line),
+        Ok(turn) => Ok(turn_line(&turn)),
         Err(MoveFault::GameOver) => Err(no_move(PlayKind::GameOver, at)),
         Err(MoveFault::ColumnFull) => Err(no_move(PlayKind::ColumnFull, at)),
     }

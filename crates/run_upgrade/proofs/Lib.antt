@@ -1,4 +1,2 @@
-pub mod Written
-pub mod Steps
-pub mod Right
-pub mod Ends
+mod Written
+mod Ends

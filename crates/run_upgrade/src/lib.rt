@@ -4,9 +4,8 @@
 #![tactic(auto)]
 
 mod command;
-mod lines;
 mod upgraded;
 mod writing;
 
 pub use command::upgrade;
-pub use upgraded::{UpgradeEnd, UpgradeStop};
+pub use upgraded::Upgraded;

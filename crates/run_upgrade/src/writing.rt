@@ -1,15 +1,15 @@
-//! What is written of a proof: its head, what becomes of each lemma, and its verdict.
-ghost use Rattle.std.specs.Prelude.{◌≡◌, ◌+◌, ◌≤◌, ◌<◌, [], is_ok, length, IfErr, OnOk};
+//! What is written of a proof: what becomes of each lemma, and its verdict.
+ghost use Rattle.std.specs.Prelude.{◌≡◌, ◌+◌, ◌≤◌, ◌<◌, [], is_ok, length, OnOk, Err};
 ghost use Rattle.device_rules.specs.Devices.{HasCause, Rose, AppendsPrefix};
 ghost use Rattle.proof_text.specs.Spelling.{greatest_number, longest_path, verdict_line};
 ghost use Rattle.cert_format.specs.Shape.{lemma_viewed};
-ghost use Rattle.run_upgrade.specs.Steps.{WritesLemma, SinkRose};
+ghost use Rattle.run_proof.specs.declared.taker.NotTaken.TheVariants as untaken;
+ghost use Rattle.run_upgrade.specs.Writing.{WritesLemma};
 
-use crate::upgraded::UpgradeStop;
 use board_bits::Position;
 use cert_format::{LemmaOut, LemmaView, Line, Reason, Verdict, print_line};
 use io_ports::{Failed, Sink};
-use run_proof::{MirrorIndex, ProofStop};
+use run_proof::{LemmaTaker, MirrorIndex, NotTaken};
 use std::alloc::Global;
 
 /// What is kept of the lemmas that were written: their numbers by their positions, and how many there are.
@@ -17,6 +17,24 @@ use std::alloc::Global;
 pub(crate) struct Writer {
     index: MirrorIndex,
     lemmas: LemmaOut,
+}
+
+/// Each lemma is written as soon as it is taken.
+impl LemmaTaker for Writer {
+    ghost use Rattle.run_upgrade.specs.Writing.{HasPut, upgraded_line};
+
+    ghost holds = { λ writer root ls. HasPut writer.index writer.lemmas root ls };
+
+    ghost puts = { upgraded_line };
+
+    fn take<O: Sink>(
+        &mut self,
+        lemma: &LemmaView<'_>,
+        position: &Position,
+        out: &mut O,
+    ) -> Result<(), NotTaken> {
+        self.put(lemma, position, out)
+    }
 }
 
 impl Writer {
@@ -32,40 +50,32 @@ impl Writer {
 
     /// Writes what becomes of the next lemma, which stands at this position: where an earlier one shows the same claim at
     /// the mirror image, it rests on the first such lemma. Its own number is kept for those behind it.
-    pub(crate) fn put<O: Sink>(
+    fn put<O: Sink>(
         &mut self,
         lemma: &LemmaView<'_>,
         position: &Position,
         out: &mut O,
-    ) -> Result<(), UpgradeStop>
+    ) -> Result<(), NotTaken>
         requires next { lemma.now.number ≡ self.old.lemmas + 1 }
         requires room { self.old.lemmas < greatest_number }
         requires short { length lemma.now.path.now.items ≤ longest_path }
         ensures written { WritesLemma position.now (lemma_viewed lemma.now) self.old.index self.new.index (O.written out.old) (O.written out.new) result }
         ensures counted { OnOk result (self.new.lemmas ≡ self.old.lemmas + 1) }
+        ensures memory { result ≡ Err untaken.Memory → self.new.lemmas ≡ self.old.lemmas }
         ensures later { O.faults out.old ≤ O.faults out.new }
-        ensures write_fault { IfErr result (SinkRose (O.faults out.old) (O.faults out.new)) }
+        ensures cause { result ≡ Err untaken.Write → Rose (O.faults out.old) (O.faults out.new) }
     {
         let image = self.index.find(position, lemma.claim);
-        if self
-            .index
-            .keep(position, lemma.claim, lemma.number)
-            .is_err()
-        {
-            return Err(UpgradeStop::Proof(ProofStop::Memory));
-        }
+        self.index.keep(position, lemma.claim, lemma.number)?;
         let path = lemma.path.as_slice();
-        let put = match image {
+        match image {
             Some(earlier) => {
                 self.lemmas
-                    .put_view(out, path, lemma.claim, &Reason::Mirror(earlier))
+                    .put_view(out, path, lemma.claim, &Reason::Mirror(earlier))?
             }
-            None => self.lemmas.put_view(out, path, lemma.claim, &lemma.reason),
+            None => self.lemmas.put_view(out, path, lemma.claim, &lemma.reason)?,
         };
-        match put {
-            Ok(_) => Ok(()),
-            Err(Failed) => Err(UpgradeStop::Write),
-        }
+        Ok(())
     }
 }
 

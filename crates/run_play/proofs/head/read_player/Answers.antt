@@ -1,6 +1,5 @@
 use Rattle.std.proofs.Common.{Err, ap, arith}
 use Rattle.std.proofs.lemmas.Result.{err_from_is_err_and}
-use Rattle.device_rules.proofs.DeviceLaws.{Rose_before}
 use Rattle.run_turns.proofs.Starting.{game_stops, game_caused}
 use Rattle.run_play.specs.Plays.{play_form}
 use Rattle.run_play.proofs.Read.{game_none}
