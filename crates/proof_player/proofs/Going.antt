@@ -22,11 +22,8 @@ none_of None h = refl
 none_of (Some e) h = absurd (cc h)
 
 -- A player who has begun, as a caller sees it; and the other side's man was dropped into the column.
-module _ (a : Inside) (s : FollowState) (view : state_of a ≡ s) (started : s.begun ≡ true) (inv : IsFollowing a) (column : ℕ) (now : Position)
+module _ (a : Inside) (s : FollowState) (view : state_of a ≡ s) (inv : IsFollowing a) (column : ℕ) (now : Position)
     (played : Result Position MoveFault) (moved : played ≡ moved_into a.now column) (was : played ≡ Ok now) where
-  begun : a.begun ≡ true
-  begun = ap (λ (s : FollowState). s.begun) view ∙ started
-
   made : (is_legal a.now column ≡ true) × (now ≡ after_move a.now column)
   made = move_made a.now now column (sym moved ∙ was)
 
@@ -38,10 +35,7 @@ module _ (a : Inside) (s : FollowState) (view : state_of a ≡ s) (started : s.b
 
   stood : Follows inv.on.after inv.on.claim (following a.place a.turned) a.now × (side_to_move a.now ≡ other (served_by inv.on.claim))
       × IsSession a.place (seen a.turned a.now)
-  stood = inv.stands begun (legal_parts a.now column legal).0
-
-  not_fresh : {X : Type 0} → a.begun ≡ false → X
-  not_fresh h = let both : true ≡ false = sym begun ∙ h in absurd (cc both)
+  stood = inv.stands (legal_parts a.now column legal).0
 
   held_there : IsHeld inv.on.claim (after_move a.now column)
   held_there =
@@ -58,8 +52,7 @@ module _ (a : Inside) (s : FollowState) (view : state_of a ≡ s) (started : s.b
         record {
           on = inv.on;
           held = subst (IsHeld inv.on.claim) (sym same_now) held_there;
-          fresh = λ h. not_fresh h;
-          stands = λ h going. let both : true ≡ false = sym (is_over ∙ some) ∙ ap is_some going in absurd (cc both);
+          stands = λ going. let both : true ≡ false = sym (is_over ∙ some) ∙ ap is_some going in absurd (cc both);
         }
 
     pub has_ended : over ≡ true → HasFollowed s (state_of (record a { now = now })) column Over
@@ -116,8 +109,7 @@ module _ (a : Inside) (s : FollowState) (view : state_of a ≡ s) (started : s.b
               record {
                 on = inv.on;
                 held = subst (IsHeld inv.on.claim) (sym same_last) lead.held;
-                fresh = λ h. not_fresh h;
-                stands = λ h going. (
+                stands = λ going. (
                   subst (Follows inv.on.after inv.on.claim (following place turned)) (sym same_last) lead.follows,
                   subst (λ (q : Position). side_to_move q ≡ other (served_by inv.on.claim)) (sym same_last) lead.passed,
                   subst (λ (q : Position). IsSession place (seen turned q)) (sym same_last) session,

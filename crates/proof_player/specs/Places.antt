@@ -8,7 +8,6 @@ use Rattle.rule_compat.specs.Planned.{members}
 use Rattle.reply_player.specs.declared.session.Reply.{Reply}
 use Rattle.reply_player.specs.declared.session.Reply.TheVariants.{BlackWon, Filled, Move}
 use Rattle.follow_text.specs.Following.{served_by, seen, Place as PlainPlace, AtLemma, InPlan, Following, Follows}
-use Rattle.proof_player.specs.Playing.{StandsAt}
 use Rattle.proof_player.specs.declared.place.Place.{Place}
 use Rattle.proof_player.specs.declared.place.Place.TheVariants as places
 use Rattle.proof_player.specs.declared.place.Next.{Next}
@@ -33,16 +32,6 @@ column_in (Move column) = column
 abbrev pub IsSession : Place → Position → Type 0
 IsSession (places.AtLemma n) q = ⊤
 IsSession (places.InPlan session) q = session.stands ≡ q
-
--- the place is a lemma
-abbrev pub IsLemma : Place → Type 0
-IsLemma (places.AtLemma n) = ⊤
-IsLemma (places.InPlan session) = ⊥
-
--- the lemma at which play begins stands at the position as it is seen
-abbrev pub CanBegin : List Lemma → Position → Bool → Place → Type 0
-CanBegin ls q turned (places.AtLemma n) = StandsAt ls n turned q
-CanBegin ls q turned (places.InPlan session) = ⊥
 
 -- Play by a claim stands at the position, where the other side is to move into the column, which is legal and doesn't end the game.
 pub record CanAnswerAt (ls : List Lemma) (s : Following) (before : Position) (column : ℕ) : Type 0 where

@@ -1,5 +1,5 @@
 -- A game that is followed by the lemmas of a book: where it stands, and what a move makes of it.
-use Rattle.std.specs.Prelude.{◌≡◌, ℕ, Bool, true, List, [], length, Option, Some, None, Err, if◌then◌else◌}
+use Rattle.std.specs.Prelude.{◌≡◌, ℕ, Bool, true, false, List, [], Option, Some, None, Err, if◌then◌else◌}
 use Rattle.game_rules.specs.Position.{Position, other, side_to_move, end_of, is_legal, after_move}
 use Rattle.game_rules.specs.Value.{win_of, same_end}
 use Rattle.game_rules.specs.declared.Side.{Side}
@@ -10,7 +10,7 @@ use Rattle.proof_text.specs.Right.{Shown, Shows, FollowsFromAll, AreRight}
 use Rattle.proof_text.specs.declared.Claim.{Claim}
 use Rattle.board_bits.specs.Move.{moved_into}
 use Rattle.board_bits.specs.declared.position.MoveFault.{MoveFault}
-use Rattle.follow_text.specs.Following.{served_by, seen, Place, AtLemma, InPlan, Following, at_lemma, own_move_at, answer_to}
+use Rattle.follow_text.specs.Following.{served_by, seen, Following, at_lemma, answer_to}
 use Rattle.proof_player.specs.declared.follow.FollowReply.{FollowReply}
 use Rattle.proof_player.specs.declared.follow.FollowReply.TheVariants.{Over, Won, Filled, Move}
 use Rattle.proof_player.specs.declared.reasons.Step.{Step}
@@ -60,13 +60,12 @@ step_of step = (step.column, at_lemma step.lemma step.turned)
 
 -- ---- a game
 
--- the book's lemmas, the side that plays by them, the position that the game has come to, where play stands, and whether it has begun
+-- the book's lemmas, the side that plays by them, the position that the game has come to, and where play stands
 pub record FollowState : Type 0 where
   pub lemmas : List Lemma
   pub holder : Side
   pub now : Position
   pub at : Following
-  pub begun : Bool
 
 -- the reply that a man of the holder's in a column is, by the end of the game after it; the other side has no line there
 abbrev pub reply_for : Side → Option End → ℕ → FollowReply
@@ -74,20 +73,12 @@ reply_for holder None column = Move column
 reply_for holder (Some ends.Draw) column = Filled column
 reply_for holder (Some e) column = if same_end (win_of holder) e then Won column else Move column
 
--- the holder's first move, which a lemma alone names
-abbrev pub first_in : List Lemma → Position → Bool → Place → Option (ℕ × Following)
-first_in ls q turned (AtLemma n) = own_move_at ls (length q.columns) n turned
-first_in ls q turned (InPlan ws) = None
-
-abbrev pub first_move : FollowState → Option (ℕ × Following)
-first_move s = first_in s.lemmas s.now s.at.turned s.at.place
-
--- The first move was played, where there is one.
-abbrev pub HasBegun : FollowState → FollowState → Option FollowReply → Option (ℕ × Following) → Type 0
-HasBegun old new reply None = (reply ≡ None) × (new ≡ record old { begun = true })
-HasBegun old new reply (Some (column, next)) =
-    (reply ≡ Some (reply_for old.holder (end_of (after_move old.now column)) column)) × (is_legal old.now column ≡ true)
-    × (new ≡ record old { now = after_move old.now column; at = next; begun = true })
+-- The holder's first move from the root was played, where the lemma with this number names one.
+abbrev pub HasBegun : List Lemma → Side → Position → ℕ → FollowState → Option FollowReply → Option (ℕ × Following) → Type 0
+HasBegun ls holder root n new reply None = (reply ≡ None) × (new ≡ record { lemmas = ls; holder = holder; now = root; at = at_lemma n false })
+HasBegun ls holder root n new reply (Some (column, next)) =
+    (reply ≡ Some (reply_for holder (end_of (after_move root column)) column)) × (is_legal root column ≡ true)
+    × (new ≡ record { lemmas = ls; holder = holder; now = after_move root column; at = next })
 
 -- the answer to the other side's move, and the state after it
 pub record HasReplied (old new : FollowState) (now : Position) (answer : Option (ℕ × Following)) (reply : FollowReply) : Type 0 where

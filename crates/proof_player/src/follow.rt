@@ -1,12 +1,11 @@
 //! The player: where a game that is followed stands, and the holder's moves.
-ghost use Rattle.std.specs.Prelude.{◌≡◌, ◌≢◌, ◌↔◌, ◌<◌, true, false, length, None, option_map, IfOk, IfErr};
+ghost use Rattle.std.specs.Prelude.{◌≡◌, ◌≢◌, ◌↔◌, ◌<◌, false, length, None, IfOk, IfErr};
 ghost use Rattle.game_rules.specs.Position.{end_of, side_to_move};
-ghost use Rattle.follow_text.specs.Following.{at_lemma};
-ghost use Rattle.proof_player.specs.Places.{place_of, CanBegin};
-ghost use Rattle.proof_player.specs.Playing.{Serves, step_of, reply_for, first_in, first_move, HasBegun, HasFollowed, IsRefused};
+ghost use Rattle.follow_text.specs.Following.{own_move_at};
+ghost use Rattle.proof_player.specs.Playing.{Serves, reply_for, HasBegun, HasFollowed, IsRefused};
 
 use crate::place::{Place, go_on};
-use crate::reasons::{Step, own_move};
+use crate::reasons::own_move;
 use board_bits::{Column, End, MoveFault, Position, Side};
 use proof_book::Book;
 use std::marker::Model;
@@ -52,11 +51,11 @@ pub struct Follow<'a> {
     now: Position,
     place: Place,
     turned: bool,
-    begun: bool,
 }
 
 impl<'a> Model for Follow<'a> {
-    ghost use Rattle.proof_player.specs.Playing.{FollowState};
+    ghost use Rattle.follow_text.specs.Following.{own_move_at};
+ghost use Rattle.proof_player.specs.Playing.{FollowState};
     ghost use Rattle.proof_player.specs.FollowFields.{state_of, IsFollowing};
 
     ghost Value = { FollowState };
@@ -67,20 +66,40 @@ impl<'a> Model for Follow<'a> {
 }
 
 impl<'a> Follow<'a> {
-    /// A game that begins at the root. The lemmas of the book are right, and the lemma with this number stands at a position
-    /// that is the same as the root, and serves the holder: it claims that the holder wins, or that the other side doesn't.
-    pub fn new(book: &'a Book, root: &Position, holder: Side, lemma: u32) -> Follow<'a>
+    /// Begins a game at the root: plays the holder's first move, and gives it beside the player. None comes exactly where the
+    /// holder isn't to move there or the game has ended. The lemmas of the book are right, and the lemma with this number stands
+    /// at a position that is the same as the root, and serves the holder: it claims that the holder wins, or that the other side
+    /// doesn't.
+    pub fn begin(
+        book: &'a Book,
+        root: &Position,
+        holder: Side,
+        lemma: u32,
+    ) -> (Follow<'a>, Option<FollowReply>)
         requires { Serves book.now lemma root.now holder }
-        ensures { result ≡ record { lemmas = book.now; holder = holder; now = root.now; at = at_lemma lemma false; begun = false } }
+        ensures value { HasBegun book.now holder root.now lemma result.0 result.1 (own_move_at book.now (length root.now.columns) lemma false) }
+        ensures none { (result.1 ≢ None) ↔ ((end_of root.now ≡ None) × (side_to_move root.now ≡ holder)) }
     {
-        Follow {
+        let Some(step) = own_move(book, root, lemma, false) else {
+            let follow = Follow {
+                book,
+                holder,
+                now: *root,
+                place: Place::AtLemma(lemma),
+                turned: false,
+            };
+            return (follow, None);
+        };
+        let now = root.after(step.column);
+        let reply = FollowReply::of(holder, now.ended(), step.column);
+        let follow = Follow {
             book,
             holder,
-            now: *root,
-            place: Place::AtLemma(lemma),
-            turned: false,
-            begun: false,
-        }
+            now,
+            place: Place::AtLemma(step.lemma),
+            turned: step.turned,
+        };
+        (follow, Some(reply))
     }
 
     /// The position that the game has come to.
@@ -90,33 +109,12 @@ impl<'a> Follow<'a> {
         &self.now
     }
 
-    /// Plays the holder's first move, before any other call. None comes exactly where the holder isn't to move or the game has
-    /// ended.
-    pub fn first(&mut self) -> Option<FollowReply>
-        requires { self.old.begun ≡ false }
-        ensures value { HasBegun self.old self.new result (first_move self.old) }
-        ensures none { (result ≢ None) ↔ ((end_of self.old.now ≡ None) × (side_to_move self.old.now ≡ self.old.holder)) }
-    {
-        let Some(step) = first_step(self.book, &self.now, &self.place, self.turned) else {
-            self.begun = true;
-            return None;
-        };
-        let now = self.now.after(step.column);
-        let reply = FollowReply::of(self.holder, now.ended(), step.column);
-        self.now = now;
-        self.place = Place::AtLemma(step.lemma);
-        self.turned = step.turned;
-        self.begun = true;
-        Some(reply)
-    }
-
-    /// Plays the other side's man into the column, and then the holder's answer, where the game goes on. The game has begun.
+    /// Plays the other side's man into the column, and then the holder's answer, where the game goes on.
     ///
     /// `GameOver` comes exactly where the game has ended, else `ColumnFull` exactly where the column, which is on the
     /// board, has as many men as the board has rows. Nothing is changed then.
     pub fn answer(&mut self, c: Column) -> Result<FollowReply, MoveFault>
-        requires column { c < length self.old.now.columns }
-        requires begun { self.old.begun ≡ true }
+        requires { c < length self.old.now.columns }
         ensures ok { IfOk result (HasFollowed self.old self.new c) }
         ensures err { IfErr result (IsRefused self.old self.new c) }
     {
@@ -132,16 +130,5 @@ impl<'a> Follow<'a> {
         self.now = last;
         self.turned = turned;
         Ok(reply)
-    }
-}
-
-/// The holder's first move, which a lemma alone names.
-fn first_step(book: &Book, now: &Position, place: &Place, turned: bool) -> Option<Step>
-    requires { CanBegin book.now now.now turned place.now }
-    ensures { option_map step_of result ≡ first_in book.now now.now turned (place_of place.now) }
-{
-    match place {
-        Place::AtLemma(lemma) => own_move(book, now, *lemma, turned),
-        Place::InPlan(_) => None,
     }
 }

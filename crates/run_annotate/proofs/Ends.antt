@@ -9,7 +9,7 @@ use Rattle.run_frame.proofs.Inputs.{IfSome_more, of_each, kept_still, appended_s
 use Rattle.run_annotate.specs.Annotates.{Annotated, annotated_status, Annotates, AnnotateCompletes, AnnotateOwes}
 
 module _ (nodes reach last : ℕ) (s : Streams) where
-  pub annotate_completes : (end : Annotated) → Annotates nodes reach last s end → (end ≡ Err (Own (Input stops.Read)) → ⊥) → (end ≡ Err Write → ⊥)
+  pub annotate_completes : (end : Annotated) → Annotates nodes reach last s end → (annotated_status end ≡ 6 → ⊥) → (annotated_status end ≡ 7 → ⊥)
       → AnnotateCompletes s.input (annotated_status end)
   annotate_completes (Ok done) o unread unwritten = of_each s.input _ (λ bytes p game. inl refl)
   annotate_completes (Err (Own Memory)) o unread unwritten = of_each s.input _ (λ bytes p game. inr refl)
@@ -25,7 +25,7 @@ module _ (nodes reach last : ℕ) (s : Streams) where
   annotate_held (Err (Own Memory)) o = kept_still s.old s.new o.holds.2
   annotate_held (Err (Own (Input stop))) o = unread_still s o.taken stop o.holds
 
-  pub annotate_owes : (unread unwritten : Type 0) (end : Annotated) → Annotates nodes reach last s end → (end ≡ Err (Own (Input stops.Read)) → unread)
-      → (end ≡ Err Write → unwritten) → AnnotateOwes nodes reach last s unread unwritten end
+  pub annotate_owes : (unread unwritten : Type 0) (end : Annotated) → Annotates nodes reach last s end → (annotated_status end ≡ 6 → unread)
+      → (annotated_status end ≡ 7 → unwritten) → AnnotateOwes nodes reach last s unread unwritten end
   annotate_owes unread unwritten end =
-      owed annotated_status (Annotates nodes reach last) AnnotateCompletes _ _ s unread unwritten end (annotate_held end) (annotate_completes end)
+      owed annotated_status (Annotates nodes reach last) AnnotateCompletes s unread unwritten end (annotate_held end) (annotate_completes end)

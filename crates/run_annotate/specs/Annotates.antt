@@ -13,7 +13,6 @@ use Rattle.run_frame.specs.Stops.{of_result, run_stop_status, run_stop_text, mem
 use Rattle.run_frame.specs.Streams.{Streams, Took}
 use Rattle.run_frame.specs.Texts.{stop_status, stop_text}
 use Rattle.run_frame.specs.declared.game_input.InputStop.{InputStop}
-use Rattle.run_frame.specs.declared.game_input.InputStop.TheVariants as stops
 use Rattle.run_frame.specs.declared.run_stop.MemoryStop.{MemoryStop}
 use Rattle.run_frame.specs.declared.run_stop.MemoryStop.TheVariants.{Input, Memory}
 use Rattle.run_frame.specs.declared.run_stop.RunStop.{RunStop}
@@ -63,4 +62,4 @@ AnnotateCompletes input status = IfSome input (λ bytes. (p : Position) → game
 
 -- what it owes of a run
 abbrev pub AnnotateOwes : (nodes reach last : ℕ) → Streams → (unread unwritten : Type 0) → Annotated → Type 0
-AnnotateOwes nodes reach last = Owes annotated_status (Annotates nodes reach last) AnnotateCompletes (Err (Own (Input stops.Read))) (Err Write)
+AnnotateOwes nodes reach last = Owes annotated_status (Annotates nodes reach last) AnnotateCompletes

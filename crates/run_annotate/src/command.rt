@@ -1,14 +1,11 @@
 //! The command, over any source and any sink.
-ghost use Rattle.std.specs.Prelude.{◌≡◌, ◌≤◌, ℕ, List, Option, Err};
+ghost use Rattle.std.specs.Prelude.{◌≡◌, ◌≤◌, ℕ, List, Option};
 ghost use Rattle.std.specs.Io.KnownBytes.{IsAtEnd};
 ghost use Rattle.device_rules.specs.Devices.{Rose};
 ghost use Rattle.game_rules.specs.Game.{IsTextOf};
 ghost use Rattle.proof_text.specs.Spelling.{greatest_number};
-ghost use Rattle.run_annotate.specs.Annotates.{AnnotatesFrom, AnnotateOwes};
+ghost use Rattle.run_annotate.specs.Annotates.{annotated_status, AnnotatesFrom, AnnotateOwes};
 ghost use Rattle.run_frame.specs.Streams.{streams};
-ghost use Rattle.run_frame.specs.declared.game_input.InputStop.{InputStop};
-ghost use Rattle.run_frame.specs.declared.run_stop.MemoryStop.TheVariants as memory;
-ghost use Rattle.run_frame.specs.declared.run_stop.RunStop.TheVariants as stops;
 
 use crate::annotated::{Annotated, Annotating};
 use crate::searcher::Searcher;
@@ -44,8 +41,8 @@ fn annotate_game<O: Sink>(alloc: Global, game: &Game, how: Annotating, out: &mut
     ensures annotates { (text : List ℕ) (input left : Option (List ℕ)) (last_read : ℕ) → IsTextOf text game.now → IsAtEnd left
         → AnnotatesFrom how.nodes how.reach how.last text
         (record { input = input; left = left; last_read = last_read; old = O.written out.old; new = O.written out.new }) result }
-    ensures no_input { (stop : InputStop) → result ≡ Err (stops.Own (memory.Input stop)) → ⊥ }
-    ensures write_fault { result ≡ Err stops.Write → Rose (O.faults out.old) (O.faults out.new) }
+    ensures read { annotated_status result ≡ 6 → ⊥ }
+    ensures write_fault { annotated_status result ≡ 7 → Rose (O.faults out.old) (O.faults out.new) }
 {
     let mut searcher = Searcher::new(alloc, how.nodes, how.reach);
     match marks_of(

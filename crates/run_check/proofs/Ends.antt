@@ -38,7 +38,7 @@ module _ (s : Streams) where
   checks_stop (Own stop) judged = record { taken = judged.taken; gave = judged.gave; few = judged.few; holds = judged.holds }
   checks_stop Write judged = absurd judged.holds.0.0
 
-pub check_completes : (s : Streams) (end : Checked) → Checks s end → (end ≡ Err (Own (stops.Input inputs.Read)) → ⊥) → (end ≡ Err Write → ⊥)
+pub check_completes : (s : Streams) (end : Checked) → Checks s end → (checked_status end ≡ 6 → ⊥) → (checked_status end ≡ 7 → ⊥)
     → CheckCompletes s.input (checked_status end)
 check_completes s (Ok done) o unread unwritten = of_each s.input _ (λ bytes v count right. inl refl)
 check_completes s (Err (Own stops.Memory)) o unread unwritten = of_each s.input _ (λ bytes v count right. inr refl)
@@ -55,6 +55,6 @@ check_held s (Ok done) o = appended_still s.old s.new _ o.holds.0.3
 check_held s (Err Write) o = cut_still s.old s.new _ o.holds.0.3
 check_held s (Err (Own stop)) o = kept_still s.old s.new o.holds.0.1
 
-pub check_owes : (s : Streams) (unread unwritten : Type 0) (end : Checked) → Checks s end → (end ≡ Err (Own (stops.Input inputs.Read)) → unread)
-    → (end ≡ Err Write → unwritten) → CheckOwes s unread unwritten end
-check_owes s unread unwritten end = owed checked_status Checks CheckCompletes _ _ s unread unwritten end (check_held s end) (check_completes s end)
+pub check_owes : (s : Streams) (unread unwritten : Type 0) (end : Checked) → Checks s end → (checked_status end ≡ 6 → unread)
+    → (checked_status end ≡ 7 → unwritten) → CheckOwes s unread unwritten end
+check_owes s unread unwritten end = owed checked_status Checks CheckCompletes s unread unwritten end (check_held s end) (check_completes s end)

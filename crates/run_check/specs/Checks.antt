@@ -10,13 +10,11 @@ use Rattle.proof_text.specs.Words.{verdict_word}
 use Rattle.run_frame.specs.Ended.{EndsBy, Owes}
 use Rattle.run_frame.specs.Stops.{of_result, run_stop_status, run_stop_text}
 use Rattle.run_frame.specs.Streams.{Streams, Took, TakesLines}
-use Rattle.run_frame.specs.declared.game_input.InputStop.TheVariants as inputs
 use Rattle.run_frame.specs.declared.run_stop.RunStop.{RunStop}
 use Rattle.run_frame.specs.declared.run_stop.RunStop.TheVariants.{Own, Write}
 use Rattle.run_proof.specs.Stops.{stop_status, stop_text, IsStopped}
 use Rattle.run_proof.specs.Whole.{IsRightInput, most_lines_read, most_taken}
 use Rattle.run_proof.specs.declared.stop.ProofStop.{ProofStop}
-use Rattle.run_proof.specs.declared.stop.ProofStop.TheVariants as stops
 
 -- what is written where a proof is right: its verdict, and how many lemmas it has
 abbrev pub accepted_line : Verdict → ℕ → List ℕ
@@ -53,4 +51,4 @@ CheckCompletes input status = IfSome input (λ bytes. (v : Verdict) (count : ℕ
 
 -- what it owes of a run
 abbrev pub CheckOwes : Streams → (unread unwritten : Type 0) → Checked → Type 0
-CheckOwes = Owes checked_status Checks CheckCompletes (Err (Own (stops.Input inputs.Read))) (Err Write)
+CheckOwes = Owes checked_status Checks CheckCompletes

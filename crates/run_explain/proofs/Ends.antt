@@ -9,7 +9,6 @@ use Rattle.walk_rules.specs.Walk.{solved}
 use Rattle.explain_text.specs.Explanation.{explanation}
 use Rattle.io_ports.specs.declared.ports.Failed.{Failed}
 use Rattle.run_frame.specs.Streams.{Streams, StillHolds}
-use Rattle.run_frame.specs.declared.game_input.InputStop.{InputStop}
 use Rattle.run_frame.specs.declared.game_input.InputStop.TheVariants as stops
 use Rattle.run_frame.specs.declared.run_stop.RunStop.TheVariants.{Own, Write}
 use Rattle.run_frame.specs.declared.run_stop.Sought.TheVariants.{Found, Missing}
@@ -25,7 +24,7 @@ explains_game reach s taken p ended game (Ok true) found written = (record { pos
 explains_game reach s taken p ended game (Ok false) found written = (record { position = p; game = game; decided = sym found; written = written }, ended)
 explains_game reach s taken p ended game (Err failed) found written = (record { position = p; game = game; written = written }, ended)
 
-pub explain_completes : (reach : ℕ) (s : Streams) (end : Explained) → Explains reach s end → (end ≡ Err (Own stops.Read) → ⊥) → (end ≡ Err Write → ⊥)
+pub explain_completes : (reach : ℕ) (s : Streams) (end : Explained) → Explains reach s end → (explained_status end ≡ 6 → ⊥) → (explained_status end ≡ 7 → ⊥)
     → ExplainCompletes reach s.input (explained_status end)
 explain_completes reach s (Ok Found) o unread unwritten found =
     IfSome_more s.input (λ bytes. game_at bytes ≡ Ok o.holds.0.position) _
@@ -49,18 +48,18 @@ explain_held reach s (Ok Missing) o = appended_still s.old s.new _ o.holds.0.wri
 explain_held reach s (Err Write) o = cut_still s.old s.new _ o.holds.0.written
 explain_held reach s (Err (Own stop)) o = unread_still s o.taken stop o.holds
 
-pub explain_owes : (reach : ℕ) (s : Streams) (unread unwritten : Type 0) (end : Explained) → Explains reach s end → (end ≡ Err (Own stops.Read) → unread)
-    → (end ≡ Err Write → unwritten) → ExplainOwes reach s unread unwritten end
+pub explain_owes : (reach : ℕ) (s : Streams) (unread unwritten : Type 0) (end : Explained) → Explains reach s end → (explained_status end ≡ 6 → unread)
+    → (explained_status end ≡ 7 → unwritten) → ExplainOwes reach s unread unwritten end
 explain_owes reach s unread unwritten end =
-    owed explained_status (Explains reach) (ExplainCompletes reach) _ _ s unread unwritten end (explain_held reach s end) (explain_completes reach s end)
+    owed explained_status (Explains reach) (ExplainCompletes reach) s unread unwritten end (explain_held reach s end) (explain_completes reach s end)
 
 -- what was written ends with the sink's failure only where that failed, and never with the source's
-pub written_never : (stop : InputStop) (r : Result Bool Failed) → explained_of r ≡ Err (Own stop) → ⊥
-written_never stop (Ok true) is = cc is
-written_never stop (Ok false) is = cc is
-written_never stop (Err failed) is = cc is
+pub written_never : (r : Result Bool Failed) → explained_status (explained_of r) ≡ 6 → ⊥
+written_never (Ok true) is = cc is
+written_never (Ok false) is = cc is
+written_never (Err failed) is = cc is
 
-pub written_failed : (r : Result Bool Failed) → explained_of r ≡ Err Write → IsErr r
+pub written_failed : (r : Result Bool Failed) → explained_status (explained_of r) ≡ 7 → IsErr r
 written_failed (Ok true) is = absurd (cc is)
 written_failed (Ok false) is = absurd (cc is)
 written_failed (Err failed) is = refl

@@ -13,7 +13,6 @@ use Rattle.run_frame.specs.Stops.{of_result, run_stop_status, run_stop_text, sou
 use Rattle.run_frame.specs.Streams.{Streams, Took}
 use Rattle.run_frame.specs.Texts.{stop_status, stop_text}
 use Rattle.run_frame.specs.declared.game_input.InputStop.{InputStop}
-use Rattle.run_frame.specs.declared.game_input.InputStop.TheVariants as stops
 use Rattle.run_frame.specs.declared.run_stop.RunStop.{RunStop}
 use Rattle.run_frame.specs.declared.run_stop.RunStop.TheVariants.{Own, Write}
 use Rattle.run_frame.specs.declared.run_stop.Sought.{Sought}
@@ -73,4 +72,4 @@ ExplainCompletes reach input status =
 
 -- what it owes of a run
 abbrev pub ExplainOwes : ℕ → Streams → (unread unwritten : Type 0) → Explained → Type 0
-ExplainOwes reach = Owes explained_status (Explains reach) (ExplainCompletes reach) (Err (Own stops.Read)) (Err Write)
+ExplainOwes reach = Owes explained_status (Explains reach) (ExplainCompletes reach)

@@ -1,36 +1,34 @@
 -- What an input of `follow` begins with, by all that was taken of it.
-use Rattle.std.proofs.Common.{◌≡◌, ℕ, ◌+◌, ◌<◌, ◌≤◌, false, List, [], ◌++◌, length, Option, None, IfSome, Result, Ok, Err, refl, ap, subst, arith, append-nil}
-use Rattle.std.specs.Io.KnownBytes.{Consumes}
+use Rattle.std.proofs.Common.{◌≡◌, ℕ, ◌<◌, false, List, [], ◌++◌, length, Option, None, Ok, Err, refl, ap, subst, arith, append-nil}
+use Rattle.std.specs.Io.KnownBytes.{Keeps, Consumes}
 use Rattle.game_rules.specs.Position.{Position, side_to_move}
 use Rattle.game_rules.specs.declared.Side.{Side}
-use Rattle.io_ports.specs.Lines.{Cutting, HoldsFew, behind_lines}
+use Rattle.io_ports.specs.Lines.{Cutting, HoldsFew}
 use Rattle.io_ports.specs.declared.line_reader.LineGot.TheVariants.{Done as DoneLines}
 use Rattle.io_ports.specs.Reading.{Pending, pending, Reads, PassesLines}
-use Rattle.io_ports.proofs.Reading.{Reads_start, Reads_more, Reads_then}
+use Rattle.io_ports.proofs.Reading.{Reads_more, Reads_then}
+use Rattle.play_text.specs.Play.{Turn}
 use Rattle.proof_text.specs.Lemma.{Lemma}
 use Rattle.proof_text.specs.Texts.{pieces, lines_in}
 use Rattle.proof_text.specs.declared.Verdict.{Verdict}
 use Rattle.follow_text.specs.Follow.{named_for}
-use Rattle.proof_player.specs.Playing.{FollowState}
-use Rattle.run_frame.specs.Streams.{TakesLines}
+use Rattle.run_frame.specs.Streams.{Streams, TakesLines}
 use Rattle.run_frame.specs.declared.game_input.InputStop.TheVariants as inputs
+use Rattle.run_frame.specs.declared.run_stop.RunStop.TheVariants.{Own, Write}
 use Rattle.run_frame.proofs.Taken.{fresh, from_fresh, of_taken, of_input}
 use Rattle.run_proof.specs.Steps.{lines_read_until}
 use Rattle.run_proof.specs.Whole.{BeginsProof}
 use Rattle.run_proof.specs.declared.stop.ProofStop.{ProofStop}
 use Rattle.run_proof.specs.declared.stop.ProofStop.TheVariants as proofs
-use Rattle.run_turns.specs.Games.{of_turns}
-use Rattle.run_turns.specs.declared.game_end.GameEnding.TheVariants.{Done, Stopped}
-use Rattle.run_turns.specs.declared.game_end.GameStop.{GameStop}
+use Rattle.run_turns.specs.Games.{GameEnd}
+use Rattle.run_turns.specs.Steps.{is_whole, TurnStep, PlaysTurns}
 use Rattle.run_turns.specs.declared.game_end.GameStop.TheVariants as stops
-use Rattle.run_turns.specs.declared.turn_stop.TurnStop.{TurnStop}
-use Rattle.run_turns.specs.declared.turn_stop.TurnStop.TheVariants as turns
+use Rattle.run_turns.proofs.Plays.{over}
 use Rattle.run_follow.specs.Begun.{HasVerdict, OpensWith, BeginsGame}
-use Rattle.run_follow.specs.Follows.{EndsProof, BeginsBy, Begins}
-use Rattle.run_follow.specs.Opening.{PutsFirst, StopsFirst}
+use Rattle.run_follow.specs.Follows.{Begins}
 use Rattle.run_follow.specs.Reading.{VerdictLater, StopsProof, IsToVerdict}
 use Rattle.run_follow.specs.declared.not_followed.NotFollowed.{NotFollowed}
-use Rattle.run_follow.specs.declared.not_followed.NotFollowed.TheVariants.{Proof, NoClaim}
+use Rattle.run_follow.specs.declared.not_followed.NotFollowed.TheVariants.{Proof}
 
 module _ (old : Option (List ℕ)) (begun : ℕ) (reader : Cutting) (last : Pending)
     (new : reader ≡ record { ended = false; ahead = []; text = []; fed = false }) where
@@ -58,28 +56,26 @@ module _ (old : Option (List ℕ)) (begun : ℕ) (reader : Cutting) (last : Pend
         ),
       )
 
-  proof_ends : (holder : Side) (before after : ℕ) (stop : ProofStop)
-      → Reads (fresh old begun) last (λ bytes rest. PassesLines (lines_read_until stop) bytes rest × StopsProof bytes rest before after stop)
-      → Begins holder 3 0 old last.left last.last_read (Stopped (stops.Head (Proof stop)))
-  proof_ends holder before after (proofs.Input (inputs.NoGame fault)) reads = (reads.taken, reads.gave, tt)
-  proof_ends holder before after (proofs.Input inputs.Read) reads =
-      let ahead : Reads (fresh old begun) last VerdictLater = Reads_more _ _ _ VerdictLater reads (λ bytes rest h. h.1.1) in
-      (ahead.taken, ahead.gave, ahead_taken ahead)
-  proof_ends holder before after (proofs.Refused r) reads = (reads.taken, reads.gave, tt)
-  proof_ends holder before after proofs.Memory reads =
-      let most = lines_read_until proofs.Memory in (
-        reads.taken,
-        reads.gave,
-        (
-          of_taken old begun last most most (BeginsProof None) reads,
-          of_input old begun last most most (BeginsProof None) reads,
-        ),
-      )
+  module _ (o n : Option (List ℕ)) (kept : Keeps o n) (holder : Side) (before after : ℕ) where
+    proof_ends : (stop : ProofStop)
+        → Reads (fresh old begun) last (λ bytes rest. PassesLines (lines_read_until stop) bytes rest × StopsProof bytes rest before after stop)
+        → Begins holder 3 0 (over old last o n) (Err (Own (stops.Head (Proof stop))))
+    proof_ends (proofs.Input (inputs.NoGame fault)) reads = (reads.taken, reads.gave, (tt, kept))
+    proof_ends (proofs.Input inputs.Read) reads =
+        let ahead : Reads (fresh old begun) last VerdictLater = Reads_more _ _ _ VerdictLater reads (λ bytes rest h. h.1.1) in
+        (ahead.taken, ahead.gave, (ahead_taken ahead, kept))
+    proof_ends (proofs.Refused r) reads = (reads.taken, reads.gave, (tt, kept))
+    proof_ends proofs.Memory reads =
+        let most = lines_read_until proofs.Memory in (
+          reads.taken,
+          reads.gave,
+          ((of_taken old begun last most most (BeginsProof None) reads, of_input old begun last most most (BeginsProof None) reads), kept),
+        )
 
-  pub proof_begins : (holder : Side) (before after : ℕ) (stop : ProofStop)
-      → Reads (pending reader old begun) last (λ bytes rest. PassesLines (lines_read_until stop) bytes rest × StopsProof bytes rest before after stop)
-      → Begins holder 3 0 old last.left last.last_read (Stopped (stops.Head (Proof stop)))
-  proof_begins holder before after stop reads = proof_ends holder before after stop (from_fresh old begun reader last _ new reads)
+    pub proof_begins : (stop : ProofStop)
+        → Reads (pending reader old begun) last (λ bytes rest. PassesLines (lines_read_until stop) bytes rest × StopsProof bytes rest before after stop)
+        → Begins holder 3 0 (over old last o n) (Err (Own (stops.Head (Proof stop))))
+    proof_begins stop reads = proof_ends stop (from_fresh old begun reader last _ new reads)
 
   -- ---- behind the verdict
 
@@ -105,25 +101,13 @@ module _ (old : Option (List ℕ)) (begun : ℕ) (reader : Cutting) (last : Pend
         Reads_then _ _ _ _ _ _ (game_begins opens) more (λ bytes mid rest p q. p) in
         (all.taken, all.gave, taken_so (λ taken rest. BeginsGame holder taken at opening) all)
 
--- what stopped the moves
-pub turns_begin : (holder : Side) (head opening : ℕ) (input left : Option (List ℕ)) (last_read : ℕ) (stop : TurnStop)
-    → (taken : List ℕ) × Consumes input left taken × BeginsGame holder taken head opening
-    → Begins holder head opening input left last_read (Stopped (of_turns stop))
-turns_begin holder head opening input left last_read (turns.NoMove fault) begins = begins
-turns_begin holder head opening input left last_read turns.Read begins = begins
-turns_begin holder head opening input left last_read turns.Write begins = begins
-
--- no lemma is named, or the holder's first line wasn't written
-pub first_begins : (old : Option (List ℕ)) (begun : ℕ) (reader : Cutting) (last : Pending)
-    → reader ≡ record { ended = false; ahead = []; text = []; fed = false } → (holder : Side) (root : Position) (v : Verdict) (at : ℕ) (ls : List Lemma)
-    → Reads (pending reader old begun) last
-    (λ bytes rest. PassesLines at bytes rest × IsToVerdict (record { root = root; verdict = v; at = at }) ls bytes rest)
-    → (before after : ℕ) (o n : Option (List ℕ)) (stop : GameStop NotFollowed)
-    (puts : PutsFirst ls holder root at (named_for holder (side_to_move root) v) o n (Err stop)) → StopsFirst at before after stop
-    → Begins holder at (length puts.lines) old last.left last.last_read (Stopped stop)
-first_begins old begun reader last new holder root v at ls reads before after o n (stops.Head (NoClaim m)) puts why = (reads.taken, reads.gave, tt)
-first_begins old begun reader last new holder root v at ls reads before after o n (stops.Head (Proof stop)) puts why = absurd why
-first_begins old begun reader last new holder root v at ls reads before after o n stops.Write puts why =
-    moves_begin old begun reader last new holder last root v at (length puts.lines) ls reads (λ bytes rest. bytes ≡ bytes) puts.opens (Reads_start last (λ bytes rest. bytes ≡ bytes) (λ bytes. refl))
-first_begins old begun reader last new holder root v at ls reads before after o n (stops.Input input) puts why = absurd why
-first_begins old begun reader last new holder root v at ls reads before after o n (stops.NoMove fault) puts why = absurd why
+-- the moves were come to, whatever stopped them
+pub turns_begin : {X : Type 0} (stands : X → Position) (turn : X → ℕ → Turn X) (x : X) (first : ℕ) (a b : Pending) (old new : Option (List ℕ)) (before after : ℕ)
+    (holder : Side) (head opening : ℕ) (s : Streams) (end : GameEnd NotFollowed)
+    → TurnStep a b old new (is_whole end) before after (PlaysTurns stands turn x first end)
+    → (taken : List ℕ) × Consumes s.input s.left taken × BeginsGame holder taken head opening → Begins holder head opening s end
+turns_begin stands turn x first a b old new before after holder head opening s (Ok done) step begins = begins
+turns_begin stands turn x first a b old new before after holder head opening s (Err (Own (stops.NoMove fault))) step begins = begins
+turns_begin stands turn x first a b old new before after holder head opening s (Err (Own (stops.Input why))) step begins = begins
+turns_begin stands turn x first a b old new before after holder head opening s (Err Write) step begins = begins
+turns_begin stands turn x first a b old new before after holder head opening s (Err (Own (stops.Head h))) step begins = absurd (step.reads.fact [] (λ _. refl))

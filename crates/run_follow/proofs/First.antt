@@ -1,29 +1,22 @@
 -- The holder's first move and its line, and what is played behind it.
-use Rattle.std.proofs.Common.{◌≡◌, ℕ, ◌+◌, ◌≤◌, true, false, List, [], ◌∷◌, length, Option, Some, None, option_map, Ok, Err, refl, sym, ap, ◌∙◌, subst, arith}
-use Rattle.std.proofs.Common.{append-nil, is_some, if◌then◌else◌}
-use Rattle.std.proofs.KnownBytes.{Appends-nil}
-use Rattle.device_rules.specs.Devices.{AppendsPrefix}
-use Rattle.game_rules.specs.Board.{is_board}
-use Rattle.game_rules.specs.Position.{Position, board_of, empty_count, end_of, after_move}
+use Rattle.std.proofs.Common.{◌≡◌, ℕ, ◌+◌, ◌≤◌, false, if◌then◌else◌, List, [], ◌∷◌, length, Option, Some, None, is_some, IfSome, option_map, refl, sym, ap, ◌∙◌, subst}
+use Rattle.std.proofs.Common.{arith}
+use Rattle.game_rules.specs.Position.{Position, board_of, end_of, after_move}
 use Rattle.game_rules.specs.declared.Side.{Side}
-use Rattle.game_rules.proofs.BoardLine.{empty_count_within}
 use Rattle.game_rules.proofs.Ends.{legal_parts}
-use Rattle.game_rules.proofs.Moves.{board_moved}
 use Rattle.proof_text.specs.Lemma.{Lemma}
 use Rattle.proof_text.specs.Texts.{pieces, lines_in}
-use Rattle.play_text.specs.Play.{behind, text_of, column_in, move_refusal, with_turn, with_move, turns_from}
+use Rattle.play_text.specs.Play.{behind, column_in, move_refusal, with_turn, with_move, turns_from}
 use Rattle.play_text.specs.declared.PlayKind.{PlayKind}
-use Rattle.follow_text.specs.Following.{Following, at_lemma, own_move_at}
-use Rattle.follow_text.specs.Follow.{first_text, follow_turn, follow_from, begin_by, follow_named}
-use Rattle.proof_player.specs.Playing.{FollowState, reply_for, first_in, first_move, HasBegun}
+use Rattle.follow_text.specs.Following.{Following, own_move_at}
+use Rattle.follow_text.specs.Follow.{follow_turn, follow_from, begin_by, follow_named}
+use Rattle.proof_player.specs.Playing.{FollowState, HasBegun}
 use Rattle.proof_player.specs.declared.follow.FollowReply.{FollowReply}
 use Rattle.run_turns.specs.Steps.{turns_by}
-use Rattle.run_turns.specs.declared.game_end.GameStop.TheVariants as stops
+use Rattle.run_turns.specs.Turns.{HasRoom}
 use Rattle.run_follow.specs.Begun.{OpensWith}
-use Rattle.run_follow.specs.Opening.{PutsFirst}
-use Rattle.run_follow.specs.Turns.{CanReply, first_line, follow_stands, turned_to, player_turn, turns_left}
-use Rattle.run_follow.specs.declared.not_followed.NotFollowed.TheVariants.{NoClaim}
-use Rattle.run_follow.proofs.Turn.{can_reply, first_said, left_by}
+use Rattle.run_follow.specs.Turns.{man_of, first_lines, follow_stands, turned_to, player_turn}
+use Rattle.run_follow.proofs.Turn.{can_reply, first_said}
 
 -- what is played by the turns of a player by a proof is what is played by the proof
 turns_followed : (s : FollowState) (at : ℕ) (lines : List (List ℕ))
@@ -57,114 +50,41 @@ turns_by_proof s at bytes = turns_followed s at (lines_in (pieces bytes))
 
 -- ---- the first move
 
--- at a lemma the first move is that of its reason
-at_first : (s : FollowState) (n : ℕ) → s.at ≡ at_lemma n false → first_move s ≡ own_move_at s.lemmas (length s.now.columns) n false
-at_first s n is = ap (λ (at : Following). first_in s.lemmas s.now at.turned at.place) is
-
-module _ (s t : FollowState) (n : ℕ) (is : s.at ≡ at_lemma n false) (at : ℕ) where
-  -- what comes of the lines behind the verdict is played by the player
-  abbrev pub Goes : List (List ℕ) → Type 0
-  Goes lines = (more : List (List ℕ))
-      → follow_named s.lemmas s.holder s.now at more (Some n) ≡ behind lines (follow_from t.lemmas t.holder t.at t.now (at + 1) more)
-
-  -- there is no first move
-  pub none_goes : HasBegun s t None (first_move s) → Goes []
-  none_goes has = of_first (first_move s) refl has
+module _ (ls : List Lemma) (holder : Side) (root : Position) (n : ℕ) (t : FollowState) (reply : Option FollowReply)
+    (has : HasBegun ls holder root n t reply (own_move_at ls (length root.columns) n false)) where
+  -- what comes of the lines behind the verdict is played by the player, behind the line of the first move
+  pub first_goes : (at : ℕ) (more : List (List ℕ))
+      → follow_named ls holder root at more (Some n) ≡ behind (first_lines root reply) (follow_from t.lemmas t.holder t.at t.now (at + 1) more)
+  first_goes at more = of_first (own_move_at ls (length root.columns) n false) has
     where
-      of_first : (found : Option (ℕ × Following)) → first_move s ≡ found → HasBegun s t None found → Goes []
-      of_first None e begun = λ more.
-          ap (begin_by s.lemmas s.holder s.now n (at + 1) more) (sym (at_first s n is) ∙ e)
-          ∙ ap (λ at_place. follow_from s.lemmas s.holder at_place s.now (at + 1) more) (sym is)
-          ∙ ap (λ (t : FollowState). follow_from t.lemmas t.holder t.at t.now (at + 1) more) (sym begun.1)
-      of_first (Some found) e begun = absurd (cc begun.0)
+      of_first : (found : Option (ℕ × Following)) → HasBegun ls holder root n t reply found
+          → begin_by ls holder root n (at + 1) more found ≡ behind (first_lines root reply) (follow_from t.lemmas t.holder t.at t.now (at + 1) more)
+      of_first None begun =
+          ap (λ (t : FollowState). follow_from t.lemmas t.holder t.at t.now (at + 1) more) (sym begun.1)
+          ∙ ap (λ reply. behind (first_lines root reply) (follow_from t.lemmas t.holder t.at t.now (at + 1) more)) (sym begun.0)
+      of_first (Some (column, next)) begun =
+          ap (λ line. behind (line ∷ []) (follow_from ls holder next (after_move root column) (at + 1) more)) (sym (first_said holder root column))
+          ∙ ap (λ reply. behind (first_lines root reply) (follow_from ls holder next (after_move root column) (at + 1) more)) (sym begun.0)
+          ∙ ap (λ (t : FollowState). behind (first_lines root reply) (follow_from t.lemmas t.holder t.at t.now (at + 1) more)) (sym begun.2)
 
-  -- it was made, and has a line
-  pub first_goes : (reply : FollowReply) → HasBegun s t (Some reply) (first_move s) → Goes (first_line s.now reply ∷ [])
-  first_goes reply has = of_first (first_move s) refl has
+  -- so many lines stand before the answers
+  pub first_opens : OpensWith ls root (Some n) (length (first_lines root reply))
+  first_opens = record { lemma = n; is = refl; lines = of_first (own_move_at ls (length root.columns) n false) has }
     where
-      of_first : (found : Option (ℕ × Following)) → first_move s ≡ found → HasBegun s t (Some reply) found → Goes (first_line s.now reply ∷ [])
-      of_first None e begun = absurd (cc begun.0)
-      of_first (Some (column, next)) e begun = λ more.
-          let same : reply ≡ reply_for s.holder (end_of (after_move s.now column)) column = cc begun.0 in
-          let line : first_text s.holder s.now column ≡ first_line s.now reply = sym (ap (first_line s.now) same ∙ first_said s.holder s.now column) in
-          ap (begin_by s.lemmas s.holder s.now n (at + 1) more) (sym (at_first s n is) ∙ e)
-          ∙ ap (λ line. behind (line ∷ []) (follow_from s.lemmas s.holder next (after_move s.now column) (at + 1) more)) line
-          ∙ ap (λ (t : FollowState). behind (first_line s.now reply ∷ []) (follow_from t.lemmas t.holder t.at t.now (at + 1) more)) (sym begun.2)
+      of_first : (found : Option (ℕ × Following)) → HasBegun ls holder root n t reply found
+          → length (first_lines root reply) ≡ (if is_some found then 1 else 0)
+      of_first None begun = ap (λ reply. length (first_lines root reply)) begun.0
+      of_first (Some (column, next)) begun = ap (λ reply. length (first_lines root reply)) begun.0
 
--- how many lines stand before the answers
-module _ (s t : FollowState) (n : ℕ) (is : s.at ≡ at_lemma n false) where
-  opens_by : (found : Option (ℕ × Following)) → first_move s ≡ found
-      → OpensWith s.lemmas s.now (Some n) (if is_some found then 1 else 0)
-  opens_by found e = record {
-    lemma = n;
-    is = refl;
-    lines = ap (λ (found : Option (ℕ × Following)). if is_some found then 1 else 0) (sym e ∙ at_first s n is);
-  }
-
-  pub none_opens : HasBegun s t None (first_move s) → OpensWith s.lemmas s.now (Some n) 0
-  none_opens has = of_first (first_move s) refl has
+  -- the man of the first move has room
+  pub first_can : IfSome reply (λ reply. HasRoom root (man_of reply).0)
+  first_can = of_first (own_move_at ls (length root.columns) n false) has
     where
-      of_first : (found : Option (ℕ × Following)) → first_move s ≡ found → HasBegun s t None found → OpensWith s.lemmas s.now (Some n) 0
-      of_first None e begun = opens_by None e
-      of_first (Some found) e begun = absurd (cc begun.0)
+      of_first : (found : Option (ℕ × Following)) → HasBegun ls holder root n t reply found → IfSome reply (λ reply. HasRoom root (man_of reply).0)
+      of_first None begun = subst (λ reply. IfSome reply (λ reply. HasRoom root (man_of reply).0)) (sym begun.0) tt
+      of_first (Some (column, next)) begun = subst (λ reply. IfSome reply (λ reply. HasRoom root (man_of reply).0)) (sym begun.0)
+          (can_reply holder root (end_of (after_move root column)) column (legal_parts root column begun.1).1)
 
-  pub first_opens : (reply : FollowReply) → HasBegun s t (Some reply) (first_move s) → OpensWith s.lemmas s.now (Some n) 1
-  first_opens reply has = of_first (first_move s) refl has
-    where
-      of_first : (found : Option (ℕ × Following)) → first_move s ≡ found → HasBegun s t (Some reply) found → OpensWith s.lemmas s.now (Some n) 1
-      of_first None e begun = absurd (cc begun.0)
-      of_first (Some found) e begun = opens_by (Some found) e
-
--- the man of the first move has room
-pub first_can : (s t : FollowState) (reply : FollowReply) → HasBegun s t (Some reply) (first_move s) → CanReply s.now reply
-first_can s t reply has = of_first (first_move s) has
-  where
-    of_first : (found : Option (ℕ × Following)) → HasBegun s t (Some reply) found → CanReply s.now reply
-    of_first None begun = absurd (cc begun.0)
-    of_first (Some (column, next)) begun =
-        let same : reply ≡ reply_for s.holder (end_of (after_move s.now column)) column = cc begun.0 in
-        subst (CanReply s.now) (sym same) (can_reply s.holder s.now (end_of (after_move s.now column)) column (legal_parts s.now column begun.1).1)
-
--- a player who has begun has at most fifty turns left
-pub few_turns : (s t : FollowState) (reply : Option FollowReply) → is_board (board_of s.now) ≡ true → HasBegun s t reply (first_move s) → turns_left t ≤ 50
-few_turns s t reply board has = of_first (first_move s) has
-  where
-    within : (q : Position) → board_of q ≡ board_of s.now → empty_count q ≤ 100
-    within q same = empty_count_within q (ap is_board same ∙ board)
-
-    of_first : (found : Option (ℕ × Following)) → HasBegun s t reply found → turns_left t ≤ 50
-    of_first None begun =
-        let same : t.now ≡ s.now = ap (λ (t : FollowState). t.now) begun.1 in
-        omega (arith, left_by t, within t.now (ap board_of same))
-    of_first (Some (column, next)) begun =
-        let same : t.now ≡ after_move s.now column = ap (λ (t : FollowState). t.now) begun.2 in
-        omega (arith, left_by t, within t.now (ap board_of same ∙ board_moved s.now column))
-
--- ---- what was put
-
--- a player who has begun, behind lines that were written
-pub put_begun : (s t : FollowState) (n : ℕ) (is : s.at ≡ at_lemma n false) (at : ℕ) (lines : List (List ℕ)) (old new : Option (List ℕ)) → length lines ≤ 1
-    → OpensWith s.lemmas s.now (Some n) (length lines) → Goes s t n is at lines → AppendsPrefix true old new (text_of lines) → PutsFirst s.lemmas s.holder s.now at (Some n) old new (Ok t)
-put_begun s t n is at lines old new few opens goes put = record { lines = lines; few = few; written = put; opens = opens; goes = goes }
-
--- the line of the first move may be cut
-pub put_cut : (s t : FollowState) (n : ℕ) (is : s.at ≡ at_lemma n false) (at : ℕ) (line : List ℕ) (old new : Option (List ℕ))
-    → OpensWith s.lemmas s.now (Some n) 1 → Goes s t n is at (line ∷ []) → AppendsPrefix false old new line → PutsFirst s.lemmas s.holder s.now at (Some n) old new (Err stops.Write)
-put_cut s t n is at line old new opens goes put = record {
-  lines = line ∷ [];
-  few = omega arith;
-  written = subst (AppendsPrefix false old new) (sym (append-nil line)) put;
-  opens = opens;
-  goes = λ more. (follow_from t.lemmas t.holder t.at t.now (at + 1) more, goes more);
-}
-
--- no lemma is named
-pub put_none : (ls : List Lemma) (holder : Side) (root : Position) (at : ℕ) (named : Option ℕ) (old : Option (List ℕ)) → named ≡ None
-    → PutsFirst ls holder root at named old old (Err (stops.Head (NoClaim at)))
-put_none ls holder root at named old none = record {
-  lines = [];
-  few = omega arith;
-  written = Appends-nil old;
-  opens = tt;
-  goes = λ more. ap (follow_named ls holder root at more) none;
-}
+pub first_few : (root : Position) (reply : Option FollowReply) → length (first_lines root reply) ≤ 1
+first_few root None = omega arith
+first_few root (Some reply) = omega arith

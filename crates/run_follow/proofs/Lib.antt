@@ -1,8 +1,8 @@
-pub mod Read
-pub mod Heads
+pub mod Standing
+pub mod ToVerdict
 pub mod Turn
 pub mod First
 pub mod Ends
 pub mod Judged
-pub mod Lines
 pub mod Begins
+pub mod Stopped

@@ -1,5 +1,5 @@
 -- How `follow` ends, and what it promises of the bytes that it took and of its sink, by its end.
-use Rattle.std.specs.Prelude.{◌≡◌, ◌⊎◌, ◌<◌, ◌≤◌, ℕ, ◌+◌, List, ◌++◌, Option, Some, None, IfSome, IfErr, Result, codes, decimal, ⊤}
+use Rattle.std.specs.Prelude.{◌≡◌, ◌⊎◌, ◌<◌, ◌≤◌, ℕ, ◌+◌, List, ◌++◌, Option, Some, None, IfSome, Ok, Err, codes, ⊤}
 use Rattle.std.specs.Io.KnownBytes.{Keeps, Consumes}
 use Rattle.game_rules.specs.Position.{Position}
 use Rattle.game_rules.specs.declared.Side.{Side}
@@ -11,22 +11,19 @@ use Rattle.play_text.specs.Play as ends
 use Rattle.play_text.specs.Play.{PlayEnd}
 use Rattle.follow_text.specs.Follow.{follow_of}
 use Rattle.follow_text.specs.Told.{IsTold}
-use Rattle.run_frame.specs.Ended.{EndsBy}
+use Rattle.run_frame.specs.Ended.{EndsBy, Owes}
 use Rattle.run_frame.specs.Streams.{Streams, TakesLines}
+use Rattle.run_frame.specs.Texts.{refusal_begun}
 use Rattle.run_frame.specs.declared.game_input.InputStop.TheVariants.{NoGame, Read}
+use Rattle.run_frame.specs.declared.run_stop.RunStop.TheVariants.{Own, Write}
 use Rattle.run_proof.specs.Stops.{stop_status, stop_text}
 use Rattle.run_proof.specs.Steps.{lines_read_until}
 use Rattle.run_proof.specs.Whole.{BeginsProof, most_lines_read}
 use Rattle.run_proof.specs.declared.stop.ProofStop.{ProofStop}
 use Rattle.run_proof.specs.declared.stop.ProofStop.TheVariants.{Input, Refused, Memory}
-use Rattle.run_turns.specs.Games.{GameForm, GamePlays, ending_of, ending_status, ending_text}
-use Rattle.run_turns.specs.Games.{stop_status as game_stop_status}
-use Rattle.run_turns.specs.Inputs.{PlaysInput}
-use Rattle.run_turns.specs.declared.game_end.GameStop.{GameStop}
-use Rattle.run_turns.specs.declared.game_end.GameStop.TheVariants.{Head, NoMove, Write}
+use Rattle.run_turns.specs.Games.{GameForm, GameEnd, end_status, end_text, GamePlays}
+use Rattle.run_turns.specs.declared.game_end.GameStop.TheVariants.{Head, NoMove}
 use Rattle.run_turns.specs.declared.game_end.GameStop.TheVariants.{Input as GameInput}
-use Rattle.run_turns.specs.declared.game_end.GameEnding.{GameEnding}
-use Rattle.run_turns.specs.declared.game_end.GameEnding.TheVariants.{Done, Stopped}
 use Rattle.run_follow.specs.Begun.{HasVerdict, BeginsGame}
 use Rattle.run_follow.specs.declared.not_followed.NotFollowed.{NotFollowed}
 use Rattle.run_follow.specs.declared.not_followed.NotFollowed.TheVariants.{Proof, NoClaim}
@@ -35,7 +32,7 @@ use Rattle.run_follow.specs.declared.not_followed.NotFollowed.TheVariants.{Proof
 
 -- the verdict, in the line with this number, names no lemma that serves the holder
 abbrev pub no_claim_line : ℕ → List ℕ
-no_claim_line at = as_line (codes "refused line " ++ decimal at ++ codes ": NoClaim")
+no_claim_line at = as_line (refusal_begun at ++ codes "NoClaim")
 
 -- the exit status where nothing is played, and the text for the error stream
 abbrev pub head_status : NotFollowed → ℕ
@@ -46,14 +43,11 @@ abbrev pub head_text : NotFollowed → List ℕ
 head_text (Proof stop) = stop_text stop
 head_text (NoClaim at) = no_claim_line at
 
-abbrev pub stop_status_of : GameStop NotFollowed → ℕ
-stop_status_of stop = game_stop_status head_status stop
+abbrev pub follow_status : GameEnd NotFollowed → ℕ
+follow_status = end_status head_status
 
-abbrev pub follow_status : GameEnding NotFollowed → ℕ
-follow_status end = ending_status head_status end
-
-abbrev pub follow_text : GameEnding NotFollowed → List ℕ
-follow_text end = ending_text head_text end
+abbrev pub follow_text : GameEnd NotFollowed → List ℕ
+follow_text = end_text head_text
 
 -- ---- what is promised
 
@@ -76,20 +70,6 @@ abbrev pub follow_form : Side → ℕ → ℕ → GameForm NotFollowed
 follow_form holder head opening =
     record { given = follow_of holder; head = head; opening = opening; unread = 0; end_of = head_end; until = head_until }
 
--- what stops a run before the moves comes with nothing written
-abbrev pub IsKept : Option (List ℕ) → Option (List ℕ) → GameStop NotFollowed → Type 0
-IsKept old new (Head h) = Keeps old new
-IsKept old new (GameInput why) = ⊤
-IsKept old new (NoMove fault) = ⊤
-IsKept old new Write = ⊤
-
--- and no line is read behind the one that no proof may have
-abbrev pub IsWithin : GameStop NotFollowed → Type 0
-IsWithin (Head h) = head_until h ≤ most_lines_read
-IsWithin (GameInput why) = ⊤
-IsWithin (NoMove fault) = ⊤
-IsWithin Write = ⊤
-
 -- What the bytes that were taken tell where no line of the other side's was come to. Memory runs out only at a lemma that isn't
 -- refused, behind lines that aren't; and where the source failed, no more was taken than lines in front of the verdict's, if they
 -- have one, and what came with them.
@@ -101,53 +81,34 @@ EndsProof taken input last_read (Input Read) =
 EndsProof taken input last_read (Input (NoGame fault)) = ⊤
 EndsProof taken input last_read (Refused r) = ⊤
 
--- And where one was, or the holder's own move, the verdict's line has this number, and so many lines are written before the answers.
-abbrev pub BeginsBy : (holder : Side) (head opening : ℕ) (taken : List ℕ) (input : Option (List ℕ)) (last_read : ℕ) → GameEnding NotFollowed → Type 0
-BeginsBy holder head opening taken input last_read (Stopped (Head (Proof stop))) = EndsProof taken input last_read stop
-BeginsBy holder head opening taken input last_read (Stopped (Head (NoClaim at))) = ⊤
-BeginsBy holder head opening taken input last_read (Stopped (GameInput why)) = BeginsGame holder taken head opening
-BeginsBy holder head opening taken input last_read (Stopped (NoMove fault)) = BeginsGame holder taken head opening
-BeginsBy holder head opening taken input last_read (Stopped Write) = BeginsGame holder taken head opening
-BeginsBy holder head opening taken input last_read Done = BeginsGame holder taken head opening
+-- Nothing is written by then, nor where no lemma is named. And where one is, the verdict's line has this number, and so many lines are
+-- written before the answers.
+abbrev pub BeginsBy : (holder : Side) (head opening : ℕ) (taken : List ℕ) → Streams → GameEnd NotFollowed → Type 0
+BeginsBy holder head opening taken s (Err (Own (Head (Proof stop)))) = EndsProof taken s.input s.last_read stop × Keeps s.old s.new
+BeginsBy holder head opening taken s (Err (Own (Head (NoClaim at)))) = Keeps s.old s.new
+BeginsBy holder head opening taken s (Err (Own (GameInput why))) = BeginsGame holder taken head opening
+BeginsBy holder head opening taken s (Err (Own (NoMove fault))) = BeginsGame holder taken head opening
+BeginsBy holder head opening taken s (Err Write) = BeginsGame holder taken head opening
+BeginsBy holder head opening taken s (Ok done) = BeginsGame holder taken head opening
 
-abbrev pub Begins : (holder : Side) (head opening : ℕ) (input left : Option (List ℕ)) (last_read : ℕ) → GameEnding NotFollowed → Type 0
-Begins holder head opening input left last_read end =
-    (taken : List ℕ) × Consumes input left taken × BeginsBy holder head opening taken input last_read end
-
--- How a game goes through an input behind a proof: the verdict's line has this number, and so many lines are written before the
--- answers.
-pub record FollowsInput (holder : Side) (input left : Option (List ℕ)) (last_read : ℕ) (old new : Option (List ℕ))
-    {X : Type 0} (result : Result X (GameStop NotFollowed)) : Type 0 where
-  pub head : ℕ
-  pub opening : ℕ
-  pub from : 3 ≤ head
-  pub few : head + 1 ≤ most_lines_read
-  pub one : opening ≤ 1
-  pub plays : PlaysInput (follow_form holder head opening) input left last_read old new result
-  pub begins : Begins holder head opening input left last_read (ending_of result)
-  pub kept : IfErr result (IsKept old new)
-  pub within : IfErr result IsWithin
+abbrev pub Begins : (holder : Side) (head opening : ℕ) → Streams → GameEnd NotFollowed → Type 0
+Begins holder head opening s end = (taken : List ℕ) × Consumes s.input s.left taken × BeginsBy holder head opening taken s end
 
 -- how many lines are read at most: up to the verdict, and then a line for each move, and one more
 abbrev pub most_follow_lines : ℕ
 most_follow_lines = most_lines_read + 51
 
-abbrev pub HeadKept : Option (List ℕ) → Option (List ℕ) → GameEnding NotFollowed → Type 0
-HeadKept old new Done = ⊤
-HeadKept old new (Stopped stop) = IsKept old new stop
-
 -- `follow`. Where it goes to the end of the input, or to a line that is no move, the input begins with a proof that is accepted, and
 -- the lines that were written tell a game in which the holder is served. Where the proof is refused, or its verdict names no lemma
 -- for the holder, or memory ran out at a lemma, nothing was written.
-pub record Follows (holder : Side) (s : Streams) (end : GameEnding NotFollowed) : Type 0 where
+pub record Follows (holder : Side) (s : Streams) (end : GameEnd NotFollowed) : Type 0 where
   pub head : ℕ
   pub opening : ℕ
   pub from : 3 ≤ head
   pub few : head + 1 ≤ most_lines_read
   pub one : opening ≤ 1
   pub plays : GamePlays (follow_form holder head opening) (IsTold holder) most_follow_lines s end
-  pub begins : Begins holder head opening s.input s.left s.last_read end
-  pub kept : HeadKept s.old s.new end
+  pub begins : Begins holder head opening s end
 
 -- the same, as a caller of `run` sees it
 abbrev pub FollowRuns : Side → Streams → (status : ℕ) → (text : List ℕ) → Type 0
@@ -158,3 +119,7 @@ FollowRuns holder s status text = EndsBy follow_status follow_text (Follows hold
 abbrev pub FollowCompletes : Side → Option (List ℕ) → (status : ℕ) → Type 0
 FollowCompletes holder input status =
     IfSome input (λ bytes. (follow_of holder bytes).end ≡ ends.AllPlayed → (status ≡ 0) ⊎ (status ≡ 8))
+
+-- what it owes of a run
+abbrev pub FollowOwes : Side → Streams → (unread unwritten : Type 0) → GameEnd NotFollowed → Type 0
+FollowOwes holder = Owes follow_status (Follows holder) (FollowCompletes holder)

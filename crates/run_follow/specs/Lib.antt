@@ -1,5 +1,4 @@
 pub mod Begun
 pub mod Follows
 pub mod Turns
-pub mod Opening
 pub mod Reading

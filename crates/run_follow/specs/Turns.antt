@@ -1,36 +1,32 @@
--- The lines of `follow`, and what a player by a proof makes of the other side's moves.
-use Rattle.std.specs.Prelude.{◌≡◌, ℕ, ◌+◌, ◌/◌, true, is_some, if◌then◌else◌, List, ◌++◌, option_map, codes, ⊤}
-use Rattle.game_rules.specs.Position.{Position, has_room, end_of, empty_count, after_move}
-use Rattle.plan_text.specs.Items.{square_text}
-use Rattle.proof_text.specs.Spelling.{as_line}
-use Rattle.play_text.specs.Play.{Turn}
+-- The turns of `follow`, and what a player by a proof makes of the other side's moves.
+use Rattle.std.specs.Prelude.{ℕ, ◌+◌, ◌/◌, is_some, if◌then◌else◌, List, [], ◌∷◌, Option, Some, None, option_map}
+use Rattle.game_rules.specs.Position.{Position, end_of, empty_count}
+use Rattle.play_text.specs.Play.{Turn as Played}
 use Rattle.follow_text.specs.Following.{Following}
-use Rattle.follow_text.specs.Follow.{falls_to, follow_turn}
+use Rattle.follow_text.specs.Follow.{follow_turn}
 use Rattle.proof_player.specs.Playing.{FollowState}
 use Rattle.proof_player.specs.declared.follow.FollowReply.{FollowReply}
 use Rattle.proof_player.specs.declared.follow.FollowReply.TheVariants.{Over, Won, Filled, Move}
+use Rattle.run_turns.specs.Turns.{turn_line, turn_from}
+use Rattle.run_turns.specs.declared.turn.Turn.{Turn}
+use Rattle.run_turns.specs.declared.turn.TurnEnd.{TurnEnd}
+use Rattle.run_turns.specs.declared.turn.TurnEnd.TheVariants as turns
 
--- ---- the lines
+-- the column of the holder's man, if it has one, and what was ended
+abbrev pub man_of : FollowReply → Option ℕ × TurnEnd
+man_of Over = (None, turns.Full)
+man_of (Won column) = (Some column, turns.Won)
+man_of (Filled column) = (Some column, turns.Full)
+man_of (Move column) = (Some column, turns.GoesOn)
 
--- the holder's man has room
-abbrev pub CanReply : Position → FollowReply → Type 0
-CanReply now Over = ⊤
-CanReply now (Won column) = has_room now column ≡ true
-CanReply now (Filled column) = has_room now column ≡ true
-CanReply now (Move column) = has_room now column ≡ true
+-- the turn from a position in which the other side's man goes into this column, if it has a man, and the holder replies
+abbrev pub turn_of : Position → Option ℕ → FollowReply → Turn
+turn_of before theirs reply = turn_from before theirs (man_of reply).0 (man_of reply).1
 
--- the square of the holder's man, and what it ended; or that the other side's man filled the board
-abbrev pub reply_text : Position → FollowReply → List ℕ
-reply_text now Over = codes "- full"
-reply_text now (Won column) = square_text (falls_to now column) ++ codes " won"
-reply_text now (Filled column) = square_text (falls_to now column) ++ codes " full"
-reply_text now (Move column) = square_text (falls_to now column)
-
-abbrev pub first_line : Position → FollowReply → List ℕ
-first_line root reply = as_line (codes "- " ++ reply_text root reply)
-
-abbrev pub turn_line : Position → ℕ → FollowReply → List ℕ
-turn_line before column reply = as_line ((square_text (falls_to before column) ++ codes " ") ++ reply_text (after_move before column) reply)
+-- the line of the holder's first move at the root, where it has one
+abbrev pub first_lines : Position → Option FollowReply → List (List ℕ)
+first_lines root None = []
+first_lines root (Some reply) = turn_line (turn_of root None reply) ∷ []
 
 -- ---- a player by a proof
 
@@ -43,7 +39,7 @@ abbrev pub turned_to : FollowState → List ℕ × (Following × Position) → L
 turned_to s turn = (turn.0, record s { at = turn.1.0; now = turn.1.1 })
 
 -- the other side's man, and then the holder's answer
-abbrev pub player_turn : FollowState → ℕ → Turn FollowState
+abbrev pub player_turn : FollowState → ℕ → Played FollowState
 player_turn s column = option_map (turned_to s) (follow_turn s.lemmas s.holder (s.at, s.now) column)
 
 -- each turn fills two squares, but the last may fill one

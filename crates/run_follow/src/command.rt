@@ -1,16 +1,18 @@
 //! The command, over any source and any sink.
-ghost use Rattle.std.specs.Prelude.{◌≡◌, IfErr};
 ghost use Rattle.device_rules.specs.Devices.{Rose};
-ghost use Rattle.run_frame.specs.Streams.{StillHolds};
-ghost use Rattle.run_follow.specs.Follows.{follow_status, stop_status_of, FollowsInput, Follows, FollowCompletes};
+ghost use Rattle.run_frame.specs.Streams.{streams};
+ghost use Rattle.run_follow.specs.Follows.{FollowOwes};
 
-use crate::not_followed::{FollowEnding, FollowStop, NotFollowed};
-use crate::opening::begin;
+use crate::follow_player::FollowPlayer;
+use crate::not_followed::{FollowEnd, NotFollowed, proof_stop};
+use crate::opening::{named_for, put_first};
 use crate::verdict::read_to_verdict;
 use board_bits::Side;
 use io_ports::{Lines, Sink, Source};
+use proof_player::Follow;
+use run_frame::RunStop;
 use run_proof::Book;
-use run_turns::{GameEnding, GameStop, play_turns};
+use run_turns::{GameStop, play_turns};
 use std::alloc::Global;
 
 /// Reads a proof of either version up to its verdict, and plays by it for the holder, to the end of the input or to what
@@ -21,36 +23,21 @@ pub fn follow<S: Source, O: Sink>(
     holder: Side,
     source: &mut S,
     out: &mut O,
-) -> FollowEnding
-    ensures outcome { Follows holder
-        (record { input = S.left source.old; left = S.left source.new; last_read = S.last_read source.new; old = O.written out.old; new = O.written out.new }) result }
-    ensures held { StillHolds (O.written out.old) (O.written out.new) }
-    ensures read_fault { follow_status result ≡ 6 → Rose (S.faults source.old) (S.faults source.new) }
-    ensures write_fault { follow_status result ≡ 7 → Rose (O.faults out.old) (O.faults out.new) }
-    ensures complete { (Rose (S.faults source.old) (S.faults source.new) → ⊥) → (Rose (O.faults out.old) (O.faults out.new) → ⊥)
-        → FollowCompletes holder (S.left source.old) (follow_status result) }
-{
-    GameEnding::of(follow_all(alloc, holder, source, out))
-}
-
-/// Plays to the end of the input, or to what stops play.
-fn follow_all<S: Source, O: Sink>(
-    alloc: Global,
-    holder: Side,
-    source: &mut S,
-    out: &mut O,
-) -> Result<(), FollowStop>
-    ensures plays { FollowsInput holder (S.left source.old) (S.left source.new) (S.last_read source.new) (O.written out.old) (O.written out.new) result }
-    ensures read_fault { IfErr result (λ stop. stop_status_of stop ≡ 6 → Rose (S.faults source.old) (S.faults source.new)) }
-    ensures write_fault { IfErr result (λ stop. stop_status_of stop ≡ 7 → Rose (O.faults out.old) (O.faults out.new)) }
+) -> FollowEnd
+    ensures { FollowOwes holder (streams S.left S.last_read O.written source.old source.new out.old out.new)
+        (Rose (S.faults source.old) (S.faults source.new)) (Rose (O.faults out.old) (O.faults out.new)) result }
 {
     let mut lines = Lines::new();
     let mut book = Book::new(alloc);
-    let proof = match read_to_verdict(alloc, &mut book, &mut lines, source) {
+    let proof = match read_to_verdict(alloc, &mut book, &mut lines, source, out) {
         Ok(proof) => proof,
-        Err(stop) => return Err(GameStop::Head(NotFollowed::Proof(stop))),
+        Err(stop) => return Err(proof_stop(stop)),
     };
-    let mut player = begin(&proof, &book, holder, out)?;
-    play_turns(&mut player, proof.at + 1, &mut lines, source, out)?;
-    Ok(())
+    let Some(lemma) = named_for(holder, proof.root.to_move(), proof.verdict) else {
+        return Err(RunStop::Own(GameStop::Head(NotFollowed::NoClaim(proof.at))));
+    };
+    let (follow, first) = Follow::begin(&book, &proof.root, holder, lemma);
+    put_first(&proof.root, first, out)?;
+    let mut player = FollowPlayer::new(follow);
+    play_turns(&mut player, proof.at + 1, &mut lines, source, out)
 }

@@ -8,8 +8,7 @@ mod command;
 mod follow_player;
 mod not_followed;
 mod opening;
-mod turn_text;
 mod verdict;
 
 pub use command::follow;
-pub use not_followed::{FollowEnding, FollowStop, NotFollowed};
+pub use not_followed::{FollowEnd, NotFollowed};

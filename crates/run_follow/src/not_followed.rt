@@ -1,11 +1,11 @@
 //! What `follow` says where there is no lemma to play by.
 ghost use Rattle.std.specs.Prelude.{◌≡◌, ◌++◌};
 ghost use Rattle.run_follow.specs.Follows.{no_claim_line};
+ghost use Rattle.run_follow.specs.Reading.{proof_stop};
 
-use itoa::Buffer;
-use run_frame::Ending;
+use run_frame::{Ending, RunStop, begin_refusal};
 use run_proof::ProofStop;
-use run_turns::{GameEnding, GameStop};
+use run_turns::{GameEnd, GameStop};
 use text_words::{LineText, push_text};
 
 /// Why the holder doesn't play.
@@ -17,11 +17,8 @@ pub enum NotFollowed {
     NoClaim(u64),
 }
 
-/// What stops a run before the end of the input.
-pub type FollowStop = GameStop<NotFollowed>;
-
 /// How a run of `follow` ends.
-pub type FollowEnding = GameEnding<NotFollowed>;
+pub type FollowEnd = GameEnd<NotFollowed>;
 
 impl Ending for NotFollowed {
     ghost use Rattle.run_follow.specs.Follows.{head_status, head_text};
@@ -45,14 +42,21 @@ impl Ending for NotFollowed {
     }
 }
 
+/// What stops the reading of the proof stops the run.
+pub(crate) fn proof_stop(stop: RunStop<ProofStop>) -> RunStop<GameStop<NotFollowed>>
+    ensures { result ≡ proof_stop stop }
+{
+    match stop {
+        RunStop::Own(stop) => RunStop::Own(GameStop::Head(NotFollowed::Proof(stop))),
+        RunStop::Write => RunStop::Write,
+    }
+}
+
 /// Says that the verdict names no lemma that serves the holder, and the number of its line.
 fn no_claim_text(at: u64) -> LineText
     ensures { result.items ≡ no_claim_line at }
 {
-    let mut text = LineText::new();
-    let mut digits = Buffer::new();
-    push_text(&mut text, b"refused line ");
-    push_text(&mut text, digits.format(at).as_bytes());
-    push_text(&mut text, b": NoClaim\n");
+    let mut text = begin_refusal(at);
+    push_text(&mut text, b"NoClaim\n");
     text
 }

@@ -1,5 +1,5 @@
 -- What is read by one line, and the game that two lines are.
-use Rattle.std.proofs.Common.{◌≡◌, ℕ, Bool, List, [], ◌++◌, length, take, min, append_assoc, Result, Ok, Err, refl, sym, ap, ◌∙◌, subst, ◌≤◌, arith}
+use Rattle.std.proofs.Common.{◌≡◌, ℕ, Bool, List, [], ◌++◌, length, take, min, append_assoc, Result, Err, refl, sym, ap, ◌∙◌, subst, ◌≤◌, arith}
 use Rattle.std.proofs.lemmas.List.{take_min}
 use Rattle.device_rules.specs.Devices.{Rose}
 use Rattle.device_rules.proofs.DeviceLaws.{Rose_before}

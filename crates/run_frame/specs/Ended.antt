@@ -10,12 +10,12 @@ pub record EndsBy {E : Type 0} (status_of : E → ℕ) (text_of : E → List ℕ
   pub holds : Holds ending
 
 -- What a command owes of each run. By how it ends, this is promised of its streams. However it ends, what the sink held stands
--- there still. With the end of a stream that failed it ends only where the stream's count of faults rose; and where neither did,
--- it completes so, from all of its input, where the source tells it.
-pub record Owes {E : Type 0} (status_of : E → ℕ) (Promises : Streams → E → Type 0) (Completes : Option (List ℕ) → (status : ℕ) → Type 0) (read write : E)
+-- there still. With the status of a stream that failed it ends only where the stream's count of faults rose; and where neither
+-- did, it completes so, from all of its input, where the source tells it.
+pub record Owes {E : Type 0} (status_of : E → ℕ) (Promises : Streams → E → Type 0) (Completes : Option (List ℕ) → (status : ℕ) → Type 0)
     (s : Streams) (unread unwritten : Type 0) (end : E) : Type 0 where
   pub outcome : Promises s end
   pub held : StillHolds s.old s.new
-  pub read_fault : end ≡ read → unread
-  pub write_fault : end ≡ write → unwritten
+  pub read_fault : status_of end ≡ 6 → unread
+  pub write_fault : status_of end ≡ 7 → unwritten
   pub complete : (unread → ⊥) → (unwritten → ⊥) → Completes s.input (status_of end)

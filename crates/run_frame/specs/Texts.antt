@@ -13,6 +13,10 @@ fault_line fault = as_line (codes "input fault: " ++ kind_word fault.kind ++ cod
 abbrev pub read_line : List ℕ
 read_line = as_line (codes "read fault")
 
+-- why the line with this number is refused is said behind this
+abbrev pub refusal_begun : ℕ → List ℕ
+refusal_begun at = codes "refused line " ++ decimal at ++ codes ": "
+
 abbrev pub write_line : List ℕ
 write_line = as_line (codes "write fault")
 

@@ -12,5 +12,5 @@ mod run_stop;
 pub use ending::{Ending, report};
 pub use game_input::{InputStop, read_game_input};
 pub use game_lines::{read_game_lines, read_played_game};
-pub use output::{memory_text, put_line, write_text};
+pub use output::{begin_refusal, memory_text, put_line, write_text};
 pub use run_stop::{MemoryStop, RunStop, Sought};

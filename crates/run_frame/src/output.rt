@@ -1,10 +1,12 @@
 //! Lines that are written, and the texts for the error stream that several commands have.
-ghost use Rattle.std.specs.Prelude.{◌≡◌, ◌++◌, is_ok};
+ghost use Rattle.std.specs.Prelude.{◌≡◌, ◌≤◌, ◌++◌, is_ok};
+ghost use Rattle.arrayvec.specs.ArrayVec.{array_vec_len};
 ghost use Rattle.device_rules.specs.Devices.{HasCause, AppendsPrefix};
-ghost use Rattle.run_frame.specs.Texts.{fault_line, read_line, write_line, memory_line};
+ghost use Rattle.run_frame.specs.Texts.{fault_line, read_line, refusal_begun, write_line, memory_line};
 
 use board_bits::InputFault;
 use io_ports::{Failed, Sink, WRITE_FAULT_TEXT, put_all};
+use itoa::Buffer;
 use text_words::{LineText, push_number, push_text};
 
 /// Writes a line, and hands on what was written.
@@ -35,6 +37,19 @@ pub(crate) fn read_text() -> LineText
 {
     let mut text = LineText::new();
     push_text(&mut text, b"read fault\n");
+    text
+}
+
+/// Begins to say why the line with this number is refused.
+pub fn begin_refusal(at: u64) -> LineText
+    ensures items { result.items ≡ refusal_begun at }
+    ensures bound { array_vec_len result ≤ 60 }
+{
+    let mut text = LineText::new();
+    let mut digits = Buffer::new();
+    push_text(&mut text, b"refused line ");
+    push_text(&mut text, digits.format(at).as_bytes());
+    push_text(&mut text, b": ");
     text
 }
 

@@ -4,15 +4,15 @@ use Rattle.std.proofs.Common.{sym, ap, ◌∙◌, subst, arith}
 use Rattle.std.proofs.lemmas.Bool.{lt-leb}
 use Rattle.io_ports.specs.Lines.{Gives}
 use Rattle.io_ports.specs.declared.line_reader.LineGot.TheVariants.{Line, Long, Done, Failed}
-use Rattle.game_rules.specs.Board.{Square, on_board}
-use Rattle.game_rules.specs.Position.{Position, board_of, height, end_of, empty_count, after_move}
+use Rattle.game_rules.specs.Board.{Square}
+use Rattle.game_rules.specs.Position.{Position, board_of, height, has_room, end_of, empty_count, after_move}
 use Rattle.game_rules.specs.Text.{game_at}
 use Rattle.game_rules.specs.declared.End.{End}
 use Rattle.game_rules.specs.declared.End.TheVariants as game_ends
 use Rattle.game_rules.specs.declared.InputFault.{InputFault}
 use Rattle.game_rules.proofs.Ends.{legal_parts}
-use Rattle.game_rules.proofs.Moves.{board_moved, empty_count_moved}
-use Rattle.plan_rules.proofs.Turns.{playable_parts, playable_on_board, playable_room, height_here}
+use Rattle.game_rules.proofs.Moves.{empty_count_moved}
+use Rattle.plan_rules.proofs.Turns.{playable_parts, playable_room}
 use Rattle.plan_text.specs.Items.{square_text}
 use Rattle.proof_text.specs.Spelling.{as_line, longest_line}
 use Rattle.proof_text.specs.Texts.{pieces, lines_in, game_of, behind_game}
@@ -29,7 +29,9 @@ use Rattle.run_turns.specs.Steps.{turns_by}
 use Rattle.run_play.specs.Turns.{plan_stands, turn_with, plan_turn}
 use Rattle.run_play.specs.declared.plan_player.PlanPlayer.{PlanPlayer}
 use Rattle.io_ports.specs.Reading.{Pending, Reads, PassesLines}
-use Rattle.run_play.specs.Steps.{reply_column, reply_end, answered_line, played_at, played_from}
+use Rattle.run_turns.specs.Turns.{end_words, turn_line, falls_to, turn_from}
+use Rattle.run_turns.specs.declared.turn.Turn.{Turn}
+use Rattle.run_play.specs.Steps.{man_of, played_at, played_from}
 use Rattle.run_turns.specs.Inputs.{EndsSo}
 use Rattle.run_frame.proofs.Cuts.{line_first, long_first, none_left}
 use Rattle.run_frame.proofs.GameRead.{by_line}
@@ -93,41 +95,35 @@ module _ (a b : Pending) (text : List ℕ) (fed : Bool) (root : Position) where
 
 -- ---- a turn
 
--- how the end of a reply is told
-told_end : (end : Option End) (column : ℕ) → (reply_column (reply_for end column) ≡ column) × (reply_end (reply_for end column) ≡ end_text end)
-told_end None column = (refl, refl)
-told_end (Some game_ends.White) column = (refl, refl)
-told_end (Some game_ends.Black) column = (refl, refl)
-told_end (Some game_ends.Draw) column = (refl, refl)
+-- how Black's man is told
+told_man : (end : Option End) (column : ℕ) → ((man_of (reply_for end column)).0 ≡ column) × (end_words (man_of (reply_for end column)).1 ≡ end_text end)
+told_man None column = (refl, refl)
+told_man (Some game_ends.White) column = (refl, refl)
+told_man (Some game_ends.Black) column = (refl, refl)
+told_man (Some game_ends.Draw) column = (refl, refl)
 
 module _ (old new : Playing) (column : ℕ) (reply : Reply) (has : HasAnswered old new column reply) where
   abbrev mid : Position
   mid = after_move old.stands column
 
-  -- Black's man is the top one of its column
-  top : height new.stands has.answered.reply.0 ≡ has.answered.reply.1
-  top =
-      ap (λ q. height q has.answered.reply.0) has.next ∙ height_here mid has.answered.reply has.answered.playable
-      ∙ sym (playable_parts mid has.answered.reply has.answered.playable).1
+  column_is : (man_of reply).0 ≡ has.answered.reply.0
+  column_is = ap (λ reply. (man_of reply).0) has.reply_is ∙ (told_man (end_of new.stands) has.answered.reply.0).0
 
-  column_is : reply_column reply ≡ has.answered.reply.0
-  column_is = ap reply_column has.reply_is ∙ (told_end (end_of new.stands) has.answered.reply.0).0
+  pub white_room : has_room old.stands column ≡ true
+  white_room = (legal_parts old.stands column has.legal).1
 
-  pub black_on_board : on_board (board_of new.stands) (reply_column reply, height new.stands (reply_column reply)) ≡ true
-  black_on_board =
-      ap (λ c. on_board (board_of new.stands) (c, height new.stands c)) column_is
-      ∙ ap (λ r. on_board (board_of new.stands) (has.answered.reply.0, r)) top
-      ∙ ap (λ board. on_board board has.answered.reply) (ap board_of has.next ∙ board_moved mid has.answered.reply.0)
-      ∙ playable_on_board mid has.answered.reply has.answered.playable
+  pub black_room : has_room mid (man_of reply).0 ≡ true
+  black_room = ap (has_room mid) column_is ∙ playable_room mid has.answered.reply has.answered.playable
 
-  pub line_is : answered_line old.stands column new.stands reply ≡ turn_text old.stands column has.answered.reply
+  line_is : turn_line (turn_from old.stands (Some column) (Some (man_of reply).0) (man_of reply).1) ≡ turn_text old.stands column has.answered.reply
   line_is =
       let white = square_text (column, height old.stands column + 1) in
-      let square : (reply_column reply, height new.stands (reply_column reply)) ≡ has.answered.reply =
-      ap (λ c. (c, height new.stands c)) column_is ∙ ap (λ r. (has.answered.reply.0, r)) top in
-      let end : reply_end reply ≡ end_text (end_of (after_move mid has.answered.reply.0)) =
-      ap reply_end has.reply_is ∙ (told_end (end_of new.stands) has.answered.reply.0).1 ∙ ap (λ q. end_text (end_of q)) has.next in
-      ap (λ u. as_line (white ++ (32 ∷ (square_text u ++ reply_end reply)))) square
+      let square : falls_to mid (man_of reply).0 ≡ has.answered.reply =
+      ap (falls_to mid) column_is ∙ ap (λ r. (has.answered.reply.0, r)) (sym (playable_parts mid has.answered.reply has.answered.playable).1) in
+      let end : end_words (man_of reply).1 ≡ end_text (end_of (after_move mid has.answered.reply.0)) =
+      ap (λ reply. end_words (man_of reply).1) has.reply_is ∙ (told_man (end_of new.stands) has.answered.reply.0).1
+      ∙ ap (λ q. end_text (end_of q)) has.next in
+      ap (λ u. as_line (white ++ (32 ∷ (square_text u ++ end_words (man_of reply).1)))) square
       ∙ ap (λ end. as_line (white ++ (32 ∷ (square_text has.answered.reply ++ end)))) end
 
   -- two squares are filled
@@ -138,14 +134,15 @@ module _ (old new : Playing) (column : ℕ) (reply : Reply) (has : HasAnswered o
       omega (arith, first, second, ap empty_count has.next)
 
   -- the line is that of the plan's turn
-  pub turn_is : (line : List ℕ) → line ≡ answered_line old.stands column new.stands reply
-      → plan_turn (record { session = old }) column ≡ Some (line, record { session = new })
-  turn_is line told =
+  pub turn_is : (made : Turn) → made ≡ turn_from old.stands (Some column) (Some (man_of reply).0) (man_of reply).1
+      → plan_turn (record { session = old }) column ≡ Some (turn_line made, record { session = new })
+  turn_is made told =
+      let line = turn_line made in
       let player : PlanPlayer = record { session = old } in
       let next : new ≡ record { plan = old.plan; stands = after_move mid has.answered.reply.0 } =
       ap (λ plan. record { plan = plan; stands = new.stands }) has.same_plan ∙ ap (λ q. record { plan = old.plan; stands = q }) has.next in
       ap (option_map (turn_with player column)) (answer_is (members old.plan) old.stands column has.answered)
-      ∙ ap (λ text. Some (text, record { session = record { plan = old.plan; stands = after_move mid has.answered.reply.0 } })) (sym line_is ∙ sym told)
+      ∙ ap (λ text. Some (text, record { session = record { plan = old.plan; stands = after_move mid has.answered.reply.0 } })) (sym line_is ∙ sym (ap turn_line told))
       ∙ ap (λ session. Some (line, record { session = session })) (sym next)
 
   -- and there is one less

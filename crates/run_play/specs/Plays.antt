@@ -7,10 +7,10 @@ use Rattle.cert_format.specs.PlanFault.{PlanFault}
 use Rattle.play_text.specs.Play as ends
 use Rattle.play_text.specs.Play.{PlayEnd, play_of}
 use Rattle.play_text.specs.Told.{IsTold}
-use Rattle.run_frame.specs.Ended.{EndsBy}
+use Rattle.run_frame.specs.Ended.{EndsBy, Owes}
 use Rattle.run_frame.specs.Streams.{Streams}
-use Rattle.run_turns.specs.Games.{GameForm, GamePlays, GameCompletes, ending_status, ending_text}
-use Rattle.run_turns.specs.declared.game_end.GameEnding.{GameEnding}
+use Rattle.run_frame.specs.Texts.{refusal_begun}
+use Rattle.run_turns.specs.Games.{GameForm, GameEnd, end_status, end_text, GamePlays, GameCompletes}
 use Rattle.run_play.specs.declared.no_plan.NoPlan.{NoPlan}
 use Rattle.run_play.specs.declared.no_plan.NoPlan.TheVariants.{NoLine, Refused}
 
@@ -18,10 +18,10 @@ use Rattle.run_play.specs.declared.no_plan.NoPlan.TheVariants.{NoLine, Refused}
 
 -- the third line is no line of a plan, or why it names no plan
 abbrev pub no_plan_line_text : List ℕ
-no_plan_line_text = as_line (codes "refused line 3: BadLine")
+no_plan_line_text = as_line (refusal_begun 3 ++ codes "BadLine")
 
 abbrev pub no_plan_text : PlanFault → List ℕ
-no_plan_text fault = as_line (codes "refused line 3: " ++ plan_fault_text (fault_of fault))
+no_plan_text fault = as_line (refusal_begun 3 ++ plan_fault_text (fault_of fault))
 
 -- the exit status where there is no plan, and the text for the error stream
 abbrev pub head_status : NoPlan → ℕ
@@ -31,11 +31,11 @@ abbrev pub head_text : NoPlan → List ℕ
 head_text NoLine = no_plan_line_text
 head_text (Refused fault) = no_plan_text fault
 
-abbrev pub play_status : GameEnding NoPlan → ℕ
-play_status end = ending_status head_status end
+abbrev pub play_status : GameEnd NoPlan → ℕ
+play_status = end_status head_status
 
-abbrev pub play_text : GameEnding NoPlan → List ℕ
-play_text end = ending_text head_text end
+abbrev pub play_text : GameEnd NoPlan → List ℕ
+play_text = end_text head_text
 
 -- ---- what is promised
 
@@ -54,7 +54,7 @@ most_play_lines = 54
 
 -- `play`. Where it goes to the end of the input, or to a line that is no move, the lines that were written tell the duel by a
 -- plan, in which White has no line; where there is no plan, nothing is written.
-abbrev pub Plays : Streams → GameEnding NoPlan → Type 0
+abbrev pub Plays : Streams → GameEnd NoPlan → Type 0
 Plays s end = GamePlays play_form IsTold most_play_lines s end
 
 -- the same, as a caller of `run` sees it
@@ -64,3 +64,7 @@ PlayRuns s status text = EndsBy play_status play_text (Plays s) status text
 -- how it ends on a game, a plan and moves of White's, where no stream failed
 abbrev pub PlayCompletes : Option (List ℕ) → (status : ℕ) → Type 0
 PlayCompletes input status = GameCompletes play_form input status
+
+-- what it owes of a run
+abbrev pub PlayOwes : Streams → (unread unwritten : Type 0) → GameEnd NoPlan → Type 0
+PlayOwes = Owes play_status Plays PlayCompletes

@@ -8,7 +8,6 @@ mod head;
 mod no_plan;
 mod plan_line;
 mod plan_player;
-mod turn_text;
 
 pub use command::play;
-pub use no_plan::{NoPlan, PlayEnding, PlayStop};
+pub use no_plan::{NoPlan, PlayEnd};

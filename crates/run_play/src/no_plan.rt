@@ -3,9 +3,12 @@ ghost use Rattle.std.specs.Prelude.{◌≡◌, ◌++◌};
 ghost use Rattle.run_play.specs.Plays.{no_plan_line_text, no_plan_text};
 
 use cert_format::{PlanFault, push_plan_fault};
-use run_frame::Ending;
-use run_turns::{GameEnding, GameStop};
+use run_frame::{Ending, begin_refusal};
+use run_turns::GameEnd;
 use text_words::{LineText, push_text};
+
+/// The number of the line of the plan.
+const PLAN_LINE: u64 = 3;
 
 /// Why there is no plan to play by: status 4.
 #[derive(Clone, Copy, Drop)]
@@ -16,11 +19,8 @@ pub enum NoPlan {
     Refused(PlanFault),
 }
 
-/// What stops play before the end of the input.
-pub type PlayStop = GameStop<NoPlan>;
-
 /// How a run of `play` ends.
-pub type PlayEnding = GameEnding<NoPlan>;
+pub type PlayEnd = GameEnd<NoPlan>;
 
 impl Ending for NoPlan {
     ghost use Rattle.run_play.specs.Plays.{head_status, head_text};
@@ -45,8 +45,8 @@ impl Ending for NoPlan {
 fn no_plan_line_text() -> LineText
     ensures { result.items ≡ no_plan_line_text }
 {
-    let mut text = LineText::new();
-    push_text(&mut text, b"refused line 3: BadLine\n");
+    let mut text = begin_refusal(PLAN_LINE);
+    push_text(&mut text, b"BadLine\n");
     text
 }
 
@@ -54,8 +54,7 @@ fn no_plan_line_text() -> LineText
 fn no_plan_text(fault: &PlanFault) -> LineText
     ensures { result.items ≡ no_plan_text fault.now }
 {
-    let mut text = LineText::new();
-    push_text(&mut text, b"refused line 3: ");
+    let mut text = begin_refusal(PLAN_LINE);
     push_plan_fault(&mut text, fault);
     text.push(b'\n');
     text

@@ -1,15 +1,18 @@
 //! The line of the plan, the third of the input.
-ghost use Rattle.std.specs.Prelude.{◌≡◌, ◌≤◌, ℕ, List, [], ◌∷◌, length, MatchResult, IfOk, IfErr};
-ghost use Rattle.io_ports.specs.Lines.{longest_line};
+ghost use Rattle.std.specs.Prelude.{◌≡◌, ◌≤◌, ℕ, List, [], ◌∷◌, length, Err, MatchResult, IfOk, IfErr};
+ghost use Rattle.device_rules.specs.Devices.{Rose};
+ghost use Rattle.io_ports.specs.Lines.{longest_line, IsUndecided};
 ghost use Rattle.io_ports.specs.Reading.{pending, Reads, PassesLines};
 ghost use Rattle.game_rules.specs.Position.{empty_count};
 ghost use Rattle.cert_format.specs.Planned.{members};
 ghost use Rattle.play_text.specs.Play.{play_from, play_lines, first_move};
-ghost use Rattle.run_turns.specs.Inputs.{EndsSo, StopsPlay, lines_besides, IsWaiting, StopsReading};
+ghost use Rattle.run_frame.specs.declared.game_input.InputStop.TheVariants as inputs;
+ghost use Rattle.run_turns.specs.Inputs.{EndsSo, StopsPlay, lines_until};
+ghost use Rattle.run_turns.specs.declared.game_end.GameStop.TheVariants as stops;
 ghost use Rattle.run_play.specs.Plays.{play_form, head_end};
 ghost use Rattle.run_play.specs.Steps.{played_at, played_from};
 
-use crate::no_plan::{NoPlan, PlayStop};
+use crate::no_plan::NoPlan;
 use board_bits::Position;
 use cert_format::{Plan, read_plan};
 use io_ports::{LineGot, Lines, Source};
@@ -21,17 +24,17 @@ pub(crate) fn read_plan_line<S: Source>(
     root: &Position,
     lines: &mut Lines,
     source: &mut S,
-) -> Result<Plan, PlayStop>
+) -> Result<Plan, GameStop<NoPlan>>
     ensures answer { Reads (pending lines.old (S.left source.old) (S.last_read source.old))
         (pending lines.new (S.left source.new) (S.last_read source.new))
         (λ bytes rest. PassesLines 1 bytes rest × MatchResult result
         (λ plan. played_at root.now bytes ≡ played_from (record { plan = plan; stands = root.now }) first_move rest)
-        (StopsPlay play_form (played_at root.now bytes) [])) }
+        (StopsPlay play_form (played_at root.now bytes))) }
     ensures at { IfOk result (λ plan. (plan.at ≡ root.now) × (empty_count root.now ≤ 100)) }
-    ensures waiting { IfErr result (IsWaiting lines.new.ahead) }
-    ensures stops { IfErr result (λ stop. 3 ≤ lines_besides play_form stop) }
+    ensures waiting { result ≡ Err (stops.Input inputs.Read) → IsUndecided lines.new.ahead }
+    ensures stops { IfErr result (λ stop. 3 ≤ lines_until play_form stop) }
     ensures later { S.faults source.old ≤ S.faults source.new }
-    ensures caused { IfErr result (λ stop. StopsReading (S.faults source.old) (S.faults source.new) stop) }
+    ensures caused { result ≡ Err (stops.Input inputs.Read) → Rose (S.faults source.old) (S.faults source.new) }
 {
     match lines.next(source) {
         LineGot::Line => match plan_of(root, lines.text()) {

@@ -1,12 +1,11 @@
 //! The player who answers White's lines by a plan.
 ghost use Rattle.std.specs.Prelude.{◌≡◌};
+ghost use Rattle.run_play.specs.Steps.{man_of};
 
-use crate::turn_text::turn_line;
 use board_bits::{Column, MoveFault, Size};
 use cert_format::Plan;
-use reply_player::Session;
-use run_turns::Player;
-use text_words::LineText;
+use reply_player::{Reply, Session};
+use run_turns::{Player, Turn, TurnEnd};
 
 /// A session of play by a plan, of which each turn gives a line.
 #[derive(Drop)]
@@ -38,11 +37,20 @@ impl Player for PlanPlayer {
         self.session.now().size()
     }
 
-    fn answer(&mut self, column: Column) -> Result<LineText, MoveFault> {
+    fn answer(&mut self, column: Column) -> Result<Turn, MoveFault> {
         let before = *self.session.now();
-        match self.session.answer(column) {
-            Ok(reply) => Ok(turn_line(&before, column, self.session.now(), reply)),
-            Err(fault) => Err(fault),
-        }
+        let (black, end) = man_of(self.session.answer(column)?);
+        Ok(Turn::new(&before, Some(column), Some(black), end))
+    }
+}
+
+/// The column of Black's man, and what it ended.
+fn man_of(reply: Reply) -> (Column, TurnEnd)
+    ensures { result ≡ man_of reply }
+{
+    match reply {
+        Reply::BlackWon(column) => (column, TurnEnd::Won),
+        Reply::Filled(column) => (column, TurnEnd::Full),
+        Reply::Move(column) => (column, TurnEnd::GoesOn),
     }
 }

@@ -1,5 +1,5 @@
 -- A whole proof: what was taken of it from the first step on, and how it is judged.
-use Rattle.std.proofs.Common.{◌≡◌, ℕ, ◌+◌, ◌≤◌, Bool, true, List, [], length, Option, Some, None, IfSome, Result, Ok, Err}
+use Rattle.std.proofs.Common.{◌≡◌, ℕ, ◌+◌, ◌≤◌, Bool, true, List, [], length, Option, Some, None, IfSome, Ok, Err}
 use Rattle.std.proofs.Common.{refl, sym, ap, ◌∙◌, subst, arith, append-nil}
 use Rattle.std.specs.Io.KnownBytes.{Keeps, Appends}
 use Rattle.std.proofs.KnownBytes.{Appends-nil, Appends-kept}
@@ -13,17 +13,19 @@ use Rattle.proof_text.specs.Texts as answers
 use Rattle.proof_text.specs.Texts.{first_number, start, verdict_answer}
 use Rattle.proof_text.specs.declared.Version.{Version}
 use Rattle.run_frame.specs.Streams.{Streams, TakesLines}
+use Rattle.run_frame.specs.Stops.{run_stop_status}
 use Rattle.run_frame.specs.declared.game_input.InputStop.TheVariants as inputs
 use Rattle.run_frame.specs.declared.run_stop.RunStop.{RunStop}
 use Rattle.run_frame.specs.declared.run_stop.RunStop.TheVariants.{Own, Write}
 use Rattle.run_frame.proofs.Inputs.{IfSome_more}
+use Rattle.run_frame.proofs.Owed.{unwritten_status}
 use Rattle.run_frame.proofs.Passing.{takes_bytes}
 use Rattle.run_frame.proofs.Taken.{fresh, of_taken, of_input, of_lines}
 use Rattle.run_proof.specs.Heads.{Begins, StopsBy, IsFirstStop, head_lines}
 use Rattle.run_proof.specs.Judged.{TookLines, Judges}
 use Rattle.run_proof.specs.Lines.{Progress, begin, HasLines, HasRead, Cuts, AreAll, StopsIn, StopsBehind, passed_until, ReadsLines}
 use Rattle.run_proof.specs.Steps.{lines_read_until}
-use Rattle.run_proof.specs.Stops.{IsStopped, IsCausedBy}
+use Rattle.run_proof.specs.Stops.{stop_status, IsStopped, IsCausedBy}
 use Rattle.run_proof.specs.Whole.{judged, most_lines_read}
 use Rattle.run_proof.specs.declared.head.Head.{Head}
 use Rattle.run_proof.specs.declared.lines.LinesRead.{LinesRead}
@@ -154,7 +156,7 @@ module _ (asked : Option Version) (head : Head) (puts : Position → List Lemma 
 pub put_behind : (ok : Bool) (old mid new : Option (List ℕ)) (text : List ℕ) → Keeps old mid → AppendsPrefix ok mid new text → AppendsPrefix ok old new text
 put_behind ok old mid new text kept put = AppendsPrefix_more ok old mid new [] text (Appends-kept old old mid [] (Appends-nil old) kept) put
 
-appended_none : (old new : Option (List ℕ)) → Appends old new [] → Keeps old new
+pub appended_none : (old new : Option (List ℕ)) → Appends old new [] → Keeps old new
 appended_none None new put = tt
 appended_none (Some x) None put = put
 appended_none (Some x) (Some y) put = put ∙ append-nil x
@@ -196,7 +198,7 @@ module _ (asked : Option Version) (Holds : Position → List Lemma → Type 0) (
     pub judged_stop : (stop : RunStop ProofStop) (before after : ℕ) (X : Type 0)
         → ReadsLines End head.version (Holds head.game.position) puts head.game.position mid last last.ended old new (Err stop)
         → IsCausedBy (Rose before after) X stop → Judges asked Holds (over input last old new) (Err stop)
-    judged_stop (Own stop) before after X (t, going, has) cause =
+    judged_stop (Own stop) before after X (t, going, got, has) cause =
         let read = stop_read asked head puts (fresh input begun) mid last old new first t true before after X stop has cause in
         took input begun last old new read.0 _ _ read.2 read.3 (λ taken here all lines. (
           is_stopped input begun last old new asked stop read.0 before after taken here.0 (IfSome_more input _ _ all (λ bytes h. h.0)) read.1 lines,
@@ -207,14 +209,22 @@ module _ (asked : Option Version) (Holds : Position → List Lemma → Type 0) (
 
 -- ---- causes
 
-pub caused_read : {X : Type 0} (unread unwritten : Type 0) (stop : RunStop ProofStop) → IsCausedBy unread unwritten stop
-    → (let end : Result X (RunStop ProofStop) = Err stop in end ≡ Err (Own (stops.Input inputs.Read))) → unread
-caused_read unread unwritten stop cause is =
-    let same : stop ≡ Own (stops.Input inputs.Read) = cc is in
-    subst (IsCausedBy unread unwritten) same cause
+pub caused_read : (unread unwritten : Type 0) (stop : RunStop ProofStop) → IsCausedBy unread unwritten stop → run_stop_status stop_status stop ≡ 6 → unread
+caused_read unread unwritten (Own (stops.Input inputs.Read)) cause is = cause
+caused_read unread unwritten (Own (stops.Input (inputs.NoGame fault))) cause is = absurd (cc is)
+caused_read unread unwritten (Own (stops.Refused r)) cause is = absurd (cc is)
+caused_read unread unwritten (Own stops.Memory) cause is = absurd (cc is)
+caused_read unread unwritten Write cause is = absurd (cc is)
 
-pub caused_write : {X : Type 0} (unread unwritten : Type 0) (stop : RunStop ProofStop) → IsCausedBy unread unwritten stop
-    → (let end : Result X (RunStop ProofStop) = Err stop in end ≡ Err Write) → unwritten
-caused_write unread unwritten stop cause is =
-    let same : stop ≡ Write = cc is in
-    subst (IsCausedBy unread unwritten) same cause
+pub caused_write : (unread unwritten : Type 0) (stop : RunStop ProofStop) → IsCausedBy unread unwritten stop → run_stop_status stop_status stop ≡ 7 → unwritten
+caused_write unread unwritten Write cause is = cause
+caused_write unread unwritten (Own (stops.Input inputs.Read)) cause is = absurd (cc is)
+caused_write unread unwritten (Own (stops.Input (inputs.NoGame fault))) cause is = absurd (cc is)
+caused_write unread unwritten (Own (stops.Refused r)) cause is = absurd (cc is)
+caused_write unread unwritten (Own stops.Memory) cause is = absurd (cc is)
+
+-- where a line or the source stopped it, the sink didn't
+pub stop_unwritten : (stop : ProofStop) → stop_status stop ≡ 7 → ⊥
+stop_unwritten (stops.Input why) is = unwritten_status why is
+stop_unwritten (stops.Refused r) is = cc is
+stop_unwritten stops.Memory is = cc is

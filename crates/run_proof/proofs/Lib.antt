@@ -3,7 +3,6 @@ pub mod Begun
 pub mod Stand
 pub mod Steps
 pub mod Loop
-pub mod Handing
 pub mod Taking
 pub mod Known
 pub mod Heads

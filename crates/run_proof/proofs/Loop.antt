@@ -113,6 +113,7 @@ module _ (version : Version) (puts : Position → List Lemma → Lemma → List 
         let bare : s.verdict ≡ None = ap (λ s. s.verdict) (sym all.0) ∙ none in (
           here,
           open_none until s bare,
+          all.1,
           record {
             lines = all.3.lines;
             passes = all.3.passes;
@@ -130,9 +131,10 @@ module _ (version : Version) (puts : Position → List Lemma → Lemma → List 
     -- or something stopped it
     pub lines_stopped : (stop : RunStop ProofStop) → AddsNext until version (Holds s.root) puts here t b c ended mid new (Err stop)
         → ReadsLines until version (Holds root) puts root a c ended old new (Err stop)
-    lines_stopped (Own stop) (going, next) = (
+    lines_stopped (Own stop) (going, got, next) = (
       here,
       going,
+      subst (λ root. Holds root ms) read_root got,
       read_then version puts a c old new true (begin root) here here b mid Cuts (StopsBehind version here stop) (StopsBehind version here stop) read next
           (stop_then version here stop),
     )

@@ -196,10 +196,11 @@ module _ (version : Version) (Holds : Position → List Lemma → Type 0) (puts 
     subst (λ ls. Holds s.stands.root (s.lemmas ++ ls)) says_line holds,
     one_line true put (λ cut. absurd (cc cut)),
   )
-  line_taken until ended (Err (Own stop)) going (memory, lemma, kept) =
+  line_taken until ended (Err (Own stop)) going (memory, lemma, holds, kept) =
       let next = next_lemma version s.stands s.next is.text (board_of s.stands.root) line refl is.accepted.few is.accepted.said is.accepted.stands lemma in
       rw memory (
         going,
+        holds,
         read_bare version puts a b old new s (StopsBehind version s stops.Memory) kept
             (line_stops version s a b is.text is.fed stops.Memory is.gives next),
       )
@@ -252,9 +253,10 @@ module _ (version : Version) (Holds : List Lemma → Type 0) (puts : Position �
 
     -- what is got stops the reading
     pub stop_next : (t : CheckerState) (ended : Bool) (before after : ℕ) (stop : ProofStop) → StopsNext a b version s.stands s.next before after stop
-        → AddsNext until version Holds puts s t a b ended old old (Err (Own stop))
-    stop_next t ended before after stop is = (
+        → Holds s.lemmas → AddsNext until version Holds puts s t a b ended old old (Err (Own stop))
+    stop_next t ended before after stop is got = (
       is_open until s.stands going,
+      got,
       read_bare version puts a b old old s (StopsBehind version s stop) (Keeps-refl old)
           (got_stops version s a b is.text is.fed before after stop is.got is.gives is.stopped),
     )

@@ -1,7 +1,6 @@
 pub mod Whole
 pub mod Stops
 pub mod Taken
-pub mod Told
 pub mod Lines
 pub mod Judged
 pub mod Steps

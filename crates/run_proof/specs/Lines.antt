@@ -151,7 +151,7 @@ AddsNext until version Holds puts s after a b ended old new (Ok true) = (ms : Li
 AddsNext until version Holds puts s after a b ended old new (Ok false) =
     (after ≡ s.stands) × Holds s.lemmas × IsEnded until ended × HasRead version puts true s s a b old new (EndsAt until s.stands.verdict)
 AddsNext until version Holds puts s after a b ended old new (Err (Own stop)) =
-    IsOpen until s.stands × HasRead version puts true s s a b old new (StopsBehind version s stop)
+    IsOpen until s.stands × Holds s.lemmas × HasRead version puts true s s a b old new (StopsBehind version s stop)
 AddsNext until version Holds puts s after a b ended old new (Err Write) = (t : Progress) × HasRead version puts false s t a b old new Cuts
 
 -- what was read says this
@@ -164,5 +164,5 @@ abbrev pub ReadsLines : Until → Version → (Holds : List Lemma → Type 0) �
 ReadsLines until version Holds puts root a b ended old new (Ok read) =
     (t : Progress) × Says t read × Holds t.lemmas × IsEnded until ended × HasRead version puts true (begin root) t a b old new (EndsAt until t.stands.verdict)
 ReadsLines until version Holds puts root a b ended old new (Err (Own stop)) =
-    (t : Progress) × IsOpen until t.stands × HasRead version puts true (begin root) t a b old new (StopsBehind version t stop)
+    (t : Progress) × IsOpen until t.stands × Holds t.lemmas × HasRead version puts true (begin root) t a b old new (StopsBehind version t stop)
 ReadsLines until version Holds puts root a b ended old new (Err Write) = (t : Progress) × HasRead version puts false (begin root) t a b old new Cuts

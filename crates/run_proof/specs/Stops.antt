@@ -1,5 +1,5 @@
 -- What stops the reading of a proof: its exit status, its text for the error stream, and what holds of the bytes then.
-use Rattle.std.specs.Prelude.{ℕ, ⊤, List, ◌++◌, Option, IfSome, codes, decimal}
+use Rattle.std.specs.Prelude.{ℕ, ⊤, List, ◌++◌, Option, IfSome}
 use Rattle.proof_text.specs.Spelling.{as_line}
 use Rattle.proof_text.specs.Texts as answers
 use Rattle.proof_text.specs.Words.{why_text}
@@ -8,7 +8,7 @@ use Rattle.cert_checker.specs.Checking.{why_of}
 use Rattle.cert_checker.specs.declared.stops.Refusal.{Refusal}
 use Rattle.run_frame.specs.Streams.{Streams, TakesLines}
 use Rattle.run_frame.specs.Texts as inputs
-use Rattle.run_frame.specs.Texts.{memory_line}
+use Rattle.run_frame.specs.Texts.{refusal_begun, memory_line}
 use Rattle.run_frame.specs.declared.game_input.InputStop.TheVariants.{NoGame, Read}
 use Rattle.run_frame.specs.declared.run_stop.RunStop.{RunStop}
 use Rattle.run_frame.specs.declared.run_stop.RunStop.TheVariants.{Own, Write}
@@ -18,7 +18,7 @@ use Rattle.run_proof.specs.declared.stop.ProofStop.TheVariants.{Input, Refused, 
 
 -- the number of the line that is refused, and why
 abbrev pub refusal_line : Refusal → List ℕ
-refusal_line refusal = as_line (codes "refused line " ++ decimal refusal.at ++ codes ": " ++ why_text (why_of refusal.why))
+refusal_line refusal = as_line (refusal_begun refusal.at ++ why_text (why_of refusal.why))
 
 abbrev pub stop_status : ProofStop → ℕ
 stop_status (Input why) = inputs.stop_status why

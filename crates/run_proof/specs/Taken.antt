@@ -57,12 +57,12 @@ pub record IsNext (Holds : Position → List Lemma → Type 0) (l : Lemma) (p : 
   pub behind : IsBehind root lemmas l p
   pub spelled : IsSpelled l
 
--- The lemma was taken, and what is put for it was put; or memory ran out, and nothing was put; or the sink failed, and a prefix of
--- that was put, which isn't nothing.
+-- The lemma was taken, and what is put for it was put; or memory ran out, and all stays as it was; or the sink failed, and a prefix
+-- of that was put, which isn't nothing.
 abbrev pub Takes : (Position → List Lemma → Type 0) → (Position → List Lemma → Lemma → List ℕ) → Position → List Lemma → Lemma
     → Option (List ℕ) → Option (List ℕ) → {X : Type 0} → Result X NotTaken → Type 0
 Takes Holds puts root ls l old new (Ok x) = Holds root (ls ++ l ∷ []) × Appends old new (puts root ls l)
-Takes Holds puts root ls l old new (Err untaken.Memory) = Keeps old new
+Takes Holds puts root ls l old new (Err untaken.Memory) = Holds root ls × Keeps old new
 Takes Holds puts root ls l old new (Err untaken.Write) = AppendsPrefix false old new (puts root ls l) × (puts root ls l ≢ [])
 
 -- what is put for further lemmas, one behind the other
@@ -86,6 +86,6 @@ abbrev pub TakesLine : (Position → List Lemma → Type 0) → (Position → Li
     → Option (List ℕ) → Option (List ℕ) → {X : Type 0} → Result X (RunStop ProofStop) → Type 0
 TakesLine Holds puts root ls line old new (Ok x) =
     Holds root (ls ++ lemmas_in (line ∷ [])) × Appends old new (put_for puts root ls (lemmas_in (line ∷ [])))
-TakesLine Holds puts root ls line old new (Err (runs.Own stop)) = (stop ≡ stops.Memory) × IsLemma line × Keeps old new
+TakesLine Holds puts root ls line old new (Err (runs.Own stop)) = (stop ≡ stops.Memory) × IsLemma line × Holds root ls × Keeps old new
 TakesLine Holds puts root ls line old new (Err runs.Write) =
     AppendsPrefix false old new (put_for puts root ls (lemmas_in (line ∷ []))) × (put_for puts root ls (lemmas_in (line ∷ [])) ≢ [])

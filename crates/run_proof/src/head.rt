@@ -37,7 +37,7 @@ pub fn read_head<S: Source>(
 }
 
 /// Reads the line that names the format, and answers the version, which is one that is asked for.
-pub fn read_version<S: Source>(
+fn read_version<S: Source>(
     asked: Option<Version>,
     lines: &mut Lines,
     source: &mut S,

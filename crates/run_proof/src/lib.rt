@@ -8,13 +8,11 @@ mod lines;
 mod reading;
 mod stop;
 mod taker;
-mod told;
 
 pub use cert_checker::{Accepted, Checker, MirrorIndex, Refusal, Why};
-pub use head::{Head, read_head, read_version};
-pub use lines::{FIRST_NUMBER, LinesRead, Until, accept_next, read_lines};
+pub use head::{Head, read_head};
+pub use lines::{LinesRead, Until, read_lines};
 pub use proof_book::Book;
 pub use reading::{ProofRead, read_proof};
 pub use stop::ProofStop;
 pub use taker::{KeepsNone, LemmaTaker, NotTaken};
-pub use told::hand_on;

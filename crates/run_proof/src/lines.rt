@@ -22,7 +22,7 @@ use run_frame::{InputStop, RunStop};
 use std::alloc::Global;
 
 /// The number of the first line behind the game.
-pub const FIRST_NUMBER: u64 = 4;
+const FIRST_NUMBER: u64 = 4;
 
 /// A proof has no more lines.
 const MOST_LINES: u64 = 20_000_000;
@@ -159,7 +159,7 @@ fn is_done(until: Until, checker: &Checker) -> bool
 /// has ended. The checker then stands at a lemma's position. It is made a part of each caller, so that no line is
 /// moved.
 #[inline(always)]
-pub fn accept_next<'a, S: Source>(
+fn accept_next<'a, S: Source>(
     checker: &mut Checker,
     room: &'a mut LineBuffer,
     size: Size,

@@ -7,9 +7,8 @@ ghost use Rattle.run_frame.specs.declared.run_stop.RunStop.TheVariants as run_st
 ghost use Rattle.run_proof.specs.declared.stop.ProofStop.TheVariants as stops;
 
 use cert_checker::{Refusal, Why};
-use itoa::Buffer;
 use proof_book::push_plan_fault;
-use run_frame::{Ending, InputStop, RunStop, memory_text};
+use run_frame::{Ending, InputStop, RunStop, begin_refusal, memory_text};
 use text_words::{LineText, push_text};
 
 /// What stops the reading of a proof before its end.
@@ -67,11 +66,7 @@ impl Ending for ProofStop {
 fn refusal_text(refusal: &Refusal) -> LineText
     ensures { result.items ≡ refusal_line refusal.now }
 {
-    let mut text = LineText::new();
-    let mut digits = Buffer::new();
-    push_text(&mut text, b"refused line ");
-    push_text(&mut text, digits.format(refusal.at).as_bytes());
-    push_text(&mut text, b": ");
+    let mut text = begin_refusal(refusal.at);
     push_text(&mut text, refusal.why.word());
     if let Why::BadPlan(fault) = &refusal.why {
         text.push(b' ');

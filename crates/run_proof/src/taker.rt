@@ -50,7 +50,7 @@ pub trait LemmaTaker {
     ghost puts: { Men → List Lemma → Lemma → List ℕ };
 
     /// Takes the lemma with the next number, which has a spelling and stands at this position, and puts what becomes of it.
-    /// `Write` comes only where something is to be put.
+    /// Where memory runs out it has those that it had. `Write` comes only where something is to be put.
     fn take<O: Sink>(
         &mut self,
         lemma: &LemmaView<'_>,

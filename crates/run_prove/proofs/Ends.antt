@@ -36,7 +36,7 @@ proves_game version nodes reach slots s p heard ended game
     (Err failed) h short = (record { position = p; game = game; text = h.0; stands = h.1; written = h.2 }, ended)
 
 pub prove_completes : (version : Version) (nodes reach : ℕ) (slots : Option ℕ) (s : Streams) (end : Proved) → Proves version nodes reach slots s end
-    → (end ≡ Err (Own (Input stops.Read)) → ⊥) → (end ≡ Err Write → ⊥) → ProveCompletes nodes reach s.input (proved_status end)
+    → (proved_status end ≡ 6 → ⊥) → (proved_status end ≡ 7 → ⊥) → ProveCompletes nodes reach s.input (proved_status end)
 prove_completes version nodes reach slots s (Ok Found) o unread unwritten = of_each s.input _ (λ bytes p game cheap. inl refl)
 prove_completes version nodes reach slots s (Ok Missing) o unread unwritten =
     let left = o.holds.0 in
@@ -61,8 +61,8 @@ prove_held version nodes reach slots s (Err (Own (Input stop))) o = unread_still
 prove_held version nodes reach slots s (Err (Own Memory)) o = kept_still s.old s.new o.holds.2
 
 pub prove_owes : (version : Version) (nodes reach : ℕ) (slots : Option ℕ) (s : Streams) (unread unwritten : Type 0) (end : Proved)
-    → Proves version nodes reach slots s end → (end ≡ Err (Own (Input stops.Read)) → unread) → (end ≡ Err Write → unwritten)
+    → Proves version nodes reach slots s end → (proved_status end ≡ 6 → unread) → (proved_status end ≡ 7 → unwritten)
     → ProveOwes version nodes reach slots s unread unwritten end
 prove_owes version nodes reach slots s unread unwritten end =
-    owed proved_status (Proves version nodes reach slots) (ProveCompletes nodes reach) _ _ s unread unwritten end
+    owed proved_status (Proves version nodes reach slots) (ProveCompletes nodes reach) s unread unwritten end
     (prove_held version nodes reach slots s end) (prove_completes version nodes reach slots s end)

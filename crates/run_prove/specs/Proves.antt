@@ -18,7 +18,6 @@ use Rattle.run_frame.specs.Stops.{of_result, run_stop_status, run_stop_text, mem
 use Rattle.run_frame.specs.Streams.{Streams, Took}
 use Rattle.run_frame.specs.Texts.{stop_status, stop_text}
 use Rattle.run_frame.specs.declared.game_input.InputStop.{InputStop}
-use Rattle.run_frame.specs.declared.game_input.InputStop.TheVariants as stops
 use Rattle.run_frame.specs.declared.run_stop.MemoryStop.{MemoryStop}
 use Rattle.run_frame.specs.declared.run_stop.MemoryStop.TheVariants.{Input, Memory}
 use Rattle.run_frame.specs.declared.run_stop.RunStop.{RunStop}
@@ -105,5 +104,4 @@ ProveCompletes nodes reach input status =
 
 -- what it owes of a run
 abbrev pub ProveOwes : Version → (nodes reach : ℕ) (slots : Option ℕ) → Streams → (unread unwritten : Type 0) → Proved → Type 0
-ProveOwes version nodes reach slots =
-    Owes proved_status (Proves version nodes reach slots) (ProveCompletes nodes reach) (Err (Own (Input stops.Read))) (Err Write)
+ProveOwes version nodes reach slots = Owes proved_status (Proves version nodes reach slots) (ProveCompletes nodes reach)

@@ -1,16 +1,13 @@
 //! The command, over any source and any sink. The memory that it can't go on without, for a table of what was found and for
 //! a front, is taken before the first line.
-ghost use Rattle.std.specs.Prelude.{◌≡◌, ℕ, List, Option, ◌≤◌, Err, IfSome};
+ghost use Rattle.std.specs.Prelude.{◌≡◌, ℕ, List, Option, ◌≤◌, IfSome};
 ghost use Rattle.std.specs.Io.KnownBytes.{IsAtEnd};
 ghost use Rattle.device_rules.specs.Devices.{Rose};
 ghost use Rattle.game_rules.specs.Game.{IsTextOf};
 ghost use Rattle.proof_text.specs.Spelling.{greatest_number};
 ghost use Rattle.run_frame.specs.Streams.{streams};
-ghost use Rattle.run_frame.specs.declared.game_input.InputStop.{InputStop};
-ghost use Rattle.run_frame.specs.declared.run_stop.MemoryStop.TheVariants as memory;
-ghost use Rattle.run_frame.specs.declared.run_stop.RunStop.TheVariants as stops;
 ghost use Rattle.run_questions.specs.SizedFronts.{AreSlots};
-ghost use Rattle.run_prove.specs.Proves.{IsRoom, proved_of, ProvesFrom, ProveOwes};
+ghost use Rattle.run_prove.specs.Proves.{IsRoom, proved_of, proved_status, ProvesFrom, ProveOwes};
 
 use crate::proved::{Proved, Proving};
 use crate::writing::write_proof;
@@ -47,8 +44,8 @@ fn prove_game<O: Sink>(alloc: Global, game: &Game, how: Proving, out: &mut O) ->
     ensures proves { (text : List ℕ) (input left : Option (List ℕ)) (last_read : ℕ) → IsTextOf text game.now → IsAtEnd left
         → ProvesFrom how.version how.nodes how.reach how.slots text
         (record { input = input; left = left; last_read = last_read; old = O.written out.old; new = O.written out.new }) result }
-    ensures no_input { (stop : InputStop) → result ≡ Err (stops.Own (memory.Input stop)) → ⊥ }
-    ensures write_fault { result ≡ Err stops.Write → Rose (O.faults out.old) (O.faults out.new) }
+    ensures read { proved_status result ≡ 6 → ⊥ }
+    ensures write_fault { proved_status result ≡ 7 → Rose (O.faults out.old) (O.faults out.new) }
 {
     let mut chooser = Chooser::new();
     let Ok(mut table) = Table::new(alloc, how.table) else {

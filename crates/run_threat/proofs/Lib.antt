@@ -1,5 +1,4 @@
 pub mod Turn
 pub mod Read
-pub mod FirstLine
-pub mod Judged
+pub mod Heads
 pub mod Ends

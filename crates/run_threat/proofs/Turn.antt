@@ -1,8 +1,10 @@
 -- What a player by a threat answers: the turn of the definitions.
-use Rattle.std.proofs.Common.{◌≡◌, ℕ, ◌+◌, ◌/◌, ◌<◌, true, List, Some, option_map, refl, sym, ap, ◌∙◌, subst, arith}
+use Rattle.std.proofs.Common.{◌≡◌, ℕ, ◌+◌, ◌/◌, ◌<◌, true, List, Option, Some, None, option_map, refl, sym, ap, ◌∙◌, subst, arith}
 use Rattle.std.proofs.lemmas.Option.{same_Some}
 use Rattle.game_rules.specs.Board.{Square}
 use Rattle.game_rules.specs.Position.{Position, end_of, lowest_empty, is_legal, after_move, empty_count}
+use Rattle.game_rules.specs.declared.End.{End}
+use Rattle.game_rules.specs.declared.End.TheVariants as ends
 use Rattle.game_rules.proofs.Ends.{legal_parts}
 use Rattle.game_rules.proofs.Moves.{empty_count_moved}
 use Rattle.plan_rules.proofs.Turns.{playable_room}
@@ -12,7 +14,20 @@ use Rattle.odd_rules.proofs.Theorems.{threat_answers}
 use Rattle.odd_rules.proofs.Wins.{turn_is}
 use Rattle.threat_rules.specs.Threatened.{Threatened, HasMoved}
 use Rattle.threat_text.specs.Threats.{answer_line, turn_text}
-use Rattle.run_threat.specs.Turns.{IsUnderWay, game_with, player_turn}
+use Rattle.run_turns.specs.Turns.{turn_line}
+use Rattle.run_turns.specs.declared.turn.TurnEnd.{TurnEnd}
+use Rattle.run_threat.specs.Turns.{IsUnderWay, game_with, player_turn, turn_end}
+
+-- how the line of a turn is told
+pub line_told : (black white : Square) (ended : Option End) (end : TurnEnd) → end ≡ turn_end ended
+    → turn_line (record { theirs = Some black; mine = Some white; end = end }) ≡ answer_line black white ended
+line_told black white ended end is = ap (λ end. turn_line (record { theirs = Some black; mine = Some white; end = end })) is ∙ of_end ended
+  where
+    of_end : (ended : Option End) → turn_line (record { theirs = Some black; mine = Some white; end = turn_end ended }) ≡ answer_line black white ended
+    of_end None = refl
+    of_end (Some ends.White) = refl
+    of_end (Some ends.Black) = refl
+    of_end (Some ends.Draw) = refl
 
 -- a legal move goes to the column's lowest empty square
 legal_square : (q : Position) (column : ℕ) (last : Square) → is_legal q column ≡ true → lowest_empty q column ≡ Some last → top_of q column ≡ last

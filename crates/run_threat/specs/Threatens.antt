@@ -4,10 +4,9 @@ use Rattle.play_text.specs.Play as ends
 use Rattle.play_text.specs.Play.{PlayEnd}
 use Rattle.threat_text.specs.Threats.{threat_of}
 use Rattle.threat_text.specs.Told.{IsTold}
-use Rattle.run_frame.specs.Ended.{EndsBy}
+use Rattle.run_frame.specs.Ended.{EndsBy, Owes}
 use Rattle.run_frame.specs.Streams.{Streams}
-use Rattle.run_turns.specs.Games.{GameForm, GamePlays, GameCompletes, ending_status, ending_text}
-use Rattle.run_turns.specs.declared.game_end.GameEnding.{GameEnding}
+use Rattle.run_turns.specs.Games.{GameForm, GameEnd, end_status, end_text, GamePlays, GameCompletes}
 use Rattle.run_threat.specs.declared.no_threat.NoThreat.{NoThreat}
 
 -- ---- what a caller sees
@@ -16,11 +15,11 @@ use Rattle.run_threat.specs.declared.no_threat.NoThreat.{NoThreat}
 abbrev pub head_status : NoThreat → ℕ
 head_status none = 5
 
-abbrev pub threat_status : GameEnding NoThreat → ℕ
-threat_status = ending_status head_status
+abbrev pub threat_status : GameEnd NoThreat → ℕ
+threat_status = end_status head_status
 
-abbrev pub threat_text : GameEnding NoThreat → List ℕ
-threat_text = ending_text (λ none. [])
+abbrev pub threat_text : GameEnd NoThreat → List ℕ
+threat_text = end_text (λ none. [])
 
 -- ---- what is promised
 
@@ -41,7 +40,7 @@ most_threat_lines = 53
 -- of the game's position, by which White wins, and the duel by it, in which Black has no line. It says that there is no threat
 -- exactly where no group is one with any list of pairs, and takes then no more than the two lines of the game and what came with
 -- them.
-abbrev pub Threatens : Streams → GameEnding NoThreat → Type 0
+abbrev pub Threatens : Streams → GameEnd NoThreat → Type 0
 Threatens s end = GamePlays threat_form IsTold most_threat_lines s end
 
 -- the same, as a caller of `run` sees it
@@ -51,3 +50,7 @@ ThreatRuns s status text = EndsBy threat_status threat_text (Threatens s) status
 -- how it ends where no stream failed: on a game whose position has a threat and moves of Black's, and where there is no threat
 abbrev pub ThreatCompletes : Option (List ℕ) → (status : ℕ) → Type 0
 ThreatCompletes input status = GameCompletes threat_form input status × IfSome input (λ bytes. (threat_of bytes).end ≡ ends.NoThreat → status ≡ 5)
+
+-- what it owes of a run
+abbrev pub ThreatOwes : Streams → (unread unwritten : Type 0) → GameEnd NoThreat → Type 0
+ThreatOwes = Owes threat_status Threatens ThreatCompletes

@@ -1,18 +1,15 @@
 //! The command, over any source and any sink.
-ghost use Rattle.std.specs.Prelude.{◌≡◌, IfErr};
 ghost use Rattle.device_rules.specs.Devices.{Rose};
-ghost use Rattle.run_frame.specs.Streams.{StillHolds};
-ghost use Rattle.run_frame.specs.declared.game_input.InputStop.TheVariants as inputs;
-ghost use Rattle.run_turns.specs.Inputs.{PlaysInput, IsCaused};
-ghost use Rattle.run_turns.specs.declared.game_end.GameEnding.TheVariants as ends;
-ghost use Rattle.run_turns.specs.declared.game_end.GameStop.TheVariants as stops;
-ghost use Rattle.run_threat.specs.Threatens.{threat_form, threat_status, Threatens, ThreatCompletes};
+ghost use Rattle.run_frame.specs.Streams.{streams};
+ghost use Rattle.run_threat.specs.Threatens.{ThreatOwes};
 
-use crate::head::begin;
-use crate::no_threat::{ThreatEnding, ThreatStop};
+use crate::no_threat::{NoThreat, ThreatEnd};
+use crate::threat_line::threat_line;
+use crate::threat_player::ThreatPlayer;
 use io_ports::{Lines, Sink, Source};
-use run_frame::read_game_lines;
-use run_turns::{GameEnding, play_turns};
+use run_frame::{RunStop, put_line, read_game_lines};
+use run_turns::{GameStop, play_turns};
+use threat_rules::Threat;
 
 /// The number of Black's first line.
 const FIRST_MOVE: u64 = 3;
@@ -20,26 +17,24 @@ const FIRST_MOVE: u64 = 3;
 /// Writes the first odd threat of a game's position and plays by it, to the end of the input or to what stops play; or
 /// writes that there is none. It ends as the definitions say of the input, unless a stream failed, which comes only where
 /// its count of faults rose.
-pub fn threat<S: Source, O: Sink>(source: &mut S, out: &mut O) -> ThreatEnding
-    ensures outcome { Threatens
-        (record { input = S.left source.old; left = S.left source.new; last_read = S.last_read source.new; old = O.written out.old; new = O.written out.new }) result }
-    ensures held { StillHolds (O.written out.old) (O.written out.new) }
-    ensures read_fault { result ≡ ends.Stopped (stops.Input inputs.Read) → Rose (S.faults source.old) (S.faults source.new) }
-    ensures write_fault { result ≡ ends.Stopped stops.Write → Rose (O.faults out.old) (O.faults out.new) }
-    ensures complete { (Rose (S.faults source.old) (S.faults source.new) → ⊥) → (Rose (O.faults out.old) (O.faults out.new) → ⊥)
-        → ThreatCompletes (S.left source.old) (threat_status result) }
-{
-    GameEnding::of(threat_all(source, out))
-}
-
-/// Writes the threat and plays to the end of the input, or to what stops play.
-fn threat_all<S: Source, O: Sink>(source: &mut S, out: &mut O) -> Result<(), ThreatStop>
-    ensures plays { PlaysInput threat_form (S.left source.old) (S.left source.new) (S.last_read source.new) (O.written out.old) (O.written out.new) result }
-    ensures cause { IfErr result (IsCaused (S.faults source.old) (S.faults source.new) (O.faults out.old) (O.faults out.new)) }
+pub fn threat<S: Source, O: Sink>(source: &mut S, out: &mut O) -> ThreatEnd
+    ensures { ThreatOwes (streams S.left S.last_read O.written source.old source.new out.old out.new)
+        (Rose (S.faults source.old) (S.faults source.new)) (Rose (O.faults out.old) (O.faults out.new)) result }
 {
     let mut lines = Lines::new();
-    let root = read_game_lines(&mut lines, source)?;
-    let mut player = begin(&root, out)?;
-    play_turns(&mut player, FIRST_MOVE, &mut lines, source, out)?;
-    Ok(())
+    let root = match read_game_lines(&mut lines, source) {
+        Ok(root) => root,
+        Err(why) => return Err(RunStop::Own(GameStop::Input(why))),
+    };
+    match Threat::first(&root) {
+        Some(threat) => {
+            put_line(out, threat_line(&threat).as_slice())?;
+            let mut player = ThreatPlayer::new(threat);
+            play_turns(&mut player, FIRST_MOVE, &mut lines, source, out)
+        }
+        None => {
+            put_line(out, b"no threat\n")?;
+            Err(RunStop::Own(GameStop::Head(NoThreat)))
+        }
+    }
 }

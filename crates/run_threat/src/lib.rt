@@ -5,11 +5,9 @@
 #![tactic(auto)]
 
 mod command;
-mod head;
 mod no_threat;
 mod threat_line;
 mod threat_player;
-mod turn_text;
 
 pub use command::threat;
-pub use no_threat::{NoThreat, ThreatEnding, ThreatStop};
+pub use no_threat::{NoThreat, ThreatEnd};

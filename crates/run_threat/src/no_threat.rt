@@ -1,17 +1,14 @@
 //! What `threat` says where the game's position has no threat.
 use run_frame::Ending;
-use run_turns::{GameEnding, GameStop};
+use run_turns::GameEnd;
 use text_words::LineText;
 
 /// The game's position has no threat, which the output says: status 5.
 #[derive(Clone, Copy, Drop)]
 pub struct NoThreat;
 
-/// What stops a run before the end of the input.
-pub type ThreatStop = GameStop<NoThreat>;
-
 /// How a run of `threat` ends.
-pub type ThreatEnding = GameEnding<NoThreat>;
+pub type ThreatEnd = GameEnd<NoThreat>;
 
 impl Ending for NoThreat {
     ghost use Rattle.std.specs.Prelude.{[]};

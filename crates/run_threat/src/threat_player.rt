@@ -1,12 +1,10 @@
 //! The player who answers Black's lines by a threat.
 ghost use Rattle.std.specs.Prelude.{◌≡◌, ◌≤◌};
-ghost use Rattle.run_threat.specs.Turns.{turns_left};
+ghost use Rattle.run_threat.specs.Turns.{turns_left, turn_end};
 
-use crate::turn_text::turn_line;
-use board_bits::{Column, MoveFault, Position, Size};
-use run_turns::Player;
+use board_bits::{Column, End, MoveFault, Position, Size};
+use run_turns::{Player, Turn, TurnEnd};
 use std::marker::Model;
-use text_words::LineText;
 use threat_rules::Threat;
 
 /// A game from a threat: the threat, and the position that the game has come to, from the threat's own by moves of
@@ -52,11 +50,25 @@ impl Player for ThreatPlayer {
         self.stands.size()
     }
 
-    fn answer(&mut self, column: Column) -> Result<LineText, MoveFault> {
+    fn answer(&mut self, column: Column) -> Result<Turn, MoveFault> {
         let now = self.stands.play(column)?;
         let last = self.stands.playable(column).unwrap();
         let white = self.threat.reply(&now, last);
         self.stands = now.after(white.column());
-        Ok(turn_line(last, white, self.stands.ended()))
+        Ok(Turn {
+            theirs: Some(last),
+            mine: Some(white),
+            end: turn_end(self.stands.ended()),
+        })
+    }
+}
+
+/// What White's man ended.
+fn turn_end(ended: Option<End>) -> TurnEnd
+    ensures { result ≡ turn_end ended }
+{
+    match ended {
+        Some(End::White) => TurnEnd::Won,
+        Some(End::Black | End::Draw) | None => TurnEnd::GoesOn,
     }
 }

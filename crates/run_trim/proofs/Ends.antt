@@ -74,8 +74,8 @@ trims_stop Holds s found stop is given =
     let judged : P (Own stop) = subst P is given in
     record { taken = judged.taken; gave = judged.gave; few = judged.few; holds = judged.holds }
 
-pub trim_completes : (s : Streams) (end : Trimmed) → Trims s end → (end ≡ Err (Own (Input (stops.Input inputs.Read))) → ⊥)
-    → (end ≡ Err Write → ⊥)
+pub trim_completes : (s : Streams) (end : Trimmed) → Trims s end → (trimmed_status end ≡ 6 → ⊥)
+    → (trimmed_status end ≡ 7 → ⊥)
     → TrimCompletes s.input (trimmed_status end)
 trim_completes s (Ok done) o unread unwritten = of_each s.input _ (λ bytes v count right. inl refl)
 trim_completes s (Err (Own Memory)) o unread unwritten = of_each s.input _ (λ bytes v count right. inr refl)
@@ -94,6 +94,6 @@ trim_held s (Err Write) o = cut_still s.old s.new _ o.holds.0.written
 trim_held s (Err (Own Memory)) o = kept_still s.old s.new o.holds.0.1
 trim_held s (Err (Own (Input stop))) o = kept_still s.old s.new o.holds.0.1
 
-pub trim_owes : (s : Streams) (unread unwritten : Type 0) (end : Trimmed) → Trims s end → (end ≡ Err (Own (Input (stops.Input inputs.Read))) → unread)
-    → (end ≡ Err Write → unwritten) → TrimOwes s unread unwritten end
-trim_owes s unread unwritten end = owed trimmed_status Trims TrimCompletes _ _ s unread unwritten end (trim_held s end) (trim_completes s end)
+pub trim_owes : (s : Streams) (unread unwritten : Type 0) (end : Trimmed) → Trims s end → (trimmed_status end ≡ 6 → unread)
+    → (trimmed_status end ≡ 7 → unwritten) → TrimOwes s unread unwritten end
+trim_owes s unread unwritten end = owed trimmed_status Trims TrimCompletes s unread unwritten end (trim_held s end) (trim_completes s end)

@@ -14,7 +14,6 @@ use Rattle.tool_text.specs.Trim.{IsReached, trimmed, trimmed_verdict, trimmed_li
 use Rattle.run_frame.specs.Ended.{EndsBy, Owes}
 use Rattle.run_frame.specs.Stops.{of_result, run_stop_status, run_stop_text, memory_stop_status, memory_stop_text}
 use Rattle.run_frame.specs.Streams.{Streams, Took, TakesLines}
-use Rattle.run_frame.specs.declared.game_input.InputStop.TheVariants as inputs
 use Rattle.run_frame.specs.declared.run_stop.MemoryStop.{MemoryStop}
 use Rattle.run_frame.specs.declared.run_stop.MemoryStop.TheVariants.{Input, Memory}
 use Rattle.run_frame.specs.declared.run_stop.RunStop.{RunStop}
@@ -22,7 +21,6 @@ use Rattle.run_frame.specs.declared.run_stop.RunStop.TheVariants.{Own, Write}
 use Rattle.run_proof.specs.Stops.{stop_status, stop_text, IsStopped}
 use Rattle.run_proof.specs.Whole.{IsRightInput, most_lines_read, most_taken}
 use Rattle.run_proof.specs.declared.stop.ProofStop.{ProofStop}
-use Rattle.run_proof.specs.declared.stop.ProofStop.TheVariants as stops
 
 -- how it ends: it writes what the verdict rests on, or something stops it
 abbrev pub Trimmed : Type 0
@@ -77,7 +75,7 @@ TrimCompletes input status = IfSome input (λ bytes. (v : Verdict) (count : ℕ)
 
 -- what it owes of a run
 abbrev pub TrimOwes : Streams → (unread unwritten : Type 0) → Trimmed → Type 0
-TrimOwes = Owes trimmed_status Trims TrimCompletes (Err (Own (Input (stops.Input inputs.Read)))) (Err Write)
+TrimOwes = Owes trimmed_status Trims TrimCompletes
 
 -- ---- what is written of a proof that was read
 

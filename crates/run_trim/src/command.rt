@@ -1,11 +1,10 @@
 //! The command, over any source and any sink.
-ghost use Rattle.std.specs.Prelude.{◌≡◌, length, Err};
+ghost use Rattle.std.specs.Prelude.{◌≡◌, length};
 ghost use Rattle.device_rules.specs.Devices.{Rose};
 ghost use Rattle.tool_text.specs.Trim.{CitesEarlier, numbers_named};
 ghost use Rattle.proof_tools.specs.Reach.{AreWithin};
 ghost use Rattle.run_frame.specs.Streams.{streams};
-ghost use Rattle.run_frame.specs.declared.run_stop.RunStop.TheVariants as stops;
-ghost use Rattle.run_trim.specs.Trims.{PutsTrimmed, TrimOwes};
+ghost use Rattle.run_trim.specs.Trims.{trimmed_status, PutsTrimmed, TrimOwes};
 
 use crate::trimmed::Trimmed;
 use crate::writing::write_trimmed;
@@ -34,7 +33,8 @@ fn trim_proof<O: Sink>(alloc: Global, proof: &ProofRead, book: &Book, out: &mut 
     requires earlier { CitesEarlier 1 book.now }
     requires named { AreWithin (length book.now) (numbers_named proof.now.accepted.verdict) }
     ensures puts { PutsTrimmed proof.now.head.version proof.now.head.game book.now proof.now.accepted.verdict (O.written out.old) (O.written out.new) result }
-    ensures write_fault { result ≡ Err stops.Write → Rose (O.faults out.old) (O.faults out.new) }
+    ensures read { trimmed_status result ≡ 6 → ⊥ }
+    ensures write_fault { trimmed_status result ≡ 7 → Rose (O.faults out.old) (O.faults out.new) }
 {
     let verdict = proof.accepted.verdict;
     let Ok(reach) = reached(alloc, book, &verdict) else {

@@ -6,12 +6,12 @@ use Rattle.io_ports.specs.declared.line_reader.LineGot.TheVariants.{Line, Long, 
 use Rattle.io_ports.proofs.Reading.{Reads_more}
 use Rattle.game_rules.specs.Position.{Position}
 use Rattle.proof_text.specs.Texts.{pieces, lines_in}
-use Rattle.play_text.specs.Play.{NoMove, AllPlayed, Played, ended, behind}
+use Rattle.play_text.specs.Play.{NoMove, AllPlayed, Played, ended}
 use Rattle.play_text.specs.declared.PlayKind.TheVariants.{BadMove}
 use Rattle.run_frame.proofs.Cuts.{line_first, long_first, none_left}
 use Rattle.run_frame.proofs.GameRead.{by_line}
 use Rattle.play_text.specs.Play.{Turn, turns_from}
-use Rattle.run_turns.specs.Steps.{turns_by}
+use Rattle.run_turns.specs.Steps.{GoesOn, turns_by}
 
 -- a line that was given is the text that is asked for
 pub line_given : (a b : Pending) (text asked : List ℕ) (fed : Bool) → asked ≡ text → Reads a b (λ bytes rest. Gives bytes rest Line text fed)
@@ -55,5 +55,5 @@ module _ {X : Type 0} (stands : X → Position) (turn : X → ℕ → Turn X) (a
 
   -- the source failed, and no line was passed
   pub unread : Reads a b (λ bytes rest. Gives bytes rest Failed text fed)
-      → Reads a b (λ bytes rest. PassesLines 0 bytes rest × ((later : Played) × (turns_by stands turn x at bytes ≡ behind [] later)))
+      → Reads a b (λ bytes rest. PassesLines 0 bytes rest × GoesOn (turns_by stands turn x at bytes) [])
   unread gives = Reads_more a b _ _ gives (λ bytes rest is. ((0, omega arith, is), (turns_by stands turn x at bytes, refl)))

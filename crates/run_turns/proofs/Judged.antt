@@ -1,7 +1,6 @@
 -- Steps of a game, one after another.
-use Rattle.std.proofs.Common.{◌≡◌, ℕ, ◌+◌, ◌<◌, ◌≤◌, Bool, true, false, List, [], ◌∷◌, ◌++◌, length, Option, Ok, Err, refl}
+use Rattle.std.proofs.Common.{◌≡◌, ℕ, ◌+◌, ◌<◌, ◌≤◌, Bool, true, List, [], ◌∷◌, ◌++◌, length, Option, refl}
 use Rattle.std.proofs.Common.{sym, ap, ◌∙◌, subst, arith, append-nil, length-append}
-use Rattle.std.specs.Bool.{⊤}
 use Rattle.std.proofs.KnownBytes.{Appends-nil}
 use Rattle.std.proofs.lemmas.Grind.{flat_map-append}
 use Rattle.device_rules.specs.Devices.{AppendsPrefix}
@@ -13,13 +12,16 @@ use Rattle.io_ports.proofs.Reading.{Reads_more, Reads_start, Reads_then, passes_
 use Rattle.game_rules.specs.Position.{Position}
 use Rattle.proof_text.specs.Texts.{pieces, lines_in}
 use Rattle.play_text.specs.Play as ends
-use Rattle.play_text.specs.Play.{Played, ended, behind, text_of}
+use Rattle.play_text.specs.Play.{PlayEnd, Played, ended, behind, text_of}
 use Rattle.play_text.specs.declared.PlayFault.{PlayFault}
 use Rattle.play_text.proofs.Steps.{behind_more}
 use Rattle.play_text.specs.Play.{Turn, turns_from}
-use Rattle.run_turns.specs.Steps.{turns_by, StopsTurns, passed_by, TurnStep, PlaysNext, PlaysTurns}
-use Rattle.run_turns.specs.declared.turn_stop.TurnStop.{TurnStop}
-use Rattle.run_turns.specs.declared.turn_stop.TurnStop.TheVariants as stops
+use Rattle.run_frame.specs.declared.game_input.InputStop.TheVariants as inputs
+use Rattle.run_frame.specs.declared.run_stop.RunStop.{RunStop}
+use Rattle.run_frame.specs.declared.run_stop.RunStop.TheVariants.{Own, Write}
+use Rattle.run_turns.specs.Steps.{turns_by, GoesOn, StopsTurns, TurnStep}
+use Rattle.run_turns.specs.declared.game_end.GameStop.{GameStop}
+use Rattle.run_turns.specs.declared.game_end.GameStop.TheVariants as stops
 use Rattle.run_turns.proofs.Got.{line_got}
 
 -- ---- one line
@@ -48,7 +50,7 @@ module _ {X : Type 0} (stands : X → Position) (turn : X → ℕ → Turn X) wh
   module _ (a b : Pending) (text : List ℕ) (fed : Bool) (x y : X) (at : ℕ) (gives : Reads a b (λ bytes rest. Gives bytes rest Line text fed)) where
     pub next_played : (line : List ℕ)
         → ((more : List (List ℕ)) → turns_from stands turn x at (text ∷ more) ≡ behind (line ∷ []) (turns_from stands turn y (at + 1) more))
-        → Reads a b (PlaysNext stands turn x y at (Ok true) (line ∷ []))
+        → Reads a b (λ bytes rest. PassesLines 1 bytes rest × (turns_by stands turn x at bytes ≡ behind (line ∷ []) (turns_by stands turn y (at + 1) rest)))
     unfolding turns_by
     next_played line answer = line_got stands turn a b text fed x at (λ played rest. played ≡ behind (line ∷ []) (turns_by stands turn y (at + 1) rest)) gives
         (λ rest. answer (lines_in (pieces rest)))
@@ -56,22 +58,15 @@ module _ {X : Type 0} (stands : X → Position) (turn : X → ℕ → Turn X) wh
     -- the line wasn't written whole
     pub next_cut : (line : List ℕ)
         → ((more : List (List ℕ)) → turns_from stands turn x at (text ∷ more) ≡ behind (line ∷ []) (turns_from stands turn y (at + 1) more))
-        → Reads a b (PlaysNext stands turn x y at (Err stops.Write) (line ∷ []))
+        → Reads a b (λ bytes rest. PassesLines 1 bytes rest × GoesOn (turns_by stands turn x at bytes) (line ∷ []))
     next_cut line answer = Reads_more a b _ _ (next_played line answer) (λ bytes rest h. (h.0, (turns_by stands turn y (at + 1) rest, h.1)))
 
     pub next_stopped : (fault : PlayFault) → ((more : List (List ℕ)) → turns_from stands turn x at (text ∷ more) ≡ ended (ends.NoMove fault))
-        → Reads a b (PlaysNext stands turn x y at (Err (stops.NoMove fault)) [])
+        → Reads a b (λ bytes rest. PassesLines 1 bytes rest × (turns_by stands turn x at bytes ≡ ended (ends.NoMove fault)))
     next_stopped fault answer = line_got stands turn a b text fed x at (λ played rest. played ≡ ended (ends.NoMove fault)) gives
         (λ rest. answer (lines_in (pieces rest)))
 
 -- ---- several
-
--- what stops a game behind some lines
-pub stops_behind : (played later : Played) (lines more : List (List ℕ)) (stop : TurnStop) → played ≡ behind lines later → StopsTurns later more stop
-    → StopsTurns played (lines ++ more) stop
-stops_behind played later lines more (stops.NoMove fault) goes is = goes ∙ ap (behind lines) is
-stops_behind played later lines more stops.Read goes (rest, is) = (rest, goes ∙ ap (behind lines) is ∙ behind_more lines more rest)
-stops_behind played later lines more stops.Write goes (rest, is) = (rest, goes ∙ ap (behind lines) is ∙ behind_more lines more rest)
 
 pub step_then : (a b c : Pending) (o p q : Option (List ℕ)) (whole : Bool) (i j k : ℕ) (F G H : List (List ℕ) → List ℕ → List ℕ → Type 0)
     → TurnStep a b o p true i j F → TurnStep b c p q whole j k G
@@ -84,16 +79,13 @@ step_then a b c o p q whole i j k F G H first next more = record {
   reads = Reads_then a b c _ _ _ first.reads next.reads (λ bytes mid rest. more first.lines next.lines bytes mid rest);
 }
 
--- lines that were passed before what stops the game are passed with those of its step
-passes_stop : (xs ys : List (List ℕ)) (stop : TurnStop) (bytes mid rest : List ℕ) → PassesLines (length xs) bytes mid
-    → PassesLines (passed_by stop (length ys)) mid rest → PassesLines (passed_by stop (length (xs ++ ys))) bytes rest
-passes_stop xs ys stop bytes mid rest p q = passes_most (length xs + passed_by stop (length ys)) (passed_by stop (length (xs ++ ys))) bytes rest
-    (within stop) (passes_then (length xs) (passed_by stop (length ys)) bytes mid rest p q)
-  where
-    within : (stop : TurnStop) → length xs + passed_by stop (length ys) ≤ passed_by stop (length (xs ++ ys))
-    within (stops.NoMove fault) = omega (arith, length-append xs ys)
-    within stops.Read = omega (arith, length-append xs ys)
-    within stops.Write = omega (arith, length-append xs ys)
+-- lines are passed, and then some more
+passes_both : (m n most : ℕ) (bytes mid rest : List ℕ) → m + n ≤ most → PassesLines m bytes mid → PassesLines n mid rest → PassesLines most bytes rest
+passes_both m n most bytes mid rest few p q = passes_most (m + n) most bytes rest few (passes_then m n bytes mid rest p q)
+
+-- what goes on behind some lines
+pub goes_behind : (played later : Played) (xs ys : List (List ℕ)) → played ≡ behind xs later → GoesOn later ys → GoesOn played (xs ++ ys)
+goes_behind played later xs ys goes (rest, is) = (rest, goes ∙ ap (behind xs) is ∙ behind_more xs ys rest)
 
 module _ {X : Type 0} (stands : X → Position) (turn : X → ℕ → Turn X) (x : X) (first : ℕ) where
   -- some lines were played
@@ -104,21 +96,32 @@ module _ {X : Type 0} (stands : X → Position) (turn : X → ℕ → Turn X) (x
   goes_none a out left = step_none a a out true left left (Goes x first) (omega arith)
       (Reads_start a (Goes x first []) (λ bytes. (passes_none bytes, refl)))
 
-  module _ (y z : X) (at : ℕ) (xs ys : List (List ℕ)) (bytes mid rest : List ℕ) (goes : Goes y at xs bytes mid) where
-    pub goes_next : PlaysNext stands turn y z at (Ok true) ys mid rest → Goes z (at + 1) (xs ++ ys) bytes rest
-    goes_next q = (
-      passes_most (length xs + length ys) (length (xs ++ ys)) bytes rest (omega (arith, length-append xs ys))
-          (passes_then (length xs) (length ys) bytes mid rest goes.0 q.0),
+  module _ (y : X) (at : ℕ) (xs ys : List (List ℕ)) (bytes mid rest : List ℕ) (goes : Goes y at xs bytes mid) where
+    pub goes_next : (z : X) → PassesLines (length ys) mid rest × (turns_by stands turn y at mid ≡ behind ys (turns_by stands turn z (at + 1) rest))
+        → Goes z (at + 1) (xs ++ ys) bytes rest
+    goes_next z q = (
+      passes_both (length xs) (length ys) (length (xs ++ ys)) bytes mid rest (omega (arith, length-append xs ys)) goes.0 q.0,
       goes.1 ∙ ap (behind xs) q.1 ∙ behind_more xs ys (turns_by stands turn z (at + 1) rest),
     )
 
-    pub goes_all : PlaysNext stands turn y z at (Ok false) ys mid rest → PlaysTurns {T = ⊤} stands turn x first (Ok tt) (xs ++ ys) bytes rest
-    goes_all q = (
-      passes_most (length xs + (length ys + 1)) (length (xs ++ ys) + 1) bytes rest (omega (arith, length-append xs ys))
-          (passes_then (length xs) (length ys + 1) bytes mid rest goes.0 q.0),
+    pub goes_end : (end : PlayEnd) → PassesLines (length ys + 1) mid rest × (turns_by stands turn y at mid ≡ record { lines = ys; end = end })
+        → PassesLines (length (xs ++ ys) + 1) bytes rest × (turns_by stands turn x first bytes ≡ record { lines = xs ++ ys; end = end })
+    goes_end end q = (
+      passes_both (length xs) (length ys + 1) (length (xs ++ ys) + 1) bytes mid rest (omega (arith, length-append xs ys)) goes.0 q.0,
       goes.1 ∙ ap (behind xs) q.1,
     )
 
-    pub goes_stop : (stop : TurnStop) → PlaysNext stands turn y z at (Err stop) ys mid rest
-        → PlaysTurns {T = ⊤} stands turn x first (Err stop) (xs ++ ys) bytes rest
-    goes_stop stop q = (passes_stop xs ys stop bytes mid rest goes.0 q.0, stops_behind _ _ xs ys stop goes.1 q.1)
+    goes_cut : PassesLines (length ys) mid rest × GoesOn (turns_by stands turn y at mid) ys
+        → PassesLines (length (xs ++ ys)) bytes rest × GoesOn (turns_by stands turn x first bytes) (xs ++ ys)
+    goes_cut q = (
+      passes_both (length xs) (length ys) (length (xs ++ ys)) bytes mid rest (omega (arith, length-append xs ys)) goes.0 q.0,
+      goes_behind _ _ xs ys goes.1 q.1,
+    )
+
+    pub goes_stop : {H : Type 0} (stop : RunStop (GameStop H)) → StopsTurns (turns_by stands turn y at mid) ys mid rest stop
+        → StopsTurns (turns_by stands turn x first bytes) (xs ++ ys) bytes rest stop
+    goes_stop (Own (stops.NoMove fault)) q = goes_end (ends.NoMove fault) q
+    goes_stop (Own (stops.Input inputs.Read)) q = goes_cut q
+    goes_stop Write q = goes_cut q
+    goes_stop (Own (stops.Input (inputs.NoGame fault))) q = q
+    goes_stop (Own (stops.Head h)) q = q

@@ -1,5 +1,4 @@
 pub mod Got
 pub mod Judged
-pub mod Stopped
-pub mod Behind
-pub mod Ends
+pub mod Starting
+pub mod Plays

@@ -1,7 +1,7 @@
 -- What is promised of a command that plays an input line by line: a head of so many lines, which the command reads itself, and
 -- then a line for each move of one side. What a command says that stops it before the moves is `H`. What is said of what a sink
 -- holds is said of a sink that tells it.
-use Rattle.std.specs.Prelude.{◌≡◌, ◌⊎◌, ℕ, ◌+◌, ◌-◌, ◌*◌, Bool, true, false, List, [], ◌++◌, length, Option, Some, None, IfSome, Result, Ok, Err}
+use Rattle.std.specs.Prelude.{◌≡◌, ◌⊎◌, ℕ, ◌+◌, ◌-◌, ◌*◌, Bool, true, false, List, [], ◌++◌, length, Option, Some, None, IfSome, Result, Ok, Err, ⊤}
 use Rattle.std.specs.Io.KnownBytes.{Appends, IsAtEnd}
 use Rattle.device_rules.specs.Devices.{AppendsPrefix}
 use Rattle.io_ports.specs.Lines.{most_held}
@@ -10,15 +10,13 @@ use Rattle.play_text.specs.Play as ends
 use Rattle.play_text.specs.Play.{PlayEnd, Played, text_of}
 use Rattle.run_frame.specs.Streams.{Streams, Took, TakesLines, WaitsBehind}
 use Rattle.run_frame.specs.Texts as inputs
-use Rattle.run_frame.specs.Texts.{write_line}
+use Rattle.run_frame.specs.Stops.{of_result, run_stop_status, run_stop_text}
 use Rattle.run_frame.specs.declared.game_input.InputStop.TheVariants.{NoGame, Read}
+use Rattle.run_frame.specs.declared.run_stop.RunStop.{RunStop}
+use Rattle.run_frame.specs.declared.run_stop.RunStop.TheVariants.{Own, Write}
 use Rattle.run_turns.specs.Turns.{move_fault_line}
-use Rattle.run_turns.specs.declared.turn_stop.TurnStop.{TurnStop}
-use Rattle.run_turns.specs.declared.turn_stop.TurnStop.TheVariants as turns
 use Rattle.run_turns.specs.declared.game_end.GameStop.{GameStop}
-use Rattle.run_turns.specs.declared.game_end.GameStop.TheVariants.{Input, Head, NoMove, Write}
-use Rattle.run_turns.specs.declared.game_end.GameEnding.{GameEnding}
-use Rattle.run_turns.specs.declared.game_end.GameEnding.TheVariants.{Done, Stopped}
+use Rattle.run_turns.specs.declared.game_end.GameStop.TheVariants.{Input, Head, NoMove}
 
 -- A game as one command plays it: what comes of an input; how many lines of an input stand before the moves, how many lines are
 -- written before the answers to them, and how many were read at most where the source failed before that; and for what stops the
@@ -34,38 +32,26 @@ pub record GameForm (H : Type 0) : Type 0 where
 
 -- ---- what a caller sees
 
+-- how a run ends: all moves were played, or something stopped it
+abbrev pub GameEnd : Type 0 → Type 0
+GameEnd H = Result ⊤ (RunStop (GameStop H))
+
 -- the exit status, and the text for the error stream
 abbrev pub stop_status : {H : Type 0} → (H → ℕ) → GameStop H → ℕ
 stop_status status_of (Input why) = inputs.stop_status why
 stop_status status_of (Head h) = status_of h
 stop_status status_of (NoMove fault) = 3
-stop_status status_of Write = 7
 
 abbrev pub stop_text : {H : Type 0} → (H → List ℕ) → GameStop H → List ℕ
 stop_text words_of (Input why) = inputs.stop_text why
 stop_text words_of (Head h) = words_of h
 stop_text words_of (NoMove fault) = move_fault_line fault
-stop_text words_of Write = write_line
 
-abbrev pub ending_status : {H : Type 0} → (H → ℕ) → GameEnding H → ℕ
-ending_status status_of Done = 0
-ending_status status_of (Stopped stop) = stop_status status_of stop
+abbrev pub end_status : {H T : Type 0} → (H → ℕ) → Result T (RunStop (GameStop H)) → ℕ
+end_status status_of = of_result (λ done. 0) (run_stop_status (stop_status status_of))
 
-abbrev pub ending_text : {H : Type 0} → (H → List ℕ) → GameEnding H → List ℕ
-ending_text words_of Done = []
-ending_text words_of (Stopped stop) = stop_text words_of stop
-
--- ---- what stops a game
-
--- what stops a turn stops the game
-abbrev pub of_turns : {H : Type 0} → TurnStop → GameStop H
-of_turns (turns.NoMove fault) = NoMove fault
-of_turns turns.Read = Input Read
-of_turns turns.Write = Write
-
-abbrev pub ending_of : {H X : Type 0} → Result X (GameStop H) → GameEnding H
-ending_of (Ok x) = Done
-ending_of (Err stop) = Stopped stop
+abbrev pub end_text : {H : Type 0} → (H → List ℕ) → GameEnd H → List ℕ
+end_text words_of = of_result (λ done. []) (run_stop_text (stop_text words_of))
 
 -- ---- what is promised
 
@@ -113,17 +99,17 @@ Awaits form lines taken =
 -- From the bytes that it took, by its end. No more was taken than the lines before the moves, a line for each answer and the one
 -- that is no move, and what came with them. Where the source failed, each whole line of the other side's that was taken by then
 -- has its answer.
-abbrev pub GameFrom : {H : Type 0} → GameForm H → (List ℕ → List (List ℕ) → PlayEnd → Type 0) → List ℕ → Streams → GameEnding H → Type 0
-GameFrom form Told taken s Done = Ended form Told taken s ends.AllPlayed (form.head + 1) × IsAtEnd s.left
-GameFrom form Told taken s (Stopped (NoMove fault)) = Ended form Told taken s (ends.NoMove fault) (form.head + 1)
-GameFrom form Told taken s (Stopped (Input (NoGame fault))) = Ended form Told taken s (ends.NoGame fault) 2
-GameFrom form Told taken s (Stopped (Head h)) = EndedBefore form Told taken s (form.end_of h) (form.until h)
-GameFrom form Told taken s (Stopped (Input Read)) =
+abbrev pub GameFrom : {H : Type 0} → GameForm H → (List ℕ → List (List ℕ) → PlayEnd → Type 0) → List ℕ → Streams → GameEnd H → Type 0
+GameFrom form Told taken s (Ok done) = Ended form Told taken s ends.AllPlayed (form.head + 1) × IsAtEnd s.left
+GameFrom form Told taken s (Err (Own (NoMove fault))) = Ended form Told taken s (ends.NoMove fault) (form.head + 1)
+GameFrom form Told taken s (Err (Own (Input (NoGame fault)))) = Ended form Told taken s (ends.NoGame fault) 2
+GameFrom form Told taken s (Err (Own (Head h))) = EndedBefore form Told taken s (form.end_of h) (form.until h)
+GameFrom form Told taken s (Err (Own (Input Read))) =
     (lines : List (List ℕ)) × HasBegun form taken s.input lines × Appends s.old s.new (text_of lines) × Awaits form lines taken
-GameFrom form Told taken s (Stopped Write) = CutShort form taken s false form.head
+GameFrom form Told taken s (Err Write) = CutShort form taken s false form.head
 
 -- a command that takes so many lines with their line feeds at most, and what comes with the last of them
-abbrev pub GamePlays : {H : Type 0} → GameForm H → (List ℕ → List (List ℕ) → PlayEnd → Type 0) → (most : ℕ) → Streams → GameEnding H → Type 0
+abbrev pub GamePlays : {H : Type 0} → GameForm H → (List ℕ → List (List ℕ) → PlayEnd → Type 0) → (most : ℕ) → Streams → GameEnd H → Type 0
 GamePlays form Told most s end = Took s (most * (longest_line + 1) + most_held) (λ taken. GameFrom form Told taken s end)
 
 -- how it ends on an input that is played to its end, where no stream failed

@@ -8,30 +8,33 @@ use Rattle.proof_text.specs.Texts.{pieces, lines_in}
 use Rattle.play_text.specs.Play as ends
 use Rattle.play_text.specs.Play.{Played, behind, text_of}
 use Rattle.play_text.specs.Play.{Turn, turns_from}
-use Rattle.run_turns.specs.declared.turn_stop.TurnStop.{TurnStop}
-use Rattle.run_turns.specs.declared.turn_stop.TurnStop.TheVariants.{NoMove, Read, Write}
+use Rattle.run_frame.specs.declared.game_input.InputStop.TheVariants.{NoGame, Read}
+use Rattle.run_frame.specs.declared.run_stop.RunStop.{RunStop}
+use Rattle.run_frame.specs.declared.run_stop.RunStop.TheVariants.{Own, Write}
+use Rattle.run_turns.specs.declared.game_end.GameStop.{GameStop}
+use Rattle.run_turns.specs.declared.game_end.GameStop.TheVariants.{Input, Head, NoMove}
 
 -- what is played by the bytes that are left, the first line of which has this number
 unfoldable pub turns_by : {X : Type 0} → (X → Position) → (X → ℕ → Turn X) → X → ℕ → List ℕ → Played
 turns_by stands turn x at bytes = turns_from stands turn x at (lines_in (pieces bytes))
 
--- What is played ends so by what stops it; where a stream failed, it would have gone on.
-abbrev pub StopsTurns : Played → List (List ℕ) → TurnStop → Type 0
-StopsTurns played lines (NoMove fault) = played ≡ record { lines = lines; end = ends.NoMove fault }
-StopsTurns played lines Read = (later : Played) × (played ≡ behind lines later)
-StopsTurns played lines Write = (later : Played) × (played ≡ behind lines later)
+-- some lines are the first of what is played
+abbrev pub GoesOn : Played → List (List ℕ) → Type 0
+GoesOn played lines = (later : Played) × (played ≡ behind lines later)
 
--- how many lines were passed, where so many were begun to be written; one that is no move is passed besides
-abbrev pub passed_by : TurnStop → ℕ → ℕ
-passed_by (NoMove fault) begun = begun + 1
-passed_by Read begun = begun
-passed_by Write begun = begun
+-- What is played ends so by what stops it, which is a line that is no move, or a stream that failed; there it would have gone on. Each
+-- line that was begun to be written stands for one that was passed, and one that is no move is passed besides.
+abbrev pub StopsTurns : {H : Type 0} → Played → List (List ℕ) → List ℕ → List ℕ → RunStop (GameStop H) → Type 0
+StopsTurns played lines bytes rest (Own (NoMove fault)) = PassesLines (length lines + 1) bytes rest × (played ≡ record { lines = lines; end = ends.NoMove fault })
+StopsTurns played lines bytes rest (Own (Input Read)) = PassesLines (length lines) bytes rest × GoesOn played lines
+StopsTurns played lines bytes rest Write = PassesLines (length lines) bytes rest × GoesOn played lines
+StopsTurns played lines bytes rest (Own (Input (NoGame fault))) = ⊥
+StopsTurns played lines bytes rest (Own (Head h)) = ⊥
 
 -- whether the last line that was begun stands whole
-abbrev pub is_whole : {T : Type 0} → Result T TurnStop → Bool
+abbrev pub is_whole : {T S : Type 0} → Result T (RunStop S) → Bool
 is_whole (Ok t) = true
-is_whole (Err (NoMove fault)) = true
-is_whole (Err Read) = true
+is_whole (Err (Own stop)) = true
 is_whole (Err Write) = false
 
 -- Lines were written, of which the last may be cut after a write that failed; and a fact of the bytes that were not given
@@ -44,17 +47,17 @@ pub record TurnStep (a b : Pending) (old new : Option (List ℕ)) (whole : Bool)
   pub reads : Reads a b (Fact lines)
 
 -- A line was played, or there was none, or the game was stopped.
-abbrev pub PlaysNext : {X : Type 0} → (X → Position) → (X → ℕ → Turn X) → X → X → ℕ → Result Bool TurnStop → List (List ℕ) → List ℕ → List ℕ → Type 0
+abbrev pub PlaysNext : {X H : Type 0} → (X → Position) → (X → ℕ → Turn X) → X → X → ℕ → Result Bool (RunStop (GameStop H))
+    → List (List ℕ) → List ℕ → List ℕ → Type 0
 PlaysNext stands turn x y at (Ok true) lines bytes rest =
     PassesLines (length lines) bytes rest × (turns_by stands turn x at bytes ≡ behind lines (turns_by stands turn y (at + 1) rest))
 PlaysNext stands turn x y at (Ok false) lines bytes rest =
     PassesLines (length lines + 1) bytes rest × (turns_by stands turn x at bytes ≡ record { lines = lines; end = ends.AllPlayed })
-PlaysNext stands turn x y at (Err stop) lines bytes rest =
-    PassesLines (passed_by stop (length lines)) bytes rest × StopsTurns (turns_by stands turn x at bytes) lines stop
+PlaysNext stands turn x y at (Err stop) lines bytes rest = StopsTurns (turns_by stands turn x at bytes) lines bytes rest stop
 
 -- All lines were played, or the game was stopped.
-abbrev pub PlaysTurns : {X T : Type 0} → (X → Position) → (X → ℕ → Turn X) → X → ℕ → Result T TurnStop → List (List ℕ) → List ℕ → List ℕ → Type 0
+abbrev pub PlaysTurns : {X T H : Type 0} → (X → Position) → (X → ℕ → Turn X) → X → ℕ → Result T (RunStop (GameStop H))
+    → List (List ℕ) → List ℕ → List ℕ → Type 0
 PlaysTurns stands turn x at (Ok t) lines bytes rest =
     PassesLines (length lines + 1) bytes rest × (turns_by stands turn x at bytes ≡ record { lines = lines; end = ends.AllPlayed })
-PlaysTurns stands turn x at (Err stop) lines bytes rest =
-    PassesLines (passed_by stop (length lines)) bytes rest × StopsTurns (turns_by stands turn x at bytes) lines stop
+PlaysTurns stands turn x at (Err stop) lines bytes rest = StopsTurns (turns_by stands turn x at bytes) lines bytes rest stop

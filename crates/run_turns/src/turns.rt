@@ -5,35 +5,39 @@ ghost use Rattle.io_ports.specs.Lines.{IsUndecided};
 ghost use Rattle.io_ports.specs.Reading.{pending};
 ghost use Rattle.play_text.specs.Play.{NoMove, ended, behind, column_in};
 ghost use Rattle.play_text.specs.Play.{turns_from};
+ghost use Rattle.run_frame.specs.declared.game_input.InputStop.TheVariants as inputs;
+ghost use Rattle.run_frame.specs.declared.run_stop.RunStop.TheVariants as runs;
+ghost use Rattle.run_turns.specs.Games.{end_status};
 ghost use Rattle.run_turns.specs.Steps.{TurnStep, PlaysNext, PlaysTurns, is_whole};
-ghost use Rattle.run_turns.specs.declared.turn_stop.TurnStop.TheVariants as stops;
+ghost use Rattle.run_turns.specs.declared.game_end.GameStop.TheVariants as stops;
 
+use crate::game_end::{GameEnd, GameStop};
 use crate::player::Player;
-use crate::turn_stop::TurnStop;
+use crate::turn::turn_line;
 use board_bits::{Column, MoveFault, Size};
-use io_ports::{Failed, LineGot, Lines, Sink, Source};
+use io_ports::{LineGot, Lines, Sink, Source};
 use play_text::{PlayFault, PlayKind};
-use run_frame::put_line;
+use run_frame::{InputStop, RunStop, put_line};
 use text_words::LineText;
 
 /// Plays all lines to the end of the input, or to what stops the game. The first has this number in the whole input.
-pub fn play_turns<P: Player, S: Source, O: Sink>(
+pub fn play_turns<H: Drop, P: Player, S: Source, O: Sink>(
     player: &mut P,
     first: u64,
     lines: &mut Lines,
     source: &mut S,
     out: &mut O,
-) -> Result<(), TurnStop>
+) -> GameEnd<H>
     requires { first + P.left player.old < 2 ^ 64 }
     ensures plays { TurnStep (pending lines.old (S.left source.old) (S.last_read source.old))
         (pending lines.new (S.left source.new) (S.last_read source.new))
         (O.written out.old) (O.written out.new) (is_whole result)
         (P.left player.old) (P.left player.new) (PlaysTurns P.stands P.turn player.old first result) }
     ensures ended { OnOk result (lines.new.ended ≡ true) }
-    ensures waiting { result ≡ Err stops.Read → IsUndecided lines.new.ahead }
+    ensures waiting { result ≡ Err (runs.Own (stops.Input inputs.Read)) → IsUndecided lines.new.ahead }
     ensures later { (S.faults source.old ≤ S.faults source.new) × (O.faults out.old ≤ O.faults out.new) }
-    ensures read_fault { result ≡ Err stops.Read → Rose (S.faults source.old) (S.faults source.new) }
-    ensures write_fault { result ≡ Err stops.Write → Rose (O.faults out.old) (O.faults out.new) }
+    ensures read_fault { (status_of : H → ℕ) → end_status status_of result ≡ 6 → Rose (S.faults source.old) (S.faults source.new) }
+    ensures write_fault { (status_of : H → ℕ) → end_status status_of result ≡ 7 → Rose (O.faults out.old) (O.faults out.new) }
 {
     let mut at = first;
     while play_next(player, at, lines, source, out)? {
@@ -43,35 +47,35 @@ pub fn play_turns<P: Player, S: Source, O: Sink>(
 }
 
 /// Plays the next line, which has this number, and answers whether there was one.
-fn play_next<P: Player, S: Source, O: Sink>(
+fn play_next<H: Drop, P: Player, S: Source, O: Sink>(
     player: &mut P,
     at: u64,
     lines: &mut Lines,
     source: &mut S,
     out: &mut O,
-) -> Result<bool, TurnStop>
+) -> Result<bool, RunStop<GameStop<H>>>
     ensures plays { TurnStep (pending lines.old (S.left source.old) (S.last_read source.old))
         (pending lines.new (S.left source.new) (S.last_read source.new))
         (O.written out.old) (O.written out.new) (is_whole result)
         (P.left player.old) (P.left player.new) (PlaysNext P.stands P.turn player.old player.new at result) }
     ensures fewer { result ≡ Ok true → P.left player.new < P.left player.old }
     ensures ended { result ≡ Ok false → lines.new.ended ≡ true }
-    ensures waiting { result ≡ Err stops.Read → IsUndecided lines.new.ahead }
+    ensures waiting { result ≡ Err (runs.Own (stops.Input inputs.Read)) → IsUndecided lines.new.ahead }
     ensures later { (S.faults source.old ≤ S.faults source.new) × (O.faults out.old ≤ O.faults out.new) }
-    ensures read_fault { result ≡ Err stops.Read → Rose (S.faults source.old) (S.faults source.new) }
-    ensures write_fault { result ≡ Err stops.Write → Rose (O.faults out.old) (O.faults out.new) }
+    ensures read_fault { (status_of : H → ℕ) → end_status status_of result ≡ 6 → Rose (S.faults source.old) (S.faults source.new) }
+    ensures write_fault { (status_of : H → ℕ) → end_status status_of result ≡ 7 → Rose (O.faults out.old) (O.faults out.new) }
 {
     match lines.next(source) {
-        LineGot::Line => {
-            let line = play_line(player, at, lines.text())?;
-            match put_line(out, line.as_slice()) {
-                Ok(()) => Ok(true),
-                Err(Failed) => Err(TurnStop::Write),
+        LineGot::Line => match play_line(player, at, lines.text()) {
+            Ok(line) => {
+                put_line(out, line.as_slice())?;
+                Ok(true)
             }
-        }
-        LineGot::Long => Err(TurnStop::NoMove(no_move(PlayKind::BadMove, at))),
+            Err(fault) => Err(RunStop::Own(GameStop::NoMove(fault))),
+        },
+        LineGot::Long => Err(RunStop::Own(GameStop::NoMove(no_move(PlayKind::BadMove, at)))),
         LineGot::Done => Ok(false),
-        LineGot::Failed => Err(TurnStop::Read),
+        LineGot::Failed => Err(RunStop::Own(GameStop::Input(InputStop::Read))),
     }
 }
 
@@ -88,7 +92,7 @@ fn play_line<P: Player>(player: &mut P, at: u64, bytes: &[u8]) -> Result<LineTex
         return Err(no_move(PlayKind::BadMove, at));
     };
     match player.answer(column) {
-        Ok(line) => Ok(line),
+        Ok(turn) => Ok(turn_line(&turn)),
         Err(MoveFault::GameOver) => Err(no_move(PlayKind::GameOver, at)),
         Err(MoveFault::ColumnFull) => Err(no_move(PlayKind::ColumnFull, at)),
     }

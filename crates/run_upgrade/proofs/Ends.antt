@@ -228,7 +228,7 @@ module _ (input : Option (List ℕ)) (begun : ℕ) (head : Head) (mid last : Pen
         let P : RunStop ProofStop → Type 0 = λ found. ReadsLines End head.version Holds upgraded_line head.game.position mid last ended held sent (Err found) in
         let own : P (Own stop) = subst P is read in
         let caused : IsCausedBy (Rose before after) X (Own stop) = subst (IsCausedBy (Rose before after) X) is cause in
-        (ends_stop put own.0 sent before after X stop own.2 caused kept, ends_unsent put own.0 sent before after X stop own.2 caused kept)
+        (ends_stop put own.0 sent before after X stop own.3 caused kept, ends_unsent put own.0 sent before after X stop own.3 caused kept)
 
     -- the sink did
     pub ends_write : found ≡ Write → ReadsLines End head.version Holds upgraded_line head.game.position mid last ended held new (Err found)
@@ -240,7 +240,7 @@ module _ (input : Option (List ℕ)) (begun : ℕ) (head : Head) (mid last : Pen
 
 -- ---- what a caller rests on
 
-upgrade_completes : (s : Streams) (end : Upgraded) → Upgrades s end → (end ≡ Err (Own (stops.Input inputs.Read)) → ⊥) → (end ≡ Err Write → ⊥)
+upgrade_completes : (s : Streams) (end : Upgraded) → Upgrades s end → (upgrade_status end ≡ 6 → ⊥) → (upgrade_status end ≡ 7 → ⊥)
     → UpgradeCompletes s.input (upgrade_status end)
 upgrade_completes s (Ok done) o unread unwritten = of_each s.input _ (λ bytes v count right. inl refl)
 upgrade_completes s (Err (Own stops.Memory)) o unread unwritten = of_each s.input _ (λ bytes v count right. inr refl)
@@ -269,6 +269,6 @@ upgrade_held s (Ok done) o = appended_still s.old s.new _ o.holds.0.written
 upgrade_held s (Err (Own stop)) o = stops_held o.taken s.old s.new stop o.holds.0.1
 upgrade_held s (Err Write) o = put_held false o.taken o.holds.0.0 o.holds.0.1 s.old s.new o.holds.0.2
 
-pub upgrade_owes : (s : Streams) (unread unwritten : Type 0) (end : Upgraded) → Upgrades s end → (end ≡ Err (Own (stops.Input inputs.Read)) → unread)
-    → (end ≡ Err Write → unwritten) → UpgradeOwes s unread unwritten end
-upgrade_owes s unread unwritten end = owed upgrade_status Upgrades UpgradeCompletes _ _ s unread unwritten end (upgrade_held s end) (upgrade_completes s end)
+pub upgrade_owes : (s : Streams) (unread unwritten : Type 0) (end : Upgraded) → Upgrades s end → (upgrade_status end ≡ 6 → unread)
+    → (upgrade_status end ≡ 7 → unwritten) → UpgradeOwes s unread unwritten end
+upgrade_owes s unread unwritten end = owed upgrade_status Upgrades UpgradeCompletes s unread unwritten end (upgrade_held s end) (upgrade_completes s end)

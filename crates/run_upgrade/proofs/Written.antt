@@ -58,8 +58,9 @@ module _ (root : Position) (ls : List Lemma) (l : Lemma) (p : Position) (before 
         }
 
     pub lemma_taken : {X : Type 0} (after : Numbers) (counted : ℕ) (old new : Option (List ℕ)) (result : Result X NotTaken)
-        → WritesLemma p l before after old new result → OnOk result (counted ≡ count + 1)
+        → WritesLemma p l before after old new result → OnOk result (counted ≡ count + 1) → (result ≡ Err Memory → counted ≡ count)
         → Takes (HasPut after counted) upgraded_line root ls l old new result
-    lemma_taken after counted old new (Ok x) (keeps, put) one = (more after counted keeps one, subst (Appends old new) text put)
-    lemma_taken after counted old new (Err Memory) kept one = kept
-    lemma_taken after counted old new (Err Write) put one = (subst (AppendsPrefix false old new) text put, some)
+    lemma_taken after counted old new (Ok x) (keeps, put) one same = (more after counted keeps one, subst (Appends old new) text put)
+    lemma_taken after counted old new (Err Memory) (numbers, kept) one same =
+        (subst (λ after. HasPut after counted root ls) (sym numbers) (subst (λ count. HasPut before count root ls) (sym (same refl)) has), kept)
+    lemma_taken after counted old new (Err Write) put one same = (subst (AppendsPrefix false old new) text put, some)

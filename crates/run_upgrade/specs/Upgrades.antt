@@ -102,4 +102,4 @@ UpgradeCompletes input status =
 
 -- what it owes of a run
 abbrev pub UpgradeOwes : Streams → (unread unwritten : Type 0) → Upgraded → Type 0
-UpgradeOwes = Owes upgrade_status Upgrades UpgradeCompletes (Err (Own (Input Read))) (Err Write)
+UpgradeOwes = Owes upgrade_status Upgrades UpgradeCompletes

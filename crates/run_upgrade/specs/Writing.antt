@@ -29,9 +29,9 @@ pub record HasPut (numbers : Numbers) (count : ℕ) (root : Position) (ls : List
   pub all : length (all_shown root ls) ≡ length ls
 
 -- A lemma was written by the first that shows the same at the mirror image, as far as the numbers tell, and its own number
--- was kept; or nothing was written for want of memory, or a prefix of its line.
+-- was kept; or nothing was written nor kept for want of memory, or a prefix of its line was written.
 abbrev pub WritesLemma : Position → Lemma → Numbers → Numbers → Option (List ℕ) → Option (List ℕ) → {X : Type 0} → Result X NotTaken → Type 0
 WritesLemma p l before after old new (Ok x) =
     Keeps p l.claim l.number before after × Appends old new (lemma_line (resting_on l (kept_for (mirror p) l.claim before)))
-WritesLemma p l before after old new (Err Memory) = KeepsBytes old new
+WritesLemma p l before after old new (Err Memory) = (after ≡ before) × KeepsBytes old new
 WritesLemma p l before after old new (Err Write) = AppendsPrefix false old new (lemma_line (resting_on l (kept_for (mirror p) l.claim before)))

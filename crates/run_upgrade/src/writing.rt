@@ -61,6 +61,7 @@ impl Writer {
         requires short { length lemma.now.path.now.items ≤ longest_path }
         ensures written { WritesLemma position.now (lemma_viewed lemma.now) self.old.index self.new.index (O.written out.old) (O.written out.new) result }
         ensures counted { OnOk result (self.new.lemmas ≡ self.old.lemmas + 1) }
+        ensures memory { result ≡ Err untaken.Memory → self.new.lemmas ≡ self.old.lemmas }
         ensures later { O.faults out.old ≤ O.faults out.new }
         ensures cause { result ≡ Err untaken.Write → Rose (O.faults out.old) (O.faults out.new) }
     {

@@ -1,90 +1,77 @@
-use Rattle.std.proofs.Common.{◌+◌, ◌-◌, List, [], sym, ap, ◌∙◌, subst, arith}
+use Rattle.std.proofs.Common.{◌-◌, None, Ok, sym, subst}
 use Rattle.std.proofs.lemmas.Result.{err_from_is_err_and}
-use Rattle.io_ports.specs.Reading.{pending, Reads, PassesLines}
-use Rattle.proof_text.specs.Checked.{CheckerState}
-use Rattle.proof_text.specs.Lemma.{Lemma}
-use Rattle.proof_text.specs.Texts.{first_number}
-use Rattle.run_proof.specs.Steps.{lines_read_until}
-use Rattle.run_follow.specs.Reading.{AreKept, GoesTo, StopsLines}
-use Rattle.run_follow.proofs.Heads.{head_stopped, game_stopped, lines_stopped, lines_gone, proof_right, first_most, game_most, start_kept}
+use Rattle.device_rules.specs.Devices.{Rose}
+use Rattle.device_rules.proofs.DeviceLaws.{Rose_before}
+use Rattle.game_rules.specs.Position.{Position}
+use Rattle.io_ports.specs.Reading.{pending, Reads}
+use Rattle.run_proof.proofs.Judging.{first_caused}
+use Rattle.run_proof.proofs.Steps.{caused_more}
+use Rattle.run_follow.proofs.ToVerdict.{head_read, first_within, right_kept, right_within, right_read, right_proof, stop_kept, stop_within, stop_read}
+use Rattle.run_follow.specs.Reading.{IsRightProof, ReadsProof}
 use Rattle.run_follow.proofs.verdict.read_to_verdict.Goals as goal
 
--- ---- the first line
+-- ---- the head
 
-pub returns-in_err-version-clause-answer : goal.returns-in_err-version-clause-answer
-returns-in_err-version-clause-answer g c =
+pub returns-in_err-head-clause-answer : goal.returns-in_err-head-clause-answer
+returns-in_err-head-clause-answer g c =
     let same = err_from_is_err_and c.from_residual.result c.from_residual.ensures.1 in
-    let stopped = c.in_err-version.ensures in
-    rw (same.1, same.2) (head_stopped _ _ _ _ c.in_err-version.field-0.0 stopped.first stopped.answer)
+    rw (same.1, same.2) (head_read _ _ _ _ c.in_err-head.field-0.0 c.in_err-head.ensures.first c.in_err-head.ensures.answer c.args.book.now)
 
-pub returns-in_err-version-clause-few : goal.returns-in_err-version-clause-few
-returns-in_err-version-clause-few g c =
+pub returns-in_err-head-clause-few : goal.returns-in_err-head-clause-few
+returns-in_err-head-clause-few g c =
     let same = err_from_is_err_and c.from_residual.result c.from_residual.ensures.1 in
-    rw (same.1, same.2) (first_most c.in_err-version.field-0.0 c.in_err-version.ensures.first)
+    rw (same.1, same.2) (first_within c.in_err-head.field-0.0 c.in_err-head.ensures.first)
 
--- ---- the game
-
-pub returns-in_err-root-clause-answer : goal.returns-in_err-root-clause-answer
-returns-in_err-root-clause-answer g c =
-    let same = err_from_is_err_and c.from_residual-in_err-root.result c.from_residual-in_err-root.ensures.1 in
-    let first = c.in_ok-version.ensures.answer in
-    rw (same.1, same.2) (game_stopped _ _ _ c.in_ok-version.version first _ _ _ c.in_err-root.field-0.0 c.in_ok-version.ensures.later
-    c.in_err-root.ensures.answer)
-
-pub returns-in_err-root-clause-few : goal.returns-in_err-root-clause-few
-returns-in_err-root-clause-few g c =
-    let same = err_from_is_err_and c.from_residual-in_err-root.result c.from_residual-in_err-root.ensures.1 in
-    rw (same.1, same.2) (game_most c.in_err-root.field-0.0)
+pub returns-in_err-head-clause-cause : goal.returns-in_err-head-clause-cause
+returns-in_err-head-clause-cause g c =
+    let same = err_from_is_err_and c.from_residual.result c.from_residual.ensures.1 in
+    rw (same.1, same.2) (first_caused None _ _ _ _ _
+    (Rose (g.O.Sink.faults c.args.out.now) (g.O.Sink.faults c.args.out.now)) c.in_err-head.field-0.0 c.in_err-head.ensures.answer)
 
 -- ---- the lines behind it
 
-pub add_lines-requires-clause-kept : goal.add_lines-requires-clause-kept
-add_lines-requires-clause-kept g c =
-    subst (λ (ls : List Lemma). AreKept c.new-checker.result.stands ls) (sym c.requires)
-    (subst (λ s. AreKept s []) (sym (ap (λ s. s.stands) c.new-checker.ensures)) (start_kept c.in_ok-root.root))
+pub returns-in_err-read-clause-answer : goal.returns-in_err-read-clause-answer
+returns-in_err-read-clause-answer g c =
+    let same = err_from_is_err_and c.from_residual-in_err-read.result c.from_residual-in_err-read.ensures.1 in
+    let stop = c.in_err-read.field-0.0 in
+    rw (same.1, same.2) (stop_read c.in_ok-head.head _ _ _ c.in_ok-head.ensures.answer c.read_lines.new.lines.ended _ _ c.read_lines.new.taker stop _ _ _ c.in_err-read.ensures.read
+    (caused_more _ _ _ _ stop (λ rose. Rose_before _ _ _ c.in_ok-head.ensures.later rose) (λ rose. rose) c.in_err-read.ensures.cause))
 
-pub returns-in_err-end-clause-answer : goal.returns-in_err-end-clause-answer
-returns-in_err-end-clause-answer g c =
-    let same = err_from_is_err_and c.from_residual-in_err-end.result c.from_residual-in_err-end.ensures.1 in
-    let stop = c.in_err-end.field-0.0 in
-    let first = c.in_ok-version.ensures.answer in
-    let game_lines = c.read_game_lines.new in
-    let b = pending game_lines.lines (g.S.Source.left game_lines.source) (g.S.Source.last_read game_lines.source) in
-    let added = c.add_lines.new in
-    let d = pending added.lines (g.S.Source.left added.source) (g.S.Source.last_read added.source) in
-    let P : CheckerState → List Lemma → Type 0 = λ s ls. Reads b d (λ bytes rest. PassesLines (lines_read_until stop - 3) bytes rest
-    × StopsLines c.in_ok-version.version s ls first_number bytes rest (g.S.Source.faults game_lines.source) (g.S.Source.faults added.source) stop) in
-    let stopped = subst (λ s. P s []) (ap (λ s. s.stands) c.new-checker.ensures)
-    (subst (P c.new-checker.result.stands) c.requires c.in_err-end.ensures.answer) in
-    rw (same.1, same.2) (lines_stopped _ _ _ c.in_ok-version.version first _ c.in_ok-root.root c.in_ok-root.ensures.answer _ _ _ stop
-    (omega (arith, c.in_ok-version.ensures.later, c.in_ok-root.ensures.later)) c.in_err-end.ensures.few.0 stopped)
+pub returns-in_err-read-clause-few : goal.returns-in_err-read-clause-few
+returns-in_err-read-clause-few g c =
+    let same = err_from_is_err_and c.from_residual-in_err-read.result c.from_residual-in_err-read.ensures.1 in
+    rw (same.1, same.2) (stop_within c.in_ok-head.head _ _ _ c.in_ok-head.ensures.answer c.read_lines.new.lines.ended _ _ c.read_lines.new.taker c.in_err-read.field-0.0 c.in_err-read.ensures.read)
 
-pub returns-in_err-end-clause-few : goal.returns-in_err-end-clause-few
-returns-in_err-end-clause-few g c =
-    let same = err_from_is_err_and c.from_residual-in_err-end.result c.from_residual-in_err-end.ensures.1 in
-    rw (same.1, same.2) c.in_err-end.ensures.few.1
+pub returns-in_err-read-clause-kept : goal.returns-in_err-read-clause-kept
+returns-in_err-read-clause-kept g c =
+    stop_kept c.in_ok-head.head _ _ _ c.in_ok-head.ensures.answer c.read_lines.new.lines.ended _ _ c.read_lines.new.taker c.in_err-read.field-0.0 c.in_err-read.ensures.read
+
+pub returns-in_err-read-clause-cause : goal.returns-in_err-read-clause-cause
+returns-in_err-read-clause-cause g c =
+    let same = err_from_is_err_and c.from_residual-in_err-read.result c.from_residual-in_err-read.ensures.1 in
+    rw (same.1, same.2) (caused_more _ _ _ _ c.in_err-read.field-0.0 (λ rose. Rose_before _ _ _ c.in_ok-head.ensures.later rose) (λ rose. rose)
+    c.in_err-read.ensures.cause)
 
 pub returns-clause-answer : goal.returns-clause-answer
 returns-clause-answer g c =
-    let end = c.in_ok-end.end in
-    let first = c.in_ok-version.ensures.answer in
-    let game_lines = c.read_game_lines.new in
-    let b = pending game_lines.lines (g.S.Source.left game_lines.source) (g.S.Source.last_read game_lines.source) in
-    let added = c.add_lines.new in
-    let d = pending added.lines (g.S.Source.left added.source) (g.S.Source.last_read added.source) in
-    let P : CheckerState → List Lemma → Type 0 = λ s ls. Reads b d (λ bytes rest. PassesLines (end.1 - 3) bytes rest
-    × GoesTo c.in_ok-version.version s added.checker.stands ls added.book first_number (end.1 + 1) bytes rest) in
-    let gone = subst (λ s. P s []) (ap (λ s. s.stands) c.new-checker.ensures)
-    (subst (P c.new-checker.result.stands) c.requires c.in_ok-end.ensures.answer) in
-    lines_gone _ _ _ c.in_ok-version.version first _ c.in_ok-root.root c.in_ok-root.ensures.answer added.checker.stands added.book end.0 end.1
-    c.in_ok-end.ensures.verdict (c.in_ok-end.ensures.root ∙ ap (λ s. s.stands.root) c.new-checker.ensures) c.in_ok-end.ensures.few.0 gone
+    let read = c.in_ok-read.read in
+    let a = pending c.args.lines.now (g.S.Source.left c.args.source.now) (g.S.Source.last_read c.args.source.now) in
+    let b = pending c.read_lines.new.lines (g.S.Source.left c.read_lines.new.source) (g.S.Source.last_read c.read_lines.new.source) in
+    let before = g.S.Source.faults c.args.source.now in
+    let after = g.S.Source.faults c.read_lines.new.source in
+    let P : Position → Type 0 = λ root. Reads a b (ReadsProof c.read_lines.new.taker before after (Ok (record { root = root; verdict = read.accepted.verdict; at = read.end - 1 }))) in
+    subst P (sym c.position.ensures.position)
+    (right_read c.in_ok-head.head _ _ _ c.in_ok-head.ensures.answer c.read_lines.new.lines.ended _ _ c.read_lines.new.taker read c.in_ok-read.ensures.read before after)
 
 pub returns-clause-right : goal.returns-clause-right
 returns-clause-right g c =
-    let end = c.in_ok-end.end in
-    let first = c.in_ok-version.ensures.answer in
-    let added = c.add_lines.new in
-    proof_right _ _ _ c.in_ok-version.version first (pending added.lines (g.S.Source.left added.source) (g.S.Source.last_read added.source)) c.in_ok-root.root
-    c.in_ok-root.ensures.answer added.checker.stands added.book end.0 end.1
-    c.in_ok-end.ensures.verdict (c.in_ok-end.ensures.root ∙ ap (λ s. s.stands.root) c.new-checker.ensures) c.in_ok-end.ensures.few.0
-    c.in_ok-end.ensures.kept
+    subst (λ root. IsRightProof root c.read_lines.new.taker c.in_ok-read.read.accepted.verdict) (sym c.position.ensures.position)
+    (right_proof c.in_ok-head.head _ _ _ c.in_ok-head.ensures.answer c.read_lines.new.lines.ended _ _ c.read_lines.new.taker c.in_ok-read.read c.in_ok-read.ensures.read)
+
+pub returns-clause-few : goal.returns-clause-few
+returns-clause-few g c =
+    right_within c.in_ok-head.head _ _ _ c.in_ok-head.ensures.answer c.read_lines.new.lines.ended _ _ c.read_lines.new.taker c.in_ok-read.read c.in_ok-read.ensures.read
+
+pub returns-clause-kept : goal.returns-clause-kept
+returns-clause-kept g c =
+    right_kept c.in_ok-head.head _ _ _ c.in_ok-head.ensures.answer c.read_lines.new.lines.ended _ _ c.read_lines.new.taker c.in_ok-read.read c.in_ok-read.ensures.read

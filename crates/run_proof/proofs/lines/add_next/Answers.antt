@@ -68,7 +68,7 @@ returns-in-Err-clause-read g c = λ ls got many.
     stop_next c.args.place.version (g.T.LemmaTaker.holds c.args.taker.now c.args.checker.now.stands.root) g.T.LemmaTaker.puts
     (record { stands = c.args.checker.now.stands; next = c.args.place.at; lemmas = ls }) _ _ _
     c.args.place.until (sym c.is_done.ensures ∙ c.if-is_done.false) c.accept_next.new.checker.stands
-    c.accept_next.new.lines.ended _ _ c.in-Err.stop c.in-Err.ensures.answer
+    c.accept_next.new.lines.ended _ _ c.in-Err.stop c.in-Err.ensures.answer got
 
 pub returns-in-Err-clause-cause : goal.returns-in-Err-clause-cause
 returns-in-Err-clause-cause g c = got_cause _ _ _ _ _ _ _ (Rose (g.O.Sink.faults c.args.out.now) (g.O.Sink.faults c.args.out.now)) c.in-Err.stop c.in-Err.ensures.answer

@@ -1,7 +1,8 @@
-use Rattle.std.proofs.Common.{Err}
+use Rattle.std.proofs.Common.{Err, ap}
 use Rattle.run_frame.specs.declared.run_stop.MemoryStop.TheVariants.{Input}
 use Rattle.run_frame.specs.declared.run_stop.RunStop.TheVariants.{Own}
 use Rattle.run_frame.proofs.Inputs.{of_game, no_game}
+use Rattle.run_frame.proofs.Owed.{read_status, unwritten_status}
 use Rattle.run_prove.proofs.Ends.{prove_owes}
 use Rattle.run_prove.proofs.command.prove.Goals as goal
 
@@ -9,8 +10,9 @@ pub returns-in-Ok : goal.returns-in-Ok
 returns-in-Ok g c =
     prove_owes c.args.how.version c.args.how.nodes c.args.how.reach c.args.how.slots _ _ _ c.prove_game.result
     (of_game _ _ c.in-Ok.game c.in-Ok.ensures.takes (λ taken. c.prove_game.ensures.proves taken _ _ (g.S.Source.last_read c.read_game_input.new.source)))
-    (λ is. absurd (c.prove_game.ensures.no_input _ is)) c.prove_game.ensures.write_fault
+    (λ is. absurd (c.prove_game.ensures.read is)) c.prove_game.ensures.write_fault
 
 pub returns-in-Err : goal.returns-in-Err
 returns-in-Err g c = prove_owes c.args.how.version c.args.how.nodes c.args.how.reach c.args.how.slots _ _ _
-    (Err (Own (Input c.in-Err.stop))) (no_game _ _ _ _ c.in-Err.stop c.in-Err.ensures.takes) (λ is. c.in-Err.ensures.cause (cc is)) (λ is. absurd (cc is))
+    (Err (Own (Input c.in-Err.stop))) (no_game _ _ _ _ c.in-Err.stop c.in-Err.ensures.takes) (λ is. c.in-Err.ensures.cause (ap Err (read_status c.in-Err.stop is)))
+    (λ is. absurd (unwritten_status c.in-Err.stop is))

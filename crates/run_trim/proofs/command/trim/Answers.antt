@@ -2,11 +2,9 @@ use Rattle.std.proofs.Common.{◌≡◌, subst}
 use Rattle.device_rules.specs.Devices.{Rose}
 use Rattle.device_rules.proofs.DeviceLaws.{Rose_before}
 use Rattle.run_frame.specs.Streams.{streams}
-use Rattle.run_frame.specs.declared.game_input.InputStop.TheVariants.{Read}
 use Rattle.run_frame.specs.declared.run_stop.RunStop.TheVariants.{Own}
 use Rattle.run_proof.specs.Stops.{IsCausedBy}
-use Rattle.run_proof.specs.declared.stop.ProofStop.TheVariants.{Input}
-use Rattle.run_trim.specs.Trims.{PutsTrimmed}
+use Rattle.run_proof.proofs.Judging.{caused_read, stop_unwritten}
 use Rattle.run_trim.proofs.Ends.{book_ordered, book_named, trims_read, trims_stop, trim_owes}
 use Rattle.run_trim.proofs.command.trim.Goals as goal
 
@@ -27,8 +25,7 @@ returns-in-Ok g c =
     let proof = c.in-Ok.proof in
     let read = c.read_proof.new in
     trim_owes _ _ _ c.trim_proof.result (trims_read _ _ read.taker proof c.in-Ok.ensures.judged c.trim_proof.result c.trim_proof.ensures.puts)
-    (λ is. absurd (subst (PutsTrimmed proof.head.version proof.head.game read.taker proof.accepted.verdict (g.O.Sink.written read.out)
-    (g.O.Sink.written c.trim_proof.new.out)) is c.trim_proof.ensures.puts))
+    (λ is. absurd (c.trim_proof.ensures.read is))
     (λ is. Rose_before _ _ _ c.in-Ok.ensures.later (c.trim_proof.ensures.write_fault is))
 
 pub returns-in-Err-Own : goal.returns-in-Err-Own
@@ -40,4 +37,4 @@ returns-in-Err-Own g c =
     let cause = subst (IsCausedBy read_rose put_rose) c.in-Err-Own.field-0-is c.in-Err-Own.ensures.cause in
     rw c.in-Err-Own.field-0-is (trim_owes _ _ _ _
     (trims_stop (λ root ls. read.taker ≡ ls) _ c.in-Err-Own.field-0 stop c.in-Err-Own.field-0-is c.in-Err-Own.ensures.judged)
-    (λ is. let same : stop ≡ Input Read = cc is in subst (λ stop. IsCausedBy read_rose put_rose (Own stop)) same cause) (λ is. absurd (cc is)))
+    (caused_read read_rose put_rose (Own stop) cause) (λ is. absurd (stop_unwritten stop is)))

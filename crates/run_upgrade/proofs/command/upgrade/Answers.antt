@@ -8,7 +8,7 @@ use Rattle.io_ports.specs.Reading.{pending}
 use Rattle.proof_text.specs.declared.Version.TheVariants.{One}
 use Rattle.run_frame.proofs.Taken.{from_fresh}
 use Rattle.run_frame.specs.declared.run_stop.RunStop.TheVariants.{Own}
-use Rattle.run_proof.proofs.Judging.{first_caused, caused_read}
+use Rattle.run_proof.proofs.Judging.{first_caused, caused_read, stop_unwritten}
 use Rattle.run_proof.specs.Stops.{IsCausedBy}
 use Rattle.run_upgrade.proofs.Ends.{ends_first, ends_head, ends_own, ends_write, ends_done, ends_last, upgrade_owes}
 use Rattle.run_upgrade.specs.Writing.{HasPut}
@@ -22,7 +22,7 @@ returns-in_err-head g c =
     let cause = first_caused (Some One) _ _ _ _ _ out_rose stop c.in_err-head.ensures.answer in
     rw (same.1, same.2) (upgrade_owes _ _ _ _ (ends_first _ _ _ _ _ stop _ _ c.in_err-head.ensures.first
     (from_fresh _ _ _ _ _ c.new-lines.ensures c.in_err-head.ensures.answer) (Keeps-refl (g.O.Sink.written c.args.out.now)))
-    (caused_read _ out_rose (Own stop) cause) (λ is. absurd (cc is)))
+    (caused_read _ out_rose (Own stop) cause) (λ is. absurd (stop_unwritten stop is)))
 
 pub returns-in_err-put_all : goal.returns-in_err-put_all
 returns-in_err-put_all g c =
@@ -90,7 +90,7 @@ returns-in-Err-Own g c =
     c.in-Err-Own.field-0-is c.in-Err-Own.ensures.read c.in-Err-Own.ensures.cause c.flush.ensures.bytes in
     let cause = subst (IsCausedBy read_rose put_rose) c.in-Err-Own.field-0-is c.in-Err-Own.ensures.cause in
     upgrade_owes _ _ _ _ stopped.0
-    (λ is. Rose_before _ _ _ c.in_ok-head.ensures.later (caused_read read_rose put_rose (Own stop) cause is)) (λ is. absurd (cc is))
+    (λ is. Rose_before _ _ _ c.in_ok-head.ensures.later (caused_read read_rose put_rose (Own stop) cause is)) (λ is. absurd (stop_unwritten stop is))
 
 pub returns : goal.returns
 returns g c =

@@ -1,22 +1,24 @@
-use Rattle.std.proofs.Common.{◌≡◌, true, sym, ap, ◌∙◌, subst}
-use Rattle.game_rules.specs.Board.{on_board}
-use Rattle.game_rules.specs.Position.{Position, board_of, height}
-use Rattle.run_play.specs.Steps.{reply_column, answered_line}
-use Rattle.run_play.proofs.Read.{black_on_board, turn_is, fewer_left}
+use Rattle.std.proofs.Common.{◌≡◌, ℕ, true, Some, sym, ap, ◌∙◌, subst}
+use Rattle.game_rules.specs.Position.{Position, has_room, after_move}
+use Rattle.run_turns.specs.Turns.{turn_from}
+use Rattle.run_turns.specs.declared.turn.TurnEnd.{TurnEnd}
+use Rattle.run_play.proofs.Read.{white_room, black_room, turn_is, fewer_left}
 use Rattle.run_play.proofs.plan_player.PlanPlayerPlayer.answer.Goals as goal
 
-pub turn_line-requires-clause-black : goal.turn_line-requires-clause-black
-turn_line-requires-clause-black c =
-    let OnBoard : Position → Type 0 = λ q. on_board (board_of q) (reply_column c.in-Ok.reply, height q (reply_column c.in-Ok.reply)) ≡ true in
-    subst OnBoard (sym c.now-in-Ok.ensures.value) (black_on_board _ _ _ _ c.in-Ok.ensures.ok)
+pub new-requires-clause-theirs : goal.new-requires-clause-theirs
+new-requires-clause-theirs c = subst (λ (q : Position). has_room q c.args.column ≡ true) (sym c.now.ensures.value) (white_room _ _ _ _ c.in_ok-answer.ensures.ok)
 
-pub returns-in-Ok-clause-answered : goal.returns-in-Ok-clause-answered
-returns-in-Ok-clause-answered c =
-    let reply = c.in-Ok.reply in
-    let told : c.turn_line.result.items ≡ answered_line c.args.self.now.session.stands c.args.column c.answer.new.self.stands reply =
-    c.turn_line.ensures ∙ ap (λ before. answered_line before c.args.column c.now-in-Ok.result.now reply) c.now.ensures.value
-    ∙ ap (λ now. answered_line c.args.self.now.session.stands c.args.column now reply) c.now-in-Ok.ensures.value in
-    turn_is _ _ _ reply c.in-Ok.ensures.ok c.turn_line.result.items told
+pub new-requires-clause-mine : goal.new-requires-clause-mine
+new-requires-clause-mine c =
+    subst (λ (q : Position). has_room (after_move q c.args.column) c.man_of-black.result.0 ≡ true) (sym c.now.ensures.value)
+    (subst (λ (man : ℕ × TurnEnd). has_room (after_move c.args.self.now.session.stands c.args.column) man.0 ≡ true) (sym c.man_of-black.ensures)
+    (black_room _ _ _ _ c.in_ok-answer.ensures.ok))
 
-pub returns-in-Ok-clause-fewer : goal.returns-in-Ok-clause-fewer
-returns-in-Ok-clause-fewer c = fewer_left _ _ _ _ c.in-Ok.ensures.ok
+pub returns-clause-answered : goal.returns-clause-answered
+returns-clause-answered c =
+    turn_is _ _ _ _ c.in_ok-answer.ensures.ok c.new.result
+    (c.new.ensures ∙ ap (λ (q : Position). turn_from q (Some c.args.column) (Some c.man_of-black.result.0) c.man_of-black.result.1) c.now.ensures.value
+    ∙ ap (λ (man : ℕ × TurnEnd). turn_from c.args.self.now.session.stands (Some c.args.column) (Some man.0) man.1) c.man_of-black.ensures)
+
+pub returns-clause-fewer : goal.returns-clause-fewer
+returns-clause-fewer c = fewer_left _ _ _ _ c.in_ok-answer.ensures.ok
