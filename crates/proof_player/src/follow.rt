@@ -55,7 +55,7 @@ pub struct Follow<'a> {
 
 impl<'a> Model for Follow<'a> {
     ghost use Rattle.follow_text.specs.Following.{own_move_at};
-ghost use Rattle.proof_player.specs.Playing.{FollowState};
+    ghost use Rattle.proof_player.specs.Playing.{FollowState};
     ghost use Rattle.proof_player.specs.FollowFields.{state_of, IsFollowing};
 
     ghost Value = { FollowState };

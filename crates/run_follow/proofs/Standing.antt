@@ -136,8 +136,11 @@ module _ (version : Version) where
       let rest : xs ++ more ≡ ys ++ moves = cc cut in
       let goes : check_from version s at (x ∷ ys) ≡ check_from version (with_bytes version s x) (at + 1) ys =
       ap (λ refusal. line_answer refusal at (check_from version (with_bytes version s x) (at + 1) ys)) stand.0 in
-      omega (arith, stand_open (with_bytes version s x) t (at + 1) xs more ys moves v count stand.1 free rest
-      (sym goes ∙ ap (λ x. check_from version s at (x ∷ ys)) same ∙ is))
+      omega (
+        arith,
+        stand_open (with_bytes version s x) t (at + 1) xs more ys moves v count stand.1 free rest
+            (sym goes ∙ ap (λ x. check_from version s at (x ∷ ys)) same ∙ is),
+      )
 
   -- the next line is refused
   refused_next : (holder : Side) (s : CheckerState) (ls : List Lemma) (at : ℕ) (lines : List (List ℕ)) (why : Why) → s.verdict ≡ None

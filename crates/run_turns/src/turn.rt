@@ -32,7 +32,12 @@ pub struct Turn {
 
 impl Turn {
     /// The turn from a position in which the other side's man goes into a column, and then the player's into another.
-    pub fn new(before: &Position, theirs: Option<Column>, mine: Option<Column>, end: TurnEnd) -> Turn
+    pub fn new(
+        before: &Position,
+        theirs: Option<Column>,
+        mine: Option<Column>,
+        end: TurnEnd,
+    ) -> Turn
         requires theirs { HasRoom before.now theirs }
         requires mine { HasRoom (moved_by before.now theirs) mine }
         ensures { result ≡ turn_from before.now theirs mine end }
