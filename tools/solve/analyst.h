@@ -3,13 +3,10 @@
 #pragma once
 
 #include <functional>
-#include <string>
-#include <unordered_map>
 #include <vector>
 
 #include "game.h"
-#include "opening_table.h"
-#include "score.h"
+#include "opening_values.h"
 
 // The value that a score between these bounds has; nothing where they leave it open.
 inline const char* value_of(Bounds score) {
@@ -38,14 +35,8 @@ using Say = std::function<void(char letter, const char* value, int to_end)>;
 template <int ROWS>
 class Analyst {
   public:
-    Analyst(const Board<ROWS>& board, Scorer<ROWS>& scorer) : board_(board), scorer_(scorer), openings_(board) {}
-
-    // Reads a table of openings from files. How many positions it has.
-    size_t read_table(const std::vector<std::string>& names) {
-        openings_.read(names);
-        opened_.clear();
-        return openings_.size();
-    }
+    Analyst(const Board<ROWS>& board, Scorer<ROWS>& scorer, OpeningValues<ROWS>& openings)
+        : board_(board), scorer_(scorer), openings_(openings) {}
 
     // Says the value of each move and of the position.
     void values(Position at, const Say& say) {
@@ -57,7 +48,7 @@ class Analyst {
     // The value of a position, without those of its moves.
     const char* value(Position at) {
         if (board_.is_ended(at)) return board_.is_won(at) ? "loss" : "draw";
-        int value = count_of(at.men) <= openings_.men() ? opened(at) : searched(at);
+        int value = openings_.has(at) ? openings_.value(at) : scorer_.value(at);
         return value_of({value, value});
     }
 
@@ -116,12 +107,9 @@ class Analyst {
     }
 
   private:
-    static constexpr int UNKNOWN = OpeningTable<ROWS>::UNKNOWN;
-
     const Board<ROWS>& board_;
     Scorer<ROWS>& scorer_;
-    OpeningTable<ROWS> openings_;
-    std::unordered_map<Word, int> opened_;  // values that the openings show, of positions with fewer men than they have
+    OpeningValues<ROWS>& openings_;
 
     // Where the game has ended, says so.
     bool says_end(Position at, const Say& say) const {
@@ -185,41 +173,12 @@ class Analyst {
         if (value_of(move.score)) return;
         Position next = board_.after(at, move.square);
         int most = scorer_.squares();
-        if (count_of(next.men) <= openings_.men()) {
-            int value = -opened(next);
+        if (openings_.has(next)) {
+            int value = -openings_.value(next);
             move.score = value > 0 ? Bounds{1, most} : value < 0 ? Bounds{-most, -1} : Bounds{0, 0};
         } else if (!is_better(at, move, 0)) {
             if (is_better(at, move, -1)) move.score.upper = move.score.lower = 0;
         }
-    }
-
-    // The value of a position without a line, with no more men than the openings have, for the side to move. Moves that
-    // need no search go first.
-    int opened(Position at) {
-        if (int value = seen(at); value != UNKNOWN) return value;
-        if (count_of(at.men) == openings_.men()) return searched(at);
-        Word key = openings_.least_key(at);
-        if (auto known = opened_.find(key); known != opened_.end()) return known->second;
-        int best = -1;
-        for (bool searches : {false, true}) {
-            for (Word rest = board_.safe_moves(at); rest && best < 1; rest &= rest - 1) {
-                Position next = board_.after(at, rest & -rest);
-                bool needs_search = count_of(next.men) == openings_.men() && seen(next) == UNKNOWN;
-                if (needs_search == searches) best = std::max(best, -opened(next));
-            }
-        }
-        return opened_[key] = best;
-    }
-
-    // The same as far as it is seen at once, or stands in the openings; else UNKNOWN.
-    int seen(Position at) const {
-        if (board_.playable(at.men) & board_.wins(at.own, at.men)) return 1;
-        if (!board_.safe_moves(at)) return at.men == board_.full ? 0 : -1;
-        return count_of(at.men) == openings_.men() ? openings_.find(at) : UNKNOWN;
-    }
-
-    int searched(Position at) {
-        return scorer_.bound(at, 0) > 0 ? 1 : scorer_.bound(at, -1) > -1 ? 0 : -1;
     }
 
     // From the value on, upward: a win may come sooner, and a loss sooner too.

@@ -1,10 +1,12 @@
 // The strategy that is written: how it is taken in first, and how it is made smaller.
 #pragma once
 
+#include <cmath>
 #include <string>
 #include <unordered_map>
 #include <vector>
 
+#include "outline.h"
 #include "renew.h"
 
 template <int ROWS>
@@ -27,7 +29,9 @@ class Bettered : public Strategy<ROWS> {
     // The first strategy of one position more.
     void add(Position root) {
         root_ = standing(root);
-        grow(options_.order < 4 ? options_.order : 2, NO_LIMIT);
+        if (options_.outline && wins_) outline();
+        if (grow(first_order(), NO_LIMIT)) return;
+        throw Fault("no strategy was found: a table of openings is wrong");
     }
 
     // Leaves out the one that was added last.
@@ -133,6 +137,7 @@ class Bettered : public Strategy<ROWS> {
     using Base::after;
     using Base::any_move;
     using Base::board_;
+    using Base::choose;
     using Base::closes;
     using Base::column_of;
     using Base::drop;
@@ -147,6 +152,7 @@ class Bettered : public Strategy<ROWS> {
     using Base::move_holds;
     using Base::options_;
     using Base::part_;
+    using Base::prover_;
     using Base::proves;
     using Base::random;
     using Base::report;
@@ -162,6 +168,7 @@ class Bettered : public Strategy<ROWS> {
     using Base::wins_;
     using Base::work_;
 
+    static constexpr int GAMES = 40;                // by which a position is weighed
     static constexpr uint64_t MANY = 1'000'000;    // positions that another first strategy may have in any case
     static constexpr size_t MOST_EMPTY = 32;       // squares above a part that is renewed
     static constexpr uint64_t SMALLEST = 20;       // part that is renewed
@@ -193,6 +200,59 @@ class Bettered : public Strategy<ROWS> {
         Position at = board_.position(moved.key);
         Word key = board_.key(standing(at));
         return {&table_.add(key), key == moved.key ? moved.column : unsigned(board_.columns) - 1 - moved.column};
+    }
+
+    // Has the orders choose the moves that look cheapest while few men stand.
+    void outline() {
+        Restored before(mode_);
+        mode_.order = first_order();
+        mode_.keeps = false;
+        auto ends = [this](Position at) { return closes(at); };
+        auto weighs = [this](Position at) { return weight_of(at); };
+        Outline<ROWS> outline(board_, search_, prover_, folds_, ends, weighs);
+        std::vector<Moved> moves = outline.moves(root_, options_.outline);
+        for (int order = 0; order < 4; ++order) offer(moves, order);
+        report();
+    }
+
+    int first_order() const { return options_.order < 4 ? options_.order : 2; }
+
+    // How large a strategy is from here, in no unit: by games in which the other side moves at random. A position that a
+    // game meets stands for as many as the moves before it tell. A tree of such positions grows faster than a strategy,
+    // which has each of them once, and long games tell much by chance, so that powers are taken.
+    double weight_of(Position at) {
+        double sum = 0;
+        for (int n = 0; n < GAMES && search_.nodes() < search_.end; ++n) sum += std::sqrt(weight_of_game(at));
+        return std::pow(sum / GAMES, 1.3);
+    }
+
+    double weight_of_game(Position at) {
+        double weight = 0, share = 1;
+        for (Word square; !board_.is_ended(at) && !closes(at); at = after(at, square)) {
+            square = proves(at) ? choose_at(at) : random_reply(at, weight, share);
+            weight += share;
+            if (!square) break;
+        }
+        return weight + share;
+    }
+
+    // The prover's move; 0 where it wins at once.
+    Word choose_at(Position at) {
+        table_.add(board_.key(at));
+        return winning(at) ? 0 : choose(at);
+    }
+
+    // One of the replies that the prover doesn't answer by a win, or 0. The others are counted, and for how many positions
+    // the next one stands.
+    Word random_reply(Position at, double& weight, double& share) {
+        Word moves = board_.playable(at.men), open = 0;
+        for (Word rest = moves; rest; rest &= rest - 1) {
+            if (!winning(board_.after(at, rest & -rest))) open |= rest & -rest;
+        }
+        weight += 2 * share * count_of(moves & ~open);
+        share *= count_of(open);
+        for (uint64_t n = open ? random(uint64_t(count_of(open))) : 0; n > 0; --n) open &= open - 1;
+        return open & -open;
     }
 
     // Takes in the first strategy by an order. False where it would get larger than this.

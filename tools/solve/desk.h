@@ -24,7 +24,8 @@ template <int ROWS>
 class DeskOf : public Desk {
   public:
     DeskOf(const Board<ROWS>& board, BoundTables& tables)
-        : board_(board), tables_(tables), scorer_(board_, tables), analyst_(board_, scorer_) {}
+        : board_(board), tables_(tables), scorer_(board_, tables), openings_(board_, scorer_),
+          analyst_(board_, scorer_, openings_) {}
 
     void answer(const std::string& kind, const Game& game, const std::vector<std::string>& words,
                 Answer& answer) override {
@@ -45,12 +46,13 @@ class DeskOf : public Desk {
         answer.nodes += scorer_.nodes - before;
     }
 
-    size_t read_table(const std::vector<std::string>& names) override { return analyst_.read_table(names); }
+    size_t read_table(const std::vector<std::string>& names) override { return openings_.read(names); }
 
   private:
     Board<ROWS> board_;
     BoundTables& tables_;
     Scorer<ROWS> scorer_;
+    OpeningValues<ROWS> openings_;
     Analyst<ROWS> analyst_;
 
     void say_line(Position at, Answer& answer) {
@@ -78,7 +80,7 @@ class DeskOf : public Desk {
         progress.is_quiet = true;
         progress.begin = Progress::now();
         progress.watch = [&] { answer.look(); };
-        Prover<ROWS> prover(board_, game, options, tables_);
+        Prover<ROWS> prover(board_, game, options, tables_, &openings_);
         std::string verdict = claim ? prover.prove_claim(*claim, name) : prover.prove_value(name);
         answer.nodes = prover.nodes();
         JsonObject said = answer.object();
@@ -106,8 +108,9 @@ class DeskOf : public Desk {
         std::vector<char*> all;
         for (std::string& word : words) all.push_back(word.data());
         Request asked = read_words(int(all.size()), all.data());
-        if (asked.wants_help || asked.wants_table || !asked.input.empty() || !asked.output.empty()) {
-            throw Fault("proof takes moves, a file, and options of solve, but for -o and --help");
+        bool has_other = asked.wants_help || asked.wants_table || !asked.options.table.empty();
+        if (has_other || !asked.input.empty() || !asked.output.empty()) {
+            throw Fault("proof takes moves, a file, and options of solve, but for -o, --table and --help");
         }
         return asked.options;
     }

@@ -1,7 +1,8 @@
 // The positions that a strategy is chosen from, and what is known of each.
 #pragma once
 
-#include <vector>
+#include <algorithm>
+#include <utility>
 
 #include "board.h"
 #include "fault.h"
@@ -85,19 +86,15 @@ class NodeTable {
     // More slots, while there is memory for them; else what isn't in the set goes, and it is false.
     bool make_room() {
         bool can_grow = bytes() * 4 <= most_;
-        std::vector<Node> kept;
-        for (const Node& node : slots_) {
-            if (node.key && (node.refs || can_grow)) kept.push_back(node);
-        }
+        auto stays = [&](const Node& node) { return node.key && (node.refs || can_grow); };
         size_t size = can_grow ? slots_.size() * 2 : slots_.size();
-        if (kept.size() * 5 > size * 3) throw Fault("the strategy needs more memory than --memory allows");
-        slots_ = Pages<Node>();
-        slots_ = Pages<Node>(size);
+        used_ = size_t(std::count_if(slots_.begin(), slots_.end(), stays));
+        if (used_ * 5 > size * 3) throw Fault("the strategy needs more memory than --memory allows");
+        Pages<Node> before(size);
+        std::swap(before, slots_);
         slots_.fill(size, Node());
-        used_ = kept.size();
-        for (const Node& node : kept) {
-            Node& slot = put(node.key - 1);
-            slot = node;
+        for (const Node& node : before) {
+            if (stays(node)) put(node.key - 1) = node;
         }
         return can_grow;
     }

@@ -64,6 +64,17 @@ inline const std::vector<Option>& all_options() {
         {"--book", "FILE",
          "moves that are tried first, where they stand in this file",
          text(&Options::book)},
+        {"--table", "FILE",
+         "a table of openings with their values, which aren't searched then (docs/OPENINGS.md); may stand more than "
+         "once",
+         [](Request& asked, Values values) { asked.options.table.push_back(values[0]); }},
+        {"--outline", "N",
+         "with a table, a side that wins spends at most N nodes of the search to see which moves leave little to show",
+         number("--outline", 0, 1'000'000'000, &Options::outline), default_of(&Options::outline)},
+        {"--soon", "N",
+         "a side that wins takes a move behind which it wins within N moves, as soon as can be, where a short search sees "
+         "that; 0 for never",
+         number("--soon", 0, 30, &Options::soon), default_of(&Options::soon)},
         {"--mirror", "N",
          "with at most N men, the first strategy takes the image of a move that it has already; 0 for none",
          number("--mirror", 0, 63, &Options::mirror), default_of(&Options::mirror)},

@@ -45,10 +45,12 @@ class Output {
     }
 
     void write(const std::string& text) {
-        if (fwrite(text.data(), 1, text.size(), file_) != text.size()) fails();
+        waiting_ += text;
+        if (waiting_.size() >= BLOCK) flush();
     }
 
     void finish() {
+        flush();
         if (fflush(file_)) fails();
         if (file_ == stdout) return;
         if (fsync(fileno(file_)) && errno != EINVAL && errno != EROFS) fails();
@@ -63,9 +65,17 @@ class Output {
     }
 
   private:
+    static constexpr size_t BLOCK = 1 << 18;  // bytes that are written at once
+
     std::string said_;
     std::string name_;  // of the file that gets its name at the end; none where it is written to as it stands
     FILE* file_;
+    std::string waiting_ = "";
+
+    void flush() {
+        if (fwrite(waiting_.data(), 1, waiting_.size(), file_) != waiting_.size()) fails();
+        waiting_.clear();
+    }
 
     std::string part() const { return name_ + ".part"; }
     [[noreturn]] void fails() { throw Fault("can't write " + said_ + ": " + strerror(errno)); }

@@ -39,9 +39,10 @@ struct Claim {
 template <int ROWS>
 class Prover {
   public:
-    Prover(const Board<ROWS>& board, const Game& game, const Options& options, BoundTables& tables)
+    Prover(const Board<ROWS>& board, const Game& game, const Options& options, BoundTables& tables,
+           OpeningValues<ROWS>* openings)
         : game_(game), options_(options), board_(board), root_(position_of(game, board_)), book_(board_),
-          tables_(tables) {
+          tables_(tables), openings_(openings) {
         if (!options.book.empty()) book_.read(options.book);
         if (!options.start.empty()) start_.emplace(board_, options.start);
         for (const std::string& name : options.changes) changes_.emplace_back(board_, name);
@@ -93,6 +94,7 @@ class Prover {
     std::vector<ProofMoves<ROWS>> changes_;  // old and new ones in turn
     std::vector<ProofMoves<ROWS>> also_;
     BoundTables& tables_;
+    OpeningValues<ROWS>* openings_;
     uint32_t written_ = 0;
     uint64_t nodes_ = 0;
 
@@ -127,7 +129,7 @@ class Prover {
             return (board_.is_won(at) && (count_of(at.men) & 1) != claim.asker) == claim.wins;
         }
         progress.stage = claim.asker ? "does Black win" : "does White win";
-        Search<ROWS> search(board_, tables_, claim.asker, at);
+        Search<ROWS> search(board_, tables_, claim.asker, at, openings_);
         bool is_mover = (count_of(at.men) & 1) == claim.asker;
         bool wins = search.reaches(at, ~uint64_t(0)) == is_mover;
         progress.line(search.nodes());
@@ -138,7 +140,7 @@ class Prover {
     // Writes the lemmas that show a claim. The number of the last.
     uint32_t prove(const Claim& claim, Output& out) {
         auto [asker, wins] = claim;
-        Search<ROWS> search(board_, tables_, asker, root_);
+        Search<ROWS> search(board_, tables_, asker, root_, openings_);
         uint64_t bytes = options_.memory > tables_.bytes() ? options_.memory - tables_.bytes() : 0;
         Bettered<ROWS> strategy(board_, search, claim.prover(), book_, options_, bytes);
         progress.stage = "choosing";

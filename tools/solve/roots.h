@@ -19,8 +19,9 @@ struct Root {
 template <int ROWS>
 class RootsProver : public Prover<ROWS> {
   public:
-    RootsProver(const Board<ROWS>& board, const Game& game, const Options& options, BoundTables& tables)
-        : Prover<ROWS>(board, game, options, tables) {
+    RootsProver(const Board<ROWS>& board, const Game& game, const Options& options, BoundTables& tables,
+                OpeningValues<ROWS>* openings)
+        : Prover<ROWS>(board, game, options, tables, openings) {
         bool has_one = !options.start.empty() || !options.also.empty() || !options.changes.empty();
         if (has_one || !options.below.empty() || options.graph) {
             throw Fault("--roots takes none of --start, --also, --changes, --below and --graph");
@@ -46,6 +47,7 @@ class RootsProver : public Prover<ROWS> {
     using Base::board_;
     using Base::game_;
     using Base::nodes_;
+    using Base::openings_;
     using Base::options_;
     using Base::root_;
     using Base::tables_;
@@ -58,7 +60,7 @@ class RootsProver : public Prover<ROWS> {
         Bettered<ROWS> strategy;
 
         Part(const Claim& claim_, RootsProver& prover, uint64_t bytes)
-            : claim(claim_), search(prover.board_, prover.tables_, claim.asker, prover.root_),
+            : claim(claim_), search(prover.board_, prover.tables_, claim.asker, prover.root_, prover.openings_),
               strategy(prover.board_, search, claim.prover(), prover.book_, prover.options_, bytes) {}
     };
 

@@ -50,6 +50,9 @@ class Scorer {
         return most_here <= alpha ? most_here : visit(root, men, alpha);
     }
 
+    // The value of a position without a line, for the side to move: 1, 0 or -1.
+    int value(Position at) { return bound(at, 0) > 0 ? 1 : bound(at, -1) > -1 ? 0 : -1; }
+
     // Notes that the score of a position, in which no side wins at once, lies between these.
     void know(Position at, Bounds bounds) {
         int men = count_of(at.men);

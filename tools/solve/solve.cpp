@@ -11,9 +11,14 @@ static void run(int count, char** words) {
     if (asked.wants_table) return print_table();
     Game game = game_of(asked.input);
     with_board(game, [&](const auto& board) {
-        BoundTables tables = tables_for(board, game, asked.options);
-        if (asked.options.roots.empty()) Prover(board, game, asked.options, tables).prove_value(asked.output);
-        else RootsProver(board, game, asked.options, tables).prove(asked.output);
+        const Options& options = asked.options;
+        BoundTables tables = tables_for(board, game, options);
+        Scorer scorer(board, tables);
+        scorer.look = [&] { say_now(scorer.nodes); };
+        OpeningValues openings(board, scorer);
+        if (!options.table.empty()) openings.read(options.table);
+        if (options.roots.empty()) Prover(board, game, options, tables, &openings).prove_value(asked.output);
+        else RootsProver(board, game, options, tables, &openings).prove(asked.output);
     });
 }
 

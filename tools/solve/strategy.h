@@ -26,6 +26,9 @@ struct Options {
     uint64_t seed = 1;    // of what is chosen at random
     uint64_t nodes = 20'000;  // so many nodes may be spent to see whether another move wins
     std::string book;     // a file with moves that are taken where they win
+    std::vector<std::string> table;  // files with the values of openings
+    uint64_t outline = 0;  // so many nodes may be spent to see which moves to the openings look cheap
+    int soon = 0;          // a win within so many moves is looked for first
     std::string start;    // a proof whose moves are the first strategy
     std::string roots, index;  // files: positions that one text is about, and where they stand in it
     std::vector<Game> below;  // what comes from these positions alone is swept and renewed; all where there are none
@@ -86,6 +89,8 @@ class Strategy {
         return square_in(at, one.own == at.own && one.men == at.men ? column : unsigned(board_.columns) - 1 - column);
     }
 
+    void prefetch(Position at) const { table_.prefetch(board_.key(standing(at))); }
+
     // The plan that closes a position of the set, or the image of one; or nothing. It is found again: texts of all
     // would take much memory.
     std::string plan_of(Position at) { return closes(standing(at)) && plans_.surely_finds(at) ? plans_.text() : ""; }
@@ -93,6 +98,7 @@ class Strategy {
   protected:
     static constexpr uint64_t NO_LIMIT = ~uint64_t(0);  // of nodes, or of positions
     static constexpr int LEAST_LIVES_BITS = 20, MOST_LIVES_BITS = 24;
+    static constexpr uint64_t SHORT = 200;  // nodes of a search
 
     // How positions are taken in and dropped.
     struct Mode {
@@ -403,6 +409,7 @@ class Strategy {
         int count = sorted(at, board_.safe_moves(at), squares);
         if (count == 1) return squares[0];
         if (Word square = mode_.order == 2 ? closing(at, squares, count) : 0) return square;
+        if (Word square = wins_ && options_.soon ? soonest(at, squares, count) : 0) return square;
         if (empty_squares(at) <= options_.look) return least(at, squares, count);
         if (mode_.probes && count_of(at.men) <= options_.high) {
             if (Word square = probed(at, squares, count)) return square;
@@ -413,6 +420,16 @@ class Strategy {
         // One that was refused for the nodes that it takes.
         for (int n = 0; n < count; ++n) {
             if (holds(board_.after(at, squares[n]), NO_LIMIT)) return squares[n];
+        }
+        return 0;
+    }
+
+    // A move behind which the prover wins within a few moves, as soon as can be; or 0 where no short search sees that.
+    Word soonest(Position at, const Word* squares, int count) {
+        for (int moves = 1; moves <= options_.soon; ++moves) {
+            for (int n = 0; n < count; ++n) {
+                if (search_.loses_within(board_.after(at, squares[n]), moves, SHORT)) return squares[n];
+            }
         }
         return 0;
     }

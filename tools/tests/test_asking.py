@@ -114,18 +114,21 @@ class EngineTest(ToolTest):
             self.assertIn(said, err)
 
     def test_what_solve_is_told(self):
-        """The first proof that it finds is wanted, or a smaller one."""
+        """The first proof that it finds by the tables of openings is wanted, or a smaller one."""
         words = os.path.join(self.folder, "words")
+        tables = "".join(f"--table {path} " for path in programs.shipped_openings("7x6"))
+        self.assertEqual(tables.count("openings-8"), 2)
         for more, told in (((), "--rounds 0 --sweeps 0 "), (("--small",), "")):
             self.says("found by solve", "dcdcdc", *more, solver='echo "$@" >\'%s\'; cat "$0.proof"' % words)
-            self.assertEqual(read(words), "--quiet --memory 2000 --order 0 --high 0 --part 0 %s--seconds 22\n" % told)
+            given = "--quiet --memory 2000 --order 0 --high 0 --part 0 --soon 3 --outline 20000000 "
+            self.assertEqual(read(words), f"{given}{told}{tables}--seconds 27\n")
 
     def test_out_of_time(self):
         """Where the seconds of processor time are spent, more of them are advised; and what takes long says so."""
         small = ("--by", "both", "--board", "4x4", "-", "--nodes", "3", "--reach", "0")
         why = "since solve didn't end within its share of 4 seconds and prove's budget of 3 positions is below the cost"
         got = self.says(why + ": try --seconds 20.", *small, "--seconds", "4", solver=BUSY, status=5)
-        self.assertRegex(got[2], "^lab ask: solve has taken [23] of 3 seconds for -\n$")
+        self.assertRegex(got[2], "^lab ask: solve has taken [23] of 3.7 seconds for -\n$")
         self.says(
             "since prove didn't end within 0.5 seconds: try --seconds 2.5",
             *small,

@@ -295,6 +295,7 @@ class EngineTest(unittest.TestCase):
             "new now",
             "stop now",
             "proof dcd",
+            "proof dcd a-proof --table a-table",
             "proof",
             'value "dcd',
             "\x01\x7f",
@@ -352,6 +353,23 @@ class EngineTest(unittest.TestCase):
         self.assertEqual((run.returncode, run.stdout.split()[:2]), (0, ["accepted", said[0]["value"]]), moves)
         os.unlink(path)
         return said[0]["value"]
+
+    def test_early_proofs(self):
+        """By the shipped table of openings: proofs of positions with few men, which the second checker accepts. They are
+        smaller by the moves that were weighed."""
+        words = "--order 0 --high 0 --part 0 --rounds 0 --sweeps 0 --soon 3"
+        names = [os.path.join(TOP, "proofs", "openings-8%s.csv.xz" % name) for name in ("", "-forced")]
+        with Engine("limits 0 1000", 'table "%s" "%s"' % tuple(names)) as engine:
+            for moves, value in (("ccgea", "win"), ("beebced", "loss")):
+                self.assertEqual(by_moves(engine.ask("outcome " + moves))[""][0], value)
+                self.assertEqual(self.proved(engine, moves, words + " --outline 20000000"), value)
+            path = os.path.join(self.folder, "plain")
+            plain, weighed = (
+                engine.ask('proof ccgea "%s" %s --outline %d' % (path, words, nodes))[0]["lemmas"]
+                for nodes in (0, 20_000_000)
+            )
+            self.assertLess(weighed, plain * 3 // 4)
+            os.unlink(path)
 
     def test_stopped_proof(self):
         """A proof that is stopped leaves no file."""

@@ -11,10 +11,12 @@ import subprocess
 import tempfile
 import unittest
 
-from common import TOOLS, ToolTest, heard, program, read
+from common import TOOLS, ToolTest, heard, program, read, write
 import mutants
 import victor
 from victor import Game
+from victor._games import Size
+from victor._openings import Openings
 
 SOURCES = os.path.join(TOOLS, "solve")
 COMPILER = shutil.which("g++")
@@ -177,6 +179,7 @@ class SolveTest(ToolTest):
             ["--seconds", "0"],
             ["--mirror", "42"],
             ["--reach", "1"],
+            ["--soon", "3"],
             ["--graph", "40"],
             ["--graph", "40", "--heat", "50", "--seconds", "2"],
             [],
@@ -402,6 +405,33 @@ class SolveTest(ToolTest):
         ):
             self.fails(text, "no book of this board: " + line, "--book", self.book(book))
         self.fails(text, "can't read", "--book", os.path.join(self.folder, "no such book"))
+
+    def test_table(self):
+        """By a table of openings, here as `victor prove` has them, a proof is one of the same value. With one that is
+        wrong there is none."""
+        rows = dict(self.values_of_openings((5, 4), 4))
+        self.assertEqual(set(rows.values()), {"win", "loss", "draw"})
+        table = self.written("openings", "moves,value\n" + "".join(f"{moves},{rows[moves]}\n" for moves in rows))
+        for moves in ("", "b", "ab", "abe", "bbbb"):
+            text = game_text(5, 4, moves)
+            value = self.proof_of(text)[1].split()[1]
+            for words in ([], ["--outline", "300000"], ["--outline", "300000", "--soon", "2", "--format", "2"]):
+                self.assertEqual(self.proof_of(text, "--table", table, *words)[1].split()[1], value, (moves, words))
+        turned = {"win": "loss", "loss": "draw", "draw": "win"}
+        wrong = self.written("wrong", "moves,value\n" + "".join(f"{moves},{turned[rows[moves]]}\n" for moves in rows))
+        self.fails(game_text(5, 4, ""), "a table of openings is wrong", "--table", wrong, "--outline", "300000")
+        self.fails(game_text(4, 4, ""), "is no table of this board", "--table", table)
+
+    def values_of_openings(self, size, men):
+        """The moves of all openings with so many men, also of those with a forced move, and what they are worth."""
+        for is_forced in (False, True):
+            openings = Openings.of(Size(*size), men, is_forced)
+            for moves in openings.listed():
+                yield moves, victor.prove(openings.game(moves), nodes=1_000_000, program=program()).value
+
+    def written(self, name, text):
+        """The path of a new file."""
+        return write(os.path.join(self.folder, name), text)
 
     def test_table_of_options(self):
         """The document's table is the tool's own, and --help names the same options."""

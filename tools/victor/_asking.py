@@ -13,6 +13,7 @@ from ._engine import Engine, Searched, is_searchable
 from ._faults import Failed, Fault, OutOfTime, Refused, Unproved
 from ._files import Path
 from ._games import Game
+from ._openings import MEN
 from ._processes import Tell
 from ._prover import MOST_NODES, MOST_REACH, Accepted, Proof
 from ._sentences import TURNED, count_of
@@ -21,10 +22,11 @@ SECONDS = 60  # of processor time
 MEMORY = 2000  # MiB for solve
 NODES, REACH = 1_000_000, 1_000  # for prove
 OUT_OF_MEMORY = 8  # the status of prove
-SHARE = 0.75  # of the time is solve's, and the rest is left to prove
+SHARE = 0.92  # of the time is solve's, and the rest is left to prove
 MORE = 5  # times the seconds are advised where they were spent
-# How solve has a first proof soon: it takes the moves by which its search has just found the value.
-SOON = {"order": 0, "high": 0, "part": 0}
+# How solve has a first proof soon: it takes the moves by which its search has just found the value, or that win soon,
+# and at openings those that leave little to show.
+SOON = {"order": 0, "high": 0, "part": 0, "soon": 3, "outline": 20_000_000}
 AS_IT_STANDS = {"rounds": 0, "sweeps": 0}  # and these better none
 ENGINES = {"solve": ("solve",), "prove": ("prove",), "both": ("solve", "prove")}
 EARLY = 16  # men, below which the shipped proofs are looked in
@@ -219,8 +221,9 @@ class Asker:
         share = seconds * SHARE if "prove" in self.engines else seconds
         memory = self.means.memory or MEMORY
         limits = self.limits("solve", game, share, clock=self.means.clock, memory=memory)
+        tables = programs.shipped_openings(game.size.word) if len(game.men) < MEN else ()
         try:
-            proof = prover.solve(game, self.choices, into=path, program=self.solver, **limits)
+            proof = prover.solve(game, self.choices, tables=tables, into=path, program=self.solver, **limits)
         except OutOfTime as fault:
             return self.out_of_time("solve", fault)
         except Failed as fault:

@@ -130,8 +130,9 @@ class Engine:
         time was over before."""
         words = [quoted(os.path.abspath(into)), *options, *(["--claim", claim] if claim else [])]
         with contextlib.closing(self._said("proof", game, " ".join(words), Limits(**limits))) as said:
-            if not any("file" in one for one in said):
-                raise OutOfTime(NAME, 0)
+            objects = list(said)  # to the end, where it stands what was spent
+        if not any("file" in one for one in objects):
+            raise OutOfTime(NAME, 0)
         return prover.proof_in(pathlib.Path(into), game, 0, True)
 
     def search(

@@ -146,14 +146,16 @@ def solve(
     numbers: Optional[Mapping[str, int]] = None,
     *,
     book: Optional[Path] = None,
+    tables: Iterable[Path] = (),
     into: Optional[Path] = None,
     program: Optional[str] = None,
     **limits: Any,
 ) -> Proof:
-    """The proof that `tools/solve` writes, with its other options as numbers by their names. Behind half of the seconds
-    it makes the proof no smaller."""
+    """The proof that `tools/solve` writes, by tables of openings, and with its other options as numbers by their names.
+    Behind half of the seconds it makes the proof no smaller."""
     words = [find_solver(program), "--quiet"]
     words += options_of(memory=limits.get("memory"), book=book, **(numbers or {}))
+    words += [word for table in tables for word in options_of(table=table)]
     seconds = limits.get("seconds")
     words += ["--seconds", str(int(seconds / 2))] if seconds is not None else []
     return written_proof("solve", words, game, require_game(game).text(), into, (0,), limits)

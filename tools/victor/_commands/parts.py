@@ -3,14 +3,16 @@ each is proved by itself as batch does, and what came back is joined into one pr
 by a further call."""
 
 import argparse
+import contextlib
 import json
 import os
 import pathlib
 import sys
 from typing import BinaryIO, Optional
 
-from .. import _proofs as proofs
+from .. import _programs as programs, _proofs as proofs
 from .._batches import Batch, path_of
+from .._engine import Engine, is_searchable
 from .._faults import Fault, Unproved
 from .._files import output, read_input
 from .._games import LETTERS, Game, Size, columns_of
@@ -26,6 +28,7 @@ STATUS = (
 EXAMPLE = "tools/lab parts dcfd parts white --at 4 -j 2"
 SIDES = {"white": "W", "black": "B"}
 MOST_MOVES = 12
+LOOK = 5  # seconds of processor time for what the engine says of a move
 MOST_PARTS = 20_000
 Men = frozenset[tuple[tuple[int, int], str]]
 Book = dict[Men, int]
@@ -52,10 +55,12 @@ class Node:
 
 
 class Tree:
-    """The positions that a proof of a side's win needs, up to some moves later, with one move of its own in each."""
+    """The positions that a proof of a side's win needs, up to some moves later, with one move of its own in each. What
+    an engine searches says which moves to try first."""
 
-    def __init__(self, root: Game, side: str, moves: int, book: Book) -> None:
+    def __init__(self, root: Game, side: str, moves: int, book: Book, engine: Optional[Engine] = None) -> None:
         self.side, self.last, self.book = side, len(root.moves) + moves, book
+        self.engine = engine if is_searchable(root.size) else None
         self.nodes: dict[Men, Node] = {}
         self.lost: set[Men] = set()
         self.root = self.grown(root)
@@ -104,11 +109,21 @@ class Tree:
         self.nodes.pop(game.key, None)
 
     def moves_of(self, game: Game) -> list[int]:
-        """The columns, those of the side that is to win in the order in which they are tried: the book's, then from the
-        middle."""
+        """The columns, those of the side that is to win in the order in which they are tried: the book's, then those
+        that the engine says win, then from the middle."""
         columns = sorted(game.open_columns(), key=lambda column: abs(2 * column - game.size.cols + 1))
-        said = self.book.get(game.key) if game.side == self.side else None
+        if game.side != self.side:
+            return columns
+        said = self.book.get(game.key)
+        if said is None and self.engine:
+            return sorted(columns, key=lambda column: not self.seems_won(game.after(column)))
         return sorted(columns, key=lambda column: column != said)
+
+    def seems_won(self, game: Game) -> bool:
+        """The engine says that the side wins, which has moved."""
+        if game.is_over:
+            return game.line is not None
+        return bool(self.engine and self.engine.outcome(game, seconds=LOOK) == "loss")
 
     def needed(self) -> list[Node]:
         """The nodes that the root needs, those that are cited first."""
@@ -212,12 +227,15 @@ def run(words: argparse.Namespace) -> int:
         raise Fault(f"--at takes a number from 1 to {MOST_MOVES}")
     means = means_of(words)
     words.game = asked_game(words.position, size_of(words))
-    tree = Tree(words.game, SIDES[words.side], words.at, read_book(words.book, words.game.size))
-    if words.write:
-        sys.stdout.write("".join(game.digits() + "\n" for game in tree.parts()))
-        return 0
-    batch = Batch(words.prog, words.folder, words.game.size, words.engine, words.jobs, sys.stderr, means)
-    is_won = settle(words, tree, batch)
+    path = programs.engine_path(words.solver) if words.by != "prove" else None
+    with contextlib.ExitStack() as stack:
+        engine = stack.enter_context(Engine(path)) if path else None
+        tree = Tree(words.game, SIDES[words.side], words.at, read_book(words.book, words.game.size), engine)
+        if words.write:
+            sys.stdout.write("".join(game.digits() + "\n" for game in tree.parts()))
+            return 0
+        batch = Batch(words.prog, words.folder, words.game.size, words.engine, words.jobs, sys.stderr, means)
+        is_won = settle(words, tree, batch)
     path = words.out or os.path.join(words.folder, "whole.txt")
     count = 0
     if is_won:
