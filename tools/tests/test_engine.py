@@ -355,8 +355,8 @@ class EngineTest(unittest.TestCase):
         return said[0]["value"]
 
     def test_early_proofs(self):
-        """By the shipped table of openings: proofs of positions with few men, which the second checker accepts. They are
-        smaller by the moves that were weighed."""
+        """By the shipped table of openings: proofs of positions with few men, which the second checker accepts, and
+        which are smaller by the moves that were weighed."""
         words = "--order 0 --high 0 --part 0 --rounds 0 --sweeps 0 --soon 3"
         names = [os.path.join(TOP, "proofs", "openings-8%s.csv.xz" % name) for name in ("", "-forced")]
         with Engine("limits 0 1000", 'table "%s" "%s"' % tuple(names)) as engine:
