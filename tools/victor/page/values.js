@@ -96,10 +96,9 @@ export function valueLine(verdict, side, names) {
   const { value, how, end, lemmas, by, claims } = verdict, other = names[OTHER[side]];
   const to_end = end === undefined ? "" : ` in ${many(end, "move")}${how === "proved" ? " (searched)" : ""}`;
   const rests = how === "proved" ? `proved${lemmas ? ` by ${lemmasOf(lemmas)}` : ""}${by ? " of the whole board's proof" : ""}` : "searched";
-  if (value === "win") return `${names[side]} wins (${rests})${to_end}.`;
-  if (value === "loss") return `${other} wins (${rests})${to_end}.`;
+  const words = { win: `${names[side]} wins`, loss: `${other} wins`, draw: "A draw" }[value];
   const proved = how === "proved" ? [] : claims.map(claim => `${said(claim, names)} (proved)`);
-  const told = value ? [`A draw (${rests})${to_end}`, ...proved] : proved;
+  const told = words ? [`${words} (${rests})${to_end}`, ...proved] : proved;
   return told.length ? `${told.join(". ")}.` : "";
 }
 
