@@ -87,6 +87,7 @@ class Graph {
     static constexpr unsigned NONE = 15;
     static constexpr unsigned UNKNOWN = 0, HOLDS = 1, REFUSED_SOON = 2, REFUSED = 3;
     static constexpr uint64_t FEW_NODES = 600;
+    static constexpr uint64_t SOON_NODES = 200;
     static constexpr int64_t NO_LIMIT = int64_t(1) << 40;
 
     struct One {
@@ -152,6 +153,7 @@ class Graph {
     size_t used_ones_ = 0, used_alls_ = 0, used_leaves_ = 0;
     Word root_key_ = 0;
     bool proves_ = false;
+    std::vector<bool> others_;  // where parts are named, the Ones that come from elsewhere too
     int64_t live_ = 0;   // positions of the set
     uint64_t work_ = 0;  // how often a position was taken in
     Manner manner_;
@@ -165,10 +167,10 @@ class Graph {
 
     // The Ones of the set; where parts are named, only those that come from nowhere else, or only the others.
     std::vector<uint32_t> part() {
-        std::vector<bool> others = options_.below.empty() ? std::vector<bool>() : ones_beside();
+        if (!options_.below.empty()) others_ = ones_beside();
         std::vector<uint32_t> ones;
         for (size_t n = 0; n < used_ones_; ++n) {
-            if (ones_[n].refs && (others.empty() || others[n] == options_.beside)) ones.push_back(uint32_t(n));
+            if (ones_[n].refs && is_in_part(uint32_t(n))) ones.push_back(uint32_t(n));
         }
         return ones;
     }
@@ -198,6 +200,26 @@ class Graph {
             }
         }
         return ones;
+    }
+
+    // `part` names it, or would if it were of the set, as the parts were when it was called last.
+    bool is_in_part(uint32_t one) const {
+        return others_.empty() || (one < others_.size() && others_[one] == options_.beside);
+    }
+
+    // The Ones of the set whose moves lead to this position.
+    std::vector<uint32_t> users_of(uint32_t place) {
+        Position at = board_.position(alls_[place].key);
+        std::vector<uint32_t> users;
+        for (Word rest = tops_of_prover(at); rest; rest &= rest - 1) {
+            Position before = without(at, rest & -rest);
+            const Slot& slot = slot_of(key_of(before));
+            if (!slot.key || winning(before)) continue;
+            const One& one = ones_[slot.place];
+            bool is_user = one.refs && one.next[one.move] == place;
+            if (is_user && std::find(users.begin(), users.end(), slot.place) == users.end()) users.push_back(slot.place);
+        }
+        return users;
     }
 
     int men_of(uint32_t one) const { return count_of(board_.position(ones_[one].key).men); }
@@ -326,11 +348,11 @@ class Graph {
         if (!take_all(all)) throw Fault("what was dropped can't be taken in again");
     }
 
-    // A move to a position of the set, or NONE. Such a position holds.
-    unsigned free_move(const One& one) const {
+    // A move to a position of the set, but for this one, or NONE. Such a position holds.
+    unsigned free_move(const One& one, unsigned other = NONE) const {
         for (unsigned n = 0; n < one.count; ++n) __builtin_prefetch(&alls_[one.next[n]].refs);
         for (unsigned n = 0; n < one.count; ++n) {
-            if (alls_[one.next[n]].refs) return n;
+            if (n != other && alls_[one.next[n]].refs) return n;
         }
         return NONE;
     }
@@ -441,13 +463,22 @@ class Graph {
         if (all.refs) support(leaves_[leaf]);
     }
 
-    // Ties a position to the leaves that may lead to it: one of the prover's men on top of a column is taken away.
-    void tie_leaves(uint32_t place, Position at) {
+    // The prover's men on top of a column, where the other side is to move. One of them came last.
+    Word tops_of_prover(Position at) const {
         Word top_row = board_.bottom << (ROWS - 1);
         Word tops = (board_.playable(at.men) | (at.men & top_row) << 1) >> 1;
-        for (Word rest = tops & (at.own ^ at.men); rest; rest &= rest - 1) {
-            Word square = rest & -rest;
-            Position before = {(at.own ^ at.men) & ~square, at.men & ~square};
+        return tops & (at.own ^ at.men);
+    }
+
+    // The position before this man came.
+    static Position without(Position at, Word square) {
+        return {(at.own ^ at.men) & ~square, at.men & ~square};
+    }
+
+    // Ties a position to the leaves that may lead to it.
+    void tie_leaves(uint32_t place, Position at) {
+        for (Word rest = tops_of_prover(at); rest; rest &= rest - 1) {
+            Position before = without(at, rest & -rest);
             if (!winning(before)) continue;
             const Slot& slot = slot_of(key_of(before));
             if (slot.key) tie(place, slot.place);
@@ -586,10 +617,24 @@ class Graph {
         for (unsigned n = 0; n < one.count; ++n) {
             if (alls_[one.next[n]].status == HOLDS && alls_[one.next[n]].cost == least) return n;
         }
+        if (unsigned index = wins_ ? soonest(one) : NONE; index != NONE) return index;
         for (uint64_t nodes : {FEW_NODES, options_.nodes, ~uint64_t(0)}) {
             for (unsigned n = 0; n < one.count; ++n) {
                 if (nodes > options_.nodes) alls_[one.next[n]].status = UNKNOWN;
                 if (holds(one.next[n], nodes)) return n;
+            }
+        }
+        return NONE;
+    }
+
+    // A move behind which the prover wins within a few moves, as soon as can be; or NONE where no short search sees that.
+    unsigned soonest(const One& one) {
+        for (int moves = 1; moves <= options_.soon; ++moves) {
+            for (unsigned n = 0; n < one.count; ++n) {
+                All& all = alls_[one.next[n]];
+                if (!search_.loses_within(board_.position(all.key), moves, SOON_NODES)) continue;
+                all.status = HOLDS;
+                return n;
             }
         }
         return NONE;

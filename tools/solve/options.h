@@ -148,6 +148,12 @@ inline const std::vector<Option>& all_options() {
          "memory beside that for a graph, in which the strategy is made smaller before the sweeps; 0 for "
          "none",
          number("--graph", 0, 1 << 20, &Options::graph, 20), default_of(&Options::graph, 20)},
+        {"--work", "N",
+         "in the graph at most N million positions are taken in or searched, so that the same words give the same proof on "
+         "a machine of any speed",
+         [](Request& asked, Values values) {
+             asked.options.work = 1'000'000 * number_of("--work", values[0].c_str(), 0, 1'000'000'000);
+         }},
         {"--heat", "N",
          "in the graph a change may make it larger by a number drawn at random, N hundredths on "
          "average, and less and less until `--seconds` are over",

@@ -15,6 +15,7 @@ class Renewed : public Graph<ROWS> {
     // Sweeps and renewals in turn, while they make the set smaller and there is time.
     void better() {
         begin_ = progress.seconds();
+        begin_work_ = work_ + search_.nodes();
         for (int idle = 0; idle < 3 && !is_late();) {
             int64_t before = live_;
             vary_all(part());
@@ -41,6 +42,7 @@ class Renewed : public Graph<ROWS> {
     using Base::free_move;
     using Base::holds;
     using Base::is_full;
+    using Base::is_in_part;
     using Base::live_;
     using Base::manner_;
     using Base::men_of;
@@ -52,12 +54,22 @@ class Renewed : public Graph<ROWS> {
     using Base::shed;
     using Base::take_again;
     using Base::take_all;
+    using Base::users_of;
     using Base::work_;
 
     static constexpr int64_t SMALLEST = 20;  // part that is renewed
     static constexpr int64_t LARGE = 200;
     static constexpr int64_t LARGEST = 200'000;
+    static constexpr int64_t PATIENCE = 5;   // such renewals more may be what a part needs to be small enough
+    static constexpr int PASSES = 20;        // while a part that was taken in by chance cools down
+    static constexpr double WARM = 8;        // how many positions more may stay of a change there, on an average at first
     static constexpr double KNOWN = 3e7;      // work that is remembered of what is done in one way
+
+    // A One, and the move that it has before another is tried.
+    struct User {
+        uint32_t one;
+        unsigned old;
+    };
 
     // What was done in one way lately: the parts with one number of men are renewed, or other moves are taken there.
     struct Way {
@@ -65,10 +77,13 @@ class Renewed : public Graph<ROWS> {
     };
 
     Way ways_[128];
-    double begin_ = 0;  // when the bettering began
+    double begin_ = 0;         // when the bettering began
+    uint64_t begin_work_ = 0;  // what had been done then
+    double warmth_ = 0;  // of the part that is cooling down
     uint64_t calls_ = 0;
     bool late_ = false;
-    bool is_within_ = false;  // a part of what is being renewed is
+    bool is_trial_ = false;   // what was taken in by chance is being bettered, and may be dropped again
+    bool is_within_ = false;  // a part of that is being renewed
     std::vector<Note> notes_, best_notes_;
 
     // The time for better choices is over, or the memory. The clock is looked at now and then.
@@ -76,7 +91,7 @@ class Renewed : public Graph<ROWS> {
         if (++calls_ % 1024 == 0) {
             progress.lemmas = uint64_t(live_);
             say_now(search_.nodes());
-            late_ = progress.is_late(options_.seconds);
+            late_ = progress.is_late(options_.seconds) || work_ + search_.nodes() - begin_work_ > options_.work;
         }
         return late_;
     }
@@ -87,14 +102,16 @@ class Renewed : public Graph<ROWS> {
 
     // How many positions more may stay of a change, on an average: less and less until the time is over.
     double heat() const {
+        if (!options_.heat) return 0;
         double seconds = std::max(double(options_.seconds) - begin_, 1.0);
         return double(options_.heat) / 100 * std::max(1 - (progress.seconds() - begin_) / seconds, 0.0);
     }
 
     // So many more may stay of this one.
     int64_t slack() {
-        if (!options_.heat) return 0;
-        return int64_t(-heat() * std::log(double(random(uint64_t(1) << 32) + 1) / double(uint64_t(1) << 32)));
+        double mean = std::max(heat(), warmth_);
+        if (mean == 0) return 0;
+        return int64_t(-mean * std::log(double(random(uint64_t(1) << 32) + 1) / double(uint64_t(1) << 32)));
     }
 
     // Renews parts, and takes other moves at positions; mostly with a number of men with which much was gained for the
@@ -140,40 +157,95 @@ class Renewed : public Graph<ROWS> {
         return place;
     }
 
+    // The Ones whose moves lead where that of this one leads, which is the first; none where one of them isn't to be
+    // changed. Another move for all of them may be better where none is for one of them alone.
+    std::vector<User> sharers(uint32_t place) {
+        uint32_t there = there_of(place);
+        std::vector<User> sharers = {{place, ones_[place].move}};
+        if (alls_[there].refs == 1) return sharers;
+        if (is_trial_) return {};
+        for (uint32_t user : users_of(there)) {
+            if (!is_in_part(user)) return {};
+            if (user != place) sharers.push_back({user, ones_[user].move});
+        }
+        // The root may be met without a move.
+        return sharers.size() == alls_[there].refs ? sharers : std::vector<User>();
+    }
+
+    uint32_t there_of(uint32_t one) const { return ones_[one].next[ones_[one].move]; }
+
+    // Drops what these share, and notes it. How many positions went.
+    int64_t drop_shared(const std::vector<User>& users, std::vector<Note>& notes) {
+        uint32_t there = there_of(users[0].one);
+        alls_[there].refs = uint8_t(alls_[there].refs - (users.size() - 1));
+        return drop_noted(there, notes);
+    }
+
+    // Takes it in again.
+    void restore_shared(const std::vector<User>& users, const std::vector<Note>& notes) {
+        for (const User& user : users) ones_[user.one].move = user.old & 15;
+        uint32_t there = there_of(users[0].one);
+        take_again(there, notes);
+        alls_[there].refs = uint8_t(alls_[there].refs + (users.size() - 1));
+    }
+
+    // Takes a position in behind each of these that has a move there, and another behind the others. False, and nothing is
+    // taken in, where the set would get too large.
+    bool take_shared(const std::vector<User>& users, uint32_t all) {
+        size_t n = 0;
+        while (n < users.size() && take_instead(users[n], all)) ++n;
+        if (n == users.size()) return true;
+        while (n > 0) drop_all(there_of(users[--n].one));
+        return false;
+    }
+
+    bool take_instead(const User& user, uint32_t all) {
+        One& one = ones_[user.one];
+        unsigned index = unsigned(std::find(one.next, one.next + one.count, all) - one.next);
+        if (index == one.count) index = free_move(one);
+        if (index == NONE) index = any_move(one, user.old, options_.nodes);
+        if (index == NONE || !take_all(one.next[index])) return false;
+        one.move = index & 15;
+        return true;
+    }
+
+    void drop_taken(const std::vector<User>& users) {
+        for (const User& user : users) drop_all(there_of(user.one));
+    }
+
     // Drops the part below a position, takes another in by chance and betters it. It stays where it isn't larger, or
     // not by much.
     void renew_part(uint32_t place) {
-        One& one = ones_[place];
-        if (!one.refs || alls_[one.next[one.move]].refs > 1) return;
-        std::vector<Note> notes;
-        unsigned old = one.move, other = old;
-        uint32_t there = one.next[old];
+        const One& one = ones_[place];
+        if (!one.refs) return;
+        uint32_t there = there_of(place);
         if (alls_[there].cost > scaled(2 * LARGEST)) return;
+        std::vector<User> users = sharers(place);
+        if (users.empty()) return;
+        std::vector<Note> notes;
         int64_t size = live_;
-        int64_t gone = drop_noted(there, notes);
+        int64_t gone = drop_shared(users, notes);
         alls_[there].cost = scaled(gone);
-        if (gone < SMALLEST || gone > LARGEST) other = NONE;
-        else if (!random(4)) other = any_move(one, NONE, options_.nodes);
-        if (other == NONE || !take_bettered(one.next[other], size, gone)) {
-            take_again(there, notes);
-            other = old;
-        }
-        one.move = other & 15;
+        unsigned other = gone < SMALLEST || gone > LARGEST ? NONE : random(4) ? one.move : any_move(one, NONE, options_.nodes);
+        if (other == NONE || !take_bettered(users, one.next[other], size, gone)) restore_shared(users, notes);
     }
 
     // Takes a position in by chance, and betters what came with it. False, and nothing is taken in, where the set gets
     // much larger than this by it.
-    bool take_bettered(uint32_t all, int64_t most, int64_t gone) {
+    bool take_bettered(const std::vector<User>& users, uint32_t all, int64_t most, int64_t gone) {
+        Restored before(is_trial_);
+        is_trial_ = true;
         std::vector<uint32_t> ones;
-        if (!take_by_chance(all, most + 2 * gone, ones)) return false;
+        if (!take_by_chance(users, all, most + 2 * gone, ones)) return false;
         better_part(ones);
-        for (int n = 0; n < 3 && is_near(most, gone); ++n) renew_within(ones);
+        if (gone >= LARGE && live_ - most < gone) cool(ones);
+        if (is_near(most, gone)) renew_while_it_pays(ones, most);
         if (live_ <= most + slack()) return true;
-        drop_all(all);
+        drop_taken(users);
         return false;
     }
 
-    bool take_by_chance(uint32_t all, int64_t most, std::vector<uint32_t>& ones) {
+    bool take_by_chance(const std::vector<User>& users, uint32_t all, int64_t most, std::vector<uint32_t>& ones) {
         static constexpr unsigned NOISE[] = {4, 8, 16, 32};
         Restored before(manner_);
         manner_.stays = false;
@@ -181,13 +253,45 @@ class Renewed : public Graph<ROWS> {
         manner_.noise = NOISE[random(4)];
         manner_.most = most;
         manner_.taken = &ones;
-        return take_all(all);
+        return take_shared(users, all);
     }
 
     // What was taken in for so many positions is larger than what stood there, but not by much; and unlike that it
     // hasn't been renewed in its parts.
     bool is_near(int64_t most, int64_t gone) const {
-        return !is_within_ && gone >= LARGE && live_ > most && live_ - most < gone / 5;
+        return !is_within_ && gone >= LARGE && live_ > most && live_ - most < gone / 3;
+    }
+
+    // Goes on as long as some such renewals more would make the part small enough.
+    void renew_while_it_pays(std::vector<uint32_t>& ones, int64_t most) {
+        for (int64_t before = live_; live_ > most; before = live_) {
+            renew_within(ones);
+            if ((before - live_) * PATIENCE < live_ - most) return;
+        }
+    }
+
+    // Sweeps in which a change may make the part larger, by less and less.
+    void cool(std::vector<uint32_t>& ones) {
+        Restored before(warmth_);
+        for (int n = PASSES; n-- > 0;) {
+            warmth_ = WARM * n / PASSES;
+            noting(ones, [&] { vary_all(ones); });
+        }
+    }
+
+    // Does something that takes Ones in, which are put before these. As they were noted, one that leads to another stands
+    // behind it.
+    template <class Does>
+    void noting(std::vector<uint32_t>& ones, Does does) {
+        std::vector<uint32_t> all;
+        {
+            Restored before(manner_);
+            manner_.taken = &all;
+            does();
+        }
+        all.insert(all.end(), ones.begin(), ones.end());
+        ones.swap(all);
+        tidy(ones);
     }
 
     void renew_within(std::vector<uint32_t>& ones) {
@@ -202,24 +306,18 @@ class Renewed : public Graph<ROWS> {
     void better_part(std::vector<uint32_t>& ones) {
         tidy(ones);
         for (int n = 0; n < 3; ++n) {
-            std::vector<uint32_t> all;
-            {
-                Restored before(manner_);
+            noting(ones, [&] {
                 manner_.keeps = n != 1;
-                manner_.taken = &all;
                 for (uint32_t one : ones) {
                     if (!is_late()) improve(one);
                 }
-            }
-            all.insert(all.end(), ones.begin(), ones.end());
-            ones.swap(all);
-            tidy(ones);
+            });
         }
         vary_all(ones);
         vary_all(ones);
     }
 
-    // Leaves those of the set, each once. As they were noted, one that leads to another stands behind it.
+    // Leaves those of the set, each once.
     void tidy(std::vector<uint32_t>& ones) {
         size_t kept = 0;
         for (uint32_t one : ones) {
@@ -283,34 +381,32 @@ class Renewed : public Graph<ROWS> {
     }
 
     void vary(uint32_t place) {
-        One& one = ones_[place];
+        const One& one = ones_[place];
         ++work_;
         if (!one.refs || one.count < 2) return;
-        unsigned old = one.move;
-        unsigned other = any_move(one, old, FEW_NODES);
+        bool is_shared = alls_[there_of(place)].refs > 1;
+        unsigned other = is_shared ? NONE : free_move(one, one.move);
+        if (other == NONE) other = any_move(one, one.move, FEW_NODES);
         if (other == NONE) return;
-        // Where what follows the old move stays for another position, a new one isn't worth it.
-        uint32_t there = one.next[old];
-        if (!alls_[one.next[other]].refs && alls_[there].refs > 1) return;
+        bool is_free = alls_[one.next[other]].refs;
+        // Where what follows the old move stays for another position, a new one for this position alone isn't worth it.
+        std::vector<User> users = is_free ? std::vector<User>{{place, one.move}} : sharers(place);
+        if (users.empty()) return;
         int64_t size = live_ + slack();
-        drop_noted(there, notes_);
-        if (!take_as_before(one.next[other], size)) {
-            take_again(there, notes_);
-            other = old;
-        }
-        one.move = other & 15;
+        drop_shared(users, notes_);
+        if (!take_as_before(users, one.next[other], size)) restore_shared(users, notes_);
     }
 
     // Takes a position in, mostly by the moves of before. False where the set would get larger than this.
-    bool take_as_before(uint32_t all, int64_t most) {
+    bool take_as_before(const std::vector<User>& users, uint32_t all, int64_t most) {
         Restored before(manner_);
         manner_.stays = false;
         manner_.keeps = random(4);
         manner_.noise = random(2) ? 0 : 16;
         manner_.most = most;
-        if (!take_all(all)) return false;
+        if (!take_shared(users, all)) return false;
         if (live_ <= most) return true;
-        drop_all(all);
+        drop_taken(users);
         return false;
     }
 };

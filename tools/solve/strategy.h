@@ -34,6 +34,7 @@ struct Options {
     std::vector<Game> below;  // what comes from these positions alone is swept and renewed; all where there are none
     bool beside = false;      // or all but that
     uint64_t graph = 0;       // bytes of a graph in which the strategy is made smaller
+    uint64_t work = ~uint64_t(0);  // there so many positions are taken in or searched
     uint64_t heat = 0;        // there a part may get larger by so many hundredths of a position, on an average at first
     std::vector<std::string> changes;  // pairs of proofs: where the second has another move, it is taken over
     std::vector<std::string> also;  // proofs whose moves are tried as well

@@ -282,6 +282,53 @@ class SolveTest(ToolTest):
         # With little memory, what isn't of the strategy is dropped again and again.
         self.proof_of(game_text(5, 4, ""), "--graph", "1")
 
+    def test_steps(self):
+        """A list of steps comes to the same proof in one call or in two, no step to a larger one than the step before.
+        A fault is one line."""
+        steps = self.file(
+            "steps",
+            "# a small board\n"
+            + game_text(5, 4, "")
+            + "first --format 2 --order 2 --starts 0 --rounds 0 --sweeps 0 --quiet\n"
+            + "next --format 2 --memory 200 --graph 16 --work 1 --rounds 0 --sweeps 0 --quiet\n",
+        )
+        there = tempfile.mkdtemp(prefix="by steps-", dir=self.folder)
+        for path in (self.solver, os.path.join(SOURCES, "by-steps")):
+            shutil.copy(path, there)
+
+        def by_steps(*words):
+            run = subprocess.run([os.path.join(there, "by-steps"), *words], capture_output=True, encoding="utf-8")
+            return run.returncode, run.stderr
+
+        once, twice = os.path.join(there, "once"), os.path.join(there, "twice")
+        for folder, counts in ((once, "3"), (twice, "13")):
+            for count in counts:
+                self.assertEqual(by_steps(steps, folder, count)[0], 0)
+        proof = read(os.path.join(once, "3.txt"))
+        self.assertEqual(read(os.path.join(twice, "3.txt")), proof)
+        self.assertEqual(mutants.answer_of([program(), "check"], proof.encode())[0], 0)
+        rows = [row.split(",") for row in read(os.path.join(twice, "steps.csv")).splitlines()]
+        self.assertEqual([row[0] for row in rows], ["step", "0", "1", "2", "3"])
+        sizes = [int(row[1]) for row in rows[1:]]
+        self.assertEqual(sizes, sorted(sizes, reverse=True))
+        self.assertLess(sizes[-1] * 5, sizes[0] * 4)
+        for words in ((steps, once), (steps, once, "x"), (os.path.join(there, "none"), once, "1")):
+            status, said = by_steps(*words)
+            self.assertEqual((status, said.count("\n")), (2, 1), said)
+        bad = self.file("bad steps", game_text(5, 4, "") + "first --what\n")
+        status, said = by_steps(bad, os.path.join(there, "bad"), "0")
+        self.assertEqual(status, 1)
+        self.assertTrue(said.endswith("by-steps: step 0 failed\n"), said)
+
+    def test_work(self):
+        """With a limit on the work, the same words give the same proof, and more work a smaller one."""
+        text = game_text(6, 4, "cc")
+        start = self.file("start", self.proof_of(text, "--rounds", "0", "--sweeps", "0", "--part", "0")[0])
+        words = ["--format", "2", "--start", start, "--rounds", "0", "--sweeps", "0", "--graph", "60", "--work"]
+        some, again, more = (self.proof_of(text, *words, work)[0] for work in "114")
+        self.assertEqual(some, again)
+        self.assertLess(more.count("\n"), some.count("\n"))
+
     def test_parts_apart(self):
         """Two runs make two parts of a strategy smaller, and both gains come together."""
         text = game_text(6, 4, "")
