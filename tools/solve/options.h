@@ -156,7 +156,7 @@ inline const std::vector<Option>& all_options() {
          }},
         {"--heat", "N",
          "in the graph a change may make it larger by a number drawn at random, N hundredths on "
-         "average, and less and less until `--seconds` are over",
+         "average, and less and less until `--seconds` are over or `--work` is done",
          number("--heat", 0, 10'000, &Options::heat), default_of(&Options::heat)},
         {"--seconds", "N",
          "no choice is bettered after N CPU seconds, but in the first strategy, nor is "

@@ -91,7 +91,7 @@ class Renewed : public Graph<ROWS> {
         if (++calls_ % 1024 == 0) {
             progress.lemmas = uint64_t(live_);
             say_now(search_.nodes());
-            late_ = progress.is_late(options_.seconds) || work_ + search_.nodes() - begin_work_ > options_.work;
+            late_ = progress.is_late(options_.seconds) || done() > options_.work;
         }
         return late_;
     }
@@ -100,11 +100,16 @@ class Renewed : public Graph<ROWS> {
         for (size_t n = ones.size(); n > 1; --n) std::swap(ones[n - 1], ones[random(n)]);
     }
 
-    // How many positions more may stay of a change, on an average: less and less until the time is over.
+    // Positions that were taken in or searched since the bettering began.
+    uint64_t done() const { return work_ + search_.nodes() - begin_work_; }
+
+    // How many positions more may stay of a change, on an average: less and less until the work is done that there may be,
+    // or the time is over.
     double heat() const {
         if (!options_.heat) return 0;
         double seconds = std::max(double(options_.seconds) - begin_, 1.0);
-        return double(options_.heat) / 100 * std::max(1 - (progress.seconds() - begin_) / seconds, 0.0);
+        double spent = std::max((progress.seconds() - begin_) / seconds, double(done()) / double(options_.work));
+        return double(options_.heat) / 100 * std::max(1 - spent, 0.0);
     }
 
     // So many more may stay of this one.
