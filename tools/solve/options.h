@@ -156,8 +156,11 @@ inline const std::vector<Option>& all_options() {
          }},
         {"--heat", "N",
          "in the graph a change may make it larger by a number drawn at random, N hundredths on "
-         "average, and less and less until `--seconds` are over or `--work` is done",
+         "average; it falls to that of `--cool` until `--seconds` are over or `--work` is done",
          number("--heat", 0, 10'000, &Options::heat), default_of(&Options::heat)},
+        {"--cool", "N",
+         "what `--heat` comes to at the end",
+         number("--cool", 0, 10'000, &Options::cool), default_of(&Options::cool)},
         {"--seconds", "N",
          "no choice is bettered after N CPU seconds, but in the first strategy, nor is "
          "another one taken in",

@@ -103,13 +103,14 @@ class Renewed : public Graph<ROWS> {
     // Positions that were taken in or searched since the bettering began.
     uint64_t done() const { return work_ + search_.nodes() - begin_work_; }
 
-    // How many positions more may stay of a change, on an average: less and less until the work is done that there may be,
-    // or the time is over.
+    // How many positions more may stay of a change, on an average: it goes from one number to another until the work is
+    // done that there may be, or the time is over.
     double heat() const {
         if (!options_.heat) return 0;
         double seconds = std::max(double(options_.seconds) - begin_, 1.0);
         double spent = std::max((progress.seconds() - begin_) / seconds, double(done()) / double(options_.work));
-        return double(options_.heat) / 100 * std::max(1 - spent, 0.0);
+        double first = double(options_.heat) / 100, last = double(options_.cool) / 100;
+        return last + (first - last) * std::max(1 - spent, 0.0);
     }
 
     // So many more may stay of this one.

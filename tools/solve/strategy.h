@@ -36,6 +36,7 @@ struct Options {
     uint64_t graph = 0;       // bytes of a graph in which the strategy is made smaller
     uint64_t work = ~uint64_t(0);  // there so many positions are taken in or searched
     uint64_t heat = 0;        // there a part may get larger by so many hundredths of a position, on an average at first
+    uint64_t cool = 0;        // and at last
     std::vector<std::string> changes;  // pairs of proofs: where the second has another move, it is taken over
     std::vector<std::string> also;  // proofs whose moves are tried as well
     int starts = 1;       // parts below so many men are taken in by several orders, and the smallest stays; 1 for the

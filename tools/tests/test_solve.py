@@ -283,14 +283,15 @@ class SolveTest(ToolTest):
         self.proof_of(game_text(5, 4, ""), "--graph", "1")
 
     def test_steps(self):
-        """A list of steps comes to the same proof in one call or in two, no step to a larger one than the step before.
-        A fault is one line."""
+        """A list of steps comes to the same proof in one call or in two, and but while it is hot none is larger than the
+        one before it. A fault is one line."""
         steps = self.file(
             "steps",
             "# a small board\n"
             + game_text(5, 4, "")
-            + "first --format 2 --order 2 --starts 0 --rounds 0 --sweeps 0 --quiet\n"
-            + "next --format 2 --memory 200 --graph 16 --work 1 --rounds 0 --sweeps 0 --quiet\n",
+            + "step --format 2 --order 2 --starts 0 --rounds 0 --sweeps 0 --quiet\n"
+            + "step --format 2 --memory 200 --graph 16 --heat 50 --cool 20 --work 1 --rounds 0 --sweeps 0 --quiet\n"
+            + "again --format 2 --memory 200 --graph 16 --work 1 --rounds 0 --sweeps 0 --quiet\n",
         )
         there = tempfile.mkdtemp(prefix="by steps-", dir=self.folder)
         for path in (self.solver, os.path.join(SOURCES, "by-steps")):
@@ -310,12 +311,12 @@ class SolveTest(ToolTest):
         rows = [row.split(",") for row in read(os.path.join(twice, "steps.csv")).splitlines()]
         self.assertEqual([row[0] for row in rows], ["step", "0", "1", "2", "3"])
         sizes = [int(row[1]) for row in rows[1:]]
-        self.assertEqual(sizes, sorted(sizes, reverse=True))
+        self.assertEqual(sizes[1:], sorted(sizes[1:], reverse=True))
         self.assertLess(sizes[-1] * 5, sizes[0] * 4)
         for words in ((steps, once), (steps, once, "x"), (os.path.join(there, "none"), once, "1")):
             status, said = by_steps(*words)
             self.assertEqual((status, said.count("\n")), (2, 1), said)
-        bad = self.file("bad steps", game_text(5, 4, "") + "first --what\n")
+        bad = self.file("bad steps", game_text(5, 4, "") + "step --what\n")
         status, said = by_steps(bad, os.path.join(there, "bad"), "0")
         self.assertEqual(status, 1)
         self.assertTrue(said.endswith("by-steps: step 0 failed\n"), said)
