@@ -77,6 +77,11 @@ class Bettered : public Strategy<ROWS> {
         if (moves.empty() || (proves(root_) && winning(root_))) return;
         auto ends = [this](Position at) { return closes(at); };
         Renewed<ROWS> graph(board_, search_, wins_, folds_, options_, ends, options_.graph);
+        for (const std::vector<Moved>* others : others_) {
+            for (const Moved& moved : *others) {
+                if (proves(board_.position(moved.key))) graph.offer(moved);
+            }
+        }
         graph.start(root_, proves(root_), moves);
         graph.better();
         moves = graph.moves();
@@ -84,6 +89,13 @@ class Bettered : public Strategy<ROWS> {
         keep(moves);
         if (!take(root_)) throw Fault("what was dropped can't be taken in again");
         report();
+    }
+
+    // Another strategy, whose moves are what an order chooses from here on, where it has chosen none. In a graph they are
+    // taken first where its positions come in. It has to stay.
+    void offer_strategy(const std::vector<Moved>& moves, int order) {
+        offer(moves, order);
+        others_.push_back(&moves);
     }
 
     // Moves that an order chooses from here on, where it has chosen none.
@@ -178,6 +190,7 @@ class Bettered : public Strategy<ROWS> {
     static constexpr double KEPT = 0.998;  // of what was gained before
 
     Position root_ = {0, 0};
+    std::vector<const std::vector<Moved>*> others_;  // other strategies
     double gains_[64] = {};  // by renewals, and the work that they took, by the number of men
     double works_[64] = {};
     uint64_t calls_ = 0;

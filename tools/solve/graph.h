@@ -54,7 +54,7 @@ class Graph {
         proves_ = proves;
         for (const Moved& moved : moves) {
             Position at = board_.position(moved.key);
-            if (!winning(at)) keep(at, board_.playable(at.men) & board_.column(int(moved.column)));
+            if (!winning(at)) keep(at, board_.playable(at.men) & board_.column(int(moved.column)), HOLDS);
         }
         bool is_taken = proves ? take_one(one_of(root_key_)) : take_all(all_of(root_key_));
         if (!is_taken) overflows();
@@ -64,6 +64,14 @@ class Graph {
         for (size_t n = 0; n < used_alls_; ++n) {
             if (alls_[n].refs) search_.know(board_.position(alls_[n].key), false);
         }
+    }
+
+    // Notes a move of another strategy at a position of the prover's, which is taken first where that comes in. It needn't
+    // hold.
+    void offer(const Moved& moved) {
+        Position at = board_.position(moved.key);
+        if (is_full() || board_.is_ended(at) || winning(at)) return;
+        keep(at, board_.playable(at.men) & board_.column(int(moved.column)), UNKNOWN);
     }
 
     // The moves of the set.
@@ -515,7 +523,7 @@ class Graph {
         for (uint32_t link = all.link; link; link = links_[link].next) desert(leaves_[links_[link].leaf]);
     }
 
-    // False where there is no room.
+    // False where there is no room, or where the prover doesn't reach its end.
     bool lay_out_one(uint32_t place) {
         if (ones_[place].is_laid_out) return true;
         if (is_full()) return false;
@@ -541,6 +549,7 @@ class Graph {
         if (is_full()) return false;
         All& all = alls_[place];
         Position at = board_.position(all.key);
+        if (wins_ && at.men == board_.full && !board_.is_won(at)) return false;
         all.is_laid_out = true;
         tie_leaves(place, at);
         if (board_.is_ended(at) || (!wins_ && closes_(at))) return true;
@@ -640,8 +649,8 @@ class Graph {
         return NONE;
     }
 
-    // Notes a move as that of before.
-    void keep(Position at, Word square) {
+    // Notes a move as that of before, and what is known of it.
+    void keep(Position at, Word square, unsigned status) {
         uint32_t place = one_of(key_of(at));
         Word key = key_of(board_.after(at, square));
         if (!lay_out_one(place)) overflows();
@@ -649,7 +658,7 @@ class Graph {
             All& all = alls_[ones_[place].next[n]];
             if (all.key != key) continue;
             ones_[place].kept = n & 15;
-            all.status = HOLDS;
+            if (status != UNKNOWN) all.status = status & 3;
         }
     }
 

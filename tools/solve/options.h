@@ -129,7 +129,8 @@ inline const std::vector<Option>& all_options() {
          "the moves of this proof are the first strategy, and its value is taken without a search",
          text(&Options::start)},
         {"--also", "FILE",
-         "the moves of this proof are what an order chooses after it; may stand more than once",
+         "the moves of this proof are what an order chooses after it, and in a graph are taken first where its positions come "
+         "in; may stand more than once",
          [](Request& asked, Values values) { asked.options.also.push_back(values[0]); }},
         {"--changes", "OLD NEW",
          "after `--start`: where the proof NEW has another move than the proof OLD, it is taken over; may"

@@ -154,7 +154,7 @@ class Prover {
             strategy.build(root_);
         }
         progress.line(search.nodes());
-        for (size_t n = 0; n < also_.size(); ++n) strategy.offer(also_[n].of(asker, wins), int(n % 4));
+        for (size_t n = 0; n < also_.size(); ++n) strategy.offer_strategy(also_[n].of(asker, wins), int(n % 4));
         better(strategy, search);
         nodes_ += search.nodes();
         if (written_ + strategy.size() > options_.lemmas) throw too_many(written_ + strategy.size());

@@ -279,12 +279,23 @@ class SolveTest(ToolTest):
         self.assertEqual(status, 0, err)
         sizes = [int(size) for size in re.findall(r"renewing, .* (\d+) lemmas", err)]
         self.assertLess(int(re.search(r"value win (\d+)", err)[1]), sizes[-1] * 1.02)
+        # The moves of other proofs, also such as are for no position of the claim's, and such as don't hold.
+        text = game_text(6, 4, "cc")
+        rough, other = (
+            self.proof_of(text, "--rounds", "0", "--sweeps", "0", "--part", "0", "--order", order)[0]
+            for order in ("2", "1")
+        )
+        bad = other.translate(str.maketrans("WB", "BW"))
+        for also in (other, bad):
+            words = ["--start", self.file("start", rough), "--also", self.file("also", also), "--graph", "60"]
+            crossed = self.proof_of(text, *words, "--rounds", "0", "--sweeps", "0")[0]
+            self.assertLess(crossed.count("\n") * 10, min(rough.count("\n"), other.count("\n")) * 9)
         # With little memory, what isn't of the strategy is dropped again and again.
         self.proof_of(game_text(5, 4, ""), "--graph", "1")
 
     def test_steps(self):
-        """A list of steps comes to the same proof in one call or in two, and but while it is hot none is larger than the
-        one before it. A fault is one line."""
+        """A list of steps comes to the same proof in one call or in two, and none to a larger one than the step before,
+        but while it is hot. A fault is one line."""
         steps = self.file(
             "steps",
             "# a small board\n"
