@@ -16,7 +16,7 @@ import unittest
 import urllib.parse
 import urllib.request
 
-from common import TOOLS, ToolTest, command_of, program, shipped_lemmas, tool
+from common import TOOLS, TOP, ToolTest, command_of, program, read, shipped_lemmas, tool
 import victor._programs
 from victor._serving import MOST_AT_ONCE, Busy, Visitors
 
@@ -339,12 +339,13 @@ class SiteTest(ToolTest):
     def test_files(self):
         status, out, err = tool("board", "--static", self.site)
         self.assertEqual(status, 0, err)
-        self.assertRegex(out, "^.*/index.html plays from the proofs of 17 boards .*MB.$")
+        boards = len(read(os.path.join(TOP, "proofs", "boards.csv")).splitlines()) - 2  # a row of names, and 7 by 6
+        self.assertRegex(out, f"^.*/index.html plays from the proofs of {boards} boards .*MB.$")
         self.assertIn("writing the proof of 6 by 6", err)
         names = {"README.txt", "img", "index.html", "proofs", "rules.html", "strategy.html"}
         self.assertEqual(set(os.listdir(self.site)) - {"openings.js"}, names)
         self.assertIn("rule-claimeven.png", os.listdir(os.path.join(self.site, "img")))
-        self.assertEqual(len(os.listdir(os.path.join(self.site, "proofs"))), 17)
+        self.assertEqual(len(os.listdir(os.path.join(self.site, "proofs"))), boards)
         self.refuses("board", "--static", self.site, said="isn't empty: name a new one")
 
     @unittest.skipUnless(BROWSER, SKIPPED)

@@ -39,7 +39,8 @@ BOARDS = (
 )
 # How many positions of the plain search have this many empty squares, from none on: it takes long for many.
 EMPTY = (20, 20, 20, 30, 60, 120, 180, 230, 280, 220, 150, 50, 15, 3, 1)
-SLOW = ("board 4 10",)  # takes more than some seconds
+# These take more than some seconds.
+SLOW = ("board 4 10", "board 5 8", "board 5 8 5", "board 6 6 5", "board 8 4 5", "board 9 4 5")
 
 
 class Player:
