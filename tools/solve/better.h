@@ -77,12 +77,8 @@ class Bettered : public Strategy<ROWS> {
         if (moves.empty() || (proves(root_) && winning(root_))) return;
         auto ends = [this](Position at) { return closes(at); };
         Renewed<ROWS> graph(board_, search_, wins_, folds_, options_, ends, options_.graph);
-        for (const std::vector<Moved>* others : others_) {
-            for (const Moved& moved : *others) {
-                if (proves(board_.position(moved.key))) graph.offer(moved);
-            }
-        }
         graph.start(root_, proves(root_), moves);
+        for (const std::vector<Moved>* others : others_) graph.cross(*others);
         graph.better();
         moves = graph.moves();
         drop(root_);
@@ -91,8 +87,8 @@ class Bettered : public Strategy<ROWS> {
         report();
     }
 
-    // Another strategy, whose moves are what an order chooses from here on, where it has chosen none. In a graph they are
-    // taken first where its positions come in. It has to stay.
+    // Another strategy, whose moves are what an order chooses from here on, where it has chosen none. A graph takes parts
+    // of it. It has to stay.
     void offer_strategy(const std::vector<Moved>& moves, int order) {
         offer(moves, order);
         others_.push_back(&moves);

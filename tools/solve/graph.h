@@ -2,8 +2,8 @@
 // and dropped without a look at the board.
 //
 // Three kinds of positions are told apart. At a One the prover is to move and has to choose, at an All the other side
-// is to move, and a Leaf is a position where the prover wins at once. A Leaf counts as two, with the end behind it, or
-// as one where a position of the set is behind it. Which ends are shared is chosen when the moves are asked for.
+// is to move, and a Leaf is a position where the prover wins at once. Where no position of the set is behind a Leaf, an
+// End is, which several may share.
 #pragma once
 
 #include <functional>
@@ -34,6 +34,9 @@ class Graph {
         most_ones_ = slots / 5;
         most_alls_ = slots * 2 / 5;
         most_leaves_ = slots / 4;
+        ends_ = Pages<End>(slots / 2);
+        ends_.fill(slots / 2, End());
+        most_ends_ = slots / 8 * 3;
         ones_ = Pages<One>(most_ones_);
         alls_ = Pages<All>(most_alls_);
         leaves_ = Pages<Leaf>(most_leaves_);
@@ -45,7 +48,8 @@ class Graph {
     // No position can be added.
     bool is_full() const {
         return used_ones_ + SPARE > most_ones_ || used_alls_ + SPARE > most_alls_ ||
-               used_leaves_ + SPARE > most_leaves_ || used_links_ + SPARE > most_leaves_;
+               used_leaves_ + SPARE > most_leaves_ || used_links_ + SPARE > most_leaves_ ||
+               used_ends_ + SPARE > most_ends_;
     }
 
     // Takes a strategy in by its moves. At the root the prover is to move, and doesn't win at once, or it isn't.
@@ -54,7 +58,12 @@ class Graph {
         proves_ = proves;
         for (const Moved& moved : moves) {
             Position at = board_.position(moved.key);
-            if (!winning(at)) keep(at, board_.playable(at.men) & board_.column(int(moved.column)), HOLDS);
+            if (winning(at)) continue;
+            unsigned index = index_of(at, board_.playable(at.men) & board_.column(int(moved.column)));
+            One& one = ones_[one_of(key_of(at))];
+            if (index == NONE) continue;
+            one.kept = index & 15;
+            alls_[one.next[index]].status = HOLDS;
         }
         bool is_taken = proves ? take_one(one_of(root_key_)) : take_all(all_of(root_key_));
         if (!is_taken) overflows();
@@ -66,12 +75,18 @@ class Graph {
         }
     }
 
-    // Notes a move of another strategy at a position of the prover's, which is taken first where that comes in. It needn't
-    // hold.
-    void offer(const Moved& moved) {
-        Position at = board_.position(moved.key);
-        if (is_full() || board_.is_ended(at) || winning(at)) return;
-        keep(at, board_.playable(at.men) & board_.column(int(moved.column)), UNKNOWN);
+    // Notes the moves of another strategy, in place of those of the one before. They needn't hold.
+    void oppose(const std::vector<Moved>& moves) {
+        for (size_t n = 0; n < used_ones_; ++n) ones_[n].other = NONE;
+        for (const Moved& moved : moves) {
+            Position at = board_.position(moved.key);
+            if (is_full()) return;
+            if (board_.is_ended(at) || winning(at)) continue;
+            One& one = ones_[one_of(key_of(at))];
+            unsigned index = index_of(at, board_.playable(at.men) & board_.column(int(moved.column)));
+            one.other = index & 15;
+            if (one.kept == NONE) one.kept = one.other;
+        }
     }
 
     // The moves of the set.
@@ -103,7 +118,8 @@ class Graph {
         uint32_t next[WIDTH];  // places of Alls, those that seem best on the board first
         uint8_t refs;          // how many positions of the set lead here
         uint8_t move : 4, kept : 4;  // the present one, and that when it was last dropped
-        uint8_t count : 4, is_laid_out : 1, is_marked : 1;
+        uint8_t count : 4, other : 4;  // the move of another strategy
+        bool is_laid_out, is_marked;
     };
 
     struct All {
@@ -119,6 +135,13 @@ class Graph {
         Word key;
         uint8_t refs;
         uint8_t supports;  // how many positions of the set it may lead to; at least one for the end of a full board
+        uint8_t end;       // which of the ends it has where it needs one
+        uint32_t ends[2];  // places, the same one where there is one alone
+    };
+
+    struct End {
+        Word key = 0;      // one more than the number of the position
+        uint8_t refs = 0;  // how many leaves of the set have it
     };
 
     struct Link {
@@ -137,6 +160,7 @@ class Graph {
         int64_t most = NO_LIMIT;  // positions of the set, about
         unsigned noise = 0;       // of 256 moves so many are chosen by chance
         bool keeps = true;        // moves of before go before those that seem cheap
+        bool heeds = false;       // moves of another strategy go before those of before
         bool stays = true;        // what is dropped was taken in to stay, so its moves are kept
         std::vector<uint32_t>* taken = nullptr;  // where the Ones that are taken in are noted
         std::vector<Note>* dropped = nullptr;    // where those that are dropped are
@@ -158,7 +182,8 @@ class Graph {
     Pages<One> ones_;
     Pages<All> alls_;
     Pages<Leaf> leaves_;
-    size_t used_ones_ = 0, used_alls_ = 0, used_leaves_ = 0;
+    Pages<End> ends_;
+    size_t used_ones_ = 0, used_alls_ = 0, used_leaves_ = 0, used_ends_ = 0;
     Word root_key_ = 0;
     bool proves_ = false;
     std::vector<bool> others_;  // where parts are named, the Ones that come from elsewhere too
@@ -219,8 +244,14 @@ class Graph {
     std::vector<uint32_t> users_of(uint32_t place) {
         Position at = board_.position(alls_[place].key);
         std::vector<uint32_t> users;
+        Position befores[WIDTH];
+        int count = 0;
         for (Word rest = tops_of_prover(at); rest; rest &= rest - 1) {
-            Position before = without(at, rest & -rest);
+            befores[count] = without(at, rest & -rest);
+            __builtin_prefetch(&slots_[slot_place(key_of(befores[count++]))]);
+        }
+        for (int n = 0; n < count; ++n) {
+            Position before = befores[n];
             const Slot& slot = slot_of(key_of(before));
             if (!slot.key || winning(before)) continue;
             const One& one = ones_[slot.place];
@@ -245,7 +276,8 @@ class Graph {
         if (known.size() * 2 > most_alls_) return false;
         std::vector<Moved> moves = this->moves();
         slots_.fill(slots_.size(), Slot());
-        used_ones_ = used_alls_ = used_leaves_ = 0;
+        ends_.fill(ends_.size(), End());
+        used_ones_ = used_alls_ = used_leaves_ = used_ends_ = 0;
         used_links_ = 1;
         live_ = 0;
         for (const Known& one : known) {
@@ -298,6 +330,7 @@ class Graph {
         }
         if (live_ >= manner_.most || !lay_out_all(place)) return false;
         ++work_;
+        fetch(all);
         int64_t before = live_++;
         all.refs = 1;
         for (uint32_t link = all.link; link; link = links_[link].next) support(leaves_[links_[link].leaf]);
@@ -329,9 +362,7 @@ class Graph {
     void drop_all(uint32_t place) {
         All& all = alls_[place];
         if (--all.refs) return;
-        for (unsigned n = 0; n < all.count; ++n) {
-            if (!(all.next[n] & LEAF)) __builtin_prefetch(&ones_[all.next[n]]);
-        }
+        fetch(all);
         leave(all);
         for (unsigned n = 0; n < all.count; ++n) {
             if (!(all.next[n] & LEAF)) drop_one(all.next[n]);
@@ -346,6 +377,16 @@ class Graph {
         manner_.dropped = &notes;
         drop_all(all);
         return size - live_;
+    }
+
+    // Has leaves share ends where two are behind them.
+    void share_ends() {
+        for (size_t n = 0; n < used_leaves_; ++n) {
+            Leaf& leaf = leaves_[n];
+            if (!leaf.refs || leaf.supports || ends_[leaf.ends[leaf.end]].refs > 1) continue;
+            drop_end(leaf);
+            take_end(leaf);
+        }
     }
 
     // Takes in what was dropped, with the moves that were noted, or less than that.
@@ -391,7 +432,7 @@ class Graph {
     }
 
   private:
-    static constexpr uint64_t BYTES = 56;  // for a slot, and a fifth of a One, and so on
+    static constexpr uint64_t BYTES = 66;  // for a slot, and a fifth of a One, and so on
     static constexpr size_t SPARE = 1000;
 
     struct Slot {
@@ -402,7 +443,7 @@ class Graph {
     uint64_t random_;
     Pages<Slot> slots_;
     Pages<Link> links_;
-    size_t most_ones_, most_alls_, most_leaves_;
+    size_t most_ones_, most_alls_, most_leaves_, most_ends_;
     size_t used_links_ = 1;
 
     [[noreturn]] static void overflows() { throw Fault("the strategy needs more memory than its graph has"); }
@@ -435,7 +476,7 @@ class Graph {
         One& one = ones_[used_ones_];
         one = One();
         one.key = key;
-        one.move = one.kept = NONE;
+        one.move = one.kept = one.other = NONE;
         return uint32_t(used_ones_++);
     }
 
@@ -455,12 +496,30 @@ class Graph {
         if (used_leaves_ == most_leaves_) overflows();
         slot = {key + 1, uint32_t(used_leaves_)};
         uint32_t leaf = uint32_t(used_leaves_++);
-        leaves_[leaf] = {key, 0, uint8_t(at.men == board_.full)};
+        leaves_[leaf] = {key, 0, uint8_t(at.men == board_.full), 0, {0, 0}};
+        if (at.men != board_.full) find_ends(leaves_[leaf], at);
         for (Word rest = board_.playable(at.men) & ~winning(at); rest; rest &= rest - 1) {
             const Slot& next = slot_of(key_of(board_.after(at, rest & -rest)));
             if (next.key && alls_[next.place].is_laid_out) tie(next.place, leaf);
         }
         return leaf | LEAF;
+    }
+
+    // The ends of a leaf, two at most.
+    void find_ends(Leaf& leaf, Position at) {
+        Word wins = winning(at);
+        leaf.ends[0] = leaf.ends[1] = end_of(key_of(board_.after(at, wins & -wins)));
+        if (wins &= wins - 1) leaf.ends[1] = end_of(key_of(board_.after(at, wins & -wins)));
+    }
+
+    uint32_t end_of(Word key) {
+        size_t at = slot_place(key) / 2;
+        while (ends_[at].key && ends_[at].key != key + 1) at = (at + 1) & (ends_.size() - 1);
+        if (!ends_[at].key) {
+            if (++used_ends_ > most_ends_) overflows();
+            ends_[at].key = key + 1;
+        }
+        return uint32_t(at);
     }
 
     void tie(uint32_t place, uint32_t leaf) {
@@ -494,22 +553,40 @@ class Graph {
     }
 
     void support(Leaf& leaf) {
-        if (!leaf.supports++ && leaf.refs) --live_;
+        if (!leaf.supports++ && leaf.refs) drop_end(leaf);
     }
 
     void desert(Leaf& leaf) {
-        if (!--leaf.supports && leaf.refs) ++live_;
+        if (!--leaf.supports && leaf.refs) take_end(leaf);
+    }
+
+    // One of the set where there is one, and that of before where neither or both are.
+    void take_end(Leaf& leaf) {
+        if (!ends_[leaf.ends[leaf.end]].refs && ends_[leaf.ends[leaf.end ^ 1]].refs) leaf.end ^= 1;
+        if (!ends_[leaf.ends[leaf.end]].refs++) ++live_;
+    }
+
+    void drop_end(const Leaf& leaf) {
+        if (!--ends_[leaf.ends[leaf.end]].refs) --live_;
     }
 
     void take_leaves(const All& all) {
         for (unsigned n = 0; n < all.count; ++n) {
-            if (!(all.next[n] & LEAF)) {
-                __builtin_prefetch(&ones_[all.next[n]]);
-                continue;
-            }
+            if (!(all.next[n] & LEAF)) continue;
             Leaf& leaf = leaves_[all.next[n] & ~LEAF];
-            if (!leaf.refs++) live_ += leaf.supports ? 1 : 2;
+            if (leaf.refs++) continue;
+            ++live_;
+            if (!leaf.supports) take_end(leaf);
         }
+    }
+
+    // Has the memory bring what is behind a position.
+    void fetch(const All& all) const {
+        for (unsigned n = 0; n < all.count; ++n) {
+            if (all.next[n] & LEAF) __builtin_prefetch(&leaves_[all.next[n] & ~LEAF]);
+            else __builtin_prefetch(&ones_[all.next[n]]);
+        }
+        if (all.link) __builtin_prefetch(&links_[all.link]);
     }
 
     // What goes with a position but for what is behind its Ones.
@@ -518,7 +595,9 @@ class Graph {
         for (unsigned n = 0; n < all.count; ++n) {
             if (!(all.next[n] & LEAF)) continue;
             Leaf& leaf = leaves_[all.next[n] & ~LEAF];
-            if (!--leaf.refs) live_ -= leaf.supports ? 1 : 2;
+            if (--leaf.refs) continue;
+            --live_;
+            if (!leaf.supports) drop_end(leaf);
         }
         for (uint32_t link = all.link; link; link = links_[link].next) desert(leaves_[links_[link].leaf]);
     }
@@ -617,6 +696,7 @@ class Graph {
         if (manner_.noise && random(256) < manner_.noise) {
             if (unsigned index = any_move(one, NONE, FEW_NODES); index != NONE) return index;
         }
+        if (manner_.heeds && one.other != NONE) return one.other;
         return manner_.keeps && one.kept != NONE ? one.kept : cheapest(one);
     }
 
@@ -649,17 +729,16 @@ class Graph {
         return NONE;
     }
 
-    // Notes a move as that of before, and what is known of it.
-    void keep(Position at, Word square, unsigned status) {
+    // The number of a move, or NONE where it isn't one that may hold.
+    unsigned index_of(Position at, Word square) {
         uint32_t place = one_of(key_of(at));
         Word key = key_of(board_.after(at, square));
         if (!lay_out_one(place)) overflows();
-        for (unsigned n = 0; n < ones_[place].count; ++n) {
-            All& all = alls_[ones_[place].next[n]];
-            if (all.key != key) continue;
-            ones_[place].kept = n & 15;
-            if (status != UNKNOWN) all.status = status & 3;
+        const One& one = ones_[place];
+        for (unsigned n = 0; n < one.count; ++n) {
+            if (alls_[one.next[n]].key == key) return n;
         }
+        return NONE;
     }
 
     // The moves at the leaves: those to a position of the set; where there is none, to an end to which the most lead.

@@ -129,8 +129,8 @@ inline const std::vector<Option>& all_options() {
          "the moves of this proof are the first strategy, and its value is taken without a search",
          text(&Options::start)},
         {"--also", "FILE",
-         "the moves of this proof are what an order chooses after it, and in a graph are taken first where its positions come "
-         "in; may stand more than once",
+         "the moves of this proof are what an order chooses after it, and before a graph is made smaller its parts are "
+         "taken where that makes it no larger; may stand more than once",
          [](Request& asked, Values values) { asked.options.also.push_back(values[0]); }},
         {"--changes", "OLD NEW",
          "after `--start`: where the proof NEW has another move than the proof OLD, it is taken over; may"
@@ -156,8 +156,8 @@ inline const std::vector<Option>& all_options() {
              asked.options.work = 1'000'000 * number_of("--work", values[0].c_str(), 0, 1'000'000'000);
          }},
         {"--heat", "N",
-         "in the graph a change may make it larger by a number drawn at random, N hundredths on "
-         "average; it falls to that of `--cool` until `--seconds` are over or `--work` is done",
+         "in the graph a change may make it larger by a number drawn at random, N hundredths on average; it falls to that "
+         "of `--cool` until 85 parts in 100 of `--seconds` are over or of `--work` are done",
          number("--heat", 0, 10'000, &Options::heat), default_of(&Options::heat)},
         {"--cool", "N",
          "what `--heat` comes to at the end",

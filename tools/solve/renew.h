@@ -1,6 +1,7 @@
 // How a strategy is made smaller in its graph.
 #pragma once
 
+#include <algorithm>
 #include <cmath>
 #include <string>
 #include <vector>
@@ -12,18 +13,38 @@ class Renewed : public Graph<ROWS> {
   public:
     using Graph<ROWS>::Graph;
 
+    // Takes parts of another strategy where the set doesn't get larger by it.
+    void cross(const std::vector<Moved>& moves) {
+        this->oppose(moves);
+        Restored before(is_crossing_);
+        is_crossing_ = true;
+        for (int64_t size = live_ + LARGE; size - live_ >= LARGE && !is_late() && !is_full();) {
+            size = live_;
+            std::vector<uint32_t> ones = part();
+            auto is_later = [this](uint32_t one, uint32_t other) { return men_of(one) > men_of(other); };
+            std::stable_sort(ones.begin(), ones.end(), is_later);
+            for (uint32_t one : ones) {
+                if (!is_late()) cross_at(one);
+            }
+            progress.lemmas = uint64_t(live_);
+            progress.line(search_.nodes());
+        }
+    }
+
     // Sweeps and renewals in turn, while they make the set smaller and there is time.
     void better() {
         begin_ = progress.seconds();
         begin_work_ = work_ + search_.nodes();
+        heat_ = heat();
         for (int idle = 0; idle < 3 && !is_late();) {
             int64_t before = live_;
             vary_all(part());
+            share_ends();
             renew(30 * uint64_t(live_));
             if (is_full() && !shed()) return;
             progress.lemmas = uint64_t(live_);
             progress.line(search_.nodes());
-            idle = heat() > 0 || before - live_ > before / 50000 ? 0 : idle + 1;
+            idle = heat_ > 0 || before - live_ > before / 50000 ? 0 : idle + 1;
         }
     }
 
@@ -51,6 +72,7 @@ class Renewed : public Graph<ROWS> {
     using Base::part;
     using Base::random;
     using Base::search_;
+    using Base::share_ends;
     using Base::shed;
     using Base::take_again;
     using Base::take_all;
@@ -63,6 +85,8 @@ class Renewed : public Graph<ROWS> {
     static constexpr int64_t PATIENCE = 5;   // such renewals more may be what a part needs to be small enough
     static constexpr int PASSES = 20;        // while a part that was taken in by chance cools down
     static constexpr double WARM = 8;        // how many positions more may stay of a change there, on an average at first
+    static constexpr uint64_t BATCH = 300;   // work that is done in one way before the next is drawn
+    static constexpr double WARM_SHARE = 0.85;  // of the work or time
     static constexpr double KNOWN = 3e7;      // work that is remembered of what is done in one way
 
     // A One, and the move that it has before another is tried.
@@ -79,11 +103,13 @@ class Renewed : public Graph<ROWS> {
     Way ways_[128];
     double begin_ = 0;         // when the bettering began
     uint64_t begin_work_ = 0;  // what had been done then
+    double heat_ = 0;    // as it was when the clock was looked at last
     double warmth_ = 0;  // of the part that is cooling down
     uint64_t calls_ = 0;
     bool late_ = false;
     bool is_trial_ = false;   // what was taken in by chance is being bettered, and may be dropped again
     bool is_within_ = false;  // a part of that is being renewed
+    bool is_crossing_ = false;
     std::vector<Note> notes_, best_notes_;
 
     // The time for better choices is over, or the memory. The clock is looked at now and then.
@@ -92,6 +118,7 @@ class Renewed : public Graph<ROWS> {
             progress.lemmas = uint64_t(live_);
             say_now(search_.nodes());
             late_ = progress.is_late(options_.seconds) || done() > options_.work;
+            if (heat_ > 0) heat_ = heat();
         }
         return late_;
     }
@@ -110,12 +137,12 @@ class Renewed : public Graph<ROWS> {
         double seconds = std::max(double(options_.seconds) - begin_, 1.0);
         double spent = std::max((progress.seconds() - begin_) / seconds, double(done()) / double(options_.work));
         double first = double(options_.heat) / 100, last = double(options_.cool) / 100;
-        return last + (first - last) * std::max(1 - spent, 0.0);
+        return last + (first - last) * std::max(1 - spent / WARM_SHARE, 0.0);
     }
 
     // So many more may stay of this one.
     int64_t slack() {
-        double mean = std::max(heat(), warmth_);
+        double mean = std::max(heat_, warmth_);
         if (mean == 0) return 0;
         return int64_t(-mean * std::log(double(random(uint64_t(1) << 32) + 1) / double(uint64_t(1) << 32)));
     }
@@ -131,8 +158,11 @@ class Renewed : public Graph<ROWS> {
             if (some.empty()) return;
             int64_t size = live_;
             uint64_t before = work_ + search_.nodes();
-            if (place < 64) renew_part(some[random(some.size())]);
-            else for (int n = 0; n < 32; ++n) vary(some[random(some.size())]);
+            while (work_ + search_.nodes() < before + BATCH) {
+                if (place < 64) renew_part(some[random(some.size())]);
+                else vary(some[random(some.size())]);
+                ++work_;
+            }
             Way& way = ways_[place];
             double work = double(work_ + search_.nodes() - before) + 10;
             double kept = std::exp(-work / KNOWN);
@@ -178,6 +208,19 @@ class Renewed : public Graph<ROWS> {
         return sharers.size() == alls_[there].refs ? sharers : std::vector<User>();
     }
 
+    // Takes the other strategy's move at a position, and its moves for what comes in by that.
+    void cross_at(uint32_t place) {
+        const One& one = ones_[place];
+        ++work_;
+        if (!one.refs || one.other == NONE || one.other == one.move) return;
+        std::vector<User> users = sharers(place);
+        if (users.empty()) return;
+        std::vector<Note> notes;
+        int64_t size = live_;
+        int64_t gone = drop_shared(users, notes);
+        if (!take_bettered(users, one.next[one.other], size, gone)) restore_shared(users, notes);
+    }
+
     uint32_t there_of(uint32_t one) const { return ones_[one].next[ones_[one].move]; }
 
     // Drops what these share, and notes it. How many positions went.
@@ -209,6 +252,7 @@ class Renewed : public Graph<ROWS> {
         One& one = ones_[user.one];
         unsigned index = unsigned(std::find(one.next, one.next + one.count, all) - one.next);
         if (index == one.count) index = free_move(one);
+        if (index == NONE && manner_.heeds) index = one.other;
         if (index == NONE) index = any_move(one, user.old, options_.nodes);
         if (index == NONE || !take_all(one.next[index])) return false;
         one.move = index & 15;
@@ -225,7 +269,8 @@ class Renewed : public Graph<ROWS> {
         const One& one = ones_[place];
         if (!one.refs) return;
         uint32_t there = there_of(place);
-        if (alls_[there].cost > scaled(2 * LARGEST)) return;
+        uint16_t cost = alls_[there].cost;
+        if (cost > scaled(2 * LARGEST) || (cost && cost < scaled(SMALLEST / 2))) return;
         std::vector<User> users = sharers(place);
         if (users.empty()) return;
         std::vector<Note> notes;
@@ -255,8 +300,9 @@ class Renewed : public Graph<ROWS> {
         static constexpr unsigned NOISE[] = {4, 8, 16, 32};
         Restored before(manner_);
         manner_.stays = false;
-        manner_.keeps = random(8);
-        manner_.noise = NOISE[random(4)];
+        manner_.keeps = is_crossing_ || random(8);
+        manner_.noise = is_crossing_ ? 0 : NOISE[random(4)];
+        manner_.heeds = is_crossing_;
         manner_.most = most;
         manner_.taken = &ones;
         return take_shared(users, all);
