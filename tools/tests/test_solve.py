@@ -294,15 +294,18 @@ class SolveTest(ToolTest):
         self.proof_of(game_text(5, 4, ""), "--graph", "1")
 
     def test_steps(self):
-        """A list of steps comes to the same proof in one call or in two, and none to a larger one than the step before,
-        but while it is hot. A fault is one line."""
+        """A list of steps comes to the same proof in one call or in two, with parts made smaller apart, and leaves no
+        other proofs than it needs. A fault is one line."""
+        graph = "--memory 200 --graph 16 --work 1"
         steps = self.file(
             "steps",
             "# a small board\n"
             + game_text(5, 4, "")
-            + "step --format 2 --order 2 --starts 0 --rounds 0 --sweeps 0 --quiet\n"
-            + "step --format 2 --memory 200 --graph 16 --heat 50 --cool 20 --work 1 --rounds 0 --sweeps 0 --quiet\n"
-            + "again --format 2 --memory 200 --graph 16 --work 1 --rounds 0 --sweeps 0 --quiet\n",
+            + "always --format 2 --starts 0 --rounds 0 --sweeps 0 --quiet\n"
+            + "step a - --order 2\nstep b - --order 1\n"
+            + f"step hot a {graph} --heat 50 --cool 20\n"
+            + f"step below hot --below c {graph}\nstep beside hot --below c --beside {graph}\n"
+            + f"step all hot+below+beside,b {graph} --seed 2\nstep last all {graph} --seed 3\n",
         )
         there = tempfile.mkdtemp(prefix="by steps-", dir=self.folder)
         for path in (self.solver, os.path.join(SOURCES, "by-steps")):
@@ -313,24 +316,25 @@ class SolveTest(ToolTest):
             return run.returncode, run.stderr
 
         once, twice = os.path.join(there, "once"), os.path.join(there, "twice")
-        for folder, counts in ((once, "3"), (twice, "13")):
-            for count in counts:
-                self.assertEqual(by_steps(steps, folder, count)[0], 0)
-        proof = read(os.path.join(once, "3.txt"))
-        self.assertEqual(read(os.path.join(twice, "3.txt")), proof)
+        for words in ((once,), (twice, "3"), (twice, "7")):
+            self.assertEqual(by_steps(steps, *words)[0], 0)
+            files = {"game", "steps.csv", "smallest.txt"} | ({"b.txt", "hot.txt"} if words[1:] == ("3",) else set())
+            self.assertEqual(set(os.listdir(words[0])), files)
+        proof = read(os.path.join(once, "smallest.txt"))
+        self.assertEqual(read(os.path.join(twice, "smallest.txt")), proof)
         self.assertEqual(mutants.answer_of([program(), "check"], proof.encode())[0], 0)
         rows = [row.split(",") for row in read(os.path.join(twice, "steps.csv")).splitlines()]
-        self.assertEqual([row[0] for row in rows], ["step", "0", "1", "2", "3"])
-        sizes = [int(row[1]) for row in rows[1:]]
-        self.assertEqual(sizes[1:], sorted(sizes[1:], reverse=True))
-        self.assertLess(sizes[-1] * 5, sizes[0] * 4)
-        for words in ((steps, once), (steps, once, "x"), (os.path.join(there, "none"), once, "1")):
+        self.assertEqual([row[0] for row in rows], ["step", "a", "b", "hot", "below", "beside", "all", "last"])
+        sizes = {row[0]: int(row[1]) for row in rows[1:]}
+        self.assertLess(max(sizes["below"], sizes["beside"]), sizes["hot"])
+        self.assertLess(min(sizes["all"], sizes["last"]) * 5, sizes["a"] * 4)
+        for words in ((steps,), (steps, once, "x"), (steps, once, "0"), (os.path.join(there, "none"), once, "1")):
             status, said = by_steps(*words)
             self.assertEqual((status, said.count("\n")), (2, 1), said)
-        bad = self.file("bad steps", game_text(5, 4, "") + "step --what\n")
-        status, said = by_steps(bad, os.path.join(there, "bad"), "0")
+        bad = self.file("bad steps", game_text(5, 4, "") + "step a - --what\n")
+        status, said = by_steps(bad, os.path.join(there, "bad"))
         self.assertEqual(status, 1)
-        self.assertTrue(said.endswith("by-steps: step 0 failed\n"), said)
+        self.assertTrue(said.endswith("by-steps: a failed\n"), said)
 
     def test_work(self):
         """With a limit on the work, the same words give the same proof, and more work a smaller one."""
