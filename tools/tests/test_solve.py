@@ -291,7 +291,7 @@ class SolveTest(ToolTest):
             crossed = self.proof_of(text, *words, "--rounds", "0", "--sweeps", "0")[0]
             self.assertLess(crossed.count("\n") * 10, min(rough.count("\n"), other.count("\n")) * 9)
         # With little memory, what isn't of the strategy is dropped again and again.
-        self.proof_of(game_text(5, 4, ""), "--graph", "1")
+        self.proof_of(game_text(5, 4, ""), "--graph", "2")
 
     def test_steps(self):
         """A list of steps comes to the same proof in one call or in two, with parts made smaller apart, and leaves no
