@@ -316,10 +316,11 @@ class SolveTest(ToolTest):
             return run.returncode, run.stderr
 
         once, twice = os.path.join(there, "once"), os.path.join(there, "twice")
-        for words in ((once,), (twice, "3"), (twice, "7")):
-            self.assertEqual(by_steps(steps, *words)[0], 0)
-            files = {"game", "steps.csv", "smallest.txt"} | ({"b.txt", "hot.txt"} if words[1:] == ("3",) else set())
-            self.assertEqual(set(os.listdir(words[0])), files)
+        self.assertEqual(by_steps(steps, twice, "0.00001")[0], 0)
+        self.assertLess(read(os.path.join(twice, "steps.csv")).count("\n"), 8)
+        for words in ((steps, once), (steps, twice, "1")):
+            self.assertEqual(by_steps(*words)[0], 0)
+            self.assertEqual(set(os.listdir(words[1])), {"game", "steps.csv", "smallest.txt"})
         proof = read(os.path.join(once, "smallest.txt"))
         self.assertEqual(read(os.path.join(twice, "smallest.txt")), proof)
         self.assertEqual(mutants.answer_of([program(), "check"], proof.encode())[0], 0)
@@ -328,7 +329,7 @@ class SolveTest(ToolTest):
         sizes = {row[0]: int(row[1]) for row in rows[1:]}
         self.assertLess(max(sizes["below"], sizes["beside"]), sizes["hot"])
         self.assertLess(min(sizes["all"], sizes["last"]) * 5, sizes["a"] * 4)
-        for words in ((steps,), (steps, once, "x"), (steps, once, "0"), (os.path.join(there, "none"), once, "1")):
+        for words in ((steps,), (steps, once, "x"), (steps, once, "0.0"), (os.path.join(there, "none"), once, "1")):
             status, said = by_steps(*words)
             self.assertEqual((status, said.count("\n")), (2, 1), said)
         bad = self.file("bad steps", game_text(5, 4, "") + "step a - --what\n")
