@@ -87,8 +87,8 @@ class Bettered : public Strategy<ROWS> {
         report();
     }
 
-    // Another strategy, whose moves are what an order chooses from here on, where it has chosen none. A graph takes parts
-    // of it. It has to stay.
+    // Another strategy, whose moves are what an order chooses from here on, where it has chosen none. A graph takes
+    // parts of it. It has to stay.
     void offer_strategy(const std::vector<Moved>& moves, int order) {
         offer(moves, order);
         others_.push_back(&moves);

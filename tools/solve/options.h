@@ -156,8 +156,8 @@ inline const std::vector<Option>& all_options() {
              asked.options.work = 1'000'000 * number_of("--work", values[0].c_str(), 0, 1'000'000'000);
          }},
         {"--heat", "N",
-         "in the graph a change may make it larger by a number drawn at random, N hundredths on average; it falls to that "
-         "of `--cool` until 85 parts in 100 of `--seconds` are over or of `--work` are done",
+         "in the graph a change may make it larger by a number drawn at random, N hundredths on average; it falls to "
+         "that of `--cool` until 85 parts in 100 of `--seconds` are over or of `--work` are done",
          number("--heat", 0, 10'000, &Options::heat), default_of(&Options::heat)},
         {"--cool", "N",
          "what `--heat` comes to at the end",
