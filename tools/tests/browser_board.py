@@ -7,7 +7,7 @@ import random
 import sys
 import time
 
-from selenium import webdriver
+from browser import chromium, resize
 from selenium.webdriver.common.by import By
 from selenium.webdriver.common.keys import Keys
 from selenium.webdriver.support.select import Select
@@ -23,15 +23,10 @@ class Page:
     """The page in a browser, and what a person sees and does there."""
 
     def __init__(self):
-        options = webdriver.ChromeOptions()
-        for word in ("--headless=new", "--no-sandbox", "--disable-gpu", "--hide-scrollbars"):
-            options.add_argument(word)
-        self.browser = webdriver.Chrome(options=options)
-        self.size(1280, 900)
+        self.browser = chromium(1280, 900)
 
     def size(self, wide, high):
-        metrics = {"width": wide, "height": high, "deviceScaleFactor": 1, "mobile": False}
-        self.browser.execute_cdp_cmd("Emulation.setDeviceMetricsOverride", metrics)
+        resize(self.browser, wide, high)
 
     def open(self, where):
         self.browser.get("about:blank")

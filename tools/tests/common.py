@@ -1,7 +1,9 @@
 """What the tests share."""
 
+import functools
 import os
 import re
+import shutil
 import stat
 import subprocess
 import sys
@@ -12,6 +14,8 @@ HERE = os.path.dirname(os.path.abspath(__file__))
 TOOLS = os.path.dirname(HERE)
 TOP = os.path.dirname(TOOLS)
 LAB = os.path.join(TOOLS, "lab")
+SYSTEM_PYTHON = "/usr/bin/python3"
+NO_BROWSER = "Chromium and selenium aren't there: apt-get install chromium-driver python3-selenium"
 sys.path[:0] = [HERE, TOOLS]
 import victor  # noqa: E402
 
@@ -23,6 +27,15 @@ os.environ["XDG_CACHE_HOME"] = KEPT.name
 def program():
     """The program to compare with. VICTOR names another than that of this checkout."""
     return victor.find_program()
+
+
+@functools.cache
+def has_browser():
+    """There is a browser that the system's Python can steer."""
+    words = [SYSTEM_PYTHON, "-c", "import selenium"]
+    if not (shutil.which("chromedriver") and os.path.exists(SYSTEM_PYTHON)):
+        return False
+    return subprocess.run(words, stderr=subprocess.DEVNULL).returncode == 0
 
 
 def example(*names):

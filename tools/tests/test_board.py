@@ -7,7 +7,6 @@ import importlib.machinery
 import importlib.util
 import json
 import os
-import shutil
 import signal
 import subprocess
 import threading
@@ -16,18 +15,12 @@ import unittest
 import urllib.parse
 import urllib.request
 
-from common import TOOLS, TOP, ToolTest, command_of, program, read, shipped_lemmas, tool
+from common import NO_BROWSER, SYSTEM_PYTHON, TOOLS, TOP, ToolTest, command_of, has_browser, program, read
+from common import shipped_lemmas, tool
 import victor._programs
 from victor._serving import MOST_AT_ONCE, Busy, Visitors
 
 
-SYSTEM_PYTHON = "/usr/bin/python3"
-BROWSER = (
-    shutil.which("chromedriver")
-    and os.path.exists(SYSTEM_PYTHON)
-    and subprocess.run([SYSTEM_PYTHON, "-c", "import selenium"], stderr=subprocess.DEVNULL).returncode == 0
-)
-SKIPPED = "Chromium and selenium aren't there: apt-get install chromium-driver python3-selenium"
 PLAN = "plan CE:a1 CE:a3 CE:b1 CE:b3 BI:c1,d1 LI:c2-c4,d2-d4"
 
 
@@ -234,7 +227,7 @@ class BoardTest(ServedTest):
         self.assertFalse(children_of(self.server.pid))
         line.close()
 
-    @unittest.skipUnless(BROWSER, SKIPPED)
+    @unittest.skipUnless(has_browser(), NO_BROWSER)
     def test_in_a_browser(self):
         browse(self, "served", self.address)
 
@@ -348,7 +341,7 @@ class SiteTest(ToolTest):
         self.assertEqual(len(os.listdir(os.path.join(self.site, "proofs"))), boards)
         self.refuses("board", "--static", self.site, said="isn't empty: name a new one")
 
-    @unittest.skipUnless(BROWSER, SKIPPED)
+    @unittest.skipUnless(has_browser(), NO_BROWSER)
     def test_in_a_browser(self):
         """From a file, and from a plain server of files."""
         status, _, err = tool("board", "--static", self.site, "--usual")

@@ -1,5 +1,6 @@
 """lab draw: pictures of positions, plans and duels, and the page of a proof in a real browser."""
 
+import json
 import os
 import random
 import re
@@ -10,11 +11,10 @@ import tempfile
 import unittest
 import xml.etree.ElementTree
 
-from common import TOP, ToolTest, example, heard, program, read, tool
+from common import NO_BROWSER, SYSTEM_PYTHON, TOOLS, TOP, ToolTest, example, has_browser, heard, program, read, tool
 import mutants
 
 SVG = "{http://www.w3.org/2000/svg}"
-BROWSER = shutil.which("chromium") or shutil.which("chromium-browser")
 
 
 def texts_of(svg):
@@ -242,23 +242,12 @@ class DuelTest(ToolTest):
         self.refuses("draw", "duel", "--board", "4x5", text="e1 e2\n", said="no board has")
 
 
-def browse(page, anchor="", picture=None, size="1000,560"):
-    """What the page has once its script has run; and a picture of it."""
-    words = [BROWSER, "--headless=new", "--no-sandbox", "--disable-gpu", "--hide-scrollbars", "--window-size=" + size]
-    with tempfile.TemporaryDirectory() as home:
-        words.append("--user-data-dir=" + home)
-        url = "file://" + page + anchor
-        if picture:
-            subprocess.run(
-                words + ["--screenshot=" + picture, url],
-                stdout=subprocess.DEVNULL,
-                stderr=subprocess.DEVNULL,
-                timeout=100,
-            )
-        run = subprocess.run(
-            words + ["--dump-dom", url], stdout=subprocess.PIPE, stderr=subprocess.DEVNULL, timeout=100
-        )
-    return run.stdout.decode("utf-8")
+def browse(page, *anchors, picture=None):
+    """What the page has at each anchor once its script has run; and a picture of it at the first."""
+    words = [SYSTEM_PYTHON, os.path.join(TOOLS, "tests", "browser.py"), *(["--picture", picture] if picture else [])]
+    addresses = [f"file://{page}{anchor}" for anchor in anchors]
+    run = subprocess.run([*words, *addresses], stdout=subprocess.PIPE, encoding="utf-8", timeout=100, check=True)
+    return [json.loads(line) for line in run.stdout.splitlines()]
 
 
 class PageTest(ToolTest):
@@ -290,15 +279,21 @@ class PageTest(ToolTest):
         self.refuses("draw", "proof", text="victor 1\nboard 4 4\nmoves -\n1 - W- <b>\n", said="line 4")
         self.refuses("draw", "proof", "--most", "0", text="", said="--most")
 
-    @unittest.skipUnless(BROWSER, "Chromium isn't there: apt-get install chromium")
+    @unittest.skipUnless(has_browser(), NO_BROWSER)
     def test_in_a_browser(self):
         path = self.page(read(example("shared-position.proof")))
         picture = path.replace(".html", ".png")
-        found = browse(path, "#12", picture)
-        self.assertIn('<h2 id="name">Lemma 12</h2>', found)
-        self.assertIn("Black doesn't win", found)
-        self.assertIn("Shows 16 of 16 lemmas", found)
-        svg = re.search(r"<svg.*?</svg>", found, re.S).group()
+        faults = {
+            "#99": "Lemma 99 isn't on this page, which has 16 of 16.",
+            "#+z": "z can't be played from",
+            "#/ccc": "No lemma on this page has a path that begins so.",
+            "#+ba": "No lemma on this page stands at this position.",
+        }
+        by_number, by_path, first, by_moves, *told = browse(path, "#12", "#/aab", "", "#+ab", *faults, picture=picture)
+        self.assertIn('<h2 id="name">Lemma 12</h2>', by_number)
+        self.assertIn("Black doesn't win", by_number)
+        self.assertIn("Shows 16 of 16 lemmas", by_number)
+        svg = re.search(r"<svg.*?</svg>", by_number, re.S).group()
         # 12 men of the game and 4 of the path, on 16 squares.
         self.assertEqual((svg.count("<circle"), svg.count("<rect")), (16, 16))
         with open(picture, "rb") as source:
@@ -306,33 +301,28 @@ class PageTest(ToolTest):
         self.assertEqual(head[:8], b"\x89PNG\r\n\x1a\n")
         self.assertEqual(struct.unpack(">II", head[16:24]), (1000, 560))
         # Cited lemmas are links, closed until they are opened; and a path is searched.
-        found = browse(path, "#/aab")
-        self.assertIn("Lemma 8</h2>", found)
-        self.assertIn('<summary>a: <a href="#4">lemma 4</a>', found)
-        self.assertIn("<details>", found)
-        self.assertNotIn("<details open", found)
-        self.assertIn(">4 lemmas</div>", found)
+        self.assertIn("Lemma 8</h2>", by_path)
+        self.assertIn('<summary>a: <a href="#4">lemma 4</a>', by_path)
+        self.assertIn("<details>", by_path)
+        self.assertNotIn("<details open", by_path)
+        self.assertIn(">4 lemmas</div>", by_path)
         # Each move from a position has what the page's lemmas say of it, and what isn't there is told.
-        found = browse(path)
-        self.assertIn('a3</a></td><td>a draw by <a href="#4">lemma 4</a> and <a href="#15">lemma 15</a></td>', found)
-        self.assertIn('b3</a></td><td>White doesn\'t win by <a href="#7">lemma 7</a></td>', found)
-        found = browse(path, "#+ab")
-        self.assertIn("Lemma 14</h2>", found)
-        self.assertIn('a4</a></td><td>Black doesn\'t win by <a href="#13">lemma 13</a></td>', found)
-        self.assertIn("b4</a></td><td>not known on this page</td>", found)
-        self.assertIn("No lemma on this page stands at this position.", browse(path, "#+ba"))
-        for address, said in (
-            ("#99", "Lemma 99 isn't on this page, which has 16 of 16."),
-            ("#+z", "z can't be played from"),
-            ("#/ccc", "No lemma on this page has a path that begins so."),
-        ):
-            self.assertIn(said, browse(path, address), address)
-        # A lemma by a plan has the zones on its board.
-        found = browse(self.page(read(example("six-zones.proof"))))
+        self.assertIn('a3</a></td><td>a draw by <a href="#4">lemma 4</a> and <a href="#15">lemma 15</a></td>', first)
+        self.assertIn('b3</a></td><td>White doesn\'t win by <a href="#7">lemma 7</a></td>', first)
+        self.assertIn("Lemma 14</h2>", by_moves)
+        self.assertIn('a4</a></td><td>Black doesn\'t win by <a href="#13">lemma 13</a></td>', by_moves)
+        self.assertIn("b4</a></td><td>not known on this page</td>", by_moves)
+        for (address, said), found in zip(faults.items(), told, strict=True):
+            self.assertIn(said, found, address)
+
+    @unittest.skipUnless(has_browser(), NO_BROWSER)
+    def test_zones_in_a_browser(self):
+        """A lemma by a plan has the zones on its board."""
+        (found,) = browse(self.page(read(example("six-zones.proof"))), "")
         self.assertIn("LI 6</text>", found)
         self.assertIn("The value is unknown.", found)
 
-    @unittest.skipUnless(BROWSER, "Chromium isn't there: apt-get install chromium")
+    @unittest.skipUnless(has_browser(), NO_BROWSER)
     def test_many_lemmas_in_a_browser(self):
         count = 30_000
         lines = ["1 dcdcdc W- plan CE:a1 CE:b1"]
@@ -341,7 +331,7 @@ class PageTest(ToolTest):
             reason = "all a:%d b:%d" % (n - 1, max(n - 9, 1)) if n % 2 else "one c %d" % (n - 1)
             lines.append("%d %s W- %s" % (n, path, reason))
         proof = "victor 1\nboard 7 6\nmoves -\n%s\nvalue draw %d 1\n" % ("\n".join(lines), count)
-        found = browse(self.page(proof))
+        (found,) = browse(self.page(proof), "")
         self.assertIn("Shows 20000 of %d lemmas" % count, found)
         self.assertIn(">20000 lemmas, of which the 200 with the shortest paths are listed</div>", found)
         self.assertIn("Lemma %d</h2>" % count, found)

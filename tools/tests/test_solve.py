@@ -19,7 +19,7 @@ from victor._games import Size
 from victor._openings import Openings
 
 SOURCES = os.path.join(TOOLS, "solve")
-COMPILER = shutil.which("g++")
+CAN_BUILD = shutil.which("g++") and shutil.which("make")
 
 
 def game_text(columns, rows, moves, line=4):
@@ -37,7 +37,7 @@ def late_game(rng, columns, rows, length, line=4):
             return game.letters()
 
 
-@unittest.skipUnless(COMPILER, "g++ isn't there: apt-get install g++")
+@unittest.skipUnless(CAN_BUILD, "g++ or make isn't there: apt-get install g++ make")
 class SolveTest(ToolTest):
     @classmethod
     def setUpClass(cls):
@@ -48,22 +48,9 @@ class SolveTest(ToolTest):
 
     @classmethod
     def made(cls, name):
-        path = os.path.join(cls.folder, name)
-        subprocess.run(
-            [
-                COMPILER,
-                "-std=c++17",
-                "-O2",
-                "-Wall",
-                "-Wextra",
-                "-Werror",
-                "-o",
-                path,
-                os.path.join(SOURCES, name + ".cpp"),
-            ],
-            check=True,
-        )
-        return path
+        """The program as `make` builds it, where a warning is a fault; one that is there already isn't built again."""
+        subprocess.run(["make", "-s", "-C", SOURCES, "CXXFLAGS=-O2 -Werror", name], check=True)
+        return shutil.copy(os.path.join(SOURCES, name), cls.folder)
 
     def solve(self, text, *words, **more):
         run = subprocess.run(
@@ -473,18 +460,19 @@ class SolveTest(ToolTest):
     def test_table(self):
         """By a table of openings, here as `victor prove` has them, a proof is one of the same value. With one that is
         wrong there is none."""
-        rows = dict(self.values_of_openings((5, 4), 4))
-        self.assertEqual(set(rows.values()), {"win", "loss", "draw"})
+        rows = dict(self.values_of_openings((4, 4), 4))
+        self.assertEqual(set(rows.values()), {"loss", "draw"})
         table = self.written("openings", "moves,value\n" + "".join(f"{moves},{rows[moves]}\n" for moves in rows))
-        for moves in ("", "b", "ab", "abe", "bbbb"):
-            text = game_text(5, 4, moves)
+        for moves in ("", "b", "ab", "abd", "bbbb"):
+            text = game_text(4, 4, moves)
             value = self.proof_of(text)[1].split()[1]
             for words in ([], ["--outline", "300000"], ["--outline", "300000", "--soon", "2", "--format", "2"]):
                 self.assertEqual(self.proof_of(text, "--table", table, *words)[1].split()[1], value, (moves, words))
         turned = {"win": "loss", "loss": "draw", "draw": "win"}
         wrong = self.written("wrong", "moves,value\n" + "".join(f"{moves},{turned[rows[moves]]}\n" for moves in rows))
-        self.fails(game_text(5, 4, ""), "a table of openings is wrong", "--table", wrong, "--outline", "300000")
-        self.fails(game_text(4, 4, ""), "is no table of this board", "--table", table)
+        self.fails(game_text(4, 4, ""), "a table of openings is wrong", "--table", wrong, "--outline", "300000")
+        wider = self.written("wider", "moves,value\nabce,draw\n")
+        self.fails(game_text(4, 4, ""), "is no table of this board", "--table", wider)
 
     def values_of_openings(self, size, men):
         """The moves of all openings with so many men, also of those with a forced move, and what they are worth."""
