@@ -91,7 +91,7 @@ def game_by_the_proof(page):
     than White's win."""
     chance = random.Random(SEED)
     page.open("#7x6/-")
-    page.wait_for("value", "White wins (proved by 1,539,921 lemmas")
+    page.wait_for("value", "White wins (proved by 1,497,727 lemmas")
     page.choose("by", "proof")
     page.wait_for("status", "White plays d1 (proved)")
     assert page.find("you").get_attribute("value") == "B"
