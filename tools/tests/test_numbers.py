@@ -13,7 +13,7 @@ from common import TOP, read
 
 TRUST = " ".join(read(os.path.join(TOP, "docs", "TRUST.md")).split())
 REVIEW = " ".join(read(os.path.join(TOP, "docs", "REVIEW.md")).split())
-SPELLED = {"two": 2, "nine": 9, "three": 3, "four": 4, "twelve": 12}
+SPELLED = {"one": 1, "two": 2, "nine": 9, "three": 3, "four": 4, "twelve": 12}
 
 
 def lines_of(*names):
