@@ -8,14 +8,14 @@ fn a_full_pool_has_a_slot_again_after_one_was_given_back(rt: HostRuntime) -> Res
     let first = pool.place(5).ok_or("no first slot")?;
     let second = pool.place(6).ok_or("no second slot")?;
     assert!(rt; first != second);
-    assert_eq!(rt; pool.place(7), None);
-    assert_eq!(rt; (pool.live(), pool.room()), (2, 0));
+    assert!(rt; pool.place(7).is_none());
+    assert!(rt; (pool.live(), pool.room()) == (2, 0));
     pool.set(second, 8);
     pool.give_back(first);
-    assert_eq!(rt; (pool.live(), pool.room()), (1, 1));
+    assert!(rt; (pool.live(), pool.room()) == (1, 1));
     let third = pool.place(7).ok_or("no third slot")?;
-    assert_eq!(rt; pool.live(), 2);
-    assert_eq!(rt; *pool.get(second), 8);
-    assert_eq!(rt; *pool.get(third), 7);
+    assert!(rt; pool.live() == 2);
+    assert!(rt; *pool.get(second) == 8);
+    assert!(rt; *pool.get(third) == 7);
     Ok(())
 }

@@ -1,10 +1,8 @@
 //! How many groups a board has, and which of them a man takes from the other side, as counted by hand.
-use crate::squares::square_of;
-use board_bits::{Mask, Position, Side, Size, Square, read_game};
+use crate::squares::{group_of, position_of, square_of};
+use board_bits::{Mask, Position, Side, Size, Square};
 use game_rules::Way;
-use open_groups::{
-    GroupId, GroupSet, free_for, group_anchor, group_at, group_mask, group_way, groups,
-};
+use open_groups::{GroupId, GroupSet, free_for, group_mask, groups};
 use std::test::Fail;
 
 /// The set without a square.
@@ -28,86 +26,47 @@ fn boards_have_their_groups(rt: HostRuntime) -> Result<(), Fail> {
     ] {
         let size = Size::with_line(cols, rows, len)?;
         let groups = groups(size);
-        assert_eq!(rt;
-            groups.len(),
-            want,
+        assert!(rt;
+            groups.len() == want,
             "at {cols} by {rows} with lines of {len}"
         );
         for group in groups.as_slice() {
-            assert_eq!(rt; group.squares().len(), usize::from(len));
+            assert!(rt; group.squares().len() == usize::from(len));
         }
     }
     Ok(())
 }
 
 #[test]
-fn a_group_of_four_is_none_of_five(rt: HostRuntime) -> Result<(), Fail> {
-    let four = Position::empty(Size::new(7, 6)?);
-    let five = Position::empty(Size::with_line(7, 6, 5)?);
-    let corner = square_of(four.size(), 0, 1).ok_or("no a1")?;
-    let short = group_at(four.size(), corner, Way::H).ok_or("no group of four")?;
-    let long = group_at(five.size(), corner, Way::H).ok_or("no group of five")?;
-    assert!(rt; free_for(&four, Side::White).has(short) && free_for(&five, Side::White).has(long));
-    assert!(rt;
-        !free_for(&four, Side::White).has(long) && !free_for(&five, Side::White).has(short)
-    );
-    assert!(rt; short != long);
-    Ok(())
-}
-
-#[test]
 fn a_man_takes_three_groups(rt: HostRuntime) -> Result<(), Fail> {
-    let position = read_game(b"board 4 4\nmoves a\n")?;
+    let position = position_of(b"board 4 4\nmoves a\n")?;
     let all = groups(position.size());
-    let corner = square_of(position.size(), 0, 1).ok_or("no a1")?;
     let white = free_for(&position, Side::White);
     let black = free_for(&position, Side::Black);
-    assert_eq!(rt; count_in(&white, all.as_slice()), 10);
-    assert_eq!(rt; count_in(&black, all.as_slice()), 7);
+    assert!(rt; count_in(&white, all.as_slice()) == 10);
+    assert!(rt; count_in(&black, all.as_slice()) == 7);
     for way in [Way::H, Way::V, Way::U] {
-        let taken = group_at(position.size(), corner, way).ok_or("no group")?;
+        let taken = group_of(position.size(), 0, 1, way)?;
         assert!(rt; !black.has(taken), "{way:?} is taken");
     }
     Ok(())
 }
 
 #[test]
-fn a_group_is_its_squares(rt: HostRuntime) -> Result<(), Fail> {
-    let position = read_game(b"board 4 4\nmoves abc\n")?;
-    let size = position.size();
-    let top = square_of(size, 0, 4).ok_or("no a4")?;
-    let group = group_at(size, top, Way::D).ok_or("no a4d")?;
-    assert_eq!(rt; group_anchor(group), top);
-    assert_eq!(rt; group_way(group), Way::D);
-    let mut squares = Mask::empty();
-    for (index, row) in [(3, 1), (2, 2), (1, 3), (0, 4)] {
-        squares = squares.with(square_of(size, index, row).ok_or("off the board")?);
-    }
-    assert_eq!(rt; group_mask(group), squares);
-    assert!(rt; squares.within(position.empties()));
-    assert!(rt; !squares.meets(position.white().union(position.black())));
-    assert!(rt; group_at(size, top, Way::U).is_none());
-    Ok(())
-}
-
-#[test]
 fn sets_give_their_numbers(rt: HostRuntime) -> Result<(), Fail> {
-    let position = read_game(b"board 4 4\nmoves a\n")?;
-    let corner = square_of(position.size(), 0, 1).ok_or("no a1")?;
-    let level = group_mask(group_at(position.size(), corner, Way::H).ok_or("no group")?);
-    assert_eq!(rt; level.bits(), 8_594_130_945);
+    let position = position_of(b"board 4 4\nmoves a\n")?;
+    let corner = square_of(position.size(), 0, 1)?;
+    let level = group_mask(group_of(position.size(), 0, 1, Way::H)?);
+    assert!(rt; level.bits() == 8_594_130_945);
     assert!(rt; level.run_of(4) && !level.run_of(5));
     let rest = without(level, corner);
-    assert_eq!(rt; rest.bits(), 8_594_130_944);
+    assert!(rt; rest.bits() == 8_594_130_944);
     assert!(rt; !rest.run_of(4));
-    assert_eq!(rt; free_for(&position, Side::Black).bits(), (750, 0));
-    assert_eq!(rt; free_for(&position, Side::White).bits(), (1023, 0));
+    assert!(rt; free_for(&position, Side::Black).bits() == (750, 0));
+    assert!(rt; free_for(&position, Side::White).bits() == (1023, 0));
     // 128 groups, and 110 more
     let widest = Position::empty(Size::new(10, 10)?);
-    assert_eq!(rt;
-        free_for(&widest, Side::White).bits(),
-        (u128::MAX, (1 << 110) - 1)
-    );
+    assert!(rt; free_for(&widest, Side::White).bits() == (u128::MAX, (1 << 110) - 1));
     Ok(())
 }
 
@@ -115,7 +74,7 @@ fn sets_give_their_numbers(rt: HostRuntime) -> Result<(), Fail> {
 fn each_group_is_a_run_and_none_with_a_square_less(rt: HostRuntime) -> Result<(), Fail> {
     for (len, want) in [(4, 238), (5, 192)] {
         let groups = groups(Size::with_line(10, 10, len)?);
-        assert_eq!(rt; groups.len(), want);
+        assert!(rt; groups.len() == want);
         for group in groups.as_slice() {
             let mask = group_mask(*group);
             assert!(rt; mask.run_of(len), "{group:?}");

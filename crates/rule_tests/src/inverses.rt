@@ -1,6 +1,6 @@
 //! Answers through the trait, shapes that are refused, and lists as counted by hand.
-use crate::squares::{Written, are_named, are_those, named};
-use board_bits::{Position, Size, Square, read_game};
+use crate::squares::{Written, are_named, are_those, named, position_of};
+use board_bits::{Position, Size, Square};
 use inverse_rules::{
     Highinverse, Lowinverse, Vertical, list_highinverse, list_lowinverse, list_vertical,
 };
@@ -35,27 +35,27 @@ const LISTS: &[(&[u8], &[&[u8]], &[&[u8]], &[&[u8]])] = &[
 ];
 
 impl Written for Lowinverse {
-    fn is_of(&self, size: Size, names: &[u8]) -> bool {
+    fn is_of(&self, names: &[u8]) -> bool {
         let squares = [self.x(), self.x_top(), self.y(), self.y_top()];
-        are_named(&squares, size, names)
+        are_named(&squares, names)
     }
 }
 
 impl Written for Highinverse {
-    fn is_of(&self, size: Size, names: &[u8]) -> bool {
-        are_named(&[self.x(), self.y()], size, names)
+    fn is_of(&self, names: &[u8]) -> bool {
+        are_named(&[self.x(), self.y()], names)
     }
 }
 
 impl Written for Vertical {
-    fn is_of(&self, size: Size, names: &[u8]) -> bool {
-        are_named(&[self.e()], size, names)
+    fn is_of(&self, names: &[u8]) -> bool {
+        are_named(&[self.e()], names)
     }
 }
 
 /// The answer to a move to the second square of the first column, if the rule fits.
 fn answer_at_a2<R: Rule>(rule: &R, position: &Position) -> Result<Option<Square>, Fail> {
-    let a2 = named(position.size(), b"a2").ok_or("no a2")?;
+    let a2 = named(position.size(), b"a2")?;
     if !rule.fits(position) || !position.is_playable(a2) {
         return Err("no fit".into());
     }
@@ -64,41 +64,35 @@ fn answer_at_a2<R: Rule>(rule: &R, position: &Position) -> Result<Option<Square>
 
 #[test]
 fn a_lowinverse_answers_a_bottom_by_the_square_above(rt: HostRuntime) -> Result<(), Fail> {
-    let position = read_game(GROUND)?;
-    let a2 = named(position.size(), b"a2").ok_or("no a2")?;
-    let a4 = named(position.size(), b"a4").ok_or("no a4")?;
-    let b2 = named(position.size(), b"b2").ok_or("no b2")?;
-    let b6 = named(position.size(), b"b6").ok_or("no b6")?;
+    let position = position_of(GROUND)?;
+    let a2 = named(position.size(), b"a2")?;
+    let a4 = named(position.size(), b"a4")?;
+    let b2 = named(position.size(), b"b2")?;
+    let b6 = named(position.size(), b"b6")?;
     let lowinverse = Lowinverse::new(position.size(), a2, a4, b2, b6).ok_or("no Lowinverse")?;
-    assert_eq!(rt;
-        answer_at_a2(&lowinverse, &position)?,
-        named(position.size(), b"a3")
-    );
+    assert!(rt; answer_at_a2(&lowinverse, &position)? == Some(named(position.size(), b"a3")?));
     assert!(rt; Lowinverse::new(position.size(), a2, b6, b2, a4).is_none());
     Ok(())
 }
 
 #[test]
 fn a_highinverse_answers_a_bottom_by_its_middle(rt: HostRuntime) -> Result<(), Fail> {
-    let position = read_game(GROUND)?;
-    let a2 = named(position.size(), b"a2").ok_or("no a2")?;
-    let b2 = named(position.size(), b"b2").ok_or("no b2")?;
+    let position = position_of(GROUND)?;
+    let a2 = named(position.size(), b"a2")?;
+    let b2 = named(position.size(), b"b2")?;
     let highinverse = Highinverse::new(position.size(), a2, b2).ok_or("no Highinverse")?;
-    assert_eq!(rt;
-        answer_at_a2(&highinverse, &position)?,
-        named(position.size(), b"a3")
-    );
+    assert!(rt; answer_at_a2(&highinverse, &position)? == Some(named(position.size(), b"a3")?));
     assert!(rt; Highinverse::new(position.size(), b2, a2).is_none());
     Ok(())
 }
 
 #[test]
 fn a_vertical_answers_nothing(rt: HostRuntime) -> Result<(), Fail> {
-    let position = read_game(GROUND)?;
-    let a2 = named(position.size(), b"a2").ok_or("no a2")?;
-    let a6 = named(position.size(), b"a6").ok_or("no a6")?;
+    let position = position_of(GROUND)?;
+    let a2 = named(position.size(), b"a2")?;
+    let a6 = named(position.size(), b"a6")?;
     let vertical = Vertical::new(position.size(), a2).ok_or("no Vertical")?;
-    assert_eq!(rt; answer_at_a2(&vertical, &position)?, None);
+    assert!(rt; answer_at_a2(&vertical, &position)?.is_none());
     assert!(rt; Vertical::new(position.size(), a6).is_none());
     Ok(())
 }
@@ -106,10 +100,10 @@ fn a_vertical_answers_nothing(rt: HostRuntime) -> Result<(), Fail> {
 #[test]
 fn lowinverses_highinverses_and_verticals_of_two_games(rt: HostRuntime) -> Result<(), Fail> {
     for (game, lowinverses, highinverses, verticals) in LISTS {
-        let p = read_game(game)?;
-        assert!(rt; are_those(list_lowinverse(&p).as_slice(), p.size(), lowinverses));
-        assert!(rt; are_those(list_highinverse(&p).as_slice(), p.size(), highinverses));
-        assert!(rt; are_those(list_vertical(&p).as_slice(), p.size(), verticals));
+        let p = position_of(game)?;
+        assert!(rt; are_those(list_lowinverse(&p).as_slice(), lowinverses));
+        assert!(rt; are_those(list_highinverse(&p).as_slice(), highinverses));
+        assert!(rt; are_those(list_vertical(&p).as_slice(), verticals));
     }
     Ok(())
 }

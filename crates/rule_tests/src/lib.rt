@@ -1,4 +1,4 @@
-//! Tests of boards, of lines and of the nine rules: texts of games in, and what a person counted.
+//! Tests of lines and of the nine rules: texts of games in, and what a person counted.
 //!
 //! A crate with tests is proved a second time with them, as a program that links all below it. So the tests of several
 //! crates stand together, in a crate that has nothing else.
@@ -6,8 +6,6 @@
 
 #[cfg(test)]
 mod bases;
-#[cfg(test)]
-mod boards;
 #[cfg(test)]
 mod claimevens;
 #[cfg(test)]

@@ -1,17 +1,13 @@
 //! The lists of small boards as counted by hand, and calls through the trait.
-use crate::squares::square_of;
+use crate::squares::{group_of, position_of, square_of};
 use arrayvec::ArrayVec;
-use board_bits::{Mask, Position, Size, read_game};
+use board_bits::{Mask, Position, Size};
 use group_rules::{
     Aftereven, Before, Specialbefore, list_aftereven, list_before, list_specialbefore,
 };
-use open_groups::{GroupId, Way, group_at, group_mask};
+use open_groups::{GroupId, Way, group_mask};
 use rule_law::{Kept, Kind, Rule};
 use std::test::Fail;
-
-fn group_of(size: Size, index: u8, row: u8, way: Way) -> Option<GroupId> {
-    group_at(size, square_of(size, index, row)?, way)
-}
 
 /// What a rule says of itself where nothing is kept: its kind, whether it fits, and whether it is supported.
 fn asked<R: Rule>(rule: &R, p: &Position) -> (Kind, bool, bool) {
@@ -27,24 +23,24 @@ fn asked<R: Rule>(rule: &R, p: &Position) -> (Kind, bool, bool) {
 #[test]
 fn lines_on_an_empty_board(rt: HostRuntime) -> Result<(), Fail> {
     let small = Position::empty(Size::new(4, 4)?);
-    assert_eq!(rt; list_aftereven(&small).len(), 10);
-    assert_eq!(rt; list_specialbefore(&small).len(), 0);
+    assert!(rt; list_aftereven(&small).len() == 10);
+    assert!(rt; list_specialbefore(&small).len() == 0);
     let befores = list_before(&small);
-    assert_eq!(rt; befores.len(), 3);
+    assert!(rt; befores.len() == 3);
     for (row, before) in [1u8, 2, 3].iter().zip(befores.as_slice().iter()) {
-        let level = group_of(small.size(), 0, *row, Way::H).ok_or("no level group")?;
-        assert_eq!(rt; before.g(), level);
+        let level = group_of(small.size(), 0, *row, Way::H)?;
+        assert!(rt; before.g() == level);
     }
     Ok(())
 }
 
 /// A position where one rising line is left, with that line, and its Specialbefore.
 fn with_one_line() -> Result<(Position, GroupId, Specialbefore), Fail> {
-    let position = read_game(b"board 5 4\nmoves abbaabbaddceedee\n")?;
+    let position = position_of(b"board 5 4\nmoves abbaabbaddceedee\n")?;
     let size = position.size();
-    let rising = group_of(size, 1, 1, Way::U).ok_or("no b1u")?;
-    let d4 = square_of(size, 3, 4).ok_or("no d4")?;
-    let c2 = square_of(size, 2, 2).ok_or("no c2")?;
+    let rising = group_of(size, 1, 1, Way::U)?;
+    let d4 = square_of(size, 3, 4)?;
+    let c2 = square_of(size, 2, 2)?;
     if Specialbefore::new(size, rising, c2, d4).is_some() {
         return Err("a Specialbefore with its squares exchanged".into());
     }
@@ -64,18 +60,9 @@ fn one_rising_line_is_left(rt: HostRuntime) -> Result<(), Fail> {
 #[test]
 fn each_rule_through_the_trait(rt: HostRuntime) -> Result<(), Fail> {
     let (position, rising, special) = with_one_line()?;
-    assert_eq!(rt;
-        asked(&Aftereven::new(rising), &position),
-        (Kind::Aftereven, true, false)
-    );
-    assert_eq!(rt;
-        asked(&Before::new(rising), &position),
-        (Kind::Before, true, false)
-    );
-    assert_eq!(rt;
-        asked(&special, &position),
-        (Kind::Specialbefore, true, false)
-    );
+    assert!(rt; asked(&Aftereven::new(rising), &position) == (Kind::Aftereven, true, false));
+    assert!(rt; asked(&Before::new(rising), &position) == (Kind::Before, true, false));
+    assert!(rt; asked(&special, &position) == (Kind::Specialbefore, true, false));
     assert!(rt; group_mask(special.g()).has(special.e0()));
     assert!(rt; !group_mask(special.g()).has(special.f()));
     Ok(())

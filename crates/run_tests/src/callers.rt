@@ -11,16 +11,10 @@ fn a_sink_in_memory_keeps_what_it_held(rt: HostRuntime) -> Result<(), Fail> {
     let words = vec![in rt.alloc(); String::from_str(rt.alloc(), "prove")?]?;
     let mut out = MemSink::new(rt.alloc(), 1000, &[])?;
     let mut source = StdSource::new(GAME);
-    assert_eq!(rt;
-        run_into_memory(rt.alloc(), &words, &mut source, &mut out),
-        0
-    );
+    assert!(rt; run_into_memory(rt.alloc(), &words, &mut source, &mut out) == 0);
     let first = Vec::from_slice(rt.alloc(), out.bytes())?;
     let mut source = MemSource::new(rt.alloc(), GAME, 4, &[])?;
-    assert_eq!(rt;
-        prove_within_budget(rt.alloc(), &words, &mut source, &mut out),
-        0
-    );
+    assert!(rt; prove_within_budget(rt.alloc(), &words, &mut source, &mut out) == 0);
     let twice = out.bytes().len() == 2 * first.len();
     assert!(rt; twice && out.bytes().starts_with(first.as_slice()));
     Ok(())

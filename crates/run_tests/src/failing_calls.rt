@@ -1,7 +1,7 @@
 //! Each call of a device failed in turn, up to the first run that has no call of that number.
 use crate::devices::{
-    ANNOTATE, DUEL, DUEL_ANSWERS, MISTAKE, MISTAKE_MARKS, PLAY, PROVE_BY_SEARCH, THREAT, TRIM,
-    TWO_SQUARES_LEFT, TWO_SQUARES_PROOF, UPGRADE, UPGRADED, ZUGZWANG, ZUGZWANG_ANSWERS,
+    ANNOTATE, CHECK, DUEL, DUEL_ANSWERS, MISTAKE, MISTAKE_MARKS, PLAY, PROVE_BY_SEARCH, THREAT,
+    TRIM, TWO_SQUARES_LEFT, TWO_SQUARES_PROOF, UPGRADE, UPGRADED, ZUGZWANG, ZUGZWANG_ANSWERS,
 };
 use crate::running::{Devices, Ran, SOUND, run_over};
 use std::alloc::Global;
@@ -13,8 +13,9 @@ const MOST_CALLS: u32 = 200;
 /// The words of a run, its input, and what it writes where no call fails.
 type Whole = (&'static [&'static str], &'static str, &'static str);
 
-const WHOLE: [Whole; 6] = [
+const WHOLE: [Whole; 7] = [
     (PROVE_BY_SEARCH, TWO_SQUARES_LEFT, TWO_SQUARES_PROOF),
+    (CHECK, TWO_SQUARES_PROOF, "accepted draw 6\n"),
     (UPGRADE, TWO_SQUARES_PROOF, UPGRADED),
     (PLAY, DUEL, DUEL_ANSWERS),
     (THREAT, ZUGZWANG, ZUGZWANG_ANSWERS),
@@ -50,14 +51,13 @@ fn each_failing_call_of_the_sink_leaves_a_prefix(rt: HostRuntime) -> Result<(), 
                 ended = true;
                 break;
             };
-            assert_eq!(rt; got.status, 7, "{words:?} {call}");
+            assert!(rt; got.status == 7, "{words:?} {call}");
             assert!(rt;
                 whole.as_bytes().starts_with(got.out.as_slice()),
                 "{words:?} {call}"
             );
-            assert_eq!(rt;
-                got.err.as_slice(),
-                b"write fault\n".as_slice(),
+            assert!(rt;
+                got.err.as_slice() == b"write fault\n".as_slice(),
                 "{words:?} {call}"
             );
             written = got.out.len();
@@ -85,14 +85,13 @@ fn each_failing_call_of_the_source_leaves_whole_lines(rt: HostRuntime) -> Result
             let answered = got.out.as_slice();
             let by_line = words == UPGRADE || words == PLAY || words == THREAT;
             let lines = answered.is_empty() || (by_line && answered.ends_with(b"\n"));
-            assert_eq!(rt; got.status, 6, "{words:?} {call}");
+            assert!(rt; got.status == 6, "{words:?} {call}");
             assert!(rt;
                 lines && whole.as_bytes().starts_with(answered),
                 "{words:?} {call}"
             );
-            assert_eq!(rt;
-                got.err.as_slice(),
-                b"read fault\n".as_slice(),
+            assert!(rt;
+                got.err.as_slice() == b"read fault\n".as_slice(),
                 "{words:?} {call}"
             );
         }
@@ -113,7 +112,7 @@ fn a_report_that_fails_leaves_the_status(rt: HostRuntime) -> Result<(), Fail> {
         b"board 4 4\nmoves abababab\n",
         devices,
     )?;
-    assert_eq!(rt; got.status, 3);
+    assert!(rt; got.status == 3);
     assert!(rt; got.out.is_empty() && got.err.is_empty());
     Ok(())
 }

@@ -1,6 +1,6 @@
-//! Tests of runs over devices: that fail, that cut what they give, of std, and of a terminal; and of what callers rest
-//! on. What a run answers over sound devices is shown by the files of `examples/`. A crate of their own has them, as
-//! `rule_tests` says.
+//! Tests of runs over devices: that fail, that cut what they give, and of a terminal; and of what callers rest on. What a
+//! run answers over sound devices is shown by the files of `examples/`. A crate of their own has them, as `rule_tests`
+//! says.
 #![tactic(auto)]
 
 #[cfg(test)]

@@ -3,26 +3,11 @@ use board_bits::{InputFault, Position, read_game};
 use cert_checker::MirrorIndex;
 use cert_format::Claim;
 use position_table::{Found, Question, Table};
-use std::alloc::Global;
 use std::test::Fail;
 
 const FIRST: &[u8] = b"board 4 4\nmoves a\n";
 
 const SECOND: &[u8] = b"board 4 4\nmoves b\n";
-
-/// One man in the first column of three boards.
-const BOARDS: [&[u8]; 3] = [
-    b"board 4 4\nmoves a\n",
-    b"board 4 6\nmoves a\n",
-    b"board 6 4\nmoves a\n",
-];
-
-/// Men in the last two columns of the largest board.
-const LAST_COLUMNS: [&[u8]; 3] = [
-    b"board 10 10\nmoves i\n",
-    b"board 10 10\nmoves j\n",
-    b"board 10 10\nmoves ij\n",
-];
 
 fn found(lemma: u32) -> Found {
     Found {
@@ -52,15 +37,9 @@ fn a_full_table_drops_the_oldest_position(rt: HostRuntime) -> Result<(), Fail> {
     assert!(rt; table.whole());
     table.keep(&numbered(1000)?, Question::WhiteWins, found(1000))?;
     assert!(rt; !table.whole());
-    assert_eq!(rt; table.find(&numbered(0)?, Question::WhiteWins), None);
-    assert_eq!(rt;
-        table.find(&numbered(1)?, Question::WhiteWins),
-        Some(found(1))
-    );
-    assert_eq!(rt;
-        table.find(&numbered(1000)?, Question::WhiteWins),
-        Some(found(1000))
-    );
+    assert!(rt; table.find(&numbered(0)?, Question::WhiteWins).is_none());
+    assert!(rt; table.find(&numbered(1)?, Question::WhiteWins) == Some(found(1)));
+    assert!(rt; table.find(&numbered(1000)?, Question::WhiteWins) == Some(found(1000)));
     Ok(())
 }
 
@@ -73,58 +52,10 @@ fn a_table_of_room_one_keeps_the_last_position(rt: HostRuntime) -> Result<(), Fa
     table.keep(&first, Question::WhiteWins, found(1))?;
     assert!(rt; table.whole());
     table.keep(&second, Question::WhiteWins, found(2))?;
-    assert_eq!(rt; table.find(&first, Question::WhiteWins), None);
-    assert_eq!(rt; table.find(&second, Question::WhiteWins), Some(found(2)));
+    assert!(rt; table.find(&first, Question::WhiteWins).is_none());
+    assert!(rt; table.find(&second, Question::WhiteWins) == Some(found(2)));
     assert!(rt; !table.whole());
     Ok(())
-}
-
-#[test]
-fn an_entry_is_of_one_position_and_one_question(rt: HostRuntime) -> Result<(), Fail> {
-    let first = read_game(FIRST)?;
-    let second = read_game(SECOND)?;
-    let mut table = Table::new(rt.alloc(), 2)?;
-    table.keep(&first, Question::WhiteWins, found(1))?;
-    assert_eq!(rt; table.find(&first, Question::BlackWins), None);
-    table.keep(&first, Question::BlackWins, found(2))?;
-    table.keep(&first, Question::WhiteWins, found(3))?;
-    assert!(rt; table.whole());
-    assert_eq!(rt; table.find(&first, Question::BlackWins), Some(found(2)));
-    table.keep(&second, Question::WhiteWins, found(4))?;
-    assert_eq!(rt; table.find(&first, Question::WhiteWins), None);
-    assert_eq!(rt; table.find(&first, Question::BlackWins), Some(found(2)));
-    assert_eq!(rt; table.find(&second, Question::WhiteWins), Some(found(4)));
-    assert!(rt; !table.whole());
-    Ok(())
-}
-
-/// Of each game nothing is found before it is kept, and what was kept of it once all are.
-fn are_told_apart(alloc: Global, games: [&[u8]; 3]) -> Result<(), Fail> {
-    let mut table = Table::new(alloc, 3)?;
-    for (game, number) in games.iter().zip([1, 2, 3].iter()) {
-        let position = read_game(game)?;
-        if table.find(&position, Question::WhiteWins).is_some() {
-            return Err("found before it was kept".into());
-        }
-        table.keep(&position, Question::WhiteWins, found(*number))?;
-    }
-    for (game, number) in games.iter().zip([1, 2, 3].iter()) {
-        let kept = table.find(&read_game(game)?, Question::WhiteWins);
-        if kept != Some(found(*number)) {
-            return Err("lost or exchanged".into());
-        }
-    }
-    Ok(())
-}
-
-#[test]
-fn an_entry_is_of_one_board(rt: HostRuntime) -> Result<(), Fail> {
-    are_told_apart(rt.alloc(), BOARDS)
-}
-
-#[test]
-fn men_in_the_last_columns_tell_positions_apart(rt: HostRuntime) -> Result<(), Fail> {
-    are_told_apart(rt.alloc(), LAST_COLUMNS)
 }
 
 #[test]
@@ -132,13 +63,13 @@ fn the_first_lemma_is_found_at_the_image(rt: HostRuntime) -> Result<(), Fail> {
     let first = read_game(FIRST)?;
     let image = read_game(b"board 4 4\nmoves d\n")?;
     let mut index = MirrorIndex::new(rt.alloc());
-    assert_eq!(rt; index.find(&image, Claim::WhiteFails), None);
+    assert!(rt; index.find(&image, Claim::WhiteFails).is_none());
     index.keep(&first, Claim::WhiteFails, 1)?;
     index.keep(&first, Claim::WhiteFails, 2)?;
     index.keep(&first, Claim::WhiteWins, 3)?;
-    assert_eq!(rt; index.find(&image, Claim::WhiteFails), Some(1));
-    assert_eq!(rt; index.find(&image, Claim::WhiteWins), Some(3));
-    assert_eq!(rt; index.find(&image, Claim::BlackFails), None);
-    assert_eq!(rt; index.find(&first, Claim::WhiteFails), None);
+    assert!(rt; index.find(&image, Claim::WhiteFails) == Some(1));
+    assert!(rt; index.find(&image, Claim::WhiteWins) == Some(3));
+    assert!(rt; index.find(&image, Claim::BlackFails).is_none());
+    assert!(rt; index.find(&first, Claim::WhiteFails).is_none());
     Ok(())
 }

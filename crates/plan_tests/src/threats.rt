@@ -1,4 +1,4 @@
-//! Threats of small boards, why others are none, and what White answers.
+//! Why lists of pairs are no threats of small boards.
 use base_rules::Baseinverse;
 use board_bits::{Position, Square, Way, read_game};
 use open_groups::{GroupId, group_at};
@@ -12,8 +12,6 @@ const ONE_COLUMN: &[u8] = b"board 4 4\nmoves dccbbdbbddcca\n";
 const WITH_PAIR: &[u8] = b"board 4 4\nmoves dccbbdbaddc\n";
 
 const START: &[u8] = b"board 4 4\nmoves -\n";
-
-const AFTER_ONE_MOVE: &[u8] = b"board 4 4\nmoves a\n";
 
 const WHITE_WON: &[u8] = b"board 4 4\nmoves abababa\n";
 
@@ -35,23 +33,6 @@ fn top_pair(p: &Position) -> Option<Baseinverse> {
 }
 
 #[test]
-fn the_first_threat_is_found(rt: HostRuntime) -> Result<(), Fail> {
-    for (game, pairs) in [(ONE_COLUMN, false), (WITH_PAIR, true)] {
-        let p = read_game(game)?;
-        let threat = Threat::first(&p).ok_or("no threat")?;
-        assert_eq!(rt; Some(threat.group()), level(&p, 3));
-        let expected = if pairs { top_pair(&p) } else { None };
-        assert_eq!(rt; threat.pairs().len(), usize::from(pairs));
-        assert!(rt; threat.pairs().first().copied() == expected);
-    }
-    for game in [START, AFTER_ONE_MOVE, WHITE_WON, BLACK_WON] {
-        let p = read_game(game)?;
-        assert!(rt; Threat::first(&p).is_none());
-    }
-    Ok(())
-}
-
-#[test]
 fn what_is_no_threat_is_refused(rt: HostRuntime) -> Result<(), Fail> {
     for (game, row, pairs, fault) in [
         (START, 3, 0, Some(ThreatFault::NotBlackToMove)),
@@ -67,10 +48,7 @@ fn what_is_no_threat_is_refused(rt: HostRuntime) -> Result<(), Fail> {
         let group = level(&p, row).ok_or("no group")?;
         let pair = top_pair(&p).ok_or("no pair")?;
         let list = [pair, pair];
-        assert_eq!(rt;
-            Threat::check(&p, group, &list[..pairs.min(list.len())]).err(),
-            fault
-        );
+        assert!(rt; Threat::check(&p, group, &list[..pairs.min(list.len())]).err() == fault);
     }
     Ok(())
 }
@@ -80,36 +58,6 @@ fn columns_without_a_pair_are_told(rt: HostRuntime) -> Result<(), Fail> {
     let p = read_game(WITH_PAIR)?;
     let group = level(&p, 3).ok_or("no group")?;
     let column = p.size().column_named(b'b').ok_or("no column")?;
-    assert_eq!(rt;
-        Threat::check(&p, group, &[]).err(),
-        Some(ThreatFault::Unpaired(column))
-    );
-    Ok(())
-}
-
-/// White's answer, at the threat's own position, to a man in the column with this letter; none where the column has no
-/// room, or Black's man ends the game.
-fn answer(threat: &Threat, letter: u8) -> Option<Square> {
-    let p = threat.at();
-    let column = p.size().column_named(letter)?;
-    if p.ended().is_some() {
-        return None;
-    }
-    let last = p.playable(column)?;
-    Some(threat.reply(&p.after(column), last))
-}
-
-#[test]
-fn moves_are_answered_in_a_pair_or_above(rt: HostRuntime) -> Result<(), Fail> {
-    for (game, letter, answered, row) in [
-        (ONE_COLUMN, b'a', b'a', 3),
-        (WITH_PAIR, b'a', b'a', 3),
-        (WITH_PAIR, b'b', b'c', 4),
-        (WITH_PAIR, b'c', b'b', 4),
-    ] {
-        let p = read_game(game)?;
-        let threat = Threat::first(&p).ok_or("no threat")?;
-        assert_eq!(rt; answer(&threat, letter), square_of(&p, answered, row));
-    }
+    assert!(rt; Threat::check(&p, group, &[]).err() == Some(ThreatFault::Unpaired(column)));
     Ok(())
 }
