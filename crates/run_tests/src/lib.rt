@@ -1,6 +1,5 @@
-//! Tests of runs over devices: that fail, that cut what they give, and of a terminal; and of what callers rest on. What a
-//! run answers over sound devices is shown by the files of `examples/`. A crate of their own has them, as `rule_tests`
-//! says.
+//! Tests of runs over devices that fail or cut what they give, and of what callers rest on. What a run answers over sound
+//! devices is shown by the files of `examples/`. A crate of their own has them, as `rule_tests` says.
 #![tactic(auto)]
 
 #[cfg(test)]
@@ -11,5 +10,3 @@ mod devices;
 mod failing_calls;
 #[cfg(test)]
 mod running;
-#[cfg(test)]
-mod terminal;

@@ -32,7 +32,7 @@ pub(crate) const SOUND: Devices<'static> = Devices {
     err_fails: &[],
 };
 
-pub(crate) fn words_of(alloc: Global, words: &[&str]) -> Result<Vec<String>, AllocError> {
+fn words_of(alloc: Global, words: &[&str]) -> Result<Vec<String>, AllocError> {
     words
         .iter()
         .map(|word| String::from_str(alloc, word))
