@@ -4,7 +4,7 @@ use Rattle.std.proofs.Common.{arith}
 use Rattle.std.specs.List.{AllByRecursion, range_with_len}
 use Rattle.std.specs.Str.{bytes_eq}
 use Rattle.game_rules.specs.Position.{Position, has_room, open_columns}
-use Rattle.cert_format.specs.declared.lines.Cite.{Cite}
+use Rattle.proof_lines.specs.declared.lines.Cite.{Cite}
 use Rattle.cert_checker.specs.Checking.{columns_of}
 
 abbrev pub open_from : Position → ℕ → List ℕ

@@ -4,10 +4,10 @@ use Rattle.proof_text.specs.Lemma.{Line, ALemma, ARemark, AVerdict}
 use Rattle.proof_text.specs.Checked.{CheckerState, Why}
 use Rattle.proof_text.specs.declared.Why.{Why as WhyOf}
 use Rattle.proof_text.specs.declared.Why.TheVariants as whys
-use Rattle.cert_format.specs.Faults.{fault_of}
-use Rattle.cert_format.specs.PlanFault.{PlanFault}
-use Rattle.cert_format.specs.Shape.{cite_of}
-use Rattle.cert_format.specs.declared.lines.Cite.{Cite}
+use Rattle.proof_lines.specs.Faults.{fault_of}
+use Rattle.proof_lines.specs.PlanFault.{PlanFault}
+use Rattle.proof_lines.specs.Shape.{cite_of}
+use Rattle.proof_lines.specs.declared.lines.Cite.{Cite}
 use Rattle.cert_checker.specs.declared.stops.AddStop.{AddStop}
 use Rattle.cert_checker.specs.declared.stops.AddStop.TheVariants.{Refused, Memory}
 

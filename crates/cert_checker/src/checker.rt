@@ -5,7 +5,7 @@ ghost use Rattle.proof_text.specs.Lemma.{ALemma, AVerdict};
 ghost use Rattle.proof_text.specs.Checked.{lemma_refusal, line_refusal, with_line};
 ghost use Rattle.proof_text.specs.Texts.{start};
 ghost use Rattle.proof_text.specs.declared.Why.TheVariants.{EndedEarly};
-ghost use Rattle.cert_format.specs.Shape.{lemma_viewed, line_of, viewed};
+ghost use Rattle.proof_lines.specs.Shape.{lemma_viewed, line_of, viewed};
 ghost use Rattle.cert_checker.specs.Checking.{Finds, IsAt, LeavesSpare, StaysAs, StopsAt};
 ghost use Rattle.cert_checker.specs.declared.stops.AddStop.TheVariants.{Refused};
 
@@ -14,7 +14,7 @@ use crate::reasons::{check_reason, verdict_stands};
 use crate::stops::{Accepted, AddStop, Refusal, Why};
 use crate::trail::Trail;
 use board_bits::Position;
-use cert_format::{LemmaView, Line, LineView};
+use proof_lines::{LemmaView, Line, LineView};
 use proof_text::Verdict;
 use std::alloc::{AllocError, Global};
 use std::marker::Model;

@@ -12,8 +12,8 @@ mod reasons;
 mod stops;
 mod trail;
 
-pub use cert_format::{Line, LineView, PlanFault, Verdict};
 pub use checker::Checker;
 pub use index::MirrorIndex;
 pub use known::MOST_LEMMAS;
+pub use proof_lines::{Line, LineView, PlanFault, Verdict};
 pub use stops::{Accepted, AddStop, Refusal, Why};

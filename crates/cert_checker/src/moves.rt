@@ -5,7 +5,7 @@ ghost use Rattle.game_rules.specs.Position.{open_columns};
 ghost use Rattle.cert_checker.specs.Checking.{columns_of};
 
 use board_bits::{Column, Position};
-use cert_format::Cite;
+use proof_lines::Cite;
 
 /// Whether the columns cited are those that have room, from the left.
 pub(crate) fn cites_all(position: &Position, cites: &[Cite]) -> bool

@@ -3,8 +3,8 @@ ghost use Rattle.std.specs.Prelude.{◌≡◌, ◌≤◌, map, length};
 ghost use Rattle.game_rules.specs.Position.{board_of, open_columns};
 ghost use Rattle.proof_text.specs.Lemma.{ByOne, ByAll};
 ghost use Rattle.proof_text.specs.Checked.{end_refusal, cites_refusal, move_refusal, list_refusal, reason_refusal, verdict_stands};
-ghost use Rattle.cert_format.specs.Written.{written_list};
-ghost use Rattle.cert_format.specs.Shape.{cite_of, reason_viewed};
+ghost use Rattle.proof_lines.specs.Written.{written_list};
+ghost use Rattle.proof_lines.specs.Shape.{cite_of, reason_viewed};
 ghost use Rattle.cert_checker.specs.Checking.{columns_of, Finds};
 ghost use Rattle.plan_rules.specs.declared.TheConstants.{MOST_MEMBERS};
 
@@ -14,7 +14,7 @@ use crate::moves::cites_all;
 use crate::stops::Why;
 use crate::trail::Reached;
 use board_bits::{End, Position};
-use cert_format::{Cite, Instance, Plan, Reason, ReasonView};
+use proof_lines::{Cite, Instance, Plan, Reason, ReasonView};
 use proof_text::{Claim, Verdict};
 
 /// Tests that the reason shows the claim at the position that was reached, by the lemmas known.

@@ -1,5 +1,5 @@
 //! The answers of a checker.
-use cert_format::PlanFault;
+use proof_lines::PlanFault;
 use proof_text::Verdict;
 use std::alloc::AllocError;
 

@@ -3,7 +3,7 @@ ghost use Rattle.std.specs.Prelude.{◌≡◌, ◌+◌, ◌<◌, ◌≤◌, true
 ghost use Rattle.game_rules.specs.Position.{board_of, after_move, end_of, is_legal, played};
 
 use board_bits::{Column, End, MOST_SQUARES, Position};
-use cert_format::shared_moves;
+use proof_lines::shared_moves;
 use std::marker::Model;
 
 /// A position with its end, for which it is looked only once.

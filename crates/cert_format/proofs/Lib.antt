@@ -1,4 +1,3 @@
 pub mod Names
 pub mod Spaced
 pub mod Words
-pub mod Shared

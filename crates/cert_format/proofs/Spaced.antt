@@ -7,8 +7,9 @@ use Rattle.proof_text.specs.Spelling.{spaced, claim_word, cite_word, reason_word
 use Rattle.plan_lines.specs.Rules.{RuleInstance}
 use Rattle.proof_text.specs.Items.{instance_text}
 use Rattle.plan_lines.specs.Items.{members_text}
-use Rattle.cert_format.specs.Shape.{cite_of, behind_spaces}
-use Rattle.cert_format.specs.declared.lines.Cite.{Cite}
+use Rattle.proof_lines.specs.Shape.{cite_of}
+use Rattle.cert_format.specs.Printed.{behind_spaces}
+use Rattle.proof_lines.specs.declared.lines.Cite.{Cite}
 
 pub spaced_behind : (word : List ℕ) (words : List (List ℕ)) → spaced (word ∷ words) ≡ word ++ behind_spaces words
 spaced_behind word [] = sym (append-nil word)

@@ -1,9 +1,5 @@
 pub mod Names
-pub mod Shape
+pub mod Printed
 pub mod Rooms
 pub mod Words
-pub use Rattle.plan_lines.specs.Faults
-pub use Rattle.plan_lines.specs.Planned
-pub use Rattle.plan_lines.specs.Written
-pub use Rattle.plan_lines.specs.PlanFault
-pub use Rattle.plan_lines.specs.Instance
+pub use Rattle.proof_lines.specs.Shape

@@ -2,9 +2,10 @@
 use Rattle.std.specs.Prelude.{◌≡◌, [], map, Option, Some, None, Result, Ok, Err}
 use Rattle.proof_text.specs.Lemma.{Reason as PlainReason, Lemma as PlainLemma, Line as PlainLine, ByEnd, ALemma, ARemark, AVerdict}
 use Rattle.proof_text.specs.declared.Claim.TheVariants.{WhiteWins}
-use Rattle.plan_lines.specs.Written.{written_list}
-use Rattle.cert_format.specs.Shape.{cite_of, reason_by, viewed}
-use Rattle.cert_format.specs.declared.lines.LineView.{LineView}
+use Rattle.proof_lines.specs.Written.{written_list}
+use Rattle.proof_lines.specs.Shape.{cite_of, reason_by, line_of, viewed}
+use Rattle.proof_lines.specs.declared.lines.Line.{Line}
+use Rattle.proof_lines.specs.declared.lines.LineView.{LineView}
 use Rattle.plan_lines.specs.declared.plan_line.LineFault.{LineFault}
 use Rattle.cert_format.specs.declared.room.Kind.{Kind}
 use Rattle.cert_format.specs.declared.room.Kind.TheVariants as kinds
@@ -27,6 +28,11 @@ kept_in room kinds.Remark = ARemark
 kept_in room (kinds.Verdict v) = AVerdict v
 
 -- What a reader gives, beside what the definition reads: the same line, or a fault where there is none.
+abbrev pub Reads : Result Line LineFault → Option PlainLine → Type 0
+Reads (Ok line) read = read ≡ Some (line_of line)
+Reads (Err fault) read = read ≡ None
+
+-- the same of a line that is lent
 abbrev pub Views : Result LineView LineFault → Option PlainLine → Type 0
 Views (Ok line) read = read ≡ Some (viewed line)
 Views (Err fault) read = read ≡ None

@@ -3,12 +3,13 @@
 ghost use Rattle.std.specs.Prelude.{◌≡◌, ◌+◌, ◌≤◌, [], ◌∷◌, ◌++◌, map, length, codes, decimal};
 ghost use Rattle.game_rules.specs.Grammar.{letter_of, move_list};
 ghost use Rattle.proof_text.specs.Spelling.{cite_word, reason_words, lemma_line, longest_path, most_cites};
-ghost use Rattle.cert_format.specs.Shape.{cite_of, reason_viewed, cite_words, behind_spaces, behind_word};
+ghost use Rattle.proof_lines.specs.Shape.{cite_of, reason_viewed};
+ghost use Rattle.cert_format.specs.Printed.{cite_words, behind_spaces, behind_word};
 ghost use Rattle.text_words.specs.Lines.{line_room};
 
-use crate::lines::{Cite, Reason, ReasonView};
 use crate::verdict_line::claim_word;
 use itoa::Buffer;
+use proof_lines::{Cite, Reason, ReasonView};
 use proof_text::Claim;
 use std::marker::Model;
 use text_words::{Column, LINE_ROOM, letter_of};

@@ -3,7 +3,7 @@ ghost use Rattle.std.specs.Prelude.{◌≡◌};
 ghost use Rattle.game_rules.specs.Game.{board_played};
 ghost use Rattle.proof_text.specs.Texts.{head_of};
 
-use crate::lines::first_line;
+use proof_lines::first_line;
 use proof_text::Version;
 use text_words::{Game, LineText, push_game, push_text};
 

@@ -3,13 +3,14 @@ ghost use Rattle.std.specs.Prelude.{◌≡◌, ◌≢◌, ◌+◌, ◌<◌, ◌�
 ghost use Rattle.device_rules.specs.Devices.{HasCause, AppendsPrefix};
 ghost use Rattle.proof_text.specs.Lemma.{ARemark};
 ghost use Rattle.proof_text.specs.Spelling.{lemma_line, greatest_number, longest_path};
-ghost use Rattle.cert_format.specs.Shape.{reason_of, reason_viewed, line_of, printed};
+ghost use Rattle.proof_lines.specs.Shape.{reason_of, reason_viewed, line_of};
+ghost use Rattle.cert_format.specs.Printed.{printed};
 
 use crate::back_line::BackLine;
-use crate::lines::{Line, Reason, ReasonView};
 use crate::verdict_line::verdict_line;
 use io_ports::{Failed, Sink, put_all};
 use plan_lines::put_plan_end;
+use proof_lines::{Line, Reason, ReasonView};
 use proof_text::Claim;
 use std::marker::Model;
 use text_words::Column;

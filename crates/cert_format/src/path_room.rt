@@ -5,10 +5,10 @@ ghost use Rattle.std.specs.Str.{bytes_eq};
 ghost use Rattle.proof_text.specs.Reading.{path_of};
 ghost use Rattle.cert_format.specs.Names.{AreNamed, AreBelow};
 
-use crate::lines::LONGEST_PATH;
 use crate::named_moves::named_moves;
 use crate::reading::is_word;
 use arrayvec::ArrayVec;
+use proof_lines::LONGEST_PATH;
 use std::marker::Model;
 use text_words::{Column, Size};
 

@@ -7,16 +7,15 @@ ghost use Rattle.proof_text.specs.Lemma.{ByOne, ByAll, allows};
 ghost use Rattle.proof_text.specs.Spelling.{is_printable, is_remark, claim_word};
 ghost use Rattle.proof_text.specs.declared.Verdict.TheVariants.{Draw};
 ghost use Rattle.proof_text.specs.Reading.{words_of, number_of, one_of, all_of, reason_of, with_two, verdict_of, read_any, read_line};
-ghost use Rattle.cert_format.specs.Shape as shape;
-ghost use Rattle.cert_format.specs.Shape.{Reads};
-ghost use Rattle.cert_format.specs.Rooms.{reason_in, lemma_in, kept_in, ReadsInto};
+ghost use Rattle.proof_lines.specs.Shape as shape;
+ghost use Rattle.cert_format.specs.Rooms.{reason_in, lemma_in, kept_in, Reads, ReadsInto};
 ghost use Rattle.cert_format.specs.Words.{HasNoClaim, HasCite, HasNoCite, lemma_behind};
 ghost use Rattle.text_words.specs.Words.{words_left};
 
-use crate::lines::{Cite, LONGEST_LINE, Line, MOST_CITES, Reason};
 use crate::room::{Kind, LemmaRoom, ReasonRoom};
 use arrayvec::ArrayVec;
 use plan_lines::{LineFault, members_of};
+use proof_lines::{Cite, LONGEST_LINE, Line, MOST_CITES, Reason};
 use proof_text::{Claim, Verdict, Version};
 use text_words::{Size, split_number, split_path, split_word};
 

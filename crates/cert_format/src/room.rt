@@ -3,14 +3,14 @@
 ghost use Rattle.std.specs.Prelude.{◌≡◌};
 ghost use Rattle.proof_text.specs.Lemma.{ByEnd};
 ghost use Rattle.proof_text.specs.Reading.{read_line};
-ghost use Rattle.cert_format.specs.Shape.{reason_of, reason_viewed, lemma_of, lemma_viewed};
+ghost use Rattle.proof_lines.specs.Shape.{reason_of, reason_viewed, lemma_of, lemma_viewed};
 ghost use Rattle.cert_format.specs.Rooms.{reason_in, lemma_in, unread_lemma, Views};
 
-use crate::lines::{Cite, Lemma, LemmaView, LineView, MOST_CITES, Reason, ReasonKind, ReasonView};
 use crate::path_room::PathRoom;
 use crate::reading::read_into;
 use arrayvec::ArrayVec;
 use plan_lines::{Instance, LineFault, MOST_MEMBERS};
+use proof_lines::{Cite, Lemma, LemmaView, LineView, MOST_CITES, Reason, ReasonKind, ReasonView};
 use proof_text::{Claim, Verdict, Version};
 use text_words::Size;
 

@@ -5,14 +5,14 @@ ghost use Rattle.arrayvec.specs.ArrayVec.{array_vec_len};
 ghost use Rattle.plan_text.specs.Items.{square_text, marked, column_text, rule_letters, parts_text, instance_text, column_of_squares, two_columns, two_squares, three_squares, group_and_squares, rule_of, of_rule, if_named, instance_of};
 ghost use Rattle.rule_compat.specs.Written.{written};
 
-use crate::items::{group_of, push_group, push_square, square_of};
+use crate::items::{group_of, push_group, square_of};
 use arrayvec::ArrayVec;
 use open_groups::GroupId;
 use rule_compat::{
     Aftereven, Baseclaim, Baseinverse, Before, Claimeven, Highinverse, Instance, Kind, Lowinverse,
     Rule, Specialbefore, Vertical,
 };
-use text_words::{Size, Square, push_text, split_once};
+use text_words::{Size, Square, push_square, push_text, split_once};
 
 /// Puts the text of an instance behind what is there.
 pub(crate) fn push_instance<const N: usize>(to: &mut ArrayVec<u8, N>, instance: &Instance)

@@ -1,9 +1,9 @@
-//! Squares, groups and instances as texts, each in one spelling, and the reading of squares and groups. What each text
-//! is and how it is read is defined in `plan_text`.
-ghost use Rattle.std.specs.Prelude.{◌≡◌, ◌+◌, ◌≤◌, ◌++◌, decimal, is_ok};
+//! Groups and instances as texts, each in one spelling, and the reading of squares and groups. What each text is and how it
+//! is read is defined in `plan_text`.
+ghost use Rattle.std.specs.Prelude.{◌≡◌, ◌+◌, ◌≤◌, ◌++◌, is_ok};
 ghost use Rattle.arrayvec.specs.ArrayVec.{array_vec_len};
 ghost use Rattle.device_rules.specs.Devices.{HasCause, AppendsPrefix};
-ghost use Rattle.plan_text.specs.Items.{square_text, way_letter, group_text, square_of, way_of, group_of};
+ghost use Rattle.plan_text.specs.Items.{way_letter, group_text, square_of, way_of, group_of};
 ghost use Rattle.plan_text.specs.Faults.{plan_fault_text};
 ghost use Rattle.rule_compat.specs.Faults.{fault_of};
 ghost use Rattle.plan_lines.specs.Items.{item_text};
@@ -13,10 +13,9 @@ use crate::instance_text::push_instance;
 use arrayvec::ArrayVec;
 use game_rules::Way;
 use io_ports::{Failed, Sink, put_all};
-use itoa::Buffer;
 use open_groups::{GroupId, group_anchor, group_at, group_way};
 use rule_compat::{Instance, PlanFault};
-use text_words::{LineText, Size, Square, letter_of, number_between, push_number, push_text};
+use text_words::{LineText, Size, Square, number_between, push_number, push_square, push_text};
 
 /// What a report names: a square, a group, or an instance of a rule.
 #[derive(Clone, Copy)]
@@ -42,28 +41,6 @@ pub fn print_item<O: Sink>(item: &Item, out: &mut O) -> Result<(), Failed>
         Item::OneInstance(instance) => push_instance(&mut text, instance),
     }
     put_all(out, text.as_slice())
-}
-
-/// Puts the text of a square behind what is there: its column's letter and its row, as `a1`.
-pub fn push_square<const N: usize>(to: &mut ArrayVec<u8, N>, square: Square)
-    requires { array_vec_len to.old + 3 ≤ N }
-    ensures items { to.new.items ≡ to.old.items ++ square_text square }
-    ensures bound { array_vec_len to.new ≤ array_vec_len to.old + 3 }
-{
-    to.push(letter_of(square.column()));
-    push_row(to, square.row());
-}
-
-/// Puts a row in decimal.
-#[tactic(auto, using(crate::proofs::Rows::row_short))]
-fn push_row<const N: usize>(to: &mut ArrayVec<u8, N>, row: u8)
-    requires row { row ≤ 10 }
-    requires room { array_vec_len to.old + 2 ≤ N }
-    ensures items { to.new.items ≡ to.old.items ++ decimal row }
-    ensures bound { array_vec_len to.new ≤ array_vec_len to.old + 2 }
-{
-    let mut digits = Buffer::new();
-    push_text(to, digits.format(row).as_bytes());
 }
 
 /// Puts the text of a group behind what is there: its anchor's square and the letter of its direction, as `a1h`.

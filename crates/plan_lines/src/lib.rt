@@ -7,7 +7,7 @@ mod instance_text;
 mod items;
 mod plan_line;
 
-pub use items::{Item, print_item, push_group, push_plan_fault, push_square};
+pub use items::{Item, print_item, push_group, push_plan_fault};
 pub use plan_line::{LineFault, members_of, print_plan, put_plan_end, read_plan};
 pub use plan_rules::MOST_MEMBERS;
 pub use rule_compat::{Instance, Plan, PlanFault};

@@ -8,14 +8,14 @@ use Rattle.std.proofs.lemmas.Option.{slice_get-get_or, same_Some}
 use Rattle.plan_rules.specs.declared.TheConstants.{MOST_MEMBERS}
 use Rattle.proof_text.specs.Lemma.{Reason as PlainReason, Lemma, ByAll, ByPlan}
 use Rattle.proof_text.specs.Spelling.{longest_path}
-use Rattle.cert_format.specs.Written.{written_list}
-use Rattle.cert_format.specs.Instance.{Instance}
-use Rattle.cert_format.specs.Shape.{cite_of}
+use Rattle.proof_lines.specs.Written.{written_list}
+use Rattle.proof_lines.specs.Instance.{Instance}
+use Rattle.proof_lines.specs.Shape.{cite_of}
 use Rattle.proof_book.specs.BookFields.{all_kept, IsBook}
 use Rattle.proof_book.specs.Entries.{part, IsReasonWithin, reason_kept, KeepsReason, IsEntry, lemma_in_entry, lemmas_from}
-use Rattle.cert_format.specs.declared.lines.Cite.{Cite}
-use Rattle.cert_format.specs.declared.lines.Reason.{Reason}
-use Rattle.cert_format.specs.declared.lines.Reason.TheVariants as reasons
+use Rattle.proof_lines.specs.declared.lines.Cite.{Cite}
+use Rattle.proof_lines.specs.declared.lines.Reason.{Reason}
+use Rattle.proof_lines.specs.declared.lines.Reason.TheVariants as reasons
 use Rattle.proof_book.specs.declared.book.Book.TheInside.{Inside}
 use Rattle.proof_book.specs.declared.book.Span.{Span}
 use Rattle.proof_book.specs.declared.book.Entry.{Entry}

@@ -4,12 +4,12 @@ use Rattle.std.specs.Borrow.{Bor}
 use Rattle.plan_rules.specs.declared.TheConstants.{MOST_MEMBERS}
 use Rattle.proof_text.specs.Lemma.{Reason as PlainReason, Lemma as PlainLemma}
 use Rattle.proof_text.specs.Spelling.{longest_path, most_cites}
-use Rattle.cert_format.specs.Written.{written_list}
-use Rattle.cert_format.specs.Instance.{Instance}
-use Rattle.cert_format.specs.Shape.{cite_of, reason_by}
-use Rattle.cert_format.specs.declared.lines.Cite.{Cite}
-use Rattle.cert_format.specs.declared.lines.Reason.{Reason}
-use Rattle.cert_format.specs.declared.lines.Reason.TheVariants as reasons
+use Rattle.proof_lines.specs.Written.{written_list}
+use Rattle.proof_lines.specs.Instance.{Instance}
+use Rattle.proof_lines.specs.Shape.{cite_of, reason_by}
+use Rattle.proof_lines.specs.declared.lines.Cite.{Cite}
+use Rattle.proof_lines.specs.declared.lines.Reason.{Reason}
+use Rattle.proof_lines.specs.declared.lines.Reason.TheVariants as reasons
 use Rattle.proof_book.specs.declared.book.Span.{Span}
 use Rattle.proof_book.specs.declared.book.Entry.{Entry}
 

@@ -1,5 +1,5 @@
 pub mod Entries
 pub mod BookFields
-pub use Rattle.cert_format.specs.Shape
-pub use Rattle.cert_format.specs.declared.lines.Cite
-pub use Rattle.cert_format.specs.declared.lines.LineView
+pub use Rattle.proof_lines.specs.Shape
+pub use Rattle.proof_lines.specs.declared.lines.Cite
+pub use Rattle.proof_lines.specs.declared.lines.LineView

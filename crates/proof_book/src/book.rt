@@ -4,11 +4,11 @@
 ghost use Rattle.std.specs.Prelude.{◌≡◌, ℕ, ◌+◌, ◌-◌, ◌*◌, ◌^◌, ◌<◌, ◌≤◌, true, List, [], ◌∷◌, ◌++◌, length, take, drop, Some, slice_get, option_map, MatchOption, OnOk, OnErr, IfOk, vec_len, vec_capacity};
 ghost use Rattle.proof_text.specs.Lemma.{Lemma as PlainLemma};
 ghost use Rattle.proof_text.specs.Spelling.{greatest_number, longest_path};
-ghost use Rattle.cert_format.specs.Shape.{lemma_of, lemma_viewed, reason_viewed};
+ghost use Rattle.proof_lines.specs.Shape.{lemma_of, lemma_viewed, reason_viewed};
 ghost use Rattle.proof_book.specs.Entries.{part, reason_kept, reason_held, HeldFits, IsReasonWithin, KeepsReason};
 
 use board_bits::Column;
-use cert_format::{Cite, Instance, Lemma, LemmaView, Reason, ReasonView, shared_moves};
+use proof_lines::{Cite, Instance, Lemma, LemmaView, Reason, ReasonView, shared_moves};
 use proof_text::Claim;
 use std::alloc::{AllocError, Global};
 use std::marker::Model;

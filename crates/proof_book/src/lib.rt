@@ -4,7 +4,4 @@
 mod book;
 
 pub use book::{Book, Held};
-pub use cert_format::{
-    Cite, Instance, LemmaOut, LemmaView, Line, LineBuffer, LineView, Reason, Verdict, Version,
-    first_line, head_of, print_line, push_plan_fault, push_square,
-};
+pub use proof_lines::{Cite, Instance, LemmaView, LineView, Reason, Verdict};

@@ -7,6 +7,6 @@ mod checked_lines;
 #[cfg(test)]
 mod lines_of_plans;
 #[cfg(test)]
-mod marks;
+mod lines_of_proofs;
 #[cfg(test)]
-mod proof_lines;
+mod marks;

@@ -1,8 +1,8 @@
 //! Plan lines as texts: each rule's text is read and printed as it stood. The expected texts are written out here, from the
 //! rules of how they are spelled. Near misses are examples.
 use board_bits::Size;
-use cert_format::{print_plan, read_plan};
 use io_ports::MemSink;
+use plan_lines::{print_plan, read_plan};
 use std::alloc::{AllocError, Global};
 use std::test::Fail;
 

@@ -6,8 +6,8 @@ mod marks;
 mod printed;
 mod reach;
 
+pub use cert_format::{Verdict, Version, head_of};
 pub use marks::{Valuer, annotate, position_after};
 pub use printed::print_trimmed;
-pub use proof_book::{Verdict, Version, head_of, push_square};
 pub use reach::{Reach, reached};
 pub use tool_text::Mark;

@@ -14,9 +14,10 @@ ghost use Rattle.proof_tools.specs.Printed.{AreMarked, IsClosedReach, lines_at};
 use crate::reach::Reach;
 use arrayvec::ArrayVec;
 use board_bits::MOST_COLS;
+use cert_format::{LemmaOut, Line, Verdict, print_line};
 use io_ports::{Failed, Sink};
 use plan_rules::MOST_MEMBERS;
-use proof_book::{Book, Cite, Held, Instance, LemmaOut, Line, Reason, Verdict, print_line};
+use proof_book::{Book, Cite, Held, Instance, Reason};
 
 /// Writes the lemmas of a book that are reached, in their order, numbered from 1, with their cites numbered so too, and
 /// behind them the line of the verdict. The `Reach` is the one that was made for this book and this verdict. On `Failed`,

@@ -16,9 +16,9 @@ use Rattle.plan_rules.specs.Rules.{RuleInstance}
 use Rattle.plan_text.specs.Items.{square_text, group_text, instance_text}
 use Rattle.plan_text.specs.PlanLine.{plan_text}
 use Rattle.proof_text.specs.Spelling.{as_line}
-use Rattle.cert_format.specs.Instance.{Instance}
-use Rattle.cert_format.specs.Written.{written}
-use Rattle.cert_format.specs.Planned.{Planned, members}
+use Rattle.plan_lines.specs.Instance.{Instance}
+use Rattle.plan_lines.specs.Written.{written}
+use Rattle.plan_lines.specs.Planned.{Planned, members}
 use Rattle.explain_text.specs.Explanation.{squares_text, is_white, owns_lines, answer_line, answer_lines, plan_explained}
 use Rattle.explain_text.proofs.Answers.{IsNamed}
 

@@ -8,9 +8,9 @@ ghost use Rattle.run_follow.specs.Turns.{man_of, first_lines};
 
 use crate::follow_player::turn_of;
 use board_bits::{Position, Side};
-use cert_format::Verdict;
 use io_ports::{Failed, Sink};
 use proof_player::FollowReply;
+use proof_text::Verdict;
 use run_frame::put_line;
 use run_turns::turn_line;
 

@@ -7,8 +7,8 @@ ghost use Rattle.run_proof.specs.Stops.{IsCausedBy};
 ghost use Rattle.run_follow.specs.Reading.{IsRightProof, ReadsProof, IsWithin};
 
 use board_bits::Position;
-use cert_format::Verdict;
 use io_ports::{Lines, Sink, Source};
+use proof_text::Verdict;
 use run_frame::RunStop;
 use run_proof::{Book, ProofStop, Until, read_head, read_lines};
 use std::alloc::Global;

@@ -5,7 +5,7 @@ use Rattle.game_rules.specs.Text.{game_at}
 use Rattle.io_ports.specs.Reading.{Pending, Reads, PassesLines}
 use Rattle.io_ports.proofs.Reading.{Reads_more, Reads_then, passes_then, passes_most}
 use Rattle.proof_text.specs.Texts.{pieces, lines_in, game_of, behind_game}
-use Rattle.cert_format.specs.Planned.{Planned}
+use Rattle.plan_lines.specs.Planned.{Planned}
 use Rattle.reply_player.specs.Playing.{Playing}
 use Rattle.play_text.specs.Play.{play_of, first_move}
 use Rattle.run_turns.specs.Inputs.{StopsPlay, lines_until}

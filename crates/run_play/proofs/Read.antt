@@ -16,7 +16,7 @@ use Rattle.plan_rules.proofs.Turns.{playable_parts, playable_room}
 use Rattle.plan_text.specs.Items.{square_text}
 use Rattle.proof_text.specs.Spelling.{as_line, longest_line}
 use Rattle.proof_text.specs.Texts.{pieces, lines_in, game_of, behind_game}
-use Rattle.cert_format.specs.Planned.{Planned, members}
+use Rattle.plan_lines.specs.Planned.{Planned, members}
 use Rattle.reply_player.specs.Playing.{Playing, reply_for, HasAnswered}
 use Rattle.reply_player.specs.declared.session.Reply.{Reply}
 use Rattle.play_text.specs.Play as told

@@ -2,8 +2,8 @@
 use Rattle.std.specs.Prelude.{ℕ, List, ◌++◌, Option, Some, codes}
 use Rattle.plan_text.specs.Faults.{plan_fault_text}
 use Rattle.proof_text.specs.Spelling.{as_line}
-use Rattle.cert_format.specs.Faults.{fault_of}
-use Rattle.cert_format.specs.PlanFault.{PlanFault}
+use Rattle.plan_lines.specs.Faults.{fault_of}
+use Rattle.plan_lines.specs.PlanFault.{PlanFault}
 use Rattle.play_text.specs.Play as ends
 use Rattle.play_text.specs.Play.{PlayEnd, play_of}
 use Rattle.play_text.specs.Told.{IsTold}

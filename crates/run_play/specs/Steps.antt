@@ -2,7 +2,7 @@
 use Rattle.std.specs.Prelude.{ℕ, List}
 use Rattle.game_rules.specs.Position.{Position}
 use Rattle.proof_text.specs.Texts.{pieces, lines_in}
-use Rattle.cert_format.specs.Planned.{members}
+use Rattle.plan_lines.specs.Planned.{members}
 use Rattle.reply_player.specs.Playing.{Playing}
 use Rattle.reply_player.specs.declared.session.Reply.{Reply}
 use Rattle.reply_player.specs.declared.session.Reply.TheVariants.{BlackWon, Filled, Move}

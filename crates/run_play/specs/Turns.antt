@@ -2,7 +2,7 @@
 use Rattle.std.specs.Prelude.{ℕ, ◌/◌, List, option_map}
 use Rattle.game_rules.specs.Board.{Square}
 use Rattle.game_rules.specs.Position.{Position, empty_count, after_move}
-use Rattle.cert_format.specs.Planned.{members}
+use Rattle.plan_lines.specs.Planned.{members}
 use Rattle.play_text.specs.Play.{turn_text, answer_to}
 use Rattle.play_text.specs.Play.{Turn}
 use Rattle.run_play.specs.declared.plan_player.PlanPlayer.{PlanPlayer}

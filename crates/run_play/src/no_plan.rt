@@ -2,7 +2,7 @@
 ghost use Rattle.std.specs.Prelude.{◌≡◌, ◌++◌};
 ghost use Rattle.run_play.specs.Plays.{no_plan_line_text, no_plan_text};
 
-use cert_format::{PlanFault, push_plan_fault};
+use plan_lines::{PlanFault, push_plan_fault};
 use run_frame::{Ending, begin_refusal};
 use run_turns::GameEnd;
 use text_words::{LineText, push_text};

@@ -4,7 +4,7 @@ ghost use Rattle.device_rules.specs.Devices.{Rose};
 ghost use Rattle.io_ports.specs.Lines.{longest_line, IsUndecided};
 ghost use Rattle.io_ports.specs.Reading.{pending, Reads, PassesLines};
 ghost use Rattle.game_rules.specs.Position.{empty_count};
-ghost use Rattle.cert_format.specs.Planned.{members};
+ghost use Rattle.plan_lines.specs.Planned.{members};
 ghost use Rattle.play_text.specs.Play.{play_from, play_lines, first_move};
 ghost use Rattle.run_frame.specs.declared.game_input.InputStop.TheVariants as inputs;
 ghost use Rattle.run_turns.specs.Inputs.{EndsSo, StopsPlay, lines_until};
@@ -14,8 +14,8 @@ ghost use Rattle.run_play.specs.Steps.{played_at, played_from};
 
 use crate::no_plan::NoPlan;
 use board_bits::Position;
-use cert_format::{Plan, read_plan};
 use io_ports::{LineGot, Lines, Source};
+use plan_lines::{Plan, read_plan};
 use run_frame::InputStop;
 use run_turns::GameStop;
 

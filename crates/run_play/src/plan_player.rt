@@ -3,7 +3,7 @@ ghost use Rattle.std.specs.Prelude.{◌≡◌};
 ghost use Rattle.run_play.specs.Steps.{man_of};
 
 use board_bits::{Column, MoveFault, Size};
-use cert_format::Plan;
+use plan_lines::Plan;
 use reply_player::{Reply, Session};
 use run_turns::{Player, Turn, TurnEnd};
 

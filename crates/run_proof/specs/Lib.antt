@@ -9,3 +9,4 @@ pub use Rattle.cert_checker.specs.Checking
 pub use Rattle.cert_checker.specs.Index
 pub use Rattle.cert_checker.specs.declared.stops.Accepted
 pub use Rattle.cert_checker.specs.declared.stops.Refusal
+pub use Rattle.cert_format.specs.Shape

@@ -6,8 +6,8 @@ ghost use Rattle.run_proof.specs.Heads.{IsNamed, Begins, IsFirstStop, StopsBy, h
 
 use crate::stop::{ProofStop, bad_line};
 use board_bits::Game;
+use cert_format::{Version, first_line};
 use io_ports::{LineGot, Lines, Source};
-use proof_book::{Version, first_line};
 use run_frame::{InputStop, read_played_game};
 
 /// The head of a proof: the version that it names, and its game.

@@ -16,8 +16,8 @@ use crate::stop::{ProofStop, bad_line};
 use crate::taker::{LemmaTaker, take_line};
 use board_bits::Size;
 use cert_checker::{Accepted, AddStop, Checker, MOST_LEMMAS};
+use cert_format::{LineBuffer, LineView, Version};
 use io_ports::{LineGot, Lines, Sink, Source};
-use proof_book::{LineBuffer, LineView, Version};
 use run_frame::{InputStop, RunStop};
 use std::alloc::Global;
 

@@ -12,8 +12,8 @@ use crate::lines::{Until, read_lines};
 use crate::stop::ProofStop;
 use crate::taker::LemmaTaker;
 use cert_checker::Accepted;
+use cert_format::Version;
 use io_ports::{Lines, Sink, Source};
-use proof_book::Version;
 use run_frame::RunStop;
 use std::alloc::Global;
 

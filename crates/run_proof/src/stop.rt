@@ -7,7 +7,7 @@ ghost use Rattle.run_frame.specs.declared.run_stop.RunStop.TheVariants as run_st
 ghost use Rattle.run_proof.specs.declared.stop.ProofStop.TheVariants as stops;
 
 use cert_checker::{Refusal, Why};
-use proof_book::push_plan_fault;
+use cert_format::push_plan_fault;
 use run_frame::{Ending, InputStop, RunStop, begin_refusal, memory_text};
 use text_words::{LineText, push_text};
 

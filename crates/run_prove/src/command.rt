@@ -12,9 +12,9 @@ ghost use Rattle.run_prove.specs.Proves.{IsRoom, proved_of, proved_status, Prove
 use crate::proved::{Proved, Proving};
 use crate::writing::write_proof;
 use board_bits::Game;
-use cert_format::Verdict;
 use io_ports::{Failed, Sink, Source};
 use position_table::Table;
+use proof_text::Verdict;
 use run_frame::{MemoryStop, RunStop, Sought, read_game_input};
 use run_questions::{Chooser, front_for};
 use std::alloc::Global;

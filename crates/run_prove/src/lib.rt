@@ -5,6 +5,6 @@ mod command;
 mod proved;
 mod writing;
 
-pub use cert_format::Version;
 pub use command::prove;
+pub use proof_text::Version;
 pub use proved::{Proved, Proving};

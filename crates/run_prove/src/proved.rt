@@ -1,5 +1,5 @@
 //! What `prove` is asked for, and how it ends.
-use cert_format::Version;
+use proof_text::Version;
 use run_frame::{InputStop, MemoryStop, RunStop, Sought};
 
 /// What a run of `prove` is asked for.

@@ -11,10 +11,10 @@ ghost use Rattle.run_questions.specs.SizedFronts.{slots_of, IsAfter};
 ghost use Rattle.run_prove.specs.Proof.{Writes};
 
 use board_bits::Game;
-use cert_format::{Line, Verdict, Version, head_of, print_line};
 use io_ports::{Failed, Sink, put_all};
 use position_table::Table;
-use run_questions::{Chooser, SearchStop, SizedFront, ask};
+use proof_text::{Verdict, Version};
+use run_questions::{Chooser, Line, SearchStop, SizedFront, ask, head_of, print_line};
 
 /// Writes a proof of this version, of the game's position, from a search that may enter `nodes` positions, with remarks of the
 /// front, where there is one. The verdict is `Unknown` only where that number is below the position's cost.

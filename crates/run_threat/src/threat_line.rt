@@ -5,8 +5,8 @@ ghost use Rattle.threat_text.specs.Threats.{threat_line, pair_text};
 
 use arrayvec::ArrayVec;
 use base_rules::Baseinverse;
-use cert_format::{push_group, push_square};
-use text_words::push_text;
+use plan_lines::push_group;
+use text_words::{push_square, push_text};
 use threat_rules::Threat;
 
 /// The most bytes of such a line: a group, and as many pairs as a threat may have.

@@ -5,8 +5,7 @@ ghost use Rattle.text_words.specs.Lines.{line_room};
 ghost use Rattle.run_turns.specs.Turns.{man_text, end_words, turn_line, falls_to, moved_by, HasRoom, turn_from};
 
 use board_bits::{Column, Position, Square};
-use plan_lines::push_square;
-use text_words::{LineText, push_text};
+use text_words::{LineText, push_square, push_text};
 
 /// What the last man of a turn ended.
 #[derive(Clone, Copy)]

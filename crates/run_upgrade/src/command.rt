@@ -5,10 +5,10 @@ ghost use Rattle.run_upgrade.specs.Upgrades.{UpgradeOwes};
 
 use crate::upgraded::Upgraded;
 use crate::writing::{Writer, put_verdict};
-use cert_format::{Version, head_of};
 use io_ports::{Lines, Sink, Source, put_all};
+use proof_text::Version;
 use run_frame::RunStop;
-use run_proof::{Until, read_head, read_lines};
+use run_proof::{Until, head_of, read_head, read_lines};
 use std::alloc::Global;
 
 /// Reads a proof of the first version, and writes it in the second: the head as soon as its game is read, each lemma as soon

@@ -2,14 +2,14 @@
 ghost use Rattle.std.specs.Prelude.{◌≡◌, ◌+◌, ◌≤◌, ◌<◌, [], is_ok, length, OnOk, Err};
 ghost use Rattle.device_rules.specs.Devices.{HasCause, Rose, AppendsPrefix};
 ghost use Rattle.proof_text.specs.Spelling.{greatest_number, longest_path, verdict_line};
-ghost use Rattle.cert_format.specs.Shape.{lemma_viewed};
+ghost use Rattle.run_proof.specs.Shape.{lemma_viewed};
 ghost use Rattle.run_proof.specs.declared.taker.NotTaken.TheVariants as untaken;
 ghost use Rattle.run_upgrade.specs.Writing.{WritesLemma};
 
 use board_bits::Position;
-use cert_format::{LemmaOut, LemmaView, Line, Reason, Verdict, print_line};
 use io_ports::{Failed, Sink};
-use run_proof::{LemmaTaker, MirrorIndex, NotTaken};
+use proof_text::Verdict;
+use run_proof::{LemmaOut, LemmaTaker, LemmaView, Line, MirrorIndex, NotTaken, Reason, print_line};
 use std::alloc::Global;
 
 /// What is kept of the lemmas that were written: their numbers by their positions, and how many there are.

@@ -1,8 +1,8 @@
 //! Each call with ample memory, where it answers something else than want of memory; and tables that are full.
 use board_bits::{InputFault, Position, read_game};
 use cert_checker::MirrorIndex;
-use cert_format::Claim;
 use position_table::{Found, Question, Table};
+use proof_text::Claim;
 use std::test::Fail;
 
 const FIRST: &[u8] = b"board 4 4\nmoves a\n";

@@ -1,6 +1,6 @@
 use Rattle.std.proofs.Common.{◌≡◌, map, drop}
 use Rattle.proof_text.specs.Checked.{cites_refusal}
-use Rattle.cert_format.specs.Shape.{cite_of}
+use Rattle.proof_lines.specs.Shape.{cite_of}
 use Rattle.cert_checker.proofs.reasons.check_cites.Given as goal
 
 abbrev pub invariant-loop-cite : goal.invariant-loop-cite

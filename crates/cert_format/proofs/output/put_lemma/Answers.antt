@@ -4,7 +4,8 @@ use Rattle.device_rules.specs.Devices.{AppendsPrefix}
 use Rattle.device_rules.proofs.DeviceLaws.{AppendsPrefix_take, AppendsPrefix_more}
 use Rattle.plan_lines.specs.Written.{written_list}
 use Rattle.plan_lines.specs.Items.{members_text}
-use Rattle.cert_format.specs.Shape.{reason_viewed, behind_word}
+use Rattle.proof_lines.specs.Shape.{reason_viewed}
+use Rattle.cert_format.specs.Printed.{behind_word}
 use Rattle.cert_format.proofs.output.put_lemma.Goals as goal
 
 pub returns-in_err-put_all-clause-written : goal.returns-in_err-put_all-clause-written

@@ -2,7 +2,7 @@ use Rattle.std.proofs.Common.{◌≡◌, ◌<◌, ◌≤◌, ◌++◌, map, leng
 use Rattle.std.proofs.lemmas.Bool.{eqb-true}
 use Rattle.std.proofs.lemmas.List.{append-nil}
 use Rattle.proof_text.specs.Reading.{◌>>=◌, words_of, cites_of}
-use Rattle.cert_format.specs.Shape.{cite_of}
+use Rattle.proof_lines.specs.Shape.{cite_of}
 use Rattle.cert_format.proofs.Words.{all_too_many, all_read}
 use Rattle.text_words.proofs.Words.{words_left, words_some}
 use Rattle.cert_format.proofs.reading.all_of.Goals as goal

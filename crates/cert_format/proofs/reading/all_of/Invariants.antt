@@ -1,6 +1,6 @@
 use Rattle.std.proofs.Common.{◌≡◌, ◌+◌, ◌≤◌, ◌++◌, map, length, Some}
 use Rattle.proof_text.specs.Reading.{◌>>=◌, words_of, cites_of}
-use Rattle.cert_format.specs.Shape.{cite_of}
+use Rattle.proof_lines.specs.Shape.{cite_of}
 use Rattle.text_words.proofs.Words.{words_left, bytes_left}
 use Rattle.cert_format.proofs.reading.all_of.Given as goal
 

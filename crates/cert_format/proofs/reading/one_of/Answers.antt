@@ -1,7 +1,7 @@
 use Rattle.std.proofs.Common.{◌-◌, ◌∷◌, [], get_or, length, take, drop, Some, None, sym, ap, ◌∙◌, rules}
 use Rattle.std.specs.Option.{option_map}
 use Rattle.proof_text.specs.Lemma.{ByOne}
-use Rattle.cert_format.specs.Shape.{cite_of}
+use Rattle.proof_lines.specs.Shape.{cite_of}
 use Rattle.cert_format.proofs.Words.{one_letter_none, letter_apart, letter_and_number}
 use Rattle.cert_format.proofs.reading.one_of.Goals as goal
 use Rattle.cert_format.proofs.reading.one_of.Goals.{in_default-via-then-bytes-lt2, in_default-via-else-bytes-lt2+in_default-1}

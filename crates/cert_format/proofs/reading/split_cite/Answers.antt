@@ -1,5 +1,5 @@
 use Rattle.std.proofs.Common.{sym, subst, MatchOption, rules}
-use Rattle.cert_format.specs.Shape.{cite_of}
+use Rattle.proof_lines.specs.Shape.{cite_of}
 use Rattle.cert_format.specs.Words.{HasCite, HasNoCite}
 use Rattle.cert_format.proofs.Words.{no_colon, no_cited_number}
 use Rattle.cert_format.proofs.reading.split_cite.Goals as goal

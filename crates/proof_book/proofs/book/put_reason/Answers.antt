@@ -1,7 +1,7 @@
 use Rattle.std.proofs.Common.{sym, ap, ◌∙◌}
 use Rattle.proof_text.specs.Lemma.{ByPlan}
-use Rattle.cert_format.specs.Written.{written_list}
-use Rattle.cert_format.specs.Shape.{reason_viewed}
+use Rattle.proof_lines.specs.Written.{written_list}
+use Rattle.proof_lines.specs.Shape.{reason_viewed}
 use Rattle.proof_book.proofs.Kept.{keeps_none, keeps_members}
 use Rattle.proof_book.proofs.book.put_reason.Goals as goal
 

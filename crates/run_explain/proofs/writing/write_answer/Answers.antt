@@ -1,8 +1,8 @@
 use Rattle.std.proofs.Common.{◌≡◌, ◌-◌, codes, get_or, is_ok, ap, sym, ◌∙◌}
 use Rattle.std.proofs.lemmas.Result.{err_from_is_err_and}
 use Rattle.plan_text.specs.Items.{group_text, instance_text}
-use Rattle.cert_format.specs.Written.{written}
-use Rattle.cert_format.specs.Planned.{members}
+use Rattle.plan_lines.specs.Written.{written}
+use Rattle.plan_lines.specs.Planned.{members}
 use Rattle.explain_text.proofs.Answers.{named}
 use Rattle.run_explain.proofs.Explaining.{line_cut_first, line_cut_second, line_cut_third, line_ends, place_within, named_line, place_line}
 use Rattle.run_explain.proofs.writing.write_answer.Goals as goal

@@ -1,7 +1,7 @@
 use Rattle.std.proofs.Common.{◌+◌, take, subst, arith, flat_map}
 use Rattle.std.specs.Io.KnownBytes.{Appends}
 use Rattle.std.proofs.lemmas.Result.{err_from_is_err_and}
-use Rattle.cert_format.specs.Planned.{members}
+use Rattle.plan_lines.specs.Planned.{members}
 use Rattle.plan_lines.proofs.Members.{pieces_cut, pieces_more}
 use Rattle.run_explain.proofs.Explaining.{lines_for, lines_by_group, listed_lies}
 use Rattle.run_explain.proofs.writing.write_answers.Goals as goal

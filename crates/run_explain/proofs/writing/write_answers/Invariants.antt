@@ -1,6 +1,6 @@
 use Rattle.std.proofs.Common.{◌≤◌, take}
 use Rattle.std.specs.Io.KnownBytes.{Appends}
-use Rattle.cert_format.specs.Planned.{members}
+use Rattle.plan_lines.specs.Planned.{members}
 use Rattle.explain_text.specs.Explanation.{answer_lines}
 use Rattle.run_explain.proofs.writing.write_answers.Given as goal
 

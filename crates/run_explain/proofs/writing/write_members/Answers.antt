@@ -9,8 +9,8 @@ use Rattle.game_rules.specs.Position.{board_of}
 use Rattle.plan_text.specs.PlanLine.{plan_text}
 use Rattle.proof_text.specs.Spelling.{as_line}
 use Rattle.proof_text.proofs.Fitting.{plan_fits}
-use Rattle.cert_format.specs.Written.{written, written_list}
-use Rattle.cert_format.specs.Planned.{members}
+use Rattle.plan_lines.specs.Written.{written, written_list}
+use Rattle.plan_lines.specs.Planned.{members}
 use Rattle.explain_text.specs.Explanation.{owns_lines}
 use Rattle.run_explain.proofs.writing.write_members.Goals as goal
 

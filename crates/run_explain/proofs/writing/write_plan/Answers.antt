@@ -6,7 +6,7 @@ use Rattle.device_rules.specs.Devices.{AppendsPrefix}
 use Rattle.device_rules.proofs.DeviceLaws.{AppendsPrefix_all, AppendsPrefix_take, AppendsPrefix_more}
 use Rattle.game_rules.specs.Groups.{groups_of}
 use Rattle.game_rules.specs.Position.{board_of}
-use Rattle.cert_format.specs.Planned.{members}
+use Rattle.plan_lines.specs.Planned.{members}
 use Rattle.explain_text.specs.Explanation.{answer_lines, plan_explained}
 use Rattle.run_explain.proofs.Explaining.{listed_of, answered, explained_in_two}
 use Rattle.run_explain.proofs.writing.write_plan.Goals as goal

@@ -3,7 +3,7 @@ use Rattle.std.proofs.lemmas.Result.{err_from_is_err_and}
 use Rattle.game_rules.specs.Squares.{has_square, squares_where}
 use Rattle.plan_rules.specs.Rules.{zone_of}
 use Rattle.plan_text.specs.Items.{instance_text}
-use Rattle.cert_format.specs.Written.{written}
+use Rattle.plan_lines.specs.Written.{written}
 use Rattle.explain_text.specs.Explanation.{squares_text}
 use Rattle.run_explain.proofs.Explaining.{line_cut_first, line_cut_second, line_cut_third, line_ends}
 use Rattle.run_explain.proofs.writing.write_zone.Goals as goal

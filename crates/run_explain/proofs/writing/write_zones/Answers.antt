@@ -2,7 +2,7 @@ use Rattle.std.proofs.Common.{subst, arith, take, flat_map}
 use Rattle.std.specs.Io.KnownBytes.{Appends}
 use Rattle.std.proofs.lemmas.Result.{err_from_is_err_and}
 use Rattle.explain_text.specs.Explanation.{owns_line}
-use Rattle.cert_format.specs.Written.{written}
+use Rattle.plan_lines.specs.Written.{written}
 use Rattle.plan_lines.proofs.Members.{pieces_cut, flat_map_made}
 use Rattle.run_explain.proofs.writing.write_zones.Goals as goal
 

@@ -1,6 +1,6 @@
 use Rattle.std.proofs.Common.{◌≤◌, take}
 use Rattle.std.specs.Io.KnownBytes.{Appends}
-use Rattle.cert_format.specs.Written.{written_list}
+use Rattle.plan_lines.specs.Written.{written_list}
 use Rattle.explain_text.specs.Explanation.{owns_lines}
 use Rattle.run_explain.proofs.writing.write_zones.Given as goal
 

@@ -1,7 +1,8 @@
 use Rattle.std.proofs.Common.{◌++◌, decimal, ap, ◌∙◌}
 use Rattle.game_rules.specs.Grammar.{move_list}
 use Rattle.proof_text.specs.Lemma.{Lemma}
-use Rattle.cert_format.specs.Shape.{reason_viewed, behind_word}
+use Rattle.proof_lines.specs.Shape.{reason_viewed}
+use Rattle.cert_format.specs.Printed.{behind_word}
 use Rattle.cert_format.proofs.Spaced.{lemma_pieces}
 use Rattle.cert_format.proofs.back_line.BackLine.make_lemma.Goals as goal
 

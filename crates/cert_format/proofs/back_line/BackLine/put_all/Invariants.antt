@@ -1,5 +1,5 @@
 use Rattle.std.proofs.Common.{◌≡◌, ◌+◌, ◌*◌, ◌≤◌, [], ◌∷◌, ◌++◌, length, drop}
-use Rattle.cert_format.specs.Shape.{cite_words}
+use Rattle.cert_format.specs.Printed.{cite_words}
 use Rattle.cert_format.proofs.back_line.BackLine.put_all.Given as goal
 
 -- the cites from the index on were put before the line feed

@@ -2,7 +2,8 @@ use Rattle.std.proofs.Common.{[], ◌∷◌, ◌++◌, codes, sym, ap, ◌∙◌
 use Rattle.proof_text.specs.Spelling.{reason_words}
 use Rattle.plan_lines.specs.Written.{written_list}
 use Rattle.plan_lines.specs.Items.{members_text}
-use Rattle.cert_format.specs.Shape.{reason_viewed, behind_spaces, behind_word, cite_words}
+use Rattle.proof_lines.specs.Shape.{reason_viewed}
+use Rattle.cert_format.specs.Printed.{behind_spaces, behind_word, cite_words}
 use Rattle.cert_format.proofs.Spaced.{cites_behind, members_behind}
 use Rattle.cert_format.proofs.back_line.BackLine.put_reason.Goals as goal
 

@@ -1,6 +1,6 @@
 use Rattle.std.proofs.Common.{◌≡◌, ℕ, ◌+◌, List, [], ◌∷◌, ◌++◌, length, refl, ap, ◌∙◌, arith, length-append}
 use Rattle.proof_text.specs.Lemma.{Lemma}
-use Rattle.cert_format.specs.Shape.{reason_viewed}
+use Rattle.proof_lines.specs.Shape.{reason_viewed}
 use Rattle.proof_book.specs.declared.book.Entry.{Entry}
 use Rattle.proof_book.proofs.Kept.{counted, entries_more, lemma_put}
 use Rattle.proof_book.proofs.book.Book.keep_parts.Goals as goal

@@ -1,8 +1,8 @@
 use Rattle.std.proofs.Common.{◌≡◌, List, length, Some, sym, ap, ◌∙◌, subst, arith}
 use Rattle.std.specs.Option.{option_map}
 use Rattle.proof_text.specs.Lemma.{Lemma}
-use Rattle.cert_format.specs.Instance.{Instance}
-use Rattle.cert_format.specs.declared.lines.Cite.{Cite}
+use Rattle.proof_lines.specs.Instance.{Instance}
+use Rattle.proof_lines.specs.declared.lines.Cite.{Cite}
 use Rattle.proof_book.specs.Entries.{IsReasonWithin, reason_kept}
 use Rattle.proof_book.proofs.Kept.{has_entry, entry_found, entry_fits}
 use Rattle.proof_book.proofs.book.Book.reason.Goals as goal

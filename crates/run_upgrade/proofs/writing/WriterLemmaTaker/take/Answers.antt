@@ -1,4 +1,4 @@
-use Rattle.cert_format.specs.Shape.{lemma_viewed}
+use Rattle.run_proof.specs.Shape.{lemma_viewed}
 use Rattle.run_upgrade.proofs.Written.{lemma_taken}
 use Rattle.run_upgrade.proofs.writing.WriterLemmaTaker.take.Goals as goal
 

@@ -1,24 +1,25 @@
 //! What a line of a proof says. A lemma stands at the position that its path leads to from the root of the proof, and
 //! names the earlier lemmas that its claim rests on.
 ghost use Rattle.std.specs.Prelude.{◌≡◌, List};
-ghost use Rattle.plan_lines.specs.Rules.{RuleInstance};
+ghost use Rattle.plan_rules.specs.Rules.{RuleInstance};
 ghost use Rattle.proof_text.specs.Lemma.{Cite as PlainCite};
 ghost use Rattle.proof_text.specs.Texts.{first_line};
-ghost use Rattle.cert_format.specs.Shape.{reason_by, reason_of, reason_viewed, lemma_of, lemma_viewed};
+ghost use Rattle.proof_lines.specs.Shape.{reason_by, reason_of, reason_viewed, lemma_of, lemma_viewed};
 
 use arrayvec::ArrayVec;
-use plan_lines::{Instance, MOST_MEMBERS};
+use board_bits::Column;
+use plan_rules::MOST_MEMBERS;
 use proof_text::{Claim, Verdict, Version};
-use text_words::Column;
+use rule_compat::Instance;
 
 /// No line has more bytes, without its line feed.
-pub(crate) const LONGEST_LINE: usize = 8192;
+pub const LONGEST_LINE: usize = 8192;
 
 /// No path is longer: a board has at most a hundred squares.
-pub(crate) const LONGEST_PATH: usize = 100;
+pub const LONGEST_PATH: usize = 100;
 
 /// No reason cites more lemmas: a board has at most ten columns.
-pub(crate) const MOST_CITES: usize = 10;
+pub const MOST_CITES: usize = 10;
 
 /// The first line of a proof of this version, which names the format.
 pub fn first_line(version: Version) -> &'static [u8]
@@ -60,7 +61,7 @@ pub type ReasonView<'a> = Reason<
 >;
 
 /// Which reason it is. Its cites, or the instances of its plan, are elsewhere.
-pub(crate) type ReasonKind = Reason<(), ()>;
+pub type ReasonKind = Reason<(), ()>;
 
 impl Reason {
     /// The same reason, lent.
@@ -80,7 +81,7 @@ impl Reason {
 impl ReasonKind {
     /// The reason of this kind that has these cites, or these instances.
     #[inline(always)]
-    pub(crate) fn with<C: Drop, P: Drop>(self, cites: C, members: P) -> Reason<C, P>
+    pub fn with<C: Drop, P: Drop>(self, cites: C, members: P) -> Reason<C, P>
         ensures { (cites_in : C → List PlainCite) (members_in : P → List RuleInstance)
             → reason_by cites_in members_in result ≡ reason_by (λ _. cites_in cites) (λ _. members_in members) self }
     {

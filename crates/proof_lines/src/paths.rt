@@ -3,7 +3,7 @@
 //! long as the one before, so that no place is missed.
 ghost use Rattle.std.specs.Prelude.{◌≡◌, ◌≤◌, true, length, take};
 
-use text_words::Column;
+use board_bits::Column;
 
 /// How many of the first moves are the same in both paths, which are of one length.
 #[inline(always)]
