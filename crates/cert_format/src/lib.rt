@@ -16,7 +16,8 @@ pub use head::head_of;
 pub use output::{LemmaOut, print_line};
 pub use plan_lines::{LineFault, push_plan_fault};
 pub use proof_lines::{
-    Cite, Claim, Lemma, LemmaView, Line, LineView, Reason, ReasonView, Verdict, Version, first_line,
+    Cite, Claim, Lemma, LemmaView, LemmaWriter, Line, LineView, Reason, ReasonView, Verdict,
+    Version, first_line,
 };
 pub use reading::read_line;
 pub use room::LineBuffer;

@@ -10,7 +10,7 @@ use crate::back_line::BackLine;
 use crate::verdict_line::verdict_line;
 use io_ports::{Failed, Sink, put_all};
 use plan_lines::put_plan_end;
-use proof_lines::{Line, Reason, ReasonView};
+use proof_lines::{LemmaWriter, Line, Reason, ReasonView};
 use proof_text::Claim;
 use std::marker::Model;
 use text_words::Column;
@@ -102,8 +102,7 @@ impl LemmaOut {
         self.count
     }
 
-    /// Puts the line of the next lemma, and answers its number. On `Failed`, which comes only where the sink's count of
-    /// faults rose, a prefix of the line was written, and the number is given to the lemma that is put next.
+    /// As `put_view`, of a reason with what belongs to it.
     pub fn put<O: Sink>(
         &mut self,
         out: &mut O,
@@ -122,25 +121,19 @@ impl LemmaOut {
     {
         self.put_view(out, path, claim, &reason.view())
     }
+}
 
-    /// As `put`, of a reason that is lent.
+impl LemmaWriter for LemmaOut {
+    ghost count = { λ lemmas. lemmas };
+
     #[inline(always)]
-    pub fn put_view<O: Sink>(
+    fn put_view<O: Sink>(
         &mut self,
         out: &mut O,
         path: &[Column],
         claim: Claim,
         reason: &ReasonView<'_>,
-    ) -> Result<u32, Failed>
-        requires room { self.old < greatest_number }
-        requires short { length path.now ≤ longest_path }
-        ensures number { IfOk result (λ n. n ≡ self.old + 1) }
-        ensures counted { OnOk result (self.new ≡ self.old + 1) }
-        ensures kept { OnErr result (self.new ≡ self.old) }
-        ensures written { AppendsPrefix (is_ok result) (O.written out.old) (O.written out.new)
-            (lemma_line (record { number = self.old + 1; path = path.now; claim = claim; reason = reason_viewed reason.now })) }
-        ensures cause { HasCause (O.faults out.old) (O.faults out.new) result }
-    {
+    ) -> Result<u32, Failed> {
         let number = self.count + 1;
         put_lemma(&mut self.line, number, path, claim, reason, out)?;
         self.count = number;

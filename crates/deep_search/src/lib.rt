@@ -7,6 +7,6 @@
 mod laws;
 mod solving;
 
-pub use cert_format::{LemmaOut, Line, Verdict, Version, head_of, print_line};
 pub use laws::a_lemma_rests_on_a_plan_where_one_is_chosen;
+pub use position_table::Table;
 pub use solving::{Answer, SearchStop, search};

@@ -10,7 +10,7 @@ ghost use Rattle.game_rules.specs.Cost.{centre_out, count};
 ghost use Rattle.proof_text.specs.Lemma.{claim_for, has_reason};
 ghost use Rattle.proof_text.specs.Spelling.{greatest_number, longest_path, members_in};
 ghost use Rattle.proof_text.specs.Right.{Shown, HasReason};
-ghost use Rattle.cert_format.specs.Shape.{cite_of, reason_viewed};
+ghost use Rattle.proof_lines.specs.Shape.{cite_of, reason_viewed};
 ghost use Rattle.rule_chooser.specs.Written.{written_list};
 ghost use Rattle.deep_search.specs.Planned.{solved_within, plan_for, plan_in};
 ghost use Rattle.proof_text.specs.Texts.{Entry};
@@ -22,9 +22,9 @@ ghost use Rattle.plan_rules.specs.declared.TheConstants.{MOST_MEMBERS};
 
 use arrayvec::ArrayVec;
 use board_bits::{Column, End, MOST_COLS, MOST_SQUARES, Position, Question, Side, centre_out};
-use cert_format::{Cite, Claim, LemmaOut, Reason, ReasonView};
 use io_ports::{Failed, Sink};
 use position_table::{Found, Table};
+use proof_lines::{Cite, Claim, LemmaWriter, Reason, ReasonView};
 use rule_chooser::Chooser;
 
 /// The answer to whether a side wins, and the number of the lemma that shows it.
@@ -64,32 +64,32 @@ struct Aim {
 ///
 /// `Spent` comes only where the budget is below the count of the search, and then no lemma stands at the position itself;
 /// `WriteFault` comes only where the sink's count of faults rose.
-pub fn search<O: Sink>(
+pub fn search<L: LemmaWriter, O: Sink>(
     position: &Position,
     question: Question,
     reach: u32,
     budget: &mut u32,
     table: &mut Table,
     chooser: &mut Chooser,
-    lemmas: &mut LemmaOut,
+    lemmas: &mut L,
     out: &mut O,
     mirror: bool,
 ) -> Result<Answer, SearchStop>
-    requires room { lemmas.old + budget.old ≤ greatest_number }
-    requires entries { IsTrueTable table.old lemmas.old }
+    requires room { L.count lemmas.old + budget.old ≤ greatest_number }
+    requires entries { IsTrueTable table.old (L.count lemmas.old) }
     ensures answer { IfOk result (λ answer. answer.yes ≡ wins (side_asked question) position.now) }
     ensures fell { OnOk result (budget.new < budget.old) }
     ensures left { OnOk result (budget.old ≤ budget.new + count (solved_within reach) (side_asked question) position.now) }
     ensures spent { result ≡ Err stops.Spent → budget.old < count (solved_within reach) (side_asked question) position.now }
-    ensures searched { Searched (stand budget.old lemmas.old (O.faults out.old)) (stand budget.new lemmas.new (O.faults out.new)) result }
-    ensures entries { IsTrueTable table.new lemmas.new }
-    ensures wrote { (known : List Shown) → length known ≡ lemmas.old → FitsTable table.old known
+    ensures searched { Searched (stand budget.old (L.count lemmas.old) (O.faults out.old)) (stand budget.new (L.count lemmas.new) (O.faults out.new)) result }
+    ensures entries { IsTrueTable table.new (L.count lemmas.new) }
+    ensures wrote { (known : List Shown) → length known ≡ L.count lemmas.old → FitsTable table.old known
         → Solves position.now position.now question reach (version_for mirror) known
-        (moment table.old (O.written out.old)) (moment table.new (O.written out.new)) lemmas.new result }
+        (moment table.old (O.written out.old)) (moment table.new (O.written out.new)) (L.count lemmas.new) result }
     ensures lists { (list : List Entry) (known : List Shown) → EndsIn list (O.written out.old)
-        → FitsMoment position.now lemmas.old list known (moment table.old (O.written out.old))
+        → FitsMoment position.now (L.count lemmas.old) list known (moment table.old (O.written out.old))
         → Continues position.now position.now question reach (version_for mirror) list known
-        (moment table.old (O.written out.old)) (moment table.new (O.written out.new)) lemmas.new result }
+        (moment table.old (O.written out.old)) (moment table.new (O.written out.new)) (L.count lemmas.new) result }
 {
     let aim = Aim {
         question,
@@ -106,7 +106,7 @@ pub fn search<O: Sink>(
 
 /// Asks the question at a position, to which `path` leads from the root, and which has ended as `ended` says.
 #[cycle(solve)]
-fn solve<O: Sink>(
+fn solve<L: LemmaWriter, O: Sink>(
     position: &Position,
     ended: Option<End>,
     aim: &Aim,
@@ -114,26 +114,26 @@ fn solve<O: Sink>(
     budget: &mut u32,
     table: &mut Table,
     chooser: &mut Chooser,
-    lemmas: &mut LemmaOut,
+    lemmas: &mut L,
     out: &mut O,
 ) -> Result<Answer, SearchStop>
     requires ended { ended ≡ end_of position.now }
     requires order { aim.now.order.items ≡ centre_out (length position.now.columns) }
     requires deep { length path.old.items + empty_count position.now ≤ longest_path }
-    requires room { lemmas.old + budget.old ≤ greatest_number }
-    requires entries { IsTrueTable table.old lemmas.old }
+    requires room { L.count lemmas.old + budget.old ≤ greatest_number }
+    requires entries { IsTrueTable table.old (L.count lemmas.old) }
     ensures answer { IfOk result (λ answer. answer.yes ≡ wins (side_asked aim.now.question) position.now) }
     ensures fell { OnOk result (budget.new < budget.old) }
     ensures left { OnOk result (budget.old ≤ budget.new + count (solved_within aim.now.reach) (side_asked aim.now.question) position.now) }
     ensures spent { result ≡ Err stops.Spent → budget.old < count (solved_within aim.now.reach) (side_asked aim.now.question) position.now }
     ensures path { path.new.items ≡ path.old.items }
     ensures below { OnlyBelow (empty_count position.now + 1) table.old table.new }
-    ensures searched { Searched (stand budget.old lemmas.old (O.faults out.old)) (stand budget.new lemmas.new (O.faults out.new)) result }
-    ensures entries { IsTrueTable table.new lemmas.new }
+    ensures searched { Searched (stand budget.old (L.count lemmas.old) (O.faults out.old)) (stand budget.new (L.count lemmas.new) (O.faults out.new)) result }
+    ensures entries { IsTrueTable table.new (L.count lemmas.new) }
     ensures wrote { (root : Men) (known : List Shown) → played root path.old.items ≡ Some position.now
-        → length known ≡ lemmas.old → FitsTable table.old known
+        → length known ≡ L.count lemmas.old → FitsTable table.old known
         → Solves root position.now aim.now.question aim.now.reach (version_for aim.now.mirror) known
-        (moment table.old (O.written out.old)) (moment table.new (O.written out.new)) lemmas.new result }
+        (moment table.old (O.written out.old)) (moment table.new (O.written out.new)) (L.count lemmas.new) result }
 {
     let Some(left) = budget.checked_sub(1) else {
         return Err(SearchStop::Spent);
@@ -149,20 +149,20 @@ fn solve<O: Sink>(
 /// What the position itself takes from the budget is already taken.
 #[cycle(solve)]
 #[inline(always)]
-fn solve_by_moves<O: Sink>(
+fn solve_by_moves<L: LemmaWriter, O: Sink>(
     position: &Position,
     aim: &Aim,
     path: &mut ArrayVec<Column, MOST_SQUARES>,
     budget: &mut u32,
     table: &mut Table,
     chooser: &mut Chooser,
-    lemmas: &mut LemmaOut,
+    lemmas: &mut L,
     out: &mut O,
 ) -> Result<Answer, SearchStop>
     requires order { aim.now.order.items ≡ centre_out (length position.now.columns) }
     requires deep { length path.old.items + empty_count position.now ≤ longest_path }
-    requires room { lemmas.old + budget.old < greatest_number }
-    requires entries { IsTrueTable table.old lemmas.old }
+    requires room { L.count lemmas.old + budget.old < greatest_number }
+    requires entries { IsTrueTable table.old (L.count lemmas.old) }
     requires going { end_of position.now ≡ None }
     requires unsolved { solved_within aim.now.reach (side_asked aim.now.question) position.now ≡ false }
     requires absent { held table.old position.now aim.now.question ≡ None }
@@ -172,12 +172,12 @@ fn solve_by_moves<O: Sink>(
     ensures spent { result ≡ Err stops.Spent → budget.old + 1 < count (solved_within aim.now.reach) (side_asked aim.now.question) position.now }
     ensures path { path.new.items ≡ path.old.items }
     ensures below { OnlyBelow (empty_count position.now + 1) table.old table.new }
-    ensures searched { Searched (stand (budget.old + 1) lemmas.old (O.faults out.old)) (stand budget.new lemmas.new (O.faults out.new)) result }
-    ensures entries { IsTrueTable table.new lemmas.new }
+    ensures searched { Searched (stand (budget.old + 1) (L.count lemmas.old) (O.faults out.old)) (stand budget.new (L.count lemmas.new) (O.faults out.new)) result }
+    ensures entries { IsTrueTable table.new (L.count lemmas.new) }
     ensures wrote { (root : Men) (known : List Shown) → played root path.old.items ≡ Some position.now
-        → length known ≡ lemmas.old → FitsTable table.old known
+        → length known ≡ L.count lemmas.old → FitsTable table.old known
         → Solves root position.now aim.now.question aim.now.reach (version_for aim.now.mirror) known
-        (moment table.old (O.written out.old)) (moment table.new (O.written out.new)) lemmas.new result }
+        (moment table.old (O.written out.old)) (moment table.new (O.written out.new)) (L.count lemmas.new) result }
 {
     let own = aim.question.side() == position.to_move();
     let order = aim.order.as_slice();
@@ -205,7 +205,7 @@ fn solve_by_moves<O: Sink>(
 /// Asks the question after a move into a column that has room.
 #[cycle(solve)]
 #[inline(always)]
-fn solve_after<O: Sink>(
+fn solve_after<L: LemmaWriter, O: Sink>(
     position: &Position,
     column: Column,
     aim: &Aim,
@@ -213,13 +213,13 @@ fn solve_after<O: Sink>(
     budget: &mut u32,
     table: &mut Table,
     chooser: &mut Chooser,
-    lemmas: &mut LemmaOut,
+    lemmas: &mut L,
     out: &mut O,
 ) -> Result<Answer, SearchStop>
     requires order { aim.now.order.items ≡ centre_out (length position.now.columns) }
     requires deep { length path.old.items + empty_count position.now ≤ longest_path }
-    requires room { lemmas.old + budget.old ≤ greatest_number }
-    requires entries { IsTrueTable table.old lemmas.old }
+    requires room { L.count lemmas.old + budget.old ≤ greatest_number }
+    requires entries { IsTrueTable table.old (L.count lemmas.old) }
     requires going { end_of position.now ≡ None }
     requires open { has_room position.now column ≡ true }
     ensures answer { IfOk result (λ answer. answer.yes ≡ wins (side_asked aim.now.question) (after_move position.now column)) }
@@ -230,12 +230,12 @@ fn solve_after<O: Sink>(
         → budget.old < count (solved_within aim.now.reach) (side_asked aim.now.question) (after_move position.now column) }
     ensures path { path.new.items ≡ path.old.items }
     ensures below { OnlyBelow (empty_count position.now) table.old table.new }
-    ensures searched { Searched (stand budget.old lemmas.old (O.faults out.old)) (stand budget.new lemmas.new (O.faults out.new)) result }
-    ensures entries { IsTrueTable table.new lemmas.new }
+    ensures searched { Searched (stand budget.old (L.count lemmas.old) (O.faults out.old)) (stand budget.new (L.count lemmas.new) (O.faults out.new)) result }
+    ensures entries { IsTrueTable table.new (L.count lemmas.new) }
     ensures wrote { (root : Men) (known : List Shown) → played root path.old.items ≡ Some position.now
-        → length known ≡ lemmas.old → FitsTable table.old known
+        → length known ≡ L.count lemmas.old → FitsTable table.old known
         → Solves root (after_move position.now column) aim.now.question aim.now.reach (version_for aim.now.mirror) known
-        (moment table.old (O.written out.old)) (moment table.new (O.written out.new)) lemmas.new result }
+        (moment table.old (O.written out.old)) (moment table.new (O.written out.new)) (L.count lemmas.new) result }
 {
     let next = position.after(column);
     let ended = next.ended_by(position.to_move());
@@ -249,31 +249,31 @@ fn solve_after<O: Sink>(
 /// image, or the end of the game, whose lemma is then put. `None` comes only where there is none of these, and then
 /// nothing was put.
 #[inline(always)]
-fn closed_here<O: Sink>(
+fn closed_here<L: LemmaWriter, O: Sink>(
     position: &Position,
     ended: Option<End>,
     path: &[Column],
     aim: &Aim,
     table: &mut Table,
     chooser: &mut Chooser,
-    lemmas: &mut LemmaOut,
+    lemmas: &mut L,
     out: &mut O,
 ) -> Option<Result<Answer, SearchStop>>
     requires ended { ended ≡ end_of position.now }
     requires deep { length path.now ≤ longest_path }
-    requires room { lemmas.old < greatest_number }
-    requires entries { IsTrueTable table.old lemmas.old }
+    requires room { L.count lemmas.old < greatest_number }
+    requires entries { IsTrueTable table.old (L.count lemmas.old) }
     ensures answer { IfSome result (λ found. IfOk found (λ answer. answer.yes ≡ wins (side_asked aim.now.question) position.now)) }
     ensures unspent { IfSome result (λ found. found ≡ Err stops.Spent → ⊥) }
     ensures below { OnlyBelow (empty_count position.now + 1) table.old table.new }
-    ensures searched { IfSome result (λ found. Searched (stand 1 lemmas.old (O.faults out.old)) (stand 0 lemmas.new (O.faults out.new)) found) }
-    ensures entries { IsTrueTable table.new lemmas.new }
+    ensures searched { IfSome result (λ found. Searched (stand 1 (L.count lemmas.old) (O.faults out.old)) (stand 0 (L.count lemmas.new) (O.faults out.new)) found) }
+    ensures entries { IsTrueTable table.new (L.count lemmas.new) }
     ensures open { result ≡ None → StaysOpen position.now aim.now.question aim.now.reach table.old table.new }
     ensures none { result ≡ None → (lemmas.new ≡ lemmas.old) × (out.new ≡ out.old) }
     ensures wrote { (root : Men) (known : List Shown) → played root path.now ≡ Some position.now
-        → length known ≡ lemmas.old → FitsTable table.old known
+        → length known ≡ L.count lemmas.old → FitsTable table.old known
         → IfSome result (λ found. Solves root position.now aim.now.question aim.now.reach (version_for aim.now.mirror) known
-        (moment table.old (O.written out.old)) (moment table.new (O.written out.new)) lemmas.new found) }
+        (moment table.old (O.written out.old)) (moment table.new (O.written out.new)) (L.count lemmas.new) found) }
 {
     if let Some(kept) = look_up(table, position, aim.question) {
         return Some(Ok(Answer {
@@ -378,34 +378,34 @@ fn wins_by(position: &Position, column: Column) -> bool
 
 /// Puts the lemma of a position, and answers with its number.
 #[inline(always)]
-fn put_lemma<O: Sink>(
+fn put_lemma<L: LemmaWriter, O: Sink>(
     position: &Position,
     path: &[Column],
     aim: &Aim,
     yes: bool,
     reason: &ReasonView<'_>,
     table: &mut Table,
-    lemmas: &mut LemmaOut,
+    lemmas: &mut L,
     out: &mut O,
 ) -> Result<Answer, SearchStop>
     requires true_now { yes ≡ wins (side_asked aim.now.question) position.now }
     requires planned { plan_in (reason_viewed reason.now) ≡ plan_for aim.now.reach (side_asked aim.now.question) position.now }
     requires absent { held table.old position.now aim.now.question ≡ None }
-    requires entries { IsTrueTable table.old lemmas.old }
-    requires room { lemmas.old < greatest_number }
+    requires entries { IsTrueTable table.old (L.count lemmas.old) }
+    requires room { L.count lemmas.old < greatest_number }
     requires deep { length path.now ≤ longest_path }
     requires short { length (members_in (reason_viewed reason.now)) ≤ MOST_MEMBERS }
     requires had { has_reason (version_for aim.now.mirror) (reason_viewed reason.now) ≡ true }
     ensures answer { IfOk result (λ answer. answer.yes ≡ wins (side_asked aim.now.question) position.now) }
     ensures unspent { result ≡ Err stops.Spent → ⊥ }
-    ensures searched { Searched (stand 1 lemmas.old (O.faults out.old)) (stand 0 lemmas.new (O.faults out.new)) result }
-    ensures entries { IsTrueTable table.new lemmas.new }
+    ensures searched { Searched (stand 1 (L.count lemmas.old) (O.faults out.old)) (stand 0 (L.count lemmas.new) (O.faults out.new)) result }
+    ensures entries { IsTrueTable table.new (L.count lemmas.new) }
     ensures below { OnlyBelow (empty_count position.now + 1) table.old table.new }
     ensures wrote { (root : Men) (known : List Shown) → played root path.now ≡ Some position.now
-        → length known ≡ lemmas.old → FitsTable table.old known
+        → length known ≡ L.count lemmas.old → FitsTable table.old known
         → HasReason known position.now (claim_for (side_asked aim.now.question) yes) (reason_viewed reason.now)
         → Solves root position.now aim.now.question aim.now.reach (version_for aim.now.mirror) known
-        (moment table.old (O.written out.old)) (moment table.new (O.written out.new)) lemmas.new result }
+        (moment table.old (O.written out.old)) (moment table.new (O.written out.new)) (L.count lemmas.new) result }
 {
     match lemmas.put_view(out, path, Claim::of(aim.question.side(), yes), reason) {
         Ok(lemma) => {

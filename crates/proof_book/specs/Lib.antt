@@ -3,3 +3,7 @@ pub mod BookFields
 pub use Rattle.proof_lines.specs.Shape
 pub use Rattle.proof_lines.specs.declared.lines.Cite
 pub use Rattle.proof_lines.specs.declared.lines.LineView
+pub use Rattle.proof_lines.specs.Faults
+pub use Rattle.proof_lines.specs.Planned
+pub use Rattle.proof_lines.specs.Written
+pub use Rattle.proof_lines.specs.PlanFault

@@ -7,8 +7,7 @@ ghost use Rattle.proof_text.specs.Spelling.{greatest_number, longest_path};
 ghost use Rattle.proof_lines.specs.Shape.{lemma_of, lemma_viewed, reason_viewed};
 ghost use Rattle.proof_book.specs.Entries.{part, reason_kept, reason_held, HeldFits, IsReasonWithin, KeepsReason};
 
-use board_bits::Column;
-use proof_lines::{Cite, Instance, Lemma, LemmaView, Reason, ReasonView, shared_moves};
+use proof_lines::{Cite, Column, Instance, Lemma, LemmaView, Reason, ReasonView, shared_moves};
 use proof_text::Claim;
 use std::alloc::{AllocError, Global};
 use std::marker::Model;

@@ -4,4 +4,4 @@
 mod book;
 
 pub use book::{Book, Held};
-pub use proof_lines::{Cite, Instance, LemmaView, LineView, Reason, Verdict};
+pub use proof_lines::{Cite, Instance, LemmaView, LineView, Plan, Reason, Verdict};

@@ -19,9 +19,9 @@ use Rattle.plan_rules.specs.Refusal.{plan_refusal}
 use Rattle.plan_rules.proofs.Refusals.{refusal_is}
 use Rattle.plan_rules.proofs.Places.{find_map}
 use Rattle.plan_rules.proofs.Turns.{playable_room}
-use Rattle.rule_compat.specs.declared.fault.PlanFault.{PlanFault}
-use Rattle.rule_compat.specs.Faults.{refusal_of}
-use Rattle.rule_compat.specs.Planned.{members}
+use Rattle.proof_book.specs.PlanFault.{PlanFault}
+use Rattle.proof_book.specs.Faults.{refusal_of}
+use Rattle.proof_book.specs.Planned.{members}
 use Rattle.board_bits.specs.Move.{moved_into}
 use Rattle.board_bits.specs.declared.position.MoveFault.{MoveFault}
 use Rattle.reply_player.specs.Playing.{Playing, reply_for, HasAnswered, IsRefused}

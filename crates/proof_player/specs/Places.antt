@@ -4,7 +4,7 @@ use Rattle.game_rules.specs.Position.{Position, other, side_to_move, end_of, is_
 use Rattle.proof_text.specs.Lemma.{Lemma}
 use Rattle.proof_text.specs.Right.{Shown, AreRight}
 use Rattle.proof_text.specs.declared.Claim.{Claim}
-use Rattle.rule_compat.specs.Planned.{members}
+use Rattle.proof_book.specs.Planned.{members}
 use Rattle.reply_player.specs.declared.session.Reply.{Reply}
 use Rattle.reply_player.specs.declared.session.Reply.TheVariants.{BlackWon, Filled, Move}
 use Rattle.follow_text.specs.Following.{served_by, seen, Place as PlainPlace, AtLemma, InPlan, Following, Follows}

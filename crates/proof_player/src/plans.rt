@@ -3,16 +3,16 @@ ghost use Rattle.std.specs.Prelude.{◌≡◌, ◌≤◌, true, length, Some};
 ghost use Rattle.game_rules.specs.Position.{is_legal, after_move};
 ghost use Rattle.plan_rules.specs.Plan.{is_plan};
 ghost use Rattle.plan_rules.specs.declared.TheConstants.{MOST_MEMBERS};
-ghost use Rattle.rule_compat.specs.Planned.{members};
-ghost use Rattle.rule_compat.specs.Written.{written_list};
+ghost use Rattle.proof_book.specs.Planned.{members};
+ghost use Rattle.proof_book.specs.Written.{written_list};
 ghost use Rattle.follow_text.specs.Following.{seen, in_plan, plan_move};
 ghost use Rattle.proof_player.specs.Places.{next_of, IsSession, column_in};
 
 use crate::place::{Next, Place};
 use crate::seen::{seen, seen_column};
 use board_bits::{Column, Position};
+use proof_book::{Instance, Plan};
 use reply_player::{Reply, Session};
-use rule_compat::{Instance, Plan};
 
 /// The first answer by a plan, which begins at the position as it is seen.
 pub(crate) fn answer_by_plan(list: &[Instance], turned: bool, before: &Position, c: Column) -> Next

@@ -4,9 +4,8 @@ ghost use Rattle.proof_text.specs.Spelling.{greatest_number};
 ghost use Rattle.run_annotate.specs.Dear.{told_end};
 
 use board_bits::{End, Position, Side};
-use position_table::Table;
 use proof_tools::{Valuer, Verdict};
-use run_questions::{Chooser, find_value};
+use run_questions::{Chooser, Table, find_value};
 use std::alloc::{AllocError, Global};
 use std::marker::Model;
 

@@ -8,7 +8,7 @@ ghost use Rattle.run_annotate.specs.Lines.{moves_before, PutsLines};
 use board_bits::{Column, Game, Position};
 use io_ports::{Failed, Sink, put_all};
 use proof_tools::{Mark, position_after};
-use text_words::{LineText, push_number, push_square, push_text};
+use run_frame::{LineText, push_number, push_square, push_text};
 
 /// Writes the lines of a game's last moves, with these marks.
 pub(crate) fn write_marks<O: Sink>(

@@ -6,10 +6,9 @@ ghost use Rattle.run_frame.specs.Streams.{streams};
 
 use crate::checked::Checked;
 use io_ports::{Failed, Sink, Source};
-use run_frame::put_line;
+use run_frame::{LineText, push_number, push_text, put_line};
 use run_proof::{Accepted, KeepsNone, read_proof};
 use std::alloc::Global;
-use text_words::{LineText, push_number, push_text};
 
 /// Reads a proof of either version, and writes one line where it is right. It ends as the definitions answer the text, unless a stream
 /// failed, which comes only where its count of faults rose, or memory ran out.

@@ -12,11 +12,9 @@ ghost use Rattle.run_drill.specs.Drills.{games_of, Drills, DrillCompletes, drill
 use crate::drilled::{Drilled, Drilling};
 use drill_games::{Tally, next_game};
 use io_ports::{Failed, Sink};
-use position_table::Table;
-use run_frame::{RunStop, put_line};
-use run_questions::{Chooser, find_value};
+use run_frame::{LineText, RunStop, push_number, push_text, put_line};
+use run_questions::{Chooser, Table, find_value};
 use std::alloc::{AllocError, Global};
-use text_words::{LineText, push_number, push_text};
 
 /// How many settled positions the table of each game keeps.
 const GAME_TABLE: u32 = 100_000;

@@ -3,10 +3,9 @@ ghost use Rattle.std.specs.Prelude.{◌≡◌, ◌++◌};
 ghost use Rattle.run_follow.specs.Follows.{no_claim_line};
 ghost use Rattle.run_follow.specs.Reading.{proof_stop};
 
-use run_frame::{Ending, RunStop, begin_refusal};
+use run_frame::{Ending, LineText, RunStop, begin_refusal, push_text};
 use run_proof::ProofStop;
 use run_turns::{GameEnd, GameStop};
-use text_words::{LineText, push_text};
 
 /// Why the holder doesn't play.
 #[derive(Clone, Copy, Drop)]

@@ -14,3 +14,4 @@ pub use game_input::{InputStop, read_game_input};
 pub use game_lines::{read_game_lines, read_played_game};
 pub use output::{begin_refusal, memory_text, put_line, write_text};
 pub use run_stop::{MemoryStop, RunStop, Sought};
+pub use text_words::{LineText, push_number, push_square, push_text};

@@ -3,9 +3,8 @@ ghost use Rattle.std.specs.Prelude.{◌≡◌, ◌++◌};
 ghost use Rattle.run_play.specs.Plays.{no_plan_line_text, no_plan_text};
 
 use plan_lines::{PlanFault, push_plan_fault};
-use run_frame::{Ending, begin_refusal};
+use run_frame::{Ending, LineText, begin_refusal, push_text};
 use run_turns::GameEnd;
-use text_words::{LineText, push_text};
 
 /// The number of the line of the plan.
 const PLAN_LINE: u64 = 3;

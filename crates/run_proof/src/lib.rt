@@ -10,7 +10,7 @@ mod stop;
 mod taker;
 
 pub use cert_checker::{Accepted, Checker, MirrorIndex, Refusal, Why};
-pub use cert_format::{LemmaOut, LemmaView, Line, Reason, head_of, print_line};
+pub use cert_format::{LemmaOut, LemmaView, LemmaWriter, Line, Reason, head_of, print_line};
 pub use head::{Head, read_head};
 pub use lines::{LinesRead, Until, read_lines};
 pub use proof_book::Book;

@@ -8,8 +8,7 @@ ghost use Rattle.run_proof.specs.declared.stop.ProofStop.TheVariants as stops;
 
 use cert_checker::{Refusal, Why};
 use cert_format::push_plan_fault;
-use run_frame::{Ending, InputStop, RunStop, begin_refusal, memory_text};
-use text_words::{LineText, push_text};
+use run_frame::{Ending, InputStop, LineText, RunStop, begin_refusal, memory_text, push_text};
 
 /// What stops the reading of a proof before its end.
 #[derive(Clone, Copy)]

@@ -23,7 +23,7 @@ use Rattle.proof_text.proofs.Sound.{AreTrue_none, true_lemmas, true_verdict}
 use Rattle.proof_text.specs.declared.Verdict.{Verdict}
 use Rattle.proof_text.specs.declared.Claim.TheVariants.{WhiteFails}
 use Rattle.proof_text.specs.declared.Verdict.TheVariants.{Draw, Unknown}
-use Rattle.position_table.specs.Table.{Entries}
+use Rattle.deep_search.specs.Table.{Entries}
 use Rattle.proof_text.specs.declared.Version.{Version}
 use Rattle.deep_search.specs.Planned.{solved_within}
 use Rattle.deep_search.specs.Search.{is_whole, uncounted, Moment, moment, AreBelow, limit_of, Solves}

@@ -7,7 +7,8 @@ mod fronts;
 mod questions;
 mod value;
 
-pub use deep_search::{Line, SearchStop, head_of, print_line};
+pub use cert_format::{Line, head_of, print_line};
+pub use deep_search::{SearchStop, Table};
 pub use fronts::{SizedFront, front_for};
 pub use proof_front::Chooser;
 pub use questions::ask;

@@ -17,9 +17,9 @@ ghost use Rattle.run_questions.specs.SizedFronts.{slots_of, IsAfter, IsAfterSome
 
 use crate::fronts::{SizedFront, turn_to_black, write_remark};
 use board_bits::{Position, Question, Side};
-use deep_search::{Answer, LemmaOut, SearchStop, Verdict, Version, search};
+use cert_format::{LemmaOut, Verdict, Version};
+use deep_search::{Answer, SearchStop, Table, search};
 use io_ports::Sink;
-use position_table::Table;
 use proof_front::Chooser;
 
 /// Asks whether White wins and, where it doesn't, whether Black does, within one budget of `nodes` positions and with plans

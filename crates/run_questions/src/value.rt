@@ -9,9 +9,9 @@ ghost use Rattle.run_questions.specs.Found.{HasFound};
 
 use crate::questions::ask;
 use board_bits::Position;
-use deep_search::{Verdict, Version};
+use cert_format::{Verdict, Version};
+use deep_search::Table;
 use io_ports::NullSink;
-use position_table::Table;
 use proof_front::Chooser;
 
 /// What a search finds of a position, whose proof is written nowhere: its value for the side to move, which a proof of the

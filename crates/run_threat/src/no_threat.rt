@@ -1,7 +1,6 @@
 //! What `threat` says where the game's position has no threat.
-use run_frame::Ending;
+use run_frame::{Ending, LineText};
 use run_turns::GameEnd;
-use text_words::LineText;
 
 /// The game's position has no threat, which the output says: status 5.
 #[derive(Clone, Copy, Drop)]

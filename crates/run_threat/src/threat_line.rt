@@ -6,7 +6,7 @@ ghost use Rattle.threat_text.specs.Threats.{threat_line, pair_text};
 use arrayvec::ArrayVec;
 use base_rules::Baseinverse;
 use plan_lines::push_group;
-use text_words::{push_square, push_text};
+use run_frame::{push_square, push_text};
 use threat_rules::Threat;
 
 /// The most bytes of such a line: a group, and as many pairs as a threat may have.

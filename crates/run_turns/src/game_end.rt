@@ -7,8 +7,7 @@ ghost use Rattle.run_turns.specs.declared.game_end.GameStop.TheVariants as stops
 
 use itoa::Buffer;
 use play_text::PlayFault;
-use run_frame::{Ending, InputStop, RunStop};
-use text_words::{LineText, push_text};
+use run_frame::{Ending, InputStop, LineText, RunStop, push_text};
 
 /// What stops a game before the end of the input. `H` is what a command says that stops it before the moves.
 #[derive(Clone, Copy, Drop)]

@@ -1,11 +1,11 @@
 //! A turn, as a value, and the line that is written for it.
 ghost use Rattle.std.specs.Prelude.{◌≡◌, ◌+◌, ◌≤◌, ◌++◌, length, option_map};
 ghost use Rattle.arrayvec.specs.ArrayVec.{array_vec_len};
-ghost use Rattle.text_words.specs.Lines.{line_room};
+ghost use Rattle.run_frame.specs.Lines.{line_room};
 ghost use Rattle.run_turns.specs.Turns.{man_text, end_words, turn_line, falls_to, moved_by, HasRoom, turn_from};
 
 use board_bits::{Column, Position, Square};
-use text_words::{LineText, push_square, push_text};
+use run_frame::{LineText, push_square, push_text};
 
 /// What the last man of a turn ended.
 #[derive(Clone, Copy)]

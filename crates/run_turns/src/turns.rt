@@ -17,8 +17,7 @@ use crate::turn::turn_line;
 use board_bits::{Column, MoveFault, Size};
 use io_ports::{LineGot, Lines, Sink, Source};
 use play_text::{PlayFault, PlayKind};
-use run_frame::{InputStop, RunStop, put_line};
-use text_words::LineText;
+use run_frame::{InputStop, LineText, RunStop, put_line};
 
 /// Plays all lines to the end of the input, or to what stops the game. The first has this number in the whole input.
 pub fn play_turns<H: Drop, P: Player, S: Source, O: Sink>(

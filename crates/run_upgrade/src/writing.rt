@@ -9,7 +9,9 @@ ghost use Rattle.run_upgrade.specs.Writing.{WritesLemma};
 use board_bits::Position;
 use io_ports::{Failed, Sink};
 use proof_text::Verdict;
-use run_proof::{LemmaOut, LemmaTaker, LemmaView, Line, MirrorIndex, NotTaken, Reason, print_line};
+use run_proof::{
+    LemmaOut, LemmaTaker, LemmaView, LemmaWriter, Line, MirrorIndex, NotTaken, Reason, print_line,
+};
 use std::alloc::Global;
 
 /// What is kept of the lemmas that were written: their numbers by their positions, and how many there are.

@@ -1,6 +1,5 @@
 //! The end of a run whose words are no form of a command.
-use run_frame::Ending;
-use text_words::{LineText, push_text};
+use run_frame::{Ending, LineText, push_text};
 use victor_words::USAGE;
 
 /// The words are no written form: status 2.

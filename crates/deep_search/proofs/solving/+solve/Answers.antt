@@ -38,7 +38,7 @@ solve-returns-clause-wrote g t c root known along many fits =
     solves_entered root c.args.position.now c.args.aim.now.question c.args.aim.now.reach
     (version_for c.args.aim.now.mirror) known _ _ _ _ c.solve_by_moves.result open'.same
     (ap g.O.Sink.written none.1)
-    (c.solve_by_moves.ensures.wrote root known along (many ∙ sym none.0) (fits_same c.args.table.now c.closed_here.new.table open'.same known fits))
+    (c.solve_by_moves.ensures.wrote root known along (many ∙ sym (ap g.L.LemmaWriter.count none.0)) (fits_same c.args.table.now c.closed_here.new.table open'.same known fits))
 
 -- ---- solve_after
 
@@ -51,7 +51,7 @@ solve_after-solve-found-requires g t c κs outlives =
     let p = c.args.position.now in let fewer = empty_after p c.args.column c.after-next.ensures c.requires.open in
     let in_order = order_after p c.args.column c.requires.order c.after-next.ensures in
     let deep = deep_after p c.args.column c.args.path.now.items c.after-next.ensures c.requires.open c.push.ensures.items c.requires.deep in
-    (omega (arith, fewer), (outlives, (c.ended_by-ended.ensures, (in_order, (deep, (c.requires.room, c.requires.entries))))))
+    (omega (arith, fewer), (outlives.0, (outlives.1, (c.ended_by-ended.ensures, (in_order, (deep, (c.requires.room, c.requires.entries)))))))
 
 pub solve_after-returns-clause-below : goal.solve_after-returns-clause-below
 solve_after-returns-clause-below g t c = subst (λ n. OnlyBelow n c.args.table.now c.solve-found.new.table) (empty_after c.args.position.now c.args.column

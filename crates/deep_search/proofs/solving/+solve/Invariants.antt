@@ -17,5 +17,5 @@ decreases-solve_after g l = 3 * empty_count l.position.now
 -- The moves before this place were tried, and each of those has its lemma.
 abbrev pub invariant-solve_by_moves-loop-column : goal.invariant-solve_by_moves-loop-column
 invariant-solve_by_moves-loop-column g l = Searching l.aim.question l.aim.reach (version_for l.aim.mirror) l.position l.own l.order l.fn.path.items
-    (stand l.fn.budget l.fn.lemmas (g.O.Sink.faults l.fn.out)) (moment l.fn.table (g.O.Sink.written l.fn.out)) l.path.items
-    (stand l.budget l.lemmas (g.O.Sink.faults l.out)) (moment l.table (g.O.Sink.written l.out)) l.numbers l.column-index
+    (stand l.fn.budget (g.L.LemmaWriter.count l.fn.lemmas) (g.O.Sink.faults l.fn.out)) (moment l.fn.table (g.O.Sink.written l.fn.out)) l.path.items
+    (stand l.budget (g.L.LemmaWriter.count l.lemmas) (g.O.Sink.faults l.out)) (moment l.table (g.O.Sink.written l.out)) l.numbers l.column-index

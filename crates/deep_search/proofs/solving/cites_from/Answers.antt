@@ -1,7 +1,7 @@
 use Rattle.std.proofs.Common.{◌≡◌, map, true, false, sym, ap, ◌∙◌, arith}
 use Rattle.std.proofs.lemmas.List.{map-append}
 use Rattle.game_rules.specs.Position.{has_room}
-use Rattle.cert_format.specs.Shape.{cite_of}
+use Rattle.proof_lines.specs.Shape.{cite_of}
 use Rattle.deep_search.proofs.Proving.{cites_room, cites_full}
 use Rattle.deep_search.proofs.solving.cites_from.Goals as goal
 use Rattle.deep_search.proofs.solving.cites_from.Goals.{then-has_room, else-has_room}

@@ -1,7 +1,7 @@
 use Rattle.std.proofs.Common.{◌≡◌, ◌≤◌, map, filter, length}
 use Rattle.game_rules.specs.Board.{below}
 use Rattle.game_rules.specs.Position.{has_room}
-use Rattle.cert_format.specs.Shape.{cite_of}
+use Rattle.proof_lines.specs.Shape.{cite_of}
 use Rattle.deep_search.specs.Search.{cites_from}
 use Rattle.deep_search.proofs.solving.cites_from.Given as goal
 

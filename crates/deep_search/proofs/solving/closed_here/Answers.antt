@@ -16,7 +16,7 @@ use Rattle.deep_search.proofs.solving.closed_here.Goals.{else-is_none-via-then-i
 pub returns-in-Some-clause-wrote : goal.returns-in-Some-clause-wrote
 returns-in-Some-clause-wrote g c root known along many fits =
     solves_found root c.args.position.now c.args.aim.now.question c.args.aim.now.reach
-    (version_for c.args.aim.now.mirror) known _ c.args.table.now c.look_up.new.table c.args.lemmas.now
+    (version_for c.args.aim.now.mirror) known _ c.args.table.now c.look_up.new.table (g.L.LemmaWriter.count c.args.lemmas.now)
     c.in-Some.kept
     c.look_up.ensures.same fits (sym c.look_up.ensures.found ∙ c.in-Some.is) many
 
@@ -51,7 +51,7 @@ returns-then-is_planned-clause-wrote g c root known along many fits =
 pub put_lemma-requires-in-Some-look_up_image-clause-true_now : goal.put_lemma-requires-in-Some-look_up_image-clause-true_now
 put_lemma-requires-in-Some-look_up_image-clause-true_now g c =
     let p = c.args.position.now in let question = c.args.aim.now.question in
-    let image = true_same c.args.table.now c.look_up.new.table c.look_up.ensures.same c.args.lemmas.now c.requires.entries (mirror p) question
+    let image = true_same c.args.table.now c.look_up.new.table c.look_up.ensures.same (g.L.LemmaWriter.count c.args.lemmas.now) c.requires.entries (mirror p) question
     c.in-Some-look_up_image.kept c.in-Some-look_up_image.ensures.found in
     image.answer ∙ ap (same_end (win_of (side_asked question))) (value_mirrored p)
 

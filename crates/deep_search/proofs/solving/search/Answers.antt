@@ -11,5 +11,5 @@ solve-requires-clause-deep g c = omega (arith, ap length c.new-path.ensures, emp
 pub returns-clause-lists : goal.returns-clause-lists
 returns-clause-lists g c list known ends fits =
     continues c.args.position.now c.args.position.now c.args.question c.args.reach
-    (version_for c.args.mirror) list known _ _ c.args.lemmas.now c.solve.new.lemmas c.solve.result ends fits
+    (version_for c.args.mirror) list known _ _ (g.L.LemmaWriter.count c.args.lemmas.now) (g.L.LemmaWriter.count c.solve.new.lemmas) c.solve.result ends fits
     (c.solve.ensures.wrote c.args.position.now known (ap (played c.args.position.now) c.new-path.ensures) fits.counted fits.table)

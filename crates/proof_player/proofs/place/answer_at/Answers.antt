@@ -2,7 +2,7 @@ use Rattle.std.proofs.Common.{map, Some, ap, ◌∙◌, subst}
 use Rattle.proof_book.specs.Shape.{cite_of}
 use Rattle.proof_book.specs.Entries.{reason_held, HeldFits}
 use Rattle.proof_text.specs.Lemma.{ByAll, ByPlan}
-use Rattle.rule_compat.specs.Written.{written_list}
+use Rattle.proof_book.specs.Written.{written_list}
 use Rattle.follow_text.specs.Following.{seen}
 use Rattle.proof_player.proofs.Answered.{reason_there}
 use Rattle.proof_player.proofs.place.answer_at.Goals as goal

@@ -1,6 +1,6 @@
 use Rattle.std.proofs.Common.{ap, ◌∙◌}
 use Rattle.plan_rules.specs.Plan.{is_plan}
-use Rattle.rule_compat.specs.Written.{written_list}
+use Rattle.proof_book.specs.Written.{written_list}
 use Rattle.proof_player.proofs.Answered.{plan_accepted}
 use Rattle.proof_player.proofs.plans.answer_by_plan.Goals as goal
 
