@@ -1,9 +1,9 @@
 //! Lines put to a sink. Each line is made whole first and then put at once, so that a sink that fails has a prefix of it.
-ghost use Rattle.std.specs.Prelude.{◌≡◌, ◌≢◌, ◌+◌, ◌<◌, ◌≤◌, length, is_ok, IfOk, OnOk, OnErr};
+ghost use Rattle.std.specs.Prelude.{◌≡◌, ◌≢◌, ◌≤◌, length, is_ok};
 ghost use Rattle.device_rules.specs.Devices.{HasCause, AppendsPrefix};
 ghost use Rattle.proof_text.specs.Lemma.{ARemark};
-ghost use Rattle.proof_text.specs.Spelling.{lemma_line, greatest_number, longest_path};
-ghost use Rattle.proof_lines.specs.Shape.{reason_of, reason_viewed, line_of};
+ghost use Rattle.proof_text.specs.Spelling.{lemma_line, longest_path};
+ghost use Rattle.proof_lines.specs.Shape.{reason_viewed, line_of};
 ghost use Rattle.cert_format.specs.Printed.{printed};
 
 use crate::back_line::BackLine;
@@ -93,41 +93,13 @@ impl LemmaOut {
             line: BackLine::new(),
         }
     }
-
-    /// How many lemmas were put, at most 10,000,000.
-    pub fn count(&self) -> u32
-        ensures value { result ≡ self.now }
-        ensures most { result ≤ greatest_number }
-    {
-        self.count
-    }
-
-    /// As `put_view`, of a reason with what belongs to it.
-    pub fn put<O: Sink>(
-        &mut self,
-        out: &mut O,
-        path: &[Column],
-        claim: Claim,
-        reason: Reason,
-    ) -> Result<u32, Failed>
-        requires room { self.old < greatest_number }
-        requires short { length path.now ≤ longest_path }
-        ensures number { IfOk result (λ n. n ≡ self.old + 1) }
-        ensures counted { OnOk result (self.new ≡ self.old + 1) }
-        ensures kept { OnErr result (self.new ≡ self.old) }
-        ensures written { AppendsPrefix (is_ok result) (O.written out.old) (O.written out.new)
-            (lemma_line (record { number = self.old + 1; path = path.now; claim = claim; reason = reason_of reason })) }
-        ensures cause { HasCause (O.faults out.old) (O.faults out.new) result }
-    {
-        self.put_view(out, path, claim, &reason.view())
-    }
 }
 
 impl LemmaWriter for LemmaOut {
     ghost count = { λ lemmas. lemmas };
 
     #[inline(always)]
-    fn put_view<O: Sink>(
+    fn put<O: Sink>(
         &mut self,
         out: &mut O,
         path: &[Column],

@@ -407,7 +407,7 @@ fn put_lemma<L: LemmaWriter, O: Sink>(
         → Solves root position.now aim.now.question aim.now.reach (version_for aim.now.mirror) known
         (moment table.old (O.written out.old)) (moment table.new (O.written out.new)) (L.count lemmas.new) result }
 {
-    match lemmas.put_view(out, path, Claim::of(aim.question.side(), yes), reason) {
+    match lemmas.put(out, path, Claim::of(aim.question.side(), yes), reason) {
         Ok(lemma) => {
             let found = Found { lemma, answer: yes };
             keep(table, position, aim.question, found);

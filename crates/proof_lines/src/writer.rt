@@ -17,7 +17,7 @@ pub trait LemmaWriter {
 
     /// Puts the line of the next lemma, and answers its number. On `Failed`, which comes only where the sink's count of
     /// faults rose, a prefix of the line was written, and the number is given to the lemma that is put next.
-    fn put_view<O: Sink>(
+    fn put<O: Sink>(
         &mut self,
         out: &mut O,
         path: &[Column],

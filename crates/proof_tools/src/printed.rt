@@ -14,7 +14,7 @@ ghost use Rattle.proof_tools.specs.Printed.{AreMarked, IsClosedReach, lines_at};
 use crate::reach::Reach;
 use arrayvec::ArrayVec;
 use board_bits::MOST_COLS;
-use cert_format::{LemmaOut, Line, Verdict, print_line};
+use cert_format::{LemmaOut, LemmaWriter, Line, Verdict, print_line};
 use io_ports::{Failed, Sink};
 use plan_rules::MOST_MEMBERS;
 use proof_book::{Book, Cite, Held, Instance, Reason};
@@ -75,7 +75,7 @@ fn put_reached<O: Sink>(
 {
     if reach.has(n) {
         let reason = reason_anew(&book.reason(n), reach);
-        lemmas.put(out, book.path(n), book.claim(n), reason)?;
+        lemmas.put(out, book.path(n), book.claim(n), &reason.view())?;
     }
     Ok(())
 }

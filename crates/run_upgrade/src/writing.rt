@@ -73,9 +73,9 @@ impl Writer {
         match image {
             Some(earlier) => {
                 self.lemmas
-                    .put_view(out, path, lemma.claim, &Reason::Mirror(earlier))?
+                    .put(out, path, lemma.claim, &Reason::Mirror(earlier))?
             }
-            None => self.lemmas.put_view(out, path, lemma.claim, &lemma.reason)?,
+            None => self.lemmas.put(out, path, lemma.claim, &lemma.reason)?,
         };
         Ok(())
     }

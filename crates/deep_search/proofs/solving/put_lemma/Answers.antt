@@ -21,7 +21,7 @@ returns-in-Ok-clause-wrote g c root known along many fits right =
     right_lemma root c.args.position.now c.args.aim.now.question c.args.aim.now.reach
     (version_for c.args.aim.now.mirror) c.args.yes c.of.result known c.args.path.now
     (reason_viewed c.args.reason.now) _
-    _ (g.L.LemmaWriter.count c.args.lemmas.now) (g.L.LemmaWriter.count c.put_view.new.self) _ (c.of.ensures ∙ ap (λ side. claim_for side c.args.yes) c.side.ensures) along many fits c.requires.absent right
+    _ (g.L.LemmaWriter.count c.args.lemmas.now) (g.L.LemmaWriter.count c.put.new.self) _ (c.of.ensures ∙ ap (λ side. claim_for side c.args.yes) c.side.ensures) along many fits c.requires.absent right
     c.requires.planned
     c.requires.short c.requires.had c.in-Ok.ensures.written (omega (arith, c.in-Ok.ensures.counted)) (c.in-Ok.ensures.number, refl)
     (subst (λ n. KeepsEntry c.args.position.now c.args.aim.now.question (record { lemma = n; answer = c.args.yes }) c.args.table.now c.keep.new.table)
@@ -32,6 +32,6 @@ returns-in-Err-clause-wrote g c root known along many fits right =
     right_lemma root c.args.position.now c.args.aim.now.question c.args.aim.now.reach
     (version_for c.args.aim.now.mirror) c.args.yes c.of.result known c.args.path.now
     (reason_viewed c.args.reason.now) _
-    _ (g.L.LemmaWriter.count c.args.lemmas.now) (g.L.LemmaWriter.count c.put_view.new.self) _ (c.of.ensures ∙ ap (λ side. claim_for side c.args.yes) c.side.ensures) along many fits c.requires.absent right
+    _ (g.L.LemmaWriter.count c.args.lemmas.now) (g.L.LemmaWriter.count c.put.new.self) _ (c.of.ensures ∙ ap (λ side. claim_for side c.args.yes) c.side.ensures) along many fits c.requires.absent right
     c.requires.planned
     c.requires.short c.requires.had c.in-Err.ensures.written (omega (arith, c.in-Err.ensures.kept)) tt (refl, refl)

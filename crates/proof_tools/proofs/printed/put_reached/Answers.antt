@@ -3,7 +3,7 @@ use Rattle.std.specs.Io.KnownBytes.{Appends}
 use Rattle.std.proofs.KnownBytes.{Appends-nil}
 use Rattle.std.proofs.lemmas.Result.{err_from_is_err_and}
 use Rattle.device_rules.specs.Devices.{AppendsPrefix}
-use Rattle.proof_book.specs.Shape.{reason_of}
+use Rattle.proof_book.specs.Shape.{reason_viewed}
 use Rattle.proof_book.specs.Entries.{reason_held}
 use Rattle.tool_text.specs.Trim.{rank}
 use Rattle.tool_text.proofs.Whole.{rank_most}
@@ -29,7 +29,7 @@ returns-in_err-put-clause-written g c =
     let marked = sym c.has.ensures ∙ c.if-has.true in
     let keep = mark_at c.args.reach.now in
     let line = line_kept c.args.reach.now c.args.book.now c.args.n c.requires.from c.requires.earlier lent.0 lent.1 c.path.result.now c.claim.result
-    (reason_held c.reason.result) (reason_of c.reason_anew-reason.result) c.path.ensures.value c.claim.ensures lent.2 c.reason_anew-reason.ensures marked
+    (reason_held c.reason.result) (reason_viewed c.view.result) c.path.ensures.value c.claim.ensures lent.2 (c.view.ensures ∙ c.reason_anew-reason.ensures) marked
     (c.args.lemmas.now + 1) (ap (λ k. k + 1) c.requires.counted ∙ sym (rank_with keep c.args.n c.requires.from marked)) in
     rw same.1 (subst (AppendsPrefix false (g.O.Sink.written c.args.out.now) (g.O.Sink.written c.put.new.out)) line c.in_err-put.ensures.written)
 
@@ -39,7 +39,7 @@ returns-in_ok-put-clause-written g c =
     let marked = sym c.has.ensures ∙ c.if-has.true in
     let keep = mark_at c.args.reach.now in
     let line = line_kept c.args.reach.now c.args.book.now c.args.n c.requires.from c.requires.earlier lent.0 lent.1 c.path.result.now c.claim.result
-    (reason_held c.reason.result) (reason_of c.reason_anew-reason.result) c.path.ensures.value c.claim.ensures lent.2 c.reason_anew-reason.ensures marked
+    (reason_held c.reason.result) (reason_viewed c.view.result) c.path.ensures.value c.claim.ensures lent.2 (c.view.ensures ∙ c.reason_anew-reason.ensures) marked
     (c.args.lemmas.now + 1) (ap (λ k. k + 1) c.requires.counted ∙ sym (rank_with keep c.args.n c.requires.from marked)) in
     subst (Appends (g.O.Sink.written c.args.out.now) (g.O.Sink.written c.put.new.out)) line c.in_ok-put.ensures.written
 
