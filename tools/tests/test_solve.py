@@ -20,6 +20,8 @@ from victor._openings import Openings
 
 SOURCES = os.path.join(TOOLS, "solve")
 CAN_BUILD = shutil.which("g++") and shutil.which("make")
+# The first strategy is the proof.
+UNBETTERED = ("--rounds", "0", "--sweeps", "0")
 
 
 def game_text(columns, rows, moves, line=4):
@@ -117,7 +119,7 @@ class SolveTest(ToolTest):
     def test_plans(self):
         """Plans close positions in proofs of draws: on 5 by 4 the first. Here each of the nine rules comes."""
         text = game_text(5, 4, "")
-        proof = self.proof_of(text, "--rounds", "0")[0]
+        proof = self.proof_of(text, *UNBETTERED)[0]
         self.assertTrue(proof.split("\n")[3].startswith("1 - W- plan "))
         kinds = set()
         for moves in ("dbdcddddcaba", "babaabbaddbcadbc"):
@@ -194,10 +196,10 @@ class SolveTest(ToolTest):
     def test_bettered(self):
         """Sweeps and renewed parts make a strategy smaller, from nothing or from a proof of either format."""
         text = game_text(5, 4, "")
-        rough = self.proof_of(text, "--rounds", "0", "--sweeps", "0", "--part", "0")[0]
+        rough = self.proof_of(text, *UNBETTERED, "--part", "0")[0]
         start = self.file("start", rough)
         for form in ("1", "2"):
-            again = self.proof_of(text, "--format", form, "--start", start, "--rounds", "0", "--sweeps", "0")[0]
+            again = self.proof_of(text, "--format", form, "--start", start, *UNBETTERED)[0]
             self.assertLessEqual(again.count("\n"), rough.count("\n"))
             swept = self.proof_of(text, "--format", form, "--start", start, "--rounds", "0", "--sweeps", "5")[0]
             self.assertLess(swept.count("\n") * 10, again.count("\n") * 9)
@@ -217,14 +219,14 @@ class SolveTest(ToolTest):
         """The first strategy is the same however many seconds there are; what is bettered behind it isn't."""
         text = game_text(6, 4, "")
         words = ["--format", "2", "--starts", "0"]
-        first = self.proof_of(text, *words, "--order", "2", "--rounds", "0", "--sweeps", "0")[0]
+        first = self.proof_of(text, *words, "--order", "2", *UNBETTERED)[0]
         for order in ("2", "4"):
             self.assertEqual(self.proof_of(text, *words, "--order", order, "--seconds", "0")[0], first)
 
     def test_starts(self):
         """An empty board is taken in by five orders, of which the smallest stays; without --starts by one."""
         text = game_text(5, 4, "")
-        words = ["--format", "2", "--rounds", "0", "--sweeps", "0", "--order"]
+        words = ["--format", "2", *UNBETTERED, "--order"]
         sizes = [self.proof_of(text, *words, order, "--starts", "0")[0].count("\n") for order in "0123"]
         self.assertEqual(len(set(sizes)), 4)
         five = {self.proof_of(text, *words, order)[0] for order in "03"}
@@ -234,8 +236,8 @@ class SolveTest(ToolTest):
     def test_graph(self):
         """The same in a graph: of a draw, of which one half has plans, of a late game, and with lines of five."""
         for text in (game_text(5, 4, ""), game_text(4, 4, "", 5), game_text(6, 4, "cc")):
-            rough = self.proof_of(text, "--rounds", "0", "--sweeps", "0", "--part", "0", "--order", "2")[0]
-            start = ["--start", self.file("start", rough), "--rounds", "0", "--sweeps", "0"]
+            rough = self.proof_of(text, *UNBETTERED, "--part", "0", "--order", "2")[0]
+            start = ["--start", self.file("start", rough), *UNBETTERED]
             for form in ("1", "2"):
                 again = self.proof_of(text, "--format", form, *start)[0]
                 bettered = self.proof_of(text, "--format", form, *start, "--graph", "60")[0]
@@ -252,14 +254,11 @@ class SolveTest(ToolTest):
             "1",
             "--part",
             "0",
-            "--rounds",
-            "0",
-            "--sweeps",
-            "0",
+            *UNBETTERED,
             "--graph",
             "100",
             "--seconds",
-            "10",
+            "5",
             "-o",
             path,
         )
@@ -268,14 +267,11 @@ class SolveTest(ToolTest):
         self.assertLess(int(re.search(r"value win (\d+)", err)[1]), sizes[-1] * 1.02)
         # The moves of other proofs, also such as are for no position of the claim's, and such as don't hold.
         text = game_text(6, 4, "cc")
-        rough, other = (
-            self.proof_of(text, "--rounds", "0", "--sweeps", "0", "--part", "0", "--order", order)[0]
-            for order in ("2", "1")
-        )
+        rough, other = (self.proof_of(text, *UNBETTERED, "--part", "0", "--order", order)[0] for order in ("2", "1"))
         bad = other.translate(str.maketrans("WB", "BW"))
         for also in (other, bad):
             words = ["--start", self.file("start", rough), "--also", self.file("also", also), "--graph", "60"]
-            crossed = self.proof_of(text, *words, "--rounds", "0", "--sweeps", "0")[0]
+            crossed = self.proof_of(text, *words, *UNBETTERED)[0]
             self.assertLess(crossed.count("\n") * 10, min(rough.count("\n"), other.count("\n")) * 9)
         # With little memory, what isn't of the strategy is dropped again and again.
         self.proof_of(game_text(5, 4, ""), "--graph", "2")
@@ -327,8 +323,8 @@ class SolveTest(ToolTest):
     def test_work(self):
         """With a limit on the work, the same words give the same proof, and more work a smaller one."""
         text = game_text(6, 4, "cc")
-        start = self.file("start", self.proof_of(text, "--rounds", "0", "--sweeps", "0", "--part", "0")[0])
-        words = ["--format", "2", "--start", start, "--rounds", "0", "--sweeps", "0", "--graph", "60", "--work"]
+        start = self.file("start", self.proof_of(text, *UNBETTERED, "--part", "0")[0])
+        words = ["--format", "2", "--start", start, *UNBETTERED, "--graph", "60", "--work"]
         some, again, more = (self.proof_of(text, *words, work)[0] for work in "114")
         self.assertEqual(some, again)
         self.assertLess(more.count("\n"), some.count("\n"))
@@ -432,7 +428,7 @@ class SolveTest(ToolTest):
             )
             self.assertEqual(run[1].split("\n")[-2].split()[:2], ["value", "loss"], line)
         for words in ([], ["--mirror", "8"]):
-            self.proof_of(text, "--book", self.book(book), "--rounds", "0", "--sweeps", "0", *words)
+            self.proof_of(text, "--book", self.book(book), *UNBETTERED, *words)
         status, out, err = self.openings(text)
         self.assertEqual((status, out), (2, ""))
         self.assertEqual(err, "openings: that side wasn't seen to win\n")
@@ -462,12 +458,13 @@ class SolveTest(ToolTest):
         wrong there is none."""
         rows = dict(self.values_of_openings((4, 4), 4))
         self.assertEqual(set(rows.values()), {"loss", "draw"})
-        table = self.written("openings", "moves,value\n" + "".join(f"{moves},{rows[moves]}\n" for moves in rows))
+        table = self.written("table", "moves,value\n" + "".join(f"{moves},{rows[moves]}\n" for moves in rows))
         for moves in ("", "b", "ab", "abd", "bbbb"):
             text = game_text(4, 4, moves)
-            value = self.proof_of(text)[1].split()[1]
+            value = self.proof_of(text, *UNBETTERED)[1].split()[1]
             for words in ([], ["--outline", "300000"], ["--outline", "300000", "--soon", "2", "--format", "2"]):
-                self.assertEqual(self.proof_of(text, "--table", table, *words)[1].split()[1], value, (moves, words))
+                said = self.proof_of(text, *UNBETTERED, "--table", table, *words)[1]
+                self.assertEqual(said.split()[1], value, (moves, words))
         turned = {"win": "loss", "loss": "draw", "draw": "win"}
         wrong = self.written("wrong", "moves,value\n" + "".join(f"{moves},{turned[rows[moves]]}\n" for moves in rows))
         self.fails(game_text(4, 4, ""), "a table of openings is wrong", "--table", wrong, "--outline", "300000")
@@ -566,14 +563,14 @@ class SolveTest(ToolTest):
         self.fails(text, "can't read", self.folder)
 
     def test_limits(self):
-        self.fails(game_text(4, 4, ""), "lemmas, more than 500", "--lemmas", "500")
+        self.fails(game_text(4, 4, ""), "lemmas, more than 500", "--lemmas", "500", *UNBETTERED)
         self.fails(game_text(6, 4, ""), "more memory", "--memory", "1")
         # A disk that is full.
         limit = {"preexec_fn": lambda: resource.setrlimit(resource.RLIMIT_FSIZE, (10000, 10000))}
-        self.fails(game_text(4, 4, ""), "can't write", **limit)
+        self.fails(game_text(4, 4, ""), "can't write", *UNBETTERED, **limit)
         with open("/dev/full", "w", encoding="ascii") as full:
             run = subprocess.run(
-                [self.solver, "--quiet"],
+                [self.solver, "--quiet", *UNBETTERED],
                 input=game_text(4, 4, ""),
                 stdout=full,
                 stderr=subprocess.PIPE,
@@ -583,7 +580,7 @@ class SolveTest(ToolTest):
             )
         self.assertEqual((run.returncode, run.stderr.count("\n")), (2, 1))
         path = os.path.join(self.folder, "no folder", "proof")
-        status, _, err = self.solve(game_text(4, 4, ""), "-o", path)
+        status, _, err = self.solve(game_text(4, 4, ""), *UNBETTERED, "-o", path)
         self.assertEqual((status, err.count("\n")), (2, 1))
 
 
